@@ -13,7 +13,7 @@ use Rattle.pool_journal.specs.declared.input.Input.TheVariants.{Borrow, Ready, G
 use Rattle.pool_journal.specs.declared.record.Phase.{Phase}
 use Rattle.pool_journal.specs.declared.record.Phase.TheVariants as phases
 use Rattle.pool_journal.proofs.Found.{found, not_found}
-use Rattle.pool_core.specs.declared.settings.Settings.{Settings}
+use Rattle.pool_settings.specs.declared.settings.Settings.{Settings}
 use Rattle.pool_core.specs.Reply.{reply, is_below, choice, borrow_reply, ready_reply, give_back_reply, park_reply, destroyed_reply}
 use Rattle.pool_core.specs.Table.{phase_of, new_of, table}
 

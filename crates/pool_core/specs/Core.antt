@@ -1,22 +1,24 @@
--- The pool with its journal.
-use Rattle.std.specs.Prelude.{◌≡◌, ℕ, ◌+◌, ◌<◌, ◌≤◌, [], ◌∷◌, ◌++◌, length, Option}
+-- What a step does to a pool.
+use Rattle.std.specs.Prelude.{◌≡◌, ℕ, [], ◌∷◌, ◌++◌, Option}
 use Rattle.pool_journal.specs.declared.input.Input.{Input}
 use Rattle.pool_journal.specs.declared.answer.Answer.{Answer}
-use Rattle.pool_core.specs.declared.pool.StepFault.{StepFault}
-use Rattle.pool_core.specs.declared.pool.StepFault.TheVariants.{JournalFull, OutOfMemory}
+use Rattle.pool_core.specs.declared.step_fault.StepFault.{StepFault}
+use Rattle.pool_core.specs.declared.step_fault.StepFault.TheVariants.{JournalFull, OutOfMemory}
 use Rattle.pool_core.specs.Reply.{reply}
+use Rattle.pool_core.specs.Legal.{entry_due}
+use Rattle.pool_core.specs.Fits.{Fits, IsTooLong}
 use Rattle.pool_core.specs.Kept.{Hands}
 use Rattle.pool_core.specs.Pool.{Pool}
 
--- the new pool has one more entry, with the answer that is due
+-- the new pool has one entry more, which fits and has the answer that is due
 pub record Answered {T : Type 0} (caller at : ℕ) (input : Input) (handed : Option T) (old new : Pool T) (answer : Answer) (out : Option T) : Type 0 where
-  pub fits : length old.journal + 1 ≤ old.settings.journal_limit
   pub due : answer ≡ reply old.settings old.journal at input
-  pub appended : new.journal ≡ old.journal ++ record { caller = caller; at = at; input = input; answer = answer } ∷ []
+  pub appended : new.journal ≡ old.journal ++ entry_due old.settings old.journal caller at input ∷ []
+  pub fits : Fits old.settings new.journal
   pub settings_stay : new.settings ≡ old.settings
   pub hands : Hands answer input old.places new.places handed out
 
--- when each fault comes, and that what was handed in comes back
-abbrev pub Faulted : {T : Type 0} → Option T → Pool T → StepFault T → Type 0
-Faulted handed old (JournalFull out) = (old.settings.journal_limit < length old.journal + 1) × (out ≡ handed)
-Faulted handed old (OutOfMemory out) = (length old.journal + 1 ≤ old.settings.journal_limit) × (out ≡ handed)
+-- the journal is full exactly where the entry that is due doesn't fit, and what was handed in comes back
+abbrev pub Faulted : {T : Type 0} → ℕ → ℕ → Input → Option T → Pool T → StepFault T → Type 0
+Faulted caller at input handed old (JournalFull out) = IsTooLong old.settings (old.journal ++ entry_due old.settings old.journal caller at input ∷ []) × (out ≡ handed)
+Faulted caller at input handed old (OutOfMemory out) = Fits old.settings (old.journal ++ entry_due old.settings old.journal caller at input ∷ []) × (out ≡ handed)

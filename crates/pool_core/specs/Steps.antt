@@ -1,37 +1,56 @@
--- One step on the state beside the journal.
-use Rattle.std.specs.Prelude.{◌≡◌, ℕ, Bool, true, false, List}
+-- One step on what the pool keeps beside its journal.
+use Rattle.std.specs.Prelude.{◌≡◌, ℕ, ◌+◌, ◌<◌, ◌^◌, Bool, true, false, List, Some, IsSomeAnd}
 use Rattle.std.specs.List.{AllByRecursion}
-use Rattle.pool_journal.specs.declared.entry.Entry.{Entry}
 use Rattle.pool_journal.specs.declared.record.Record.{Record}
 use Rattle.pool_journal.specs.declared.input.Input.{Input}
 use Rattle.pool_journal.specs.declared.answer.Answer.{Answer}
+use Rattle.pool_journal.specs.declared.answer.Answer.TheVariants as answers
 use Rattle.pool_journal.specs.declared.record.Phase.{Phase}
 use Rattle.pool_journal.specs.declared.record.Phase.TheVariants as phases
-use Rattle.pool_journal.specs.OneMore.{stays}
-use Rattle.pool_journal.specs.OneMore.{stepped, next_after}
+use Rattle.pool_journal.specs.Journal.{id_of}
+use Rattle.pool_journal.specs.OneMore.{stays, stepped, next_after}
+use Rattle.pool_journal.specs.Queue.{record_in}
 use Rattle.pool_places.specs.Shelf.{records_in}
+use Rattle.pool_core.specs.Legal.{entry_of}
 use Rattle.pool_core.specs.Table.{table}
 use Rattle.pool_core.specs.declared.state.Moment.{Moment}
 use Rattle.pool_core.specs.declared.state.State.{State}
 
--- the entry, whoever the caller is
-abbrev pub told : ℕ → Input → Answer → Entry
-told at input a = record { caller = 0; at = at; input = input; answer = a }
+-- the records after a step, whoever the caller is
+abbrev pub known_after : Moment → Input → Answer → ℕ → List Record → List Record
+known_after now input answer next rs = stepped now.position (entry_of 0 now.at input answer) next rs
 
 -- the new state has taken the step that the input asks for, with the answer that is due
 pub record TakesStep {T : Type 0} (now : Moment) (input : Input) (old new : State T) (answer : Answer) : Type 0 where
-  pub due : answer ≡ table old.settings (records_in old.places) old.next now.at input
-  pub known : records_in new.places ≡ stepped now.position (told now.at input answer) old.next (records_in old.places)
-  pub next_is : new.next ≡ next_after (told now.at input answer) old.next
+  pub due : answer ≡ table old.settings (records_in old.places.kept) old.next now.at input
+  pub known : records_in new.places.kept ≡ known_after now input answer old.next (records_in old.places.kept)
+  pub next_is : new.next ≡ next_after (entry_of 0 now.at input answer) old.next
   pub settings_stay : new.settings ≡ old.settings
 
--- all that is kept is present
+-- each record is that of a present object
 abbrev pub AllStay : List Record → Type 0
 AllStay rs = AllByRecursion (λ r. stays r ≡ true) rs
 
--- the phases that only their holder ends
-abbrev pub is_held : Phase → Bool
-is_held phases.Absent = false
-is_held phases.Idle = false
-is_held phases.Gone = false
-is_held _ = true
+-- what is known of the records and the next id before the entry at a position: each record is that of a present object, the
+-- one that is found under its id, drawn before and parked before; and there are ids left
+pub record IsBefore (position : ℕ) (rs : List Record) (next : ℕ) : Type 0 where
+  pub stay : AllStay rs
+  pub found : AllByRecursion (λ r. record_in rs r.id ≡ Some r) rs
+  pub below : AllByRecursion (λ r. r.id < next) rs
+  pub parked : AllByRecursion (λ r. r.parked < position) rs
+  pub few : next + 1 < 2 ^ 64
+
+-- the phases from which an answer moves the object that the input names
+abbrev pub comes_from : Answer → Phase → Bool
+comes_from answers.Lent phases.Readying = true
+comes_from answers.Check phases.Lent = true
+comes_from answers.Parked phases.Returning = true
+comes_from answers.Destroy phases.Readying = true
+comes_from answers.Destroy phases.Returning = true
+comes_from answers.Freed phases.Readying = true
+comes_from answers.Freed phases.Destroying = true
+comes_from _ _ = false
+
+-- the object that the input names is present, in a phase from which the answer moves it
+abbrev pub MovesNamed : Input → Answer → List Record → Type 0
+MovesNamed input a rs = IsSomeAnd (id_of input) (λ i. IsSomeAnd (record_in rs i) (λ r. comes_from a r.phase ≡ true))

@@ -1,12 +1,21 @@
--- One pass over the idle objects.
-use Rattle.std.proofs.Common.{◌≡◌, ℕ, ◌+◌, ◌<◌, Bool, true, false, cond, List, [], ◌∷◌, ◌++◌, length, get_or, take, Option, None, refl, ap, ◌∙◌}
-use Rattle.std.specs.Prelude.{filter, fold}
+-- What one pass over the objects finds, and what it adds up.
+use Rattle.std.proofs.Common.{◌≡◌, ℕ, ◌+◌, ◌*◌, ◌<◌, ◌≤◌, lit≤, Bool, true, false, cond, if◌then◌else◌, nat_lt, List, [], ◌∷◌, ◌++◌, length, get_or, take, Option, Some, None, refl, ap, ◌∙◌, arith, inl, inr}
+use Rattle.std.specs.Prelude.{filter, fold, count_by}
+use Rattle.std.specs.Int.{from_bool}
+use Rattle.std.specs.List.{sum_by}
+use Rattle.std.proofs.lemmas.Bool.{cases_lt, lt-ltb, le-ltb}
+use Rattle.std.proofs.lemmas.Bool.Decides.{nat_tests}
 use Rattle.std.proofs.lemmas.List.{map-append, take_more}
 use Rattle.std.proofs.lemmas.List.Elements.{filter-append}
-use Rattle.std.proofs.lemmas.List.Sums.{fold-append}
-use Rattle.pool_journal.specs.Queue.{is_idle}
+use Rattle.std.proofs.lemmas.List.Folds.{fold_along}
+use Rattle.std.proofs.lemmas.List.Sums.{fold-append, sum_by_push}
+use Rattle.pool_journal.specs.Queue.{is_idle, put_rising, by_rising, idle_queue, first_of, earlier}
 use Rattle.pool_journal.specs.declared.record.Record.{Record}
-use Rattle.pool_places.specs.declared.Place.{Place}
+use Rattle.pool_journal.specs.declared.record.Phase.{Phase}
+use Rattle.pool_journal.specs.declared.record.Phase.TheVariants as phases
+use Rattle.pool_places.specs.declared.place.Place.{Place}
+use Rattle.pool_places.specs.After.{is_after}
+use Rattle.pool_places.specs.Counts.{weight, owed_by}
 use Rattle.pool_places.specs.Shelf.{records_in}
 
 -- the best of the idle objects, by a step
@@ -29,3 +38,80 @@ best_idle_push step ps p =
 pub best_idle_more : {T : Type 0} (step : Option Record → Record → Option Record) (ps : List (Place T)) (i : ℕ) (d : Place T) → i < length ps
     → best_idle step (take (i + 1) ps) ≡ cond (is_idle (get_or ps i d).known.phase) (step (best_idle step (take i ps)) (get_or ps i d).known) (best_idle step (take i ps))
 best_idle_more step ps i d lt = ap (best_idle step) (take_more ps i d lt) ∙ best_idle_push step (take i ps) (get_or ps i d)
+
+-- the step that looks for the first after a position
+abbrev pub earlier_after : ℕ → Option Record → Record → Option Record
+earlier_after k best r = if is_after (Some k) r then earlier (λ r. r.parked) best r else best
+
+first_after-put : {X : Type 0} (key : X → ℕ) (k : ℕ) (ys : List X) (x : X)
+    → first_of (filter (λ y. nat_lt k (key y)) (put_rising key ys x)) ≡ (if nat_lt k (key x) then earlier key (first_of (filter (λ y. nat_lt k (key y)) ys)) x else first_of (filter (λ y. nat_lt k (key y)) ys))
+first_after-put key k [] x = by_test (nat_lt k (key x))
+  where
+    by_test : (b : Bool) → first_of (cond b (x ∷ []) []) ≡ cond b (Some x) None
+    by_test true = refl
+    by_test false = refl
+first_after-put {X} key k (y ∷ ys) x = elim (cases_lt (key x) (key y)) [
+  | inl below ↦ rw (lt-ltb (key x) (key y) below) (before below (nat_lt k (key x)) refl)
+  | inr above ↦ rw (le-ltb (key x) (key y) above) (behind above (nat_lt k (key y)) refl (first_after-put key k ys x))
+]
+  where
+    before : key x < key y → (b : Bool) → nat_lt k (key x) ≡ b → first_of (cond b (x ∷ filter (λ z. nat_lt k (key z)) (y ∷ ys)) (filter (λ z. nat_lt k (key z)) (y ∷ ys))) ≡ cond b (earlier key (first_of (filter (λ z. nat_lt k (key z)) (y ∷ ys))) x) (first_of (filter (λ z. nat_lt k (key z)) (y ∷ ys)))
+    before below true is = let later : nat_lt k (key y) ≡ true = grind (arith, nat_tests) in rw (later, lt-ltb (key x) (key y) below) refl
+    before below false is = refl
+
+    behind : key y ≤ key x → (b : Bool) → nat_lt k (key y) ≡ b
+        → first_of (filter (λ z. nat_lt k (key z)) (put_rising key ys x)) ≡ (if nat_lt k (key x) then earlier key (first_of (filter (λ z. nat_lt k (key z)) ys)) x else first_of (filter (λ z. nat_lt k (key z)) ys))
+        → first_of (cond b (y ∷ filter (λ z. nat_lt k (key z)) (put_rising key ys x)) (filter (λ z. nat_lt k (key z)) (put_rising key ys x)))
+        ≡ (if nat_lt k (key x) then earlier key (first_of (cond b (y ∷ filter (λ z. nat_lt k (key z)) ys) (filter (λ z. nat_lt k (key z)) ys))) x else first_of (cond b (y ∷ filter (λ z. nat_lt k (key z)) ys) (filter (λ z. nat_lt k (key z)) ys)))
+    behind above true is later = let also : nat_lt k (key x) ≡ true = grind (arith, nat_tests) in rw (also, le-ltb (key x) (key y) above) refl
+    behind above false is later = later
+
+-- the first of the queue after a position, found in one pass
+pub first_after-idle_queue : (k : ℕ) (rs : List Record) → first_of (filter (is_after (Some k)) (idle_queue rs)) ≡ fold (earlier_after k) None (filter (λ r. is_idle r.phase) rs)
+unfolding by_rising
+first_after-idle_queue k rs =
+    fold_along (put_rising (λ r. r.parked)) (earlier_after k) (λ (ys : List Record) (b : Option Record). first_of (filter (is_after (Some k)) ys) ≡ b)
+    (λ ys b x is. first_after-put (λ r. r.parked) k ys x ∙ ap (λ (o : Option Record). earlier_after k o x) is) [] None (filter (λ r. is_idle r.phase) rs) refl
+
+-- a turn of a loop that adds up
+pub sum_by-records_more : {T : Type 0} (f : Record → ℕ) (ps : List (Place T)) (i : ℕ) (d : Place T) → i < length ps → sum_by f (records_in (take (i + 1) ps)) ≡ sum_by f (records_in (take i ps)) + f (get_or ps i d).known
+sum_by-records_more f ps i d lt =
+    ap (λ xs. sum_by f (records_in xs)) (take_more ps i d lt) ∙ ap (sum_by f) (map-append (λ q. q.known) (take i ps) (get_or ps i d ∷ []))
+    ∙ sum_by_push f (records_in (take i ps)) (get_or ps i d).known
+
+-- a turn of a loop that counts the objects in some phases
+pub counted_more : {T : Type 0} (p : Phase → Bool) (ps : List (Place T)) (i : ℕ) (q : Place T) (n m : ℕ) (b : Bool) → i < length ps → q ≡ get_or ps i q → n ≡ count_by (λ r. p r.phase) (records_in (take i ps))
+    → m ≡ from_bool b → b ≡ p q.known.phase → n + m ≡ count_by (λ r. p r.phase) (records_in (take (i + 1) ps))
+counted_more p ps i q n m b lt read so_far more is =
+    omega (arith, so_far, more ∙ as_number b ∙ ap (λ (t : Bool). cond t 1 0) (is ∙ ap (λ x. p x.known.phase) read), sum_by-records_more (λ r. cond (p r.phase) 1 0) ps i q lt)
+  where
+    as_number : (t : Bool) → from_bool t ≡ cond t 1 0
+    as_number true = refl
+    as_number false = refl
+
+pub one_at_most : (n m i : ℕ) (b : Bool) → n ≤ i → m ≡ from_bool b → n + m ≤ i + 1
+one_at_most n m i b few more = omega (arith, more ∙ refl, at_most b)
+  where
+    at_most : (t : Bool) → from_bool t ≤ 1
+    at_most true = lit≤ tt
+    at_most false = lit≤ tt
+
+-- a turn of the loop that adds up what is owed
+pub owed_more : {T : Type 0} (ps : List (Place T)) (i : ℕ) (q : Place T) (n m : ℕ) → i < length ps → q ≡ get_or ps i q → n ≡ owed_by (records_in (take i ps)) → m ≡ weight q.known.phase
+    → n + m ≡ owed_by (records_in (take (i + 1) ps))
+owed_more ps i q n m lt read so_far more =
+    omega (arith, so_far, more ∙ ap (λ x. weight x.known.phase) read, sum_by-records_more (λ r. weight r.phase) ps i q lt)
+
+weight_at_most : (p : Phase) → weight p ≤ 5
+weight_at_most phases.Absent = lit≤ tt
+weight_at_most phases.Readying = lit≤ tt
+weight_at_most phases.Adding = lit≤ tt
+weight_at_most phases.Lent = lit≤ tt
+weight_at_most phases.Returning = lit≤ tt
+weight_at_most phases.Idle = lit≤ tt
+weight_at_most phases.Testing = lit≤ tt
+weight_at_most phases.Destroying = lit≤ tt
+weight_at_most phases.Gone = lit≤ tt
+
+pub five_at_most : (n m i : ℕ) (p : Phase) → n ≤ 5 * i → m ≡ weight p → n + m ≤ 5 * (i + 1)
+five_at_most n m i p little more = omega (arith, more, weight_at_most p)

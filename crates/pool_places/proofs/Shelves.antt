@@ -1,14 +1,16 @@
 -- What is found among objects whose ids rise, and what a change of one does.
-use Rattle.std.proofs.Common.{◌≡◌, ◌≢◌, ℕ, zero, suc, ◌<◌, ◌==◌, eqb, Bool, true, false, not, cond, List, [], ◌∷◌, ◌++◌, length, get_or, set, Option, Some, None, refl, ap, sym, ◌∙◌, arith, subst}
+use Rattle.std.proofs.Common.{◌≡◌, ◌≢◌, ℕ, zero, suc, ◌<◌, ◌^◌, ◌==◌, eqb, Bool, true, false, not, cond, List, [], ◌∷◌, ◌++◌, length, get_or, set, Option, Some, None, refl, ap, sym, ◌∙◌, arith, subst}
 use Rattle.std.specs.Prelude.{All, remove, is_some, IsSomeAnd}
 use Rattle.std.specs.List.{AllByRecursion}
 use Rattle.std.specs.Option.{option_map}
 use Rattle.std.proofs.lemmas.Bool.Decides.{nat_tests}
+use Rattle.std.proofs.Math.ListN.{length-set}
+use Rattle.std.proofs.lemmas.List.{length_push}
+use Rattle.std.proofs.lemmas.List.Sums.{length-filter, count_by-le-length}
 use Rattle.std.proofs.lemmas.List.Elements.{All-head, All-tail, All-set, All-filter, All-push}
-use Rattle.pool_journal.specs.Queue.{record_in, is_idle}
+use Rattle.pool_journal.specs.Queue.{record_in}
 use Rattle.pool_journal.specs.declared.record.Record.{Record}
-use Rattle.pool_journal.specs.declared.record.Phase.TheVariants as phases
-use Rattle.pool_places.specs.declared.Place.{Place}
+use Rattle.pool_places.specs.declared.place.Place.{Place}
 use Rattle.pool_places.specs.Shelf.{records_in, place_in, changed, without, IsRising, IsAt, IsShelf, IsValued}
 
 -- i stands at place k, which is read at the default d
@@ -103,7 +105,7 @@ rising_set (suc k) p d (q ∷ ps) lt same up = (all_above_set q.known.id k p d p
 
 pub shelf_set : {T : Type 0} (ps : List (Place T)) (k : ℕ) (q p : Place T) → IsShelf ps → k < length ps → q ≡ get_or ps k q → p.known.id ≡ q.known.id → IsValued p → IsShelf (set ps k p)
 shelf_set ps k q p shelf lt read same valued =
-    record { rising = rising_set k p q ps lt (same ∙ ap (λ x. x.known.id) read) shelf.rising; valued = All-set IsValued ps k p valued shelf.valued }
+    record { rising = rising_set k p q ps lt (same ∙ ap (λ x. x.known.id) read) shelf.rising; valued = All-set IsValued ps k p valued shelf.valued; few = omega (arith, shelf.few, length-set ps k p) }
 
 -- a write at the place of i is a change of i
 pub change_is : {T : Type 0} (f : Place T → Place T) (ps : List (Place T)) (i k : ℕ) (q : Place T) → IsShelf ps → IsAt ps i k → q ≡ get_or ps k q → set ps k (f q) ≡ changed i f ps
@@ -126,7 +128,7 @@ rising_without i (p ∷ ps) up = by_test (not (i == p.known.id)) (all_without p.
     by_test false here rest = rest
 
 pub shelf_without : {T : Type 0} (i : ℕ) (ps : List (Place T)) → IsShelf ps → IsShelf (without i ps)
-shelf_without i ps shelf = record { rising = rising_without i ps shelf.rising; valued = All-filter (λ p. not (i == p.known.id)) IsValued ps shelf.valued }
+shelf_without i ps shelf = record { rising = rising_without i ps shelf.rising; valued = All-filter (λ p. not (i == p.known.id)) IsValued ps shelf.valued; few = omega (arith, shelf.few, length-filter (λ (p : Place _). not (i == p.known.id)) ps, count_by-le-length (λ (p : Place _). not (i == p.known.id)) ps) }
 
 pub remove_is : {T : Type 0} (ps : List (Place T)) (i k : ℕ) (q : Place T) → IsShelf ps → IsAt ps i k → q ≡ get_or ps k q → remove ps k ≡ without i ps
 remove_is ps i k q shelf at read = remove-without i k q ps shelf.rising (at_read ps i k q at read)
@@ -139,8 +141,8 @@ rising_push : {T : Type 0} (ps : List (Place T)) (p : Place T) → IsRising ps �
 rising_push [] p up all = (tt, tt)
 rising_push (q ∷ ps) p up all = (all_above_push q.known.id ps p up.0 all.0, rising_push ps p up.1 all.1)
 
-pub shelf_push : {T : Type 0} (ps : List (Place T)) (p : Place T) → IsShelf ps → AllByRecursion (λ q. q.known.id < p.known.id) ps → IsValued p → IsShelf (ps ++ p ∷ [])
-shelf_push ps p shelf above valued = record { rising = rising_push ps p shelf.rising above; valued = All-push IsValued ps p shelf.valued valued }
+pub shelf_push : {T : Type 0} (ps : List (Place T)) (p : Place T) → IsShelf ps → AllByRecursion (λ q. q.known.id < p.known.id) ps → IsValued p → length ps < 2 ^ 60 → IsShelf (ps ++ p ∷ [])
+shelf_push ps p shelf above valued few = record { rising = rising_push ps p shelf.rising above; valued = All-push IsValued ps p shelf.valued valued; few = omega (arith, length_push ps p) }
 
 -- what is known of the record of i is known of the object that was read
 pub known_at : {T : Type 0} (P : Record → Type 0) (ps : List (Place T)) (i k : ℕ) (q : Place T) → IsShelf ps → IsAt ps i k → q ≡ get_or ps k q → IsSomeAnd (record_in (records_in ps) i) P → P q.known
@@ -150,27 +152,8 @@ known_at P ps i k q shelf at read known =
 pub valued_at : {T : Type 0} (ps : List (Place T)) (k : ℕ) (q : Place T) → IsShelf ps → k < length ps → q ≡ get_or ps k q → IsValued q
 valued_at ps k q shelf lt read = subst IsValued (sym read) (shelf.valued k q lt)
 
--- an object that is not idle has no value
-pub no_value : {T : Type 0} (ps : List (Place T)) (i k : ℕ) (q : Place T) → IsShelf ps → IsAt ps i k → q ≡ get_or ps k q → IsSomeAnd (record_in (records_in ps) i) (λ r. is_idle r.phase ≡ false) → q.value ≡ None
-no_value ps i k q shelf at read known =
-    empty q.value (valued_at ps k q shelf at.in_range read ∙ known_at (λ r. is_idle r.phase ≡ false) ps i k q shelf at read known)
-  where
-    empty : {T : Type 0} (o : Option T) → is_some o ≡ false → o ≡ None
-    empty None is = refl
-    empty (Some x) is = absurd (cc is)
-
-pub at_place : {T : Type 0} (qs ps : List (Place T)) (i k : ℕ) → qs ≡ ps → IsAt qs i k → IsAt ps i k
-at_place qs ps i k same at = subst (λ xs. IsAt xs i k) same at
-
-pub known_before : {T : Type 0} (ps qs : List (Place T)) (i : ℕ) (P : Record → Type 0) → ps ≡ qs → IsSomeAnd (record_in (records_in qs) i) P → IsSomeAnd (record_in (records_in ps) i) P
-known_before ps qs i P same known = subst (λ xs. IsSomeAnd (record_in (records_in xs) i) P) (sym same) known
-
 pub empty_valued : {T : Type 0} (o : Option T) {b : Bool} → o ≡ None → b ≡ false → is_some o ≡ b
 empty_valued o none is = ap is_some none ∙ sym is
-
-pub has_value : {T : Type 0} (ps : List (Place T)) (i k : ℕ) (q : Place T) → IsShelf ps → IsAt ps i k → q ≡ get_or ps k q → IsSomeAnd (record_in (records_in ps) i) (λ r. r.phase ≡ phases.Idle) → is_some q.value ≡ true
-has_value ps i k q shelf at read known =
-    valued_at ps k q shelf at.in_range read ∙ ap is_idle (known_at (λ r. r.phase ≡ phases.Idle) ps i k q shelf at read known)
 
 -- what each record has, each object has
 pub all_places : {T : Type 0} (P : Record → Type 0) (ps : List (Place T)) → AllByRecursion P (records_in ps) → AllByRecursion (λ p. P p.known) ps

@@ -1,0 +1,6 @@
+pub mod Windows
+pub mod Going
+pub mod Journals
+pub mod Running
+pub mod Checking
+pub mod Verdicts

@@ -1,0 +1,48 @@
+-- What an engine does with the lines of a stream.
+use Rattle.std.specs.Prelude.{◌≡◌, ⊤, ℕ, ◌<◌, ◌≤◌, List, [], ◌++◌, length, take, Option, Result, Ok, Err, IfSome}
+use Rattle.std.specs.Io.KnownBytes.{Appends}
+use Rattle.pool_settings.specs.declared.settings.Settings.{Settings}
+use Rattle.pool_load.specs.Handing.{AppendsFront, Writes}
+use Rattle.pool_load.specs.declared.engine_fault.EngineFault.{EngineFault}
+use Rattle.pool_load.specs.declared.engine_fault.EngineFault.TheVariants.{Line, Full, OutOfMemory, Read, Write}
+use Rattle.pool_load.specs.declared.turn.Turn.{Turn}
+use Rattle.pool_load.specs.declared.turn.Turn.TheVariants.{Took, Unfinished, Done}
+
+-- a fault that no line is the cause of
+abbrev pub IsFromOutside : EngineFault → Type 0
+IsFromOutside (Line number fault) = ⊥
+IsFromOutside (Full number) = ⊥
+IsFromOutside OutOfMemory = ⊤
+IsFromOutside Read = ⊤
+IsFromOutside Write = ⊤
+
+-- Words on an engine of the type E: its settings, the bytes of the lines that it took, what it told of them, when it can go on,
+-- which bytes are no whole line, and what is so where it ends before the rest of a stream.
+module _ {E : Type 0} (settings : E → Settings) (taken told : E → List ℕ) (stands : E → Type 0) (is_partial : List ℕ → Type 0) (ends : E → List ℕ → Result (Unit {0}) EngineFault → Type 0) where
+  -- what the engine tells is put behind what was there, and its settings stay
+  abbrev pub Tells : E → E → List ℕ → List ℕ → Type 0
+  Tells old new before after = (words : List ℕ) × (after ≡ before ++ words) × (told new ≡ told old ++ words) × (settings new ≡ settings old)
+
+  -- one turn of the engine, before these bytes
+  abbrev pub Turns : Result Turn EngineFault → E → E → List ℕ → List ℕ → List ℕ → Type 0
+  Turns (Ok (Took count)) old new bytes before after = stands new × (count ≤ length bytes) × (taken new ≡ taken old ++ take count bytes) × Tells old new before after
+  Turns (Ok Unfinished) old new bytes before after = (new ≡ old) × (after ≡ before) × (length bytes < 256) × is_partial bytes
+  Turns (Ok Done) old new bytes before after = (taken new ≡ taken old) × Tells old new before after × ((more : List ℕ) → ends new (bytes ++ more) (Ok tt))
+  Turns (Err fault) old new bytes before after = (taken new ≡ taken old) × Tells old new before after × ((more : List ℕ) → ends new (bytes ++ more) (Err fault))
+
+  -- the end of the stream, before which no whole line is left
+  abbrev pub Finishes : Result (Unit {0}) EngineFault → E → E → List ℕ → List ℕ → List ℕ → Type 0
+  Finishes result old new rest before after = (taken new ≡ taken old) × Tells old new before after × ends new rest result
+
+  -- what is told was given to the writer, but for what still waits, or where the writer failed a front of it
+  abbrev pub Gives : Result (Unit {0}) EngineFault → E → Option (List ℕ) → Option (List ℕ) → List ℕ → Type 0
+  Gives (Err Write) engine held written waiting = AppendsFront held written (told engine)
+  Gives _ engine held written waiting = (sent : List ℕ) × (told engine ≡ sent ++ waiting) × Appends held written sent
+
+  -- the engine is through with a stream
+  pub record Passes (result : Result (Unit {0}) EngineFault) (begun engine : E) (known held written : Option (List ℕ)) (waiting : List ℕ) : Type 0 where
+    pub rest : List ℕ
+    pub same : settings engine ≡ settings begun
+    pub stream : IfSome known (λ bytes. bytes ≡ taken engine ++ rest)
+    pub ended : ends engine rest result
+    pub gave : Gives result engine held written waiting

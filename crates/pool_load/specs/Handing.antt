@@ -1,0 +1,27 @@
+-- What a writer got of the bytes that it was to get.
+use Rattle.std.specs.Prelude.{◌≡◌, ℕ, Bool, true, false, List, ◌++◌, Option, Result, Ok, Err}
+use Rattle.std.specs.Io.KnownBytes.{Appends}
+use Rattle.pool_load.specs.declared.engine_fault.EngineFault.{EngineFault}
+use Rattle.pool_load.specs.declared.engine_fault.EngineFault.TheVariants.{Line, Full, OutOfMemory, Read, Write}
+
+-- known bytes grow by some of the bytes, from their front
+abbrev pub AppendsFront : Option (List ℕ) → Option (List ℕ) → List ℕ → Type 0
+AppendsFront held written bytes = (front : List ℕ) × (rest : List ℕ) × (bytes ≡ front ++ rest) × Appends held written front
+
+-- the writer got the bytes, or where it failed a front of them
+abbrev pub Writes : {A : Type 0} → Result A EngineFault → Option (List ℕ) → Option (List ℕ) → List ℕ → Type 0
+Writes (Ok x) held written bytes = Appends held written bytes
+Writes (Err (Line number fault)) held written bytes = Appends held written bytes
+Writes (Err (Full number)) held written bytes = Appends held written bytes
+Writes (Err OutOfMemory) held written bytes = Appends held written bytes
+Writes (Err Read) held written bytes = Appends held written bytes
+Writes (Err Write) held written bytes = AppendsFront held written bytes
+
+-- did the writer fail?
+abbrev pub is_write_failure : {A : Type 0} → Result A EngineFault → Bool
+is_write_failure (Ok x) = false
+is_write_failure (Err (Line number fault)) = false
+is_write_failure (Err (Full number)) = false
+is_write_failure (Err OutOfMemory) = false
+is_write_failure (Err Read) = false
+is_write_failure (Err Write) = true

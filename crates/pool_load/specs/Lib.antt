@@ -1,0 +1,9 @@
+pub mod Handing
+pub mod Engine
+pub mod Made
+pub mod Run
+pub mod Step
+pub mod Runner
+pub mod Check
+pub mod Checker
+pub mod Verdict

@@ -1,0 +1,16 @@
+//! The engines: what the program does with a stream of lines.
+#![tactic(auto)]
+
+mod checker;
+mod engine;
+mod engine_fault;
+mod incoming;
+mod outgoing;
+mod runner;
+mod step;
+mod turn;
+mod verdict;
+
+pub use checker::check;
+pub use engine_fault::EngineFault;
+pub use runner::run;

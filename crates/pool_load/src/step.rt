@@ -1,0 +1,50 @@
+ghost use Rattle.std.specs.Prelude.{◌≡◌, ◌+◌, [], ◌∷◌, ◌++◌, length, is_some, IfOk, OnErr, MatchResult};
+ghost use Rattle.pool_journal.specs.Text.{request_of};
+ghost use Rattle.pool_journal.specs.Carrying.{carries};
+ghost use Rattle.pool_load.specs.Made.{IsMade, answered};
+ghost use Rattle.pool_load.specs.Step.{Steps, Refuses};
+
+use crate::engine_fault::EngineFault;
+use pool_core::{Core, StepFault};
+use pool_journal::{Entry, Input, Outcome, Request};
+
+/// The number of the line whose entry comes next.
+pub(crate) fn line_number(core: &Core<u64>) -> u64
+    ensures { result ≡ length core.now.journal + 1 }
+{
+    core.journal().len() as u64 + 1
+}
+
+/// The value that an input brings back: that of each object is its id.
+fn value_of(input: &Input) -> Option<u64>
+    ensures { is_some result ≡ carries input.now }
+{
+    match input {
+        Input::Park {
+            id,
+            outcome: Outcome::Good,
+        } => Some(*id),
+        _ => None,
+    }
+}
+
+/// Takes the step that a request asks for, and answers its entry. On an error the core is as it was.
+pub(crate) fn step(core: &mut Core<u64>, request: &Request) -> Result<Entry, EngineFault>
+    requires { IsMade core.old.settings core.old.journal }
+    ensures stepped { MatchResult result
+        (Steps core.old core.new request.now)
+        (Refuses core.old request.now) }
+    ensures err { OnErr result (core.new ≡ core.old) }
+{
+    let Request { caller, at, input } = *request;
+    match core.step(caller, at, input, value_of(&input)) {
+        Ok((answer, _)) => Ok(Entry {
+            caller,
+            at,
+            input,
+            answer,
+        }),
+        Err(StepFault::JournalFull(_)) => Err(EngineFault::Full(line_number(core))),
+        Err(StepFault::OutOfMemory(_)) => Err(EngineFault::OutOfMemory),
+    }
+}

@@ -1,0 +1,147 @@
+-- An object that was read at its place, and what a write there does.
+use Rattle.std.proofs.Common.{◌≡◌, ◌≢◌, ℕ, ◌==◌, Bool, true, false, not, cond, if◌then◌else◌, List, [], ◌∷◌, ◌++◌, get_or, set, Option, Some, None, refl, ap, sym, ◌∙◌, subst}
+use Rattle.std.specs.Prelude.{IsSomeAnd, IsTrue, is_some, remove}
+use Rattle.std.specs.Option.{option_and_then, option_map}
+use Rattle.std.proofs.lemmas.List.{map-append}
+use Rattle.pool_journal.specs.Queue.{record_in, is_idle, is_queued}
+use Rattle.pool_journal.specs.declared.record.Record.{Record}
+use Rattle.pool_journal.specs.declared.record.Phase.{Phase}
+use Rattle.pool_journal.specs.declared.record.Phase.TheVariants as phases
+use Rattle.pool_places.specs.declared.place.Place.{Place}
+use Rattle.pool_places.specs.Changes.{with_changed, without_id, opens_as, sets_to, takes_to}
+use Rattle.pool_places.specs.Shelf.{Shelf, records_in, value_in, changed, without, IsAt, IsShelf, IsValued}
+use Rattle.pool_places.proofs.Shelves.{place_found, shelf_set, change_is, shelf_without, remove_is, known_at, valued_at}
+use Rattle.pool_places.proofs.Values.{value_changed_kept, value_changed_other, place_changed_here, value_without}
+
+-- i stands at place k, and q was read there
+pub record Found {T : Type 0} (ps : List (Place T)) (i k : ℕ) (q : Place T) : Type 0 where
+  pub shelf : IsShelf ps
+  pub at : IsAt ps i k
+  pub read : q ≡ get_or ps k q
+
+pub found_at : {T : Type 0} {ps qs : List (Place T)} {i k : ℕ} {q : Place T} → IsShelf ps → qs ≡ ps → IsAt qs i k → q ≡ get_or ps k q → Found ps i k q
+found_at {ps} {qs} {i} {k} {q} shelf same at read = record { shelf = shelf; at = subst (λ xs. IsAt xs i k) same at; read = read }
+
+-- what was known of the object before is known of what was read
+pub found_known : {T : Type 0} {ps : List (Place T)} {i k n : ℕ} {q : Place T} {s : Shelf T} (P : Record → Type 0) → Found ps i k q → (let seen : Shelf T = record { kept = ps; spare = n } in seen ≡ s)
+    → IsSomeAnd (record_in (records_in s.kept) i) P → P q.known
+found_known {ps} {i} {k} {n} {q} {s} P here seen known =
+    known_at P ps i k q here.shelf here.at here.read (subst (λ x. IsSomeAnd (record_in (records_in x.kept) i) P) (sym seen) known)
+
+empty : {T : Type 0} (o : Option T) → is_some o ≡ false → o ≡ None
+empty None is = refl
+empty (Some x) is = absurd (cc is)
+
+pub found_empty : {T : Type 0} {ps : List (Place T)} {i k : ℕ} {q : Place T} → Found ps i k q → is_idle q.known.phase ≡ false → q.value ≡ None
+found_empty {ps} {i} {k} {q} here is = empty q.value (valued_at ps k q here.shelf here.at.in_range here.read ∙ is)
+
+pub found_full : {T : Type 0} {ps : List (Place T)} {i k : ℕ} {q : Place T} → Found ps i k q → q.known.phase ≡ phases.Idle → is_some q.value ≡ true
+found_full {ps} {i} {k} {q} here is = valued_at ps k q here.shelf here.at.in_range here.read ∙ ap is_idle is
+
+pub found_value : {T : Type 0} {ps : List (Place T)} {i k : ℕ} {q : Place T} → Found ps i k q → value_in ps i ≡ q.value
+found_value {ps} {i} {k} {q} here = ap (option_and_then (λ p. p.value)) (place_found ps i k q here.shelf.rising here.at here.read)
+
+-- phases in which no value is kept
+pub not_queued : (p : Phase) → is_queued p ≡ false → is_idle p ≡ false
+not_queued phases.Idle is = is
+not_queued phases.Testing is = refl
+not_queued phases.Absent is = refl
+not_queued phases.Readying is = refl
+not_queued phases.Adding is = refl
+not_queued phases.Lent is = refl
+not_queued phases.Returning is = refl
+not_queued phases.Destroying is = refl
+not_queued phases.Gone is = refl
+
+pub opened_not_idle : (p : Phase) → IsTrue (opens_as p) → is_idle p ≡ false
+opened_not_idle phases.Idle is = absurd (cc is)
+opened_not_idle phases.Readying is = refl
+opened_not_idle phases.Adding is = refl
+opened_not_idle phases.Testing is = refl
+opened_not_idle phases.Absent is = refl
+opened_not_idle phases.Lent is = refl
+opened_not_idle phases.Returning is = refl
+opened_not_idle phases.Destroying is = refl
+opened_not_idle phases.Gone is = refl
+
+pub set_not_idle : (p : Phase) → IsTrue (sets_to p) → is_idle p ≡ false
+set_not_idle phases.Idle is = absurd (cc is)
+set_not_idle phases.Readying is = refl
+set_not_idle phases.Adding is = refl
+set_not_idle phases.Testing is = refl
+set_not_idle phases.Absent is = refl
+set_not_idle phases.Lent is = refl
+set_not_idle phases.Returning is = refl
+set_not_idle phases.Destroying is = refl
+set_not_idle phases.Gone is = refl
+
+pub taken_not_idle : (p : Phase) → IsTrue (takes_to p) → is_idle p ≡ false
+taken_not_idle phases.Idle is = absurd (cc is)
+taken_not_idle phases.Readying is = refl
+taken_not_idle phases.Adding is = refl
+taken_not_idle phases.Testing is = refl
+taken_not_idle phases.Absent is = refl
+taken_not_idle phases.Lent is = refl
+taken_not_idle phases.Returning is = refl
+taken_not_idle phases.Destroying is = refl
+taken_not_idle phases.Gone is = refl
+
+-- the records after a change
+pub records_changed : {T : Type 0} (i : ℕ) (f : Place T → Place T) (t : Record → Record) (ps : List (Place T)) → ((p : Place T) → (f p).known ≡ t p.known)
+    → records_in (changed i f ps) ≡ with_changed i t (records_in ps)
+records_changed i f t [] is = refl
+records_changed {T} i f t (p ∷ ps) is = by_test (i == p.known.id) (records_changed i f t ps is)
+  where
+    by_test : (b : Bool) → records_in (changed i f ps) ≡ with_changed i t (records_in ps)
+        → records_in ((if b then f p else p) ∷ changed i f ps) ≡ (if b then t p.known else p.known) ∷ with_changed i t (records_in ps)
+    by_test true later = λ x. is p x ∷ later x
+    by_test false later = ap (λ ks. p.known ∷ ks) later
+
+pub records_without : {T : Type 0} (i : ℕ) (ps : List (Place T)) → records_in (without i ps) ≡ without_id i (records_in ps)
+records_without i [] = refl
+records_without {T} i (p ∷ ps) = by_test (not (i == p.known.id)) (records_without i ps)
+  where
+    by_test : (b : Bool) → records_in (without i ps) ≡ without_id i (records_in ps)
+        → records_in (cond b (p ∷ without i ps) (without i ps)) ≡ cond b (p.known ∷ without_id i (records_in ps)) (without_id i (records_in ps))
+    by_test true later = ap (λ ks. p.known ∷ ks) later
+    by_test false later = later
+
+pub records_push : {T : Type 0} (ps : List (Place T)) (p : Place T) → records_in (ps ++ p ∷ []) ≡ records_in ps ++ p.known ∷ []
+records_push ps p = map-append (λ q. q.known) ps (p ∷ [])
+
+-- a write that changes what was read
+pub set_shelf : {T : Type 0} {ps : List (Place T)} {i k : ℕ} {q : Place T} (p : Place T) → Found ps i k q → p.known.id ≡ q.known.id → IsValued p → IsShelf (set ps k p)
+set_shelf {ps} {i} {k} {q} p here same valued = shelf_set ps k q p here.shelf here.at.in_range here.read same valued
+
+pub set_kept : {T : Type 0} {ps : List (Place T)} {i k : ℕ} {q : Place T} (f : Place T → Place T) → Found ps i k q → set ps k (f q) ≡ changed i f ps
+set_kept {ps} {i} {k} {q} f here = change_is f ps i k q here.shelf here.at here.read
+
+pub set_records : {T : Type 0} {ps : List (Place T)} {i k : ℕ} {q : Place T} (f : Place T → Place T) (t : Record → Record) → ((p : Place T) → (f p).known ≡ t p.known) → Found ps i k q
+    → records_in (set ps k (f q)) ≡ with_changed i t (records_in ps)
+set_records {ps} {i} {k} {q} f t is here = ap records_in (set_kept f here) ∙ records_changed i f t ps is
+
+pub set_values : {T : Type 0} {ps : List (Place T)} {i k : ℕ} {q : Place T} (f : Place T → Place T) → ((p : Place T) → (f p).known.id ≡ p.known.id) → ((p : Place T) → (f p).value ≡ p.value) → Found ps i k q
+    → (j : ℕ) → value_in (set ps k (f q)) j ≡ value_in ps j
+set_values {ps} {i} {k} {q} f same keeps here j = ap (λ xs. value_in xs j) (set_kept f here) ∙ value_changed_kept i f ps j same keeps
+
+pub set_others : {T : Type 0} {ps : List (Place T)} {i k : ℕ} {q : Place T} (f : Place T → Place T) → ((p : Place T) → (f p).known.id ≡ p.known.id) → Found ps i k q
+    → (j : ℕ) → j ≢ i → value_in (set ps k (f q)) j ≡ value_in ps j
+set_others {ps} {i} {k} {q} f same here j other = ap (λ xs. value_in xs j) (set_kept f here) ∙ value_changed_other i f ps j same other
+
+pub set_value : {T : Type 0} {ps : List (Place T)} {i k : ℕ} {q : Place T} (f : Place T → Place T) → ((p : Place T) → (f p).known.id ≡ p.known.id) → Found ps i k q → value_in (set ps k (f q)) i ≡ (f q).value
+set_value {ps} {i} {k} {q} f same here =
+    ap (λ xs. value_in xs i) (set_kept f here)
+    ∙ ap (option_and_then (λ p. p.value)) (place_changed_here i f ps same ∙ ap (option_map f) (place_found ps i k q here.shelf.rising here.at here.read))
+
+-- taking it out
+pub remove_shelf : {T : Type 0} {ps : List (Place T)} {i k : ℕ} {q : Place T} → Found ps i k q → IsShelf (remove ps k)
+remove_shelf {ps} {i} {k} {q} here = subst IsShelf (sym (remove_is ps i k q here.shelf here.at here.read)) (shelf_without i ps here.shelf)
+
+pub remove_kept : {T : Type 0} {ps : List (Place T)} {i k : ℕ} {q : Place T} → Found ps i k q → remove ps k ≡ without i ps
+remove_kept {ps} {i} {k} {q} here = remove_is ps i k q here.shelf here.at here.read
+
+pub remove_records : {T : Type 0} {ps : List (Place T)} {i k : ℕ} {q : Place T} → Found ps i k q → records_in (remove ps k) ≡ without_id i (records_in ps)
+remove_records {ps} {i} here = ap records_in (remove_kept here) ∙ records_without i ps
+
+pub remove_values : {T : Type 0} {ps : List (Place T)} {i k : ℕ} {q : Place T} → Found ps i k q → q.value ≡ None → (j : ℕ) → value_in (remove ps k) j ≡ value_in ps j
+remove_values {ps} {i} here none j = ap (λ xs. value_in xs j) (remove_kept here) ∙ value_without i ps j (found_value here ∙ none)

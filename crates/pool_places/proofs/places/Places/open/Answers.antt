@@ -1,0 +1,24 @@
+use Rattle.std.proofs.Common.{refl, sym, ap, arith, subst}
+use Rattle.pool_places.specs.Changes.{IdsBelow}
+use Rattle.pool_places.specs.Shelf.{records_in, new_place}
+use Rattle.pool_places.proofs.Shelves.{shelf_push, all_places}
+use Rattle.pool_places.proofs.Values.{value_push}
+use Rattle.pool_places.proofs.Found.{opened_not_idle, records_push}
+use Rattle.pool_places.proofs.Owing.{push_owed}
+use Rattle.pool_places.proofs.places.Places.open.Goals as goal
+
+pub invariant_of-self : goal.invariant_of-self
+invariant_of-self g c =
+    let above = subst (λ s. IdsBelow c.args.id (records_in s.kept)) (sym c.self.view_is) c.requires.above in
+    rw c.push_reserved.ensures.items (shelf_push c.self.inside.places.items _ c.self.invariant (all_places _ c.self.inside.places.items above) (sym (opened_not_idle c.args.phase c.requires.phase)) (omega (arith, ap (λ s. s.spare) c.self.view_is)))
+
+pub returns : goal.returns
+returns g c =
+    rw (← c.self.view_is, c.push_reserved.ensures.items)
+    record {
+      kept = refl;
+      records = records_push c.self.inside.places.items (new_place c.args.id c.args.phase);
+      values = λ j. value_push c.self.inside.places.items (new_place c.args.id c.args.phase) j refl;
+      owed = push_owed c.self.inside.places.items (new_place c.args.id c.args.phase);
+      spare = omega (arith, ap (λ s. s.spare) c.self.view_is);
+    }

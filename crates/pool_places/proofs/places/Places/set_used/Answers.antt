@@ -1,0 +1,27 @@
+use Rattle.std.proofs.Common.{refl, arith, ap}
+use Rattle.pool_journal.specs.Queue.{is_idle}
+use Rattle.pool_places.specs.Changes.{used_at}
+use Rattle.pool_places.specs.Shelf.{to_used}
+use Rattle.pool_places.proofs.Shelves.{empty_valued}
+use Rattle.pool_places.proofs.Found.{found_at, found_known, found_empty, set_shelf, set_kept, set_records, set_values}
+use Rattle.pool_places.proofs.Owing.{set_owed}
+use Rattle.pool_places.proofs.places.Places.set_used.Goals as goal
+
+pub invariant_of-self : goal.invariant_of-self
+invariant_of-self g c =
+    let here = found_at c.self.invariant c.deref.ensures.value c.index_of-index.ensures c.index_mut.ensures.value in
+    let lent = ap is_idle (found_known _ here c.self.view_is c.requires.present) in
+    set_shelf _ here refl (empty_valued c.index_mut.result.now.value (found_empty here lent) lent)
+
+pub returns : goal.returns
+returns g c =
+    let here = found_at c.self.invariant c.deref.ensures.value c.index_of-index.ensures c.index_mut.ensures.value in
+    let f = to_used c.args.at in
+    rw (← c.self.view_is)
+    record {
+      kept = set_kept f here;
+      records = set_records f (used_at c.args.at) (λ p. refl) here;
+      values = set_values f (λ p. refl) (λ p. refl) here;
+      owed = omega (arith, set_owed (f c.index_mut.result.now) here);
+      spare = omega arith;
+    }

@@ -1,0 +1,33 @@
+use Rattle.std.proofs.Common.{refl, sym, ◌∙◌, ap, arith}
+use Rattle.std.specs.Prelude.{is_some}
+use Rattle.pool_places.specs.Changes.{phase_set}
+use Rattle.pool_places.specs.Shelf.{to_taken}
+use Rattle.pool_places.proofs.Shelves.{empty_valued}
+use Rattle.pool_places.proofs.Found.{found_at, found_known, found_full, found_value, taken_not_idle, set_shelf, set_kept, set_records, set_value, set_others}
+use Rattle.pool_places.proofs.Owing.{set_owed_from}
+use Rattle.pool_places.proofs.places.Places.take_value.Goals as goal
+
+pub unwrap-requires : goal.unwrap-requires
+unwrap-requires g c =
+    let here = found_at c.self.invariant c.deref.ensures.value c.index_of-index.ensures c.index_mut-idle.ensures.value in
+    ap is_some c.take.ensures.value ∙ found_full here (found_known _ here c.self.view_is c.requires.present)
+
+pub invariant_of-self : goal.invariant_of-self
+invariant_of-self g c =
+    let here = found_at c.self.invariant c.deref.ensures.value c.index_of-index.ensures c.index_mut-idle.ensures.value in
+    set_shelf _ here refl (empty_valued c.take.new.self c.take.ensures.after (taken_not_idle c.args.phase c.requires.phase))
+
+pub returns : goal.returns
+returns g c =
+    let here = found_at c.self.invariant c.deref.ensures.value c.index_of-index.ensures c.index_mut-idle.ensures.value in
+    let f = to_taken c.args.phase in
+    rw (← c.self.view_is, c.take.ensures.after)
+    record {
+      kept = set_kept f here;
+      records = set_records f (phase_set c.args.phase) (λ p. refl) here;
+      value = found_value here ∙ sym c.take.ensures.value ∙ c.unwrap.ensures;
+      given = set_value f (λ p. refl) here;
+      others = set_others f (λ p. refl) here;
+      owed = set_owed_from (f c.index_mut-idle.result.now) here (found_known _ here c.self.view_is c.requires.present);
+      spare = omega arith;
+    }

@@ -1,0 +1,17 @@
+-- Which lent objects were not used for too long.
+use Rattle.std.specs.Prelude.{ℕ, ◌-◌, Bool, true, false, ◌&&◌, nat_le, List, filter}
+use Rattle.pool_journal.specs.declared.record.Record.{Record}
+use Rattle.pool_journal.specs.declared.record.Phase.{Phase}
+use Rattle.pool_journal.specs.declared.record.Phase.TheVariants as phases
+
+abbrev pub is_lent : Phase → Bool
+is_lent phases.Lent = true
+is_lent _ = false
+
+-- lent, and at the moment not used for the timeout
+abbrev pub is_overdue : ℕ → ℕ → Record → Bool
+is_overdue at timeout r = is_lent r.phase && nat_le timeout (at - r.used)
+
+-- the records of the overdue objects, by rising id
+abbrev pub overdue : ℕ → ℕ → List Record → List Record
+overdue at timeout rs = filter (is_overdue at timeout) rs

@@ -1,0 +1,6 @@
+//! How a pool is to behave.
+#![tactic(auto)]
+
+mod settings;
+
+pub use settings::Settings;
