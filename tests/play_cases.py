@@ -1,11 +1,17 @@
 #!/usr/bin/env python3
-"""Plays the cases below the given folders on the program, and compares all that it answers.
+"""Plays the cases below the given folders, and compares all that is answered.
 
-    play_cases.py PROGRAM FOLDER..
+    play_cases.py POOL JUDGE FOLDER..
 
-A case NAME is a file NAME.script. Played without arguments, on standard input, the program must write NAME.journal to
-standard output, and end with status 0 and nothing on standard error; or, where there is a file NAME.err, with status 3
-and that line. Prints each case that differs, and in the end the line 'N passed, M failed'.
+POOL plays scripts, and JUDGE judges journals, both on standard input.
+
+- For a file NAME.script POOL must write NAME.journal to standard output, and end with status 0 and nothing on standard
+  error; or, where there is a file NAME.err, with status 3 and that line.
+- The journal of such a script must be judged legal, with the number of its lines, where there is no NAME.err.
+- For a file NAME.claimed JUDGE must answer what NAME.verdict says: a line with the status, and then what it writes, to
+  standard error where the status is 3, else to standard output.
+
+Prints each case that differs, and in the end the line 'N passed, M failed'.
 """
 
 import pathlib
@@ -17,37 +23,54 @@ def contents(path):
     return path.read_bytes() if path.exists() else b""
 
 
-def differences(program, script):
-    """What the program did otherwise than the case says, as (stream, wanted, got)."""
+def play(program, text):
+    """What a program writes to standard output and standard error for a text, and its status."""
+    done = subprocess.run([program], input=text, capture_output=True, timeout=60)
+    return done.stdout, done.stderr, done.returncode
+
+
+def wanted_of_script(script):
     error = script.with_suffix(".err")
-    wanted = [
-        ("output", contents(script.with_suffix(".journal"))),
-        ("standard error", contents(error)),
-        ("status", 3 if error.exists() else 0),
-    ]
-    done = subprocess.run([program], input=script.read_bytes(), capture_output=True, timeout=60)
-    got = [done.stdout, done.stderr, done.returncode]
-    return [(name, want, have) for (name, want), have in zip(wanted, got) if want != have]
+    return contents(script.with_suffix(".journal")), contents(error), 3 if error.exists() else 0
 
 
-def main(program, folders):
+def wanted_of_claimed(claimed):
+    status, _, text = claimed.with_suffix(".verdict").read_bytes().partition(b"\n")
+    return (b"", text, 3) if status == b"3" else (text, b"", int(status))
+
+
+def cases(pool, judge, folder):
+    """Each case of a folder: its file, the program that plays it, its text, and what is wanted."""
+    for script in sorted(folder.glob("*.script")):
+        wanted = wanted_of_script(script)
+        yield script, pool, script.read_bytes(), wanted
+        if wanted[2] == 0:
+            legal = b"legal %d\n" % wanted[0].count(b"\n")
+            yield script.with_suffix(".journal"), judge, wanted[0], (legal, b"", 0)
+    for claimed in sorted(folder.glob("*.claimed")):
+        yield claimed, judge, claimed.read_bytes(), wanted_of_claimed(claimed)
+
+
+def main(pool, judge, folders):
     passed, failed = 0, 0
-    for folder in folders:
-        scripts = sorted(pathlib.Path(folder).glob("*.script"))
-        if not scripts:
+    for folder in map(pathlib.Path, folders):
+        played = 0
+        for case, program, text, wanted in cases(pool, judge, folder):
+            played += 1
+            got = play(program, text)
+            if got == wanted:
+                passed += 1
+                continue
+            failed += 1
+            for name, want, have in zip(("output", "standard error", "status"), wanted, got):
+                if want != have:
+                    print(f"{case}: {name}: wanted {want!r}, got {have!r}")
+        if not played:
             print(f"{folder}: no case")
             failed += 1
-        for script in scripts:
-            differing = differences(program, script)
-            for name, want, have in differing:
-                print(f"{script}: {name}: wanted {want!r}, got {have!r}")
-            if differing:
-                failed += 1
-            else:
-                passed += 1
     print(f"{passed} passed, {failed} failed")
     return 1 if failed else 0
 
 
 if __name__ == "__main__":
-    sys.exit(main(sys.argv[1], sys.argv[2:]))
+    sys.exit(main(sys.argv[1], sys.argv[2], sys.argv[3:]))

@@ -29,7 +29,8 @@ impl<T> State<T> {
         requires before { IsBefore now.position (records_in self.old.places.kept) self.old.next }
         requires moves { MovesNamed input answer (records_in self.old.places.kept) }
         requires not_parked { is_parked_answer answer ≡ false }
-        ensures known { records_in self.new.places.kept ≡ known_after now input answer self.old.next (records_in self.old.places.kept) }
+        ensures known { records_in self.new.places.kept
+            ≡ known_after now input answer self.old.next (records_in self.old.places.kept) }
         ensures values { SameValues self.old.places.kept self.new.places.kept }
         ensures next { self.new.next ≡ self.old.next }
         ensures settings { self.new.settings ≡ self.old.settings }
@@ -52,7 +53,8 @@ impl<T> State<T> {
         requires before { IsBefore now.position (records_in self.old.places.kept) self.old.next }
         requires moves { MovesNamed input Answer.Parked (records_in self.old.places.kept) }
         requires carried { carries input ≡ true }
-        ensures known { records_in self.new.places.kept ≡ known_after now input Answer.Parked self.old.next (records_in self.old.places.kept) }
+        ensures known { records_in self.new.places.kept
+            ≡ known_after now input Answer.Parked self.old.next (records_in self.old.places.kept) }
         ensures values { Keeps input self.old.places.kept self.new.places.kept (Some value) None }
         ensures next { self.new.next ≡ self.old.next }
         ensures settings { self.new.settings ≡ self.old.settings }
@@ -73,7 +75,8 @@ impl<T> State<T> {
         value: Option<T>,
     ) -> Option<T>
         requires before { IsBefore now.position (records_in self.old.places.kept) self.old.next }
-        requires due { answer ≡ table self.old.settings (records_in self.old.places.kept) self.old.next now.at input }
+        requires due { answer
+            ≡ table self.old.settings (records_in self.old.places.kept) self.old.next now.at input }
         requires carried { is_some value ≡ carries input }
         requires reserved { is_make_answer answer ≡ true → 1 ≤ self.old.places.spare }
         ensures step { TakesStep now input self.old self.new answer }

@@ -35,21 +35,24 @@ impl<T> State<T> {
 
     // Whether there is a place for one object more.
     fn has_free_place(&self) -> bool
-        ensures { result ≡ is_below self.now.settings.max_total (length (records_in self.now.places.kept)) }
+        ensures { result
+            ≡ is_below self.now.settings.max_total (length (records_in self.now.places.kept)) }
     {
         is_below_limit(self.settings.max_total, self.places.present())
     }
 
     // Whether the queue takes one object more.
     fn has_room(&self) -> bool
-        ensures { result ≡ is_below self.now.settings.max_idle (queue_length (records_in self.now.places.kept)) }
+        ensures { result
+            ≡ is_below self.now.settings.max_idle (queue_length (records_in self.now.places.kept)) }
     {
         is_below_limit(self.settings.max_idle, self.places.queued())
     }
 
     /// The answer that is due to an input at a moment (milliseconds).
     pub fn decide(&self, at: u64, input: Input) -> Answer
-        ensures { result ≡ table self.now.settings (records_in self.now.places.kept) self.now.next at input }
+        ensures { result
+            ≡ table self.now.settings (records_in self.now.places.kept) self.now.next at input }
     {
         let _ = at;
         match input {

@@ -4,3 +4,5 @@ pub mod Journals
 pub mod Running
 pub mod Checking
 pub mod Verdicts
+pub mod OneRun
+pub mod Empty

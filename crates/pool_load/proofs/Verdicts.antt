@@ -1,5 +1,5 @@
 -- The line of a verdict, word by word.
-use Rattle.std.proofs.Common.{◌≡◌, ℕ, List, [], ◌∷◌, ◌++◌, refl, sym, ap, ◌∙◌, append_assoc, append-nil}
+use Rattle.std.proofs.Common.{◌≡◌, ℕ, List, [], ◌∷◌, ◌++◌, sym, ap, append_assoc, append-nil}
 use Rattle.std.specs.List.{join_with_byte}
 use Rattle.pool_journal.specs.Text.{Words, space, line_feed, text_of}
 use Rattle.pool_journal.specs.Appending.{spaced}

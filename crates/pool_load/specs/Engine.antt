@@ -1,8 +1,8 @@
 -- What an engine does with the lines of a stream.
-use Rattle.std.specs.Prelude.{◌≡◌, ⊤, ℕ, ◌<◌, ◌≤◌, List, [], ◌++◌, length, take, Option, Result, Ok, Err, IfSome}
+use Rattle.std.specs.Prelude.{◌≡◌, ⊤, ℕ, ◌<◌, ◌≤◌, List, ◌++◌, length, take, Option, Result, Ok, Err, IfSome}
 use Rattle.std.specs.Io.KnownBytes.{Appends}
 use Rattle.pool_settings.specs.declared.settings.Settings.{Settings}
-use Rattle.pool_load.specs.Handing.{AppendsFront, Writes}
+use Rattle.pool_load.specs.Handing.{AppendsFront}
 use Rattle.pool_load.specs.declared.engine_fault.EngineFault.{EngineFault}
 use Rattle.pool_load.specs.declared.engine_fault.EngineFault.TheVariants.{Line, Full, OutOfMemory, Read, Write}
 use Rattle.pool_load.specs.declared.turn.Turn.{Turn}

@@ -5,6 +5,7 @@ mod checker;
 mod engine;
 mod engine_fault;
 mod incoming;
+mod laws;
 mod outgoing;
 mod runner;
 mod step;
@@ -13,4 +14,8 @@ mod verdict;
 
 pub use checker::check;
 pub use engine_fault::EngineFault;
+pub use laws::runs_are_determined;
 pub use runner::run;
+
+#[cfg(test)]
+mod tests;

@@ -1,7 +1,7 @@
 ghost use Rattle.std.specs.Prelude.{◌≡◌, ◌+◌, [], ◌∷◌, ◌++◌, length, is_some, IfOk, OnErr, MatchResult};
-ghost use Rattle.pool_journal.specs.Text.{request_of};
+ghost use Rattle.pool_journal.specs.Text.{IsRequest};
 ghost use Rattle.pool_journal.specs.Carrying.{carries};
-ghost use Rattle.pool_load.specs.Made.{IsMade, answered};
+ghost use Rattle.pool_load.specs.Made.{IsMade};
 ghost use Rattle.pool_load.specs.Step.{Steps, Refuses};
 
 use crate::engine_fault::EngineFault;
@@ -30,7 +30,8 @@ fn value_of(input: &Input) -> Option<u64>
 
 /// Takes the step that a request asks for, and answers its entry. On an error the core is as it was.
 pub(crate) fn step(core: &mut Core<u64>, request: &Request) -> Result<Entry, EngineFault>
-    requires { IsMade core.old.settings core.old.journal }
+    requires made { IsMade core.old.settings core.old.journal }
+    requires asked { IsRequest request.now }
     ensures stepped { MatchResult result
         (Steps core.old core.new request.now)
         (Refuses core.old request.now) }

@@ -1,14 +1,13 @@
 -- An object that was read at its place, and what a write there does.
 use Rattle.std.proofs.Common.{◌≡◌, ◌≢◌, ℕ, ◌==◌, Bool, true, false, not, cond, if◌then◌else◌, List, [], ◌∷◌, ◌++◌, get_or, set, Option, Some, None, refl, ap, sym, ◌∙◌, subst}
-use Rattle.std.specs.Prelude.{IsSomeAnd, IsTrue, is_some, remove}
+use Rattle.std.specs.Prelude.{IsSomeAnd, is_some, remove}
 use Rattle.std.specs.Option.{option_and_then, option_map}
 use Rattle.std.proofs.lemmas.List.{map-append}
-use Rattle.pool_journal.specs.Queue.{record_in, is_idle, is_queued}
+use Rattle.pool_journal.specs.Queue.{record_in, is_idle}
 use Rattle.pool_journal.specs.declared.record.Record.{Record}
-use Rattle.pool_journal.specs.declared.record.Phase.{Phase}
 use Rattle.pool_journal.specs.declared.record.Phase.TheVariants as phases
 use Rattle.pool_places.specs.declared.place.Place.{Place}
-use Rattle.pool_places.specs.Changes.{with_changed, without_id, opens_as, sets_to, takes_to}
+use Rattle.pool_places.specs.Changes.{with_changed, without_id}
 use Rattle.pool_places.specs.Shelf.{Shelf, records_in, value_in, changed, without, IsAt, IsShelf, IsValued}
 use Rattle.pool_places.proofs.Shelves.{place_found, shelf_set, change_is, shelf_without, remove_is, known_at, valued_at}
 use Rattle.pool_places.proofs.Values.{value_changed_kept, value_changed_other, place_changed_here, value_without}
@@ -40,51 +39,6 @@ found_full {ps} {i} {k} {q} here is = valued_at ps k q here.shelf here.at.in_ran
 
 pub found_value : {T : Type 0} {ps : List (Place T)} {i k : ℕ} {q : Place T} → Found ps i k q → value_in ps i ≡ q.value
 found_value {ps} {i} {k} {q} here = ap (option_and_then (λ p. p.value)) (place_found ps i k q here.shelf.rising here.at here.read)
-
--- phases in which no value is kept
-pub not_queued : (p : Phase) → is_queued p ≡ false → is_idle p ≡ false
-not_queued phases.Idle is = is
-not_queued phases.Testing is = refl
-not_queued phases.Absent is = refl
-not_queued phases.Readying is = refl
-not_queued phases.Adding is = refl
-not_queued phases.Lent is = refl
-not_queued phases.Returning is = refl
-not_queued phases.Destroying is = refl
-not_queued phases.Gone is = refl
-
-pub opened_not_idle : (p : Phase) → IsTrue (opens_as p) → is_idle p ≡ false
-opened_not_idle phases.Idle is = absurd (cc is)
-opened_not_idle phases.Readying is = refl
-opened_not_idle phases.Adding is = refl
-opened_not_idle phases.Testing is = refl
-opened_not_idle phases.Absent is = refl
-opened_not_idle phases.Lent is = refl
-opened_not_idle phases.Returning is = refl
-opened_not_idle phases.Destroying is = refl
-opened_not_idle phases.Gone is = refl
-
-pub set_not_idle : (p : Phase) → IsTrue (sets_to p) → is_idle p ≡ false
-set_not_idle phases.Idle is = absurd (cc is)
-set_not_idle phases.Readying is = refl
-set_not_idle phases.Adding is = refl
-set_not_idle phases.Testing is = refl
-set_not_idle phases.Absent is = refl
-set_not_idle phases.Lent is = refl
-set_not_idle phases.Returning is = refl
-set_not_idle phases.Destroying is = refl
-set_not_idle phases.Gone is = refl
-
-pub taken_not_idle : (p : Phase) → IsTrue (takes_to p) → is_idle p ≡ false
-taken_not_idle phases.Idle is = absurd (cc is)
-taken_not_idle phases.Readying is = refl
-taken_not_idle phases.Adding is = refl
-taken_not_idle phases.Testing is = refl
-taken_not_idle phases.Absent is = refl
-taken_not_idle phases.Lent is = refl
-taken_not_idle phases.Returning is = refl
-taken_not_idle phases.Destroying is = refl
-taken_not_idle phases.Gone is = refl
 
 -- the records after a change
 pub records_changed : {T : Type 0} (i : ℕ) (f : Place T → Place T) (t : Record → Record) (ps : List (Place T)) → ((p : Place T) → (f p).known ≡ t p.known)

@@ -103,15 +103,8 @@ owed_more ps i q n m lt read so_far more =
     omega (arith, so_far, more ∙ ap (λ x. weight x.known.phase) read, sum_by-records_more (λ r. weight r.phase) ps i q lt)
 
 weight_at_most : (p : Phase) → weight p ≤ 5
-weight_at_most phases.Absent = lit≤ tt
 weight_at_most phases.Readying = lit≤ tt
-weight_at_most phases.Adding = lit≤ tt
-weight_at_most phases.Lent = lit≤ tt
-weight_at_most phases.Returning = lit≤ tt
-weight_at_most phases.Idle = lit≤ tt
-weight_at_most phases.Testing = lit≤ tt
-weight_at_most phases.Destroying = lit≤ tt
-weight_at_most phases.Gone = lit≤ tt
+weight_at_most _ = lit≤ tt
 
 pub five_at_most : (n m i : ℕ) (p : Phase) → n ≤ 5 * i → m ≡ weight p → n + m ≤ 5 * (i + 1)
 five_at_most n m i p little more = omega (arith, more, weight_at_most p)

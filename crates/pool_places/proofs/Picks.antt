@@ -65,14 +65,7 @@ earlier_keeps {A} Q key (Some b) x so_far here = by_test (ltb (key x) (key b))
 
 is_idle_true : (p : Phase) → is_idle p ≡ true → p ≡ phases.Idle
 is_idle_true phases.Idle is = refl
-is_idle_true phases.Absent is = absurd (cc is)
-is_idle_true phases.Readying is = absurd (cc is)
-is_idle_true phases.Adding is = absurd (cc is)
-is_idle_true phases.Lent is = absurd (cc is)
-is_idle_true phases.Returning is = absurd (cc is)
-is_idle_true phases.Testing is = absurd (cc is)
-is_idle_true phases.Destroying is = absurd (cc is)
-is_idle_true phases.Gone is = absurd (cc is)
+is_idle_true _ is = absurd (cc is)
 
 -- the record that a pass finds among the idle ones is that of an idle object
 IsFoundIdle : List Record → Record → Type 0
@@ -123,14 +116,7 @@ all_first Q (y ∷ xs) x all is = let e : y ≡ x = cc is in subst Q e all.0
 
 lent_true : (p : Phase) (b : Bool) → (is_lent p && b) ≡ true → p ≡ phases.Lent
 lent_true phases.Lent b is = refl
-lent_true phases.Absent b is = absurd (cc is)
-lent_true phases.Readying b is = absurd (cc is)
-lent_true phases.Adding b is = absurd (cc is)
-lent_true phases.Returning b is = absurd (cc is)
-lent_true phases.Idle b is = absurd (cc is)
-lent_true phases.Testing b is = absurd (cc is)
-lent_true phases.Destroying b is = absurd (cc is)
-lent_true phases.Gone b is = absurd (cc is)
+lent_true _ b is = absurd (cc is)
 
 -- the first overdue object is lent, and no other has a smaller id
 pub overdue_is_lent : {T : Type 0} (at timeout : ℕ) (ps : List (Place T)) → IsRising ps → (r : Record) → first_of (overdue at timeout (records_in ps)) ≡ Some r → IsSomeAnd (record_in (records_in ps) r.id) (λ r. r.phase ≡ phases.Lent)

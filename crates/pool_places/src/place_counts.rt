@@ -16,7 +16,9 @@ pub struct PlaceCounts {
     pub present: u64,
     /// Those of the queue: idle, or under an idle test.
     pub queue: u64,
+    /// Those of the queue that aren't under a test.
     pub idle: u64,
+    /// Those with a holder.
     pub lent: u64,
     /// Those that are being made for the queue.
     pub adding: u64,

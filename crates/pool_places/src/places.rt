@@ -113,7 +113,7 @@ impl<T> Places<T> {
         last_of_queue(&self.places).map(|known| known.id)
     }
 
-    /// The idle object that was parked first after a position, which is one of the journal.
+    /// The idle object that was parked first, of those that were parked after a position.
     pub fn next_idle_after(&self, parked: u64) -> Option<u64>
         ensures value { result ≡ option_map (λ r. r.id)
             (first_of (filter (is_after (Some parked)) (idle_queue (records_in self.now.kept)))) }
@@ -122,8 +122,8 @@ impl<T> Places<T> {
         next_of_queue(&self.places, parked).map(|known| known.id)
     }
 
-    /// The lent object with the least id, of those that at the moment weren't used for the timeout, both
-    /// in milliseconds. A use after the moment counts as one at it.
+    /// The lent object with the least id, of those that at the moment `at` were not used for at least
+    /// `timeout`. Both are in milliseconds. A use after the moment counts as one at it.
     pub fn least_overdue(&self, at: u64, timeout: u64) -> Option<u64>
         ensures value { result ≡ option_map (λ r. r.id)
             (first_of (overdue at timeout (records_in self.now.kept))) }
@@ -134,7 +134,7 @@ impl<T> Places<T> {
         first_overdue(&self.places, at, timeout).map(|known| known.id)
     }
 
-    /// How many lent objects at the moment weren't used for the timeout, both in milliseconds.
+    /// How many lent objects at the moment `at` were not used for at least `timeout` milliseconds.
     pub fn count_overdue(&self, at: u64, timeout: u64) -> u64
         ensures { result ≡ length (overdue at timeout (records_in self.now.kept)) }
     {
@@ -147,7 +147,8 @@ impl<T> Places<T> {
         ensures queue { result.queue ≡ queue_length (records_in self.now.kept) }
         ensures idle { result.idle ≡ count_by (λ r. is_idle r.phase) (records_in self.now.kept) }
         ensures lent { result.lent ≡ count_by (λ r. is_lent r.phase) (records_in self.now.kept) }
-        ensures adding { result.adding ≡ count_by (λ r. is_adding r.phase) (records_in self.now.kept) }
+        ensures adding { result.adding
+            ≡ count_by (λ r. is_adding r.phase) (records_in self.now.kept) }
         ensures owed { result.owed ≡ owed_by (records_in self.now.kept) }
         ensures small { result.owed < 2 ^ 63 }
         ensures shelf { IsShelf self.now.kept }
@@ -155,7 +156,7 @@ impl<T> Places<T> {
         counts_of(&self.places)
     }
 
-    /// Makes sure that there is memory for one more object.
+    /// Makes sure that there is memory for one more object. Where there is none, nothing changes.
     pub fn reserve_one(&mut self) -> Result<(), AllocError>
         ensures kept { self.new.kept ≡ self.old.kept }
         ensures ok { OnOk result (1 ≤ self.new.spare) }
@@ -168,7 +169,8 @@ impl<T> Places<T> {
         self.places.reserve(1)
     }
 
-    /// Adds an object that is just drawn, in the memory that was reserved.
+    /// Adds an object that is just drawn, in the memory that was reserved. It begins as `Readying` or
+    /// `Adding`.
     pub fn open(&mut self, id: u64, phase: Phase)
         requires reserved { 1 ≤ self.old.spare }
         requires above { IdsBelow id (records_in self.old.kept) }
@@ -195,7 +197,7 @@ impl<T> Places<T> {
         });
     }
 
-    /// Brings an object that isn't idle to another phase.
+    /// Brings an object that isn't idle to `Returning` or `Destroying`.
     pub fn set_phase(&mut self, id: u64, phase: Phase)
         requires present { IsSomeAnd (record_in (records_in self.old.kept) id)
             (λ r. is_idle r.phase ≡ false) }
@@ -248,7 +250,8 @@ impl<T> Places<T> {
         self.places[index].known.used = at;
     }
 
-    /// Puts an object at the end of the queue, with its value. The position is above those of the queue.
+    /// Puts an object at the end of the queue, with its value. The position `parked` is above all of
+    /// the queue, and `since` is a moment in milliseconds.
     pub fn park(&mut self, id: u64, parked: u64, since: u64, value: T)
         requires present { IsSomeAnd (record_in (records_in self.old.kept) id)
             (λ r. is_queued r.phase ≡ false) }
@@ -273,7 +276,8 @@ impl<T> Places<T> {
         keep(&mut place.value, value);
     }
 
-    /// Takes the value of an idle object, which comes to another phase.
+    /// Takes the value of an idle object. As `Testing` it keeps its place in the queue, as `Readying`
+    /// or `Destroying` it leaves the queue.
     pub fn take_value(&mut self, id: u64, phase: Phase) -> T
         requires present { IsInPhase (records_in self.old.kept) id phases.Idle }
         requires phase { IsTrue (takes_to phase) }
@@ -295,7 +299,8 @@ impl<T> Places<T> {
         idle.value.take().unwrap()
     }
 
-    /// Makes an object idle again that was under an idle test, with its value. Its place in the queue stays.
+    /// Gives an object under an idle test its value back, so that it is idle again. It keeps its place
+    /// in the queue.
     pub fn put_value(&mut self, id: u64, value: T)
         requires present { IsInPhase (records_in self.old.kept) id phases.Testing }
         ensures kept { self.new.kept ≡ changed id (to_kept value) self.old.kept }
@@ -315,7 +320,7 @@ impl<T> Places<T> {
         keep(&mut tested.value, value);
     }
 
-    /// Gives the place of an object up.
+    /// Gives up the place of an object that isn't idle.
     pub fn free(&mut self, id: u64)
         requires present { IsSomeAnd (record_in (records_in self.old.kept) id)
             (λ r. is_idle r.phase ≡ false) }

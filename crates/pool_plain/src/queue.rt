@@ -36,7 +36,8 @@ fn later_of(best: Option<Record>, known: Record) -> Option<Record>
 
 // The idle object that was parked first.
 fn first_parked(known: &[Record]) -> Option<Record>
-    ensures { result ≡ fold (earlier (λ r. r.parked)) None (filter (λ r. is_idle r.phase) known.now) }
+    ensures { result
+        ≡ fold (earlier (λ r. r.parked)) None (filter (λ r. is_idle r.phase) known.now) }
 {
     let mut best = None;
     for record in known {
@@ -49,7 +50,8 @@ fn first_parked(known: &[Record]) -> Option<Record>
 
 // The idle object that was parked last.
 fn last_parked(known: &[Record]) -> Option<Record>
-    ensures { result ≡ fold (later (λ r. r.parked)) None (filter (λ r. is_idle r.phase) known.now) }
+    ensures { result
+        ≡ fold (later (λ r. r.parked)) None (filter (λ r. is_idle r.phase) known.now) }
 {
     let mut best = None;
     for record in known {

@@ -12,7 +12,9 @@ pub fn is_below_limit(limit: i32, n: usize) -> bool
 }
 
 pub fn reply_to_borrow(settings: &Settings, known: &[Record], next: u64) -> Answer
-    ensures { result ≡ borrow_reply (choice settings.now.lifo known.now) (is_below settings.now.max_total (length known.now)) next }
+    ensures { result
+        ≡ borrow_reply (choice settings.now.lifo known.now)
+        (is_below settings.now.max_total (length known.now)) next }
 {
     match choose(settings.lifo, known) {
         Some(id) => Answer::Take(id),

@@ -1,6 +1,6 @@
-use Rattle.std.proofs.Common.{rules, ◌≡◌, ◌∙◌, sym, ap, Result, Ok, Err, true, false, subst}
+use Rattle.std.proofs.Common.{◌≡◌, ◌∙◌, sym, true, false}
 use Rattle.std.proofs.lemmas.Result.{err_from_is_err_and}
-use Rattle.pool_load.proofs.Going.{Going, Going-begun, Passes-stopped, Passes-handed, Passes-unhanded, Passes-broken}
+use Rattle.pool_load.proofs.Going.{Going-begun, Passes-stopped, Passes-handed, Passes-unhanded, Passes-broken}
 use Rattle.pool_load.specs.Handing.{is_write_failure}
 use Rattle.pool_load.specs.declared.engine_fault.EngineFault.TheVariants as faults
 use Rattle.pool_load.proofs.engine.go_over.Goals as goal

@@ -1,6 +1,6 @@
-use Rattle.std.proofs.Common.{rules, ◌≡◌, ℕ, List, Result, Ok, Err, Option, drop, ap, ◌∙◌, sym, subst}
+use Rattle.std.proofs.Common.{Ok, ap}
 use Rattle.std.proofs.lemmas.Result.{err_from_is_err_and}
-use Rattle.pool_load.proofs.Going.{Going, Passes-ended, Passes-stopped, Passes-failed, Passes-finished, Going-took, Going-sent, Going-emptied, Going-filled, Going-same}
+use Rattle.pool_load.proofs.Going.{Passes-ended, Passes-stopped, Passes-failed, Passes-finished, Going-took, Going-sent, Going-emptied, Going-filled, Going-same}
 use Rattle.pool_load.specs.declared.engine_fault.EngineFault.TheVariants as faults
 use Rattle.pool_load.proofs.engine.take_turns.Goals as goal
 use Rattle.pool_load.proofs.engine.take_turns.Goals.{in-Took+in_ok-make_room-in-Took, in-Unfinished+in_ok-hand_on-in-Unfinished+in_ok-fill-in-Unfinished+else-branch-eq0}

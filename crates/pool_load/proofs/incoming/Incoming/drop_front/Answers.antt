@@ -1,4 +1,4 @@
-use Rattle.std.proofs.Common.{arith, ap, ◌∙◌, drop, ◌-◌, ◌+◌, ◌≤◌, length, length-take}
+use Rattle.std.proofs.Common.{arith, ap, ◌∙◌, drop, ◌+◌, ◌≤◌, length, length-take}
 use Rattle.pool_load.proofs.Windows.{slice_range-drop}
 use Rattle.pool_load.proofs.incoming.Incoming.drop_front.Goals as goal
 

@@ -1,4 +1,4 @@
-use Rattle.std.proofs.Common.{◌≡◌, ◌-◌, ◌+◌, ◌≤◌, length, take, slice_range, sym, ap, ◌∙◌, arith, rules}
+use Rattle.std.proofs.Common.{◌≡◌, ◌-◌, ◌+◌, length, take, slice_range, ap, ◌∙◌, arith}
 use Rattle.std.proofs.lemmas.List.{with_items_is}
 use Rattle.pool_load.proofs.Windows.{take-copy_within, slice_range-grown, length-slice_range}
 use Rattle.pool_load.proofs.incoming.Incoming.fill.Goals as goal

@@ -1,4 +1,4 @@
-use Rattle.std.proofs.Common.{rules, ◌≡◌, ◌++◌, [], ◌∷◌, ap, ◌∙◌, codes}
+use Rattle.std.proofs.Common.{◌++◌, [], ◌∷◌, ap, ◌∙◌, codes}
 use Rattle.std.specs.Prelude.{decimal}
 use Rattle.pool_journal.specs.Text.{answer_words}
 use Rattle.pool_journal.specs.Appending.{spaced}

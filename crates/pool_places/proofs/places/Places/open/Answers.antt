@@ -3,7 +3,8 @@ use Rattle.pool_places.specs.Changes.{IdsBelow}
 use Rattle.pool_places.specs.Shelf.{records_in, new_place}
 use Rattle.pool_places.proofs.Shelves.{shelf_push, all_places}
 use Rattle.pool_places.proofs.Values.{value_push}
-use Rattle.pool_places.proofs.Found.{opened_not_idle, records_push}
+use Rattle.pool_places.proofs.Found.{records_push}
+use Rattle.pool_places.proofs.NotIdle.{opened_not_idle}
 use Rattle.pool_places.proofs.Owing.{push_owed}
 use Rattle.pool_places.proofs.places.Places.open.Goals as goal
 

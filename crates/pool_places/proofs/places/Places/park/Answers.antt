@@ -1,7 +1,8 @@
 use Rattle.std.proofs.Common.{refl, arith}
 use Rattle.pool_places.specs.Changes.{parked_at}
 use Rattle.pool_places.specs.Shelf.{to_idle}
-use Rattle.pool_places.proofs.Found.{found_at, found_known, found_empty, not_queued, set_shelf, set_kept, set_records, set_value, set_others}
+use Rattle.pool_places.proofs.Found.{found_at, found_known, found_empty, set_shelf, set_kept, set_records, set_value, set_others}
+use Rattle.pool_places.proofs.NotIdle.{not_queued}
 use Rattle.pool_places.proofs.Owing.{set_owed_of}
 use Rattle.pool_places.proofs.places.Places.park.Goals as goal
 

@@ -2,7 +2,8 @@ use Rattle.std.proofs.Common.{refl, arith}
 use Rattle.pool_places.specs.Changes.{phase_set}
 use Rattle.pool_places.specs.Shelf.{to_phase}
 use Rattle.pool_places.proofs.Shelves.{empty_valued}
-use Rattle.pool_places.proofs.Found.{found_at, found_known, found_empty, set_not_idle, set_shelf, set_kept, set_records, set_values}
+use Rattle.pool_places.proofs.Found.{found_at, found_known, found_empty, set_shelf, set_kept, set_records, set_values}
+use Rattle.pool_places.proofs.NotIdle.{set_not_idle}
 use Rattle.pool_places.proofs.Owing.{set_owed_of}
 use Rattle.pool_places.proofs.places.Places.set_phase.Goals as goal
 

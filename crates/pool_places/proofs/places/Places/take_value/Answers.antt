@@ -3,7 +3,8 @@ use Rattle.std.specs.Prelude.{is_some}
 use Rattle.pool_places.specs.Changes.{phase_set}
 use Rattle.pool_places.specs.Shelf.{to_taken}
 use Rattle.pool_places.proofs.Shelves.{empty_valued}
-use Rattle.pool_places.proofs.Found.{found_at, found_known, found_full, found_value, taken_not_idle, set_shelf, set_kept, set_records, set_value, set_others}
+use Rattle.pool_places.proofs.Found.{found_at, found_known, found_full, found_value, set_shelf, set_kept, set_records, set_value, set_others}
+use Rattle.pool_places.proofs.NotIdle.{taken_not_idle}
 use Rattle.pool_places.proofs.Owing.{set_owed_from}
 use Rattle.pool_places.proofs.places.Places.take_value.Goals as goal
 
