@@ -7,7 +7,8 @@ POOL plays scripts, and JUDGE judges journals, both on standard input.
 
 - For a file NAME.script POOL must write NAME.journal to standard output, and end with status 0 and nothing on standard
   error; or, where there is a file NAME.err, with status 3 and that line.
-- The journal of such a script must be judged legal, with the number of its lines, where there is no NAME.err.
+- The journal of such a script must be judged legal, with the number of its lines, where there is no NAME.err; and where
+  one of its answers is replaced by another, each in its turn, illegal at that position, with the answer that was due.
 - For a file NAME.claimed JUDGE must answer what NAME.verdict says: a line with the status, and then what it writes, to
   standard error where the status is 3, else to standard output.
 
@@ -39,6 +40,16 @@ def wanted_of_claimed(claimed):
     return (b"", text, 3) if status == b"3" else (text, b"", int(status))
 
 
+def with_wrong_answers(journal):
+    """The journal with each answer in turn replaced by another, and what must be said of it."""
+    lines = journal.splitlines(keepends=True)
+    for position, line in enumerate(lines):
+        asked, _, due = line.rstrip(b"\n").partition(b" = ")
+        wrong = b"lent" if due == b"wait" else b"wait"
+        changed = lines[:position] + [asked + b" = " + wrong + b"\n"] + lines[position + 1 :]
+        yield b"".join(changed), (b"illegal %d %s\n" % (position, due), b"", 1)
+
+
 def cases(pool, judge, folder):
     """Each case of a folder: its file, the program that plays it, its text, and what is wanted."""
     for script in sorted(folder.glob("*.script")):
@@ -46,7 +57,10 @@ def cases(pool, judge, folder):
         yield script, pool, script.read_bytes(), wanted
         if wanted[2] == 0:
             legal = b"legal %d\n" % wanted[0].count(b"\n")
-            yield script.with_suffix(".journal"), judge, wanted[0], (legal, b"", 0)
+            journal = script.with_suffix(".journal")
+            yield journal, judge, wanted[0], (legal, b"", 0)
+            for text, verdict in with_wrong_answers(wanted[0]):
+                yield journal, judge, text, verdict
     for claimed in sorted(folder.glob("*.claimed")):
         yield claimed, judge, claimed.read_bytes(), wanted_of_claimed(claimed)
 

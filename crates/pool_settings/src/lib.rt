@@ -4,3 +4,6 @@
 mod settings;
 
 pub use settings::Settings;
+
+#[cfg(test)]
+mod tests;
