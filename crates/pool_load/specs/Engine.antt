@@ -25,7 +25,7 @@ module _ {E : Type 0} (settings : E → Settings) (taken told : E → List ℕ) 
 
   -- one turn of the engine, before these bytes
   abbrev pub Turns : Result Turn EngineFault → E → E → List ℕ → List ℕ → List ℕ → Type 0
-  Turns (Ok (Took count)) old new bytes before after = stands new × (count ≤ length bytes) × (taken new ≡ taken old ++ take count bytes) × Tells old new before after
+  Turns (Ok (Took count)) old new bytes before after = stands new × ((0 < count) × (count ≤ length bytes)) × (taken new ≡ taken old ++ take count bytes) × Tells old new before after
   Turns (Ok Unfinished) old new bytes before after = (new ≡ old) × (after ≡ before) × (length bytes < 256) × is_partial bytes
   Turns (Ok Done) old new bytes before after = (taken new ≡ taken old) × Tells old new before after × ((more : List ℕ) → ends new (bytes ++ more) (Ok tt))
   Turns (Err fault) old new bytes before after = (taken new ≡ taken old) × Tells old new before after × ((more : List ℕ) → ends new (bytes ++ more) (Err fault))
