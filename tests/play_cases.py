@@ -1,32 +1,39 @@
 #!/usr/bin/env python3
-"""Plays the cases below the given folders, and compares all that is answered.
+"""Plays the cases below the given folders on the program, and compares all that is answered.
 
-    play_cases.py POOL JUDGE FOLDER..
+    play_cases.py POOL FOLDER..
 
-POOL plays scripts, and JUDGE judges journals, both on standard input.
+- For files NAME.toml and NAME.script `POOL run NAME.toml NAME.script` must write NAME.journal to standard output, and end with
+  status 0 and nothing on standard error; or, where there is a file NAME.err, with status 3 and that line.
+- The journal of such a script must be judged legal by `POOL check`, with the number of its lines, where there is no
+  NAME.err; and where one of its answers is replaced by another, each in its turn, illegal at that position, with the
+  answer that was due.
+- For a file NAME.claimed `POOL check NAME.toml NAME.claimed` must answer what NAME.verdict says: a line with the status,
+  and then what it writes, to standard error where the status is 3, else to standard output.
+- For files NAME.toml and NAME.answer `POOL run` of an empty script with these settings must end with status 0 where the
+  answer is 'ok', and else with status 3 and that line on standard error.
 
-- For a file NAME.script POOL must write NAME.journal to standard output, and end with status 0 and nothing on standard
-  error; or, where there is a file NAME.err, with status 3 and that line.
-- The journal of such a script must be judged legal, with the number of its lines, where there is no NAME.err; and where
-  one of its answers is replaced by another, each in its turn, illegal at that position, with the answer that was due.
-- For a file NAME.claimed JUDGE must answer what NAME.verdict says: a line with the status, and then what it writes, to
-  standard error where the status is 3, else to standard output.
-
-Prints each case that differs, and in the end the line 'N passed, M failed'.
+Journals of more than MOST_CHANGED lines are changed at MOST_CHANGED places only, spread evenly over them. Prints each case
+that differs, and in the end the line 'N passed, M failed'.
 """
 
+import concurrent.futures
+import os
 import pathlib
 import subprocess
 import sys
+
+MOST_CHANGED = 200
+TEXT = "/dev/stdin"
 
 
 def contents(path):
     return path.read_bytes() if path.exists() else b""
 
 
-def play(program, text):
-    """What a program writes to standard output and standard error for a text, and its status."""
-    done = subprocess.run([program], input=text, capture_output=True, timeout=60)
+def play(arguments, text):
+    """What the program writes to standard output and standard error, and its status."""
+    done = subprocess.run(arguments, input=text, capture_output=True, timeout=60)
     return done.stdout, done.stderr, done.returncode
 
 
@@ -40,51 +47,64 @@ def wanted_of_claimed(claimed):
     return (b"", text, 3) if status == b"3" else (text, b"", int(status))
 
 
+def wanted_of_settings(answer):
+    text = answer.read_bytes()
+    return (b"", b"", 0) if text == b"ok\n" else (b"", text, 3)
+
+
 def with_wrong_answers(journal):
-    """The journal with each answer in turn replaced by another, and what must be said of it."""
+    """The journal with one answer replaced by another, at each position in turn, and what must be said of it."""
     lines = journal.splitlines(keepends=True)
-    for position, line in enumerate(lines):
-        asked, _, due = line.rstrip(b"\n").partition(b" = ")
+    for position in range(0, len(lines), max(1, len(lines) // MOST_CHANGED)):
+        asked, _, due = lines[position].rstrip(b"\n").partition(b" = ")
         wrong = b"lent" if due == b"wait" else b"wait"
         changed = lines[:position] + [asked + b" = " + wrong + b"\n"] + lines[position + 1 :]
         yield b"".join(changed), (b"illegal %d %s\n" % (position, due), b"", 1)
 
 
-def cases(pool, judge, folder):
-    """Each case of a folder: its file, the program that plays it, its text, and what is wanted."""
+def cases_of_script(script):
+    settings, wanted = script.with_suffix(".toml"), wanted_of_script(script)
+    yield script, ["run", settings, script], b"", wanted
+    if wanted[2] == 0:
+        journal = script.with_suffix(".journal")
+        legal = b"legal %d\n" % wanted[0].count(b"\n")
+        yield journal, ["check", settings, journal], b"", (legal, b"", 0)
+        for text, verdict in with_wrong_answers(wanted[0]):
+            yield journal, ["check", settings, TEXT], text, verdict
+
+
+def cases(folder):
+    """Each case of a folder: its file, the arguments, what is on standard input, and what is wanted."""
     for script in sorted(folder.glob("*.script")):
-        wanted = wanted_of_script(script)
-        yield script, pool, script.read_bytes(), wanted
-        if wanted[2] == 0:
-            legal = b"legal %d\n" % wanted[0].count(b"\n")
-            journal = script.with_suffix(".journal")
-            yield journal, judge, wanted[0], (legal, b"", 0)
-            for text, verdict in with_wrong_answers(wanted[0]):
-                yield journal, judge, text, verdict
+        yield from cases_of_script(script)
     for claimed in sorted(folder.glob("*.claimed")):
-        yield claimed, judge, claimed.read_bytes(), wanted_of_claimed(claimed)
+        yield claimed, ["check", claimed.with_suffix(".toml"), claimed], b"", wanted_of_claimed(claimed)
+    for answer in sorted(folder.glob("*.answer")):
+        yield answer, ["run", answer.with_suffix(".toml"), "/dev/null"], b"", wanted_of_settings(answer)
 
 
-def main(pool, judge, folders):
+def differences(pool, case):
+    """What is wanted and what is got, for each of the streams and the status that differ."""
+    name, arguments, text, wanted = case
+    got = play([pool, *arguments], text)
+    kinds = zip(("output", "standard error", "status"), wanted, got)
+    return [f"{name}: {kind}: wanted {want!r}, got {have!r}" for kind, want, have in kinds if want != have]
+
+
+def main(pool, folders):
     passed, failed = 0, 0
-    for folder in map(pathlib.Path, folders):
-        played = 0
-        for case, program, text, wanted in cases(pool, judge, folder):
-            played += 1
-            got = play(program, text)
-            if got == wanted:
-                passed += 1
-                continue
-            failed += 1
-            for name, want, have in zip(("output", "standard error", "status"), wanted, got):
-                if want != have:
-                    print(f"{case}: {name}: wanted {want!r}, got {have!r}")
-        if not played:
-            print(f"{folder}: no case")
-            failed += 1
+    with concurrent.futures.ThreadPoolExecutor(os.cpu_count()) as workers:
+        for folder in map(pathlib.Path, folders):
+            found = list(workers.map(lambda case: differences(pool, case), cases(folder)))
+            for difference in (line for lines in found for line in lines):
+                print(difference)
+            if not found:
+                print(f"{folder}: no case")
+            bad = sum(map(bool, found))
+            passed, failed = passed + len(found) - bad, failed + bad + (not found)
     print(f"{passed} passed, {failed} failed")
     return 1 if failed else 0
 
 
 if __name__ == "__main__":
-    sys.exit(main(sys.argv[1], sys.argv[2], sys.argv[3:]))
+    sys.exit(main(sys.argv[1], sys.argv[2:]))

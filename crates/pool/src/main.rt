@@ -1,71 +1,79 @@
-//! The program: plays a script on a pool, and writes its journal.
+//! The program: plays scripts on a pool, and judges journals.
 //!
-//! It reads the script from standard input, and writes to standard output. The status is 0 where the whole
-//! script was played, 2 where there are arguments, and 3 at a fault, which is told in one line on
-//! standard error.
+//! Without arguments it plays standard input with the default settings; `run SETTINGS SCRIPT` plays a
+//! file, and `check SETTINGS JOURNAL` judges one. It writes to standard output. The status is 0 where all
+//! went well, 1 for a journal that isn't legal, 2 for any other arguments, and 3 at a fault; what is
+//! wrong is told in one line on standard error.
 #![tactic(auto)]
 
-use pool_load::{EngineFault, run};
+mod arguments;
+mod fault;
+
+use arguments::{Task, task_of};
+use fault::Fault;
+use pool_load::{check, read_settings, run};
 use pool_settings::Settings;
-use std::alloc::Global;
-use std::env;
-use std::io::{Error, ErrorKind};
+use std::fs::File;
 use std::process::ExitCode;
-use std::rt::Env;
 
-const WRONG_ARGUMENTS: u8 = 2;
+const ILLEGAL: u8 = 1;
 
-const FAULT: u8 = 3;
-
-/// What the arguments ask for.
-enum Task {
-    /// To play standard input with the default settings.
-    Run,
-    /// What the program can't do.
-    Unknown,
-}
-
-/// Reads the arguments. Those that aren't text ask for nothing that the program can do.
-fn task_of<R: Env + AllocGlobal>(rt: &R) -> Result<Task, EngineFault> {
-    let arguments = match env::args(rt) {
-        Ok(arguments) => arguments,
-        Err(fault) => return of_unread(&fault),
+fn main(rt: HostRuntime) -> ExitCode {
+    let ended = match task_of(&rt) {
+        Ok(task) => perform(&rt, task),
+        Err(fault) => Err(fault),
     };
-    match arguments.count() {
-        0 | 1 => Ok(Task::Run),
-        _ => Ok(Task::Unknown),
+    match ended {
+        Ok(code) => code,
+        Err(fault) => tell(&rt, &fault),
     }
 }
 
-fn of_unread(fault: &Error) -> Result<Task, EngineFault> {
-    match fault.kind() {
-        ErrorKind::OutOfMemory => Err(EngineFault::OutOfMemory),
-        _ => Ok(Task::Unknown),
+fn perform(rt: &HostRuntime, task: Task) -> Result<ExitCode, Fault> {
+    match task {
+        Task::RunInput => run_input(rt),
+        Task::Run { settings, script } => run_script(rt, settings, script),
+        Task::Check { settings, journal } => check_journal(rt, settings, journal),
     }
 }
 
-fn play(rt: &HostRuntime) -> ExitCode {
-    let mut input = rt.stdin();
-    let mut output = rt.stdout();
-    match run(rt.alloc(), Settings::default(), &mut input, &mut output) {
-        Ok(_) => ExitCode::SUCCESS,
-        Err(fault) => tell(rt, &fault),
+fn run_input(rt: &HostRuntime) -> Result<ExitCode, Fault> {
+    let settings = Settings::default();
+    run(rt.alloc(), settings, &mut rt.stdin(), &mut rt.stdout())?;
+    Ok(ExitCode::SUCCESS)
+}
+
+fn run_script(rt: &HostRuntime, settings: String, script: String) -> Result<ExitCode, Fault> {
+    let settings = settings_in(rt, settings)?;
+    let mut script = open(rt, script)?;
+    run(rt.alloc(), settings, &mut script, &mut rt.stdout())?;
+    Ok(ExitCode::SUCCESS)
+}
+
+fn check_journal(rt: &HostRuntime, settings: String, journal: String) -> Result<ExitCode, Fault> {
+    let settings = settings_in(rt, settings)?;
+    let mut journal = open(rt, journal)?;
+    if check(rt.alloc(), settings, &mut journal, &mut rt.stdout())? {
+        Ok(ExitCode::SUCCESS)
+    } else {
+        Ok(ExitCode::from(ILLEGAL))
+    }
+}
+
+fn settings_in(rt: &HostRuntime, path: String) -> Result<Settings, Fault> {
+    let mut file = open(rt, path)?;
+    Ok(read_settings(rt.alloc(), &mut file)?)
+}
+
+fn open(rt: &HostRuntime, path: String) -> Result<File, Fault> {
+    match File::open(rt, path.as_str()) {
+        Ok(file) => Ok(file),
+        Err(cause) => Err(Fault::of_unopened(path, &cause)),
     }
 }
 
 /// Says the fault on standard error. Where that fails too, the status alone tells of it.
-fn tell(rt: &HostRuntime, fault: &EngineFault) -> ExitCode {
+fn tell(rt: &HostRuntime, fault: &Fault) -> ExitCode {
     let _ = eprintln!(rt; "{fault}");
-    ExitCode::from(FAULT)
-}
-
-fn main(rt: HostRuntime) -> ExitCode {
-    match task_of(&rt) {
-        Ok(Task::Run) => play(&rt),
-        Ok(Task::Unknown) => {
-            let _ = eprintln!(rt; "pool: wrong arguments");
-            ExitCode::from(WRONG_ARGUMENTS)
-        }
-        Err(fault) => tell(&rt, &fault),
-    }
+    ExitCode::from(fault.status())
 }

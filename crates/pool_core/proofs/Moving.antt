@@ -1,99 +1,224 @@
--- Which inputs have an answer that takes an object from the queue, or makes one.
-use Rattle.std.proofs.Common.{◌≡◌, ℕ, Bool, true, false, List, length, Option, Some, None, refl, ap, sym}
-use Rattle.pool_journal.specs.Journal.{is_borrow}
-use Rattle.pool_journal.specs.Queue.{record_in, queue_length}
-use Rattle.pool_journal.specs.declared.record.Record.{Record}
-use Rattle.pool_journal.specs.declared.record.Phase.{Phase}
-use Rattle.pool_journal.specs.declared.record.Phase.TheVariants as phases
+-- What each change of the records is, as the step that its answer tells.
+use Rattle.std.proofs.Common.{◌≡◌, ℕ, ◌<◌, ◌==◌, Bool, true, false, not, cond, if◌then◌else◌, List, [], ◌∷◌, ◌++◌, map, Some, refl}
+use Rattle.std.proofs.Common.{ap, sym, ◌∙◌, arith}
+use Rattle.std.specs.Prelude.{filter, IsSome}
+use Rattle.std.specs.List.{AllByRecursion}
+use Rattle.std.proofs.lemmas.List.{append-nil}
+use Rattle.std.proofs.lemmas.Bool.Decides.{nat_tests}
+use Rattle.pool_journal.specs.Journal.{is_borrow, id_of, made_to, is_make_answer}
 use Rattle.pool_journal.specs.declared.input.Input.{Input}
-use Rattle.pool_journal.specs.declared.input.Input.TheVariants.{Borrow, Ready, GiveBack, Park, Destroyed}
-use Rattle.pool_journal.specs.declared.input.Outcome.{Outcome}
-use Rattle.pool_journal.specs.declared.input.Outcome.TheVariants as outcomes
+use Rattle.pool_journal.specs.declared.input.Input.TheVariants.{Borrow, Add, Fill}
 use Rattle.pool_journal.specs.declared.answer.Answer.{Answer}
 use Rattle.pool_journal.specs.declared.answer.Answer.TheVariants as answers
-use Rattle.pool_settings.specs.declared.settings.Settings.{Settings}
-use Rattle.pool_core.specs.Reply.{is_below, choice, borrow_reply, readying_reply, ready_reply, give_back_reply, returning_reply, park_reply, destroyed_reply}
-use Rattle.pool_core.specs.Table.{phase_of, new_of, table}
+use Rattle.pool_journal.specs.declared.record.Phase.{Phase}
+use Rattle.pool_journal.specs.declared.record.Phase.TheVariants as phases
+use Rattle.pool_journal.specs.Reaches.{blank}
+use Rattle.pool_journal.specs.declared.entry.Entry.{Entry}
+use Rattle.pool_journal.specs.declared.record.Record.{Record}
+use Rattle.pool_journal.specs.OneMore.{touched, stays, stepped}
+use Rattle.pool_places.specs.Changes.{with_changed, without_id, new_record, phase_set, lent_at, used_at, parked_at}
+use Rattle.pool_core.specs.Legal.{entry_of}
+use Rattle.pool_core.specs.Steps.{AllStay, known_after}
+use Rattle.pool_core.specs.declared.state.Moment.{Moment}
 
--- the answer names an object that the input doesn't name
-abbrev picks : Answer → Bool
-picks (answers.Take i) = true
-picks (answers.Make i) = true
-picks _ = false
+-- an entry that draws nothing leaves of the records what stays
+stepped_old : (k : ℕ) (e : Entry) (next : ℕ) (rs : List Record) → is_make_answer e.answer ≡ false
+    → stepped k e next rs ≡ filter stays (map (touched k e) rs)
+stepped_old k e next rs no_make =
+    ap (λ (b : Bool). filter stays (map (touched k e) rs) ++ (if b then touched k e (blank next) ∷ [] else [])) no_make
+    ∙ append-nil (filter stays (map (touched k e) rs))
 
-readying_picks : (new : Bool) (o : Outcome) → picks (readying_reply new o) ≡ false
-readying_picks true outcomes.Good = refl
-readying_picks true outcomes.MakeFailed = refl
-readying_picks true outcomes.CreateTestFailed = refl
-readying_picks true outcomes.ActivateFailed = refl
-readying_picks true outcomes.TestFailed = refl
-readying_picks true outcomes.PassivateFailed = refl
-readying_picks false outcomes.Good = refl
-readying_picks false outcomes.MakeFailed = refl
-readying_picks false outcomes.CreateTestFailed = refl
-readying_picks false outcomes.ActivateFailed = refl
-readying_picks false outcomes.TestFailed = refl
-readying_picks false outcomes.PassivateFailed = refl
+-- objects that stay
+stays_map : (t : Record → Record) → ((r : Record) → stays r ≡ true → stays (t r) ≡ true) → (rs : List Record) → AllStay rs
+    → filter stays (map t rs) ≡ map t rs
+stays_map t keeps [] all = refl
+stays_map t keeps (r ∷ rs) all = rw (keeps r all.0) (ap (λ ks. t r ∷ ks) (stays_map t keeps rs all.1))
 
-ready_picks : (p : Phase) (new : Bool) (o : Outcome) → picks (ready_reply p new o) ≡ false
-ready_picks phases.Readying new o = readying_picks new o
-ready_picks _ new o = refl
+kept_map : (k : ℕ) (e : Entry) (next : ℕ) (t : Record → Record) (rs : List Record) → is_make_answer e.answer ≡ false
+    → ((r : Record) → touched k e r ≡ t r) → ((r : Record) → stays r ≡ true → stays (t r) ≡ true) → AllStay rs
+    → stepped k e next rs ≡ map t rs
+kept_map k e next t rs no_make told keeps all =
+    stepped_old k e next rs no_make ∙ ap (λ (f : Record → Record). filter stays (map f rs)) (λ x r. told r x)
+    ∙ stays_map t keeps rs all
 
-give_back_picks : (p : Phase) → picks (give_back_reply p) ≡ false
-give_back_picks phases.Lent = refl
-give_back_picks _ = refl
+map_same : (rs : List Record) → map (λ (r : Record). r) rs ≡ rs
+map_same [] = refl
+map_same (r ∷ rs) = ap (λ ks. r ∷ ks) (map_same rs)
 
-returning_picks : (o : Outcome) (room : Bool) → picks (returning_reply o room) ≡ false
-returning_picks outcomes.Good true = refl
-returning_picks outcomes.Good false = refl
-returning_picks outcomes.TestFailed room = refl
-returning_picks outcomes.PassivateFailed room = refl
-returning_picks _ room = refl
+-- an entry that says nothing
+stepped_silent : (k : ℕ) (e : Entry) (next : ℕ) (rs : List Record) → is_make_answer e.answer ≡ false
+    → ((r : Record) → touched k e r ≡ r) → AllStay rs → stepped k e next rs ≡ rs
+stepped_silent k e next rs no_make told all = kept_map k e next (λ r. r) rs no_make told (λ r is. is) all ∙ map_same rs
 
-park_picks : (p : Phase) (o : Outcome) (room : Bool) → picks (park_reply p o room) ≡ false
-park_picks phases.Returning o room = returning_picks o room
-park_picks _ o room = refl
+-- an entry that changes the object i
+stepped_changed : (k : ℕ) (e : Entry) (next i : ℕ) (t : Record → Record) (rs : List Record) → is_make_answer e.answer ≡ false
+    → ((r : Record) → (i == r.id) ≡ true → touched k e r ≡ t r) → ((r : Record) → (i == r.id) ≡ false → touched k e r ≡ r)
+    → ((r : Record) → stays r ≡ true → stays (t r) ≡ true) → AllStay rs → with_changed i t rs ≡ stepped k e next rs
+stepped_changed k e next i t rs no_make changes stay comes all =
+    sym
+    (kept_map k e next (λ r. if i == r.id then t r else r) rs no_make (λ r. told (i == r.id) r refl)
+    (λ r here. either (i == r.id) r here) all)
+  where
+    told : (b : Bool) (r : Record) → (i == r.id) ≡ b → touched k e r ≡ (if b then t r else r)
+    told true r is = changes r is
+    told false r is = stay r is
 
-destroyed_picks : (p : Phase) → picks (destroyed_reply p) ≡ false
-destroyed_picks phases.Destroying = refl
-destroyed_picks _ = refl
+    either : (b : Bool) (r : Record) → stays r ≡ true → stays (if b then t r else r) ≡ true
+    either true r here = comes r here
+    either false r here = here
 
--- only a borrow takes or makes an object
-pub picks_borrow : (S : Settings) (rs : List Record) (next at : ℕ) (input : Input) → picks (table S rs next at input) ≡ true → is_borrow input ≡ true
-picks_borrow S rs next at (Borrow began) picks = refl
-picks_borrow S rs next at (Ready i o) picks = absurd (cc (picks, ready_picks (phase_of (record_in rs i)) (new_of (record_in rs i)) o))
-picks_borrow S rs next at (GiveBack i) picks = absurd (cc (picks, give_back_picks (phase_of (record_in rs i))))
-picks_borrow S rs next at (Park i o) picks = absurd (cc (picks, park_picks (phase_of (record_in rs i)) o (is_below S.max_idle (queue_length rs))))
-picks_borrow S rs next at (Destroyed i) picks = absurd (cc (picks, destroyed_picks (phase_of (record_in rs i))))
+-- an entry by which the object i leaves
+stepped_without : (k : ℕ) (e : Entry) (next i : ℕ) (rs : List Record) → is_make_answer e.answer ≡ false
+    → ((r : Record) → (i == r.id) ≡ true → stays (touched k e r) ≡ false)
+    → ((r : Record) → (i == r.id) ≡ false → touched k e r ≡ r) → AllStay rs → without_id i rs ≡ stepped k e next rs
+stepped_without k e next i rs no_make leaves stay all = along rs all ∙ sym (stepped_old k e next rs no_make)
+  where
+    by_test : (r : Record) (ks : List Record) (b : Bool) → (i == r.id) ≡ b → stays r ≡ true
+        → without_id i ks ≡ filter stays (map (touched k e) ks)
+        → cond (not b) (r ∷ without_id i ks) (without_id i ks) ≡ filter stays (map (touched k e) (r ∷ ks))
+    by_test r ks true is here later = rw (leaves r is) later
+    by_test r ks false is here later = rw (ap stays (stay r is) ∙ here, stay r is) (ap (λ ls. r ∷ ls) later)
 
-pub take_borrows : (S : Settings) (rs : List Record) (next at : ℕ) (input : Input) (i : ℕ) → answers.Take i ≡ table S rs next at input → is_borrow input ≡ true
-take_borrows S rs next at input i due = picks_borrow S rs next at input (ap picks (sym due))
+    along : (ks : List Record) → AllStay ks → without_id i ks ≡ filter stays (map (touched k e) ks)
+    along [] all = refl
+    along (r ∷ ks) all = by_test r ks (i == r.id) refl all.0 (along ks all.1)
 
-pub make_borrows : (S : Settings) (rs : List Record) (next at : ℕ) (input : Input) (i : ℕ) → answers.Make i ≡ table S rs next at input → is_borrow input ≡ true
-make_borrows S rs next at input i due = picks_borrow S rs next at input (ap picks (sym due))
+-- an entry that draws the next object
+stepped_drawn : (k : ℕ) (e : Entry) (next : ℕ) (new : Record) (rs : List Record) → is_make_answer e.answer ≡ true
+    → touched k e (blank next) ≡ new → ((r : Record) → r.id < next → touched k e r ≡ r)
+    → AllByRecursion (λ r. r.id < next) rs → AllStay rs → rs ++ new ∷ [] ≡ stepped k e next rs
+stepped_drawn k e next new rs makes is stay below all = rw (← is, makes, same rs below all) refl
+  where
+    same : (ks : List Record) → AllByRecursion (λ r. r.id < next) ks → AllStay ks → filter stays (map (touched k e) ks) ≡ ks
+    same [] below all = refl
+    same (r ∷ ks) below all = rw (ap stays (stay r below.0) ∙ all.0, stay r below.0) (ap (λ ls. r ∷ ls) (same ks below.1 all.1))
 
-borrow_takes : (o : Option ℕ) (room : Bool) (next i : ℕ) → answers.Take i ≡ borrow_reply o room next → o ≡ Some i
-borrow_takes (Some j) room next i due = cc due
-borrow_takes None true next i due = absurd (cc due)
-borrow_takes None false next i due = absurd (cc due)
+-- the object i changes by the answer
+changed : (now : Moment) (next i : ℕ) (input : Input) (rs : List Record) (t : Record → Record) (a : Answer)
+    → is_make_answer a ≡ false → ((r : Record) → (i == r.id) ≡ true → touched now.position (entry_of 0 now.at input a) r ≡ t r)
+    → ((r : Record) → (i == r.id) ≡ false → touched now.position (entry_of 0 now.at input a) r ≡ r)
+    → ((r : Record) → stays r ≡ true → stays (t r) ≡ true) → AllStay rs → with_changed i t rs ≡ known_after now input a next rs
+changed now next i input rs t a no_make changes stay comes all =
+    stepped_changed now.position (entry_of 0 now.at input a) next i t rs no_make changes stay comes all
 
--- what is taken is the object that is chosen
-pub take_chosen : (S : Settings) (rs : List Record) (next at : ℕ) (input : Input) (i : ℕ) → answers.Take i ≡ table S rs next at input → choice S.lifo rs ≡ Some i
-take_chosen S rs next at (Borrow began) i due = borrow_takes (choice S.lifo rs) (is_below S.max_total (length rs)) next i due
-take_chosen S rs next at (Ready j o) i due = absurd (cc (take_borrows S rs next at (Ready j o) i due))
-take_chosen S rs next at (GiveBack j) i due = absurd (cc (take_borrows S rs next at (GiveBack j) i due))
-take_chosen S rs next at (Park j o) i due = absurd (cc (take_borrows S rs next at (Park j o) i due))
-take_chosen S rs next at (Destroyed j) i due = absurd (cc (take_borrows S rs next at (Destroyed j) i due))
+-- each change of the records is the step that its answer tells
+pub lent_known : (now : Moment) (next i : ℕ) (input : Input) (rs : List Record) → id_of input ≡ Some i → AllStay rs
+    → with_changed i (lent_at now.at) rs ≡ known_after now input answers.Lent next rs
+lent_known now next i input rs named all =
+    changed now next i input rs (lent_at now.at) answers.Lent refl
+    (λ r is. rw (named, is) refl) (λ r is. rw (named, is) refl) (λ r here. refl) all
 
-borrow_makes : (o : Option ℕ) (room : Bool) (next i : ℕ) → answers.Make i ≡ borrow_reply o room next → i ≡ next
-borrow_makes (Some j) room next i due = absurd (cc due)
-borrow_makes None true next i due = cc due
-borrow_makes None false next i due = absurd (cc due)
+pub noted_known : (now : Moment) (next i : ℕ) (input : Input) (rs : List Record) → id_of input ≡ Some i → AllStay rs
+    → with_changed i (used_at now.at) rs ≡ known_after now input answers.Noted next rs
+noted_known now next i input rs named all =
+    changed now next i input rs (used_at now.at) answers.Noted refl
+    (λ r is. rw (named, is) refl) (λ r is. rw (named, is) refl) (λ r here. here) all
 
--- what is made has the next id
-pub make_next : (S : Settings) (rs : List Record) (next at : ℕ) (input : Input) (i : ℕ) → answers.Make i ≡ table S rs next at input → i ≡ next
-make_next S rs next at (Borrow began) i due = borrow_makes (choice S.lifo rs) (is_below S.max_total (length rs)) next i due
-make_next S rs next at (Ready j o) i due = absurd (cc (make_borrows S rs next at (Ready j o) i due))
-make_next S rs next at (GiveBack j) i due = absurd (cc (make_borrows S rs next at (GiveBack j) i due))
-make_next S rs next at (Park j o) i due = absurd (cc (make_borrows S rs next at (Park j o) i due))
-make_next S rs next at (Destroyed j) i due = absurd (cc (make_borrows S rs next at (Destroyed j) i due))
+pub check_known : (now : Moment) (next i : ℕ) (input : Input) (rs : List Record) → id_of input ≡ Some i → AllStay rs
+    → with_changed i (phase_set phases.Returning) rs ≡ known_after now input answers.Check next rs
+check_known now next i input rs named all =
+    changed now next i input rs (phase_set phases.Returning) answers.Check refl
+    (λ r is. rw (named, is) refl) (λ r is. rw (named, is) refl) (λ r here. refl) all
+
+pub destroy_known : (now : Moment) (next i : ℕ) (input : Input) (rs : List Record) → id_of input ≡ Some i → AllStay rs
+    → with_changed i (phase_set phases.Destroying) rs ≡ known_after now input answers.Destroy next rs
+destroy_known now next i input rs named all =
+    changed now next i input rs (phase_set phases.Destroying) answers.Destroy refl
+    (λ r is. rw (named, is) refl) (λ r is. rw (named, is) refl) (λ r here. refl) all
+
+pub parked_known : (now : Moment) (next i : ℕ) (input : Input) (rs : List Record) → id_of input ≡ Some i → AllStay rs
+    → with_changed i (parked_at now.position now.at) rs ≡ known_after now input answers.Parked next rs
+parked_known now next i input rs named all =
+    changed now next i input rs (parked_at now.position now.at) answers.Parked refl
+    (λ r is. rw (named, is) refl) (λ r is. rw (named, is) refl) (λ r here. refl) all
+
+pub kept_known : (now : Moment) (next i : ℕ) (input : Input) (rs : List Record) → id_of input ≡ Some i → AllStay rs
+    → with_changed i (phase_set phases.Idle) rs ≡ known_after now input answers.Kept next rs
+kept_known now next i input rs named all =
+    changed now next i input rs (phase_set phases.Idle) answers.Kept refl
+    (λ r is. rw (named, is) refl) (λ r is. rw (named, is) refl) (λ r here. refl) all
+
+pub taken_known : (now : Moment) (next i : ℕ) (input : Input) (rs : List Record) → is_borrow input ≡ true → AllStay rs
+    → with_changed i (phase_set phases.Readying) rs ≡ known_after now input (answers.Take i) next rs
+taken_known now next i input rs borrows all =
+    changed now next i input rs (phase_set phases.Readying) (answers.Take i) refl
+    (λ r is. rw (borrows, is) refl) (λ r is. rw (borrows, is) refl) (λ r here. refl) all
+
+pub test_known : (now : Moment) (next i : ℕ) (input : Input) (rs : List Record) → AllStay rs
+    → with_changed i (phase_set phases.Testing) rs ≡ known_after now input (answers.Test i) next rs
+test_known now next i input rs all =
+    changed now next i input rs (phase_set phases.Testing) (answers.Test i) refl
+    (λ r is. rw is refl) (λ r is. rw is refl) (λ r here. refl) all
+
+pub destroy_idle_known : (now : Moment) (next i : ℕ) (input : Input) (rs : List Record) → AllStay rs
+    → with_changed i (phase_set phases.Destroying) rs ≡ known_after now input (answers.DestroyIdle i) next rs
+destroy_idle_known now next i input rs all =
+    changed now next i input rs (phase_set phases.Destroying) (answers.DestroyIdle i) refl
+    (λ r is. rw is refl) (λ r is. rw is refl) (λ r here. refl) all
+
+pub freed_known : (now : Moment) (next i : ℕ) (input : Input) (rs : List Record) → id_of input ≡ Some i → AllStay rs
+    → without_id i rs ≡ known_after now input answers.Freed next rs
+freed_known now next i input rs named all =
+    stepped_without now.position (entry_of 0 now.at input answers.Freed) next i rs refl
+    (λ r is. rw (named, is) refl) (λ r is. rw (named, is) refl) all
+
+pub reclaimed_known : (now : Moment) (next i : ℕ) (input : Input) (rs : List Record) → AllStay rs
+    → without_id i rs ≡ known_after now input (answers.Reclaimed i) next rs
+reclaimed_known now next i input rs all =
+    stepped_without now.position (entry_of 0 now.at input (answers.Reclaimed i)) next i rs refl
+    (λ r is. rw is refl) (λ r is. rw is refl) all
+
+-- where an object is made for an input, it is for a borrow or for the queue
+abbrev pub made_as : Input → Phase
+made_as input = if is_borrow input then phases.Readying else phases.Adding
+
+pub made_to_is : (input : Input) (i : ℕ) → IsSome (made_to input i) → made_to input i ≡ Some (i, made_as input)
+made_to_is (Borrow began) i is = refl
+made_to_is Add i is = refl
+made_to_is Fill i is = refl
+made_to_is _ i is = absurd (cc is)
+
+pub made_known : (now : Moment) (next : ℕ) (input : Input) (rs : List Record) → IsSome (made_to input next)
+    → AllByRecursion (λ r. r.id < next) rs → AllStay rs
+    → rs ++ new_record next (made_as input) ∷ [] ≡ known_after now input (answers.Make next) next rs
+made_known now next input rs makes below all =
+    let to = made_to_is input next makes in
+    let here : (next == next) ≡ true = grind (arith, nat_tests) in
+    stepped_drawn now.position (entry_of 0 now.at input (answers.Make next)) next (new_record next (made_as input)) rs refl
+    (rw (to, here) refl)
+    (λ r lt. let differs : (next == r.id) ≡ false = grind (arith, nat_tests) in rw (to, differs) refl) below all
+
+-- answers that say nothing of any object
+abbrev pub is_silent : Answer → Bool
+is_silent answers.Wait = true
+is_silent answers.Exhausted = true
+is_silent answers.TimedOut = true
+is_silent (answers.KeptIdle i) = true
+is_silent answers.Gone = true
+is_silent (answers.Count n) = true
+is_silent answers.Nothing = true
+is_silent answers.Enough = true
+is_silent answers.NoPlace = true
+is_silent (answers.Refused cause) = true
+is_silent _ = false
+
+unchanged : (now : Moment) (next : ℕ) (input : Input) (rs : List Record) (a : Answer) → is_make_answer a ≡ false
+    → ((r : Record) → touched now.position (entry_of 0 now.at input a) r ≡ r) → AllStay rs → rs ≡ known_after now input a next rs
+unchanged now next input rs a no_make told all =
+    sym (stepped_silent now.position (entry_of 0 now.at input a) next rs no_make told all)
+
+pub silent_known : (now : Moment) (next : ℕ) (input : Input) (rs : List Record) → AllStay rs → (a : Answer) → is_silent a ≡ true
+    → rs ≡ known_after now input a next rs
+silent_known now next input rs all answers.Wait silent = unchanged now next input rs answers.Wait refl (λ r. refl) all
+silent_known now next input rs all answers.Exhausted silent = unchanged now next input rs answers.Exhausted refl (λ r. refl) all
+silent_known now next input rs all answers.TimedOut silent = unchanged now next input rs answers.TimedOut refl (λ r. refl) all
+silent_known now next input rs all (answers.KeptIdle i) silent =
+    unchanged now next input rs (answers.KeptIdle i) refl (λ r. refl) all
+silent_known now next input rs all answers.Gone silent = unchanged now next input rs answers.Gone refl (λ r. refl) all
+silent_known now next input rs all (answers.Count n) silent = unchanged now next input rs (answers.Count n) refl (λ r. refl) all
+silent_known now next input rs all answers.Nothing silent = unchanged now next input rs answers.Nothing refl (λ r. refl) all
+silent_known now next input rs all answers.Enough silent = unchanged now next input rs answers.Enough refl (λ r. refl) all
+silent_known now next input rs all answers.NoPlace silent = unchanged now next input rs answers.NoPlace refl (λ r. refl) all
+silent_known now next input rs all (answers.Refused cause) silent =
+    unchanged now next input rs (answers.Refused cause) refl (λ r. refl) all
+silent_known now next input rs all _ silent = absurd (cc silent)

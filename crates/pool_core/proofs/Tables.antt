@@ -1,20 +1,24 @@
 -- The records that a journal comes to give the answers that are due.
-use Rattle.std.proofs.Common.{◌≡◌, ℕ, Bool, false, List, length, Option, Some, None, refl, ap, sym, ◌∙◌, inl, inr}
-use Rattle.std.specs.Prelude.{◌⊎◌}
+use Rattle.std.proofs.Common.{◌≡◌, ℕ, Bool, true, false, List, length, Option, Some, None, refl, ap, sym, ◌∙◌, inl, inr}
+use Rattle.std.specs.Prelude.{◌⊎◌, not}
 use Rattle.std.proofs.lemmas.Bool.{cases_lt}
 use Rattle.std.proofs.lemmas.List.{length-map}
-use Rattle.pool_journal.specs.Journal.{phase, is_new, drawn, is_present, present, record_of, records}
-use Rattle.pool_journal.specs.Queue.{record_in, queue_length}
+use Rattle.pool_journal.specs.Journal.{phase, is_new, drawn, is_present, present, record_of, records, closed, cursor}
+use Rattle.pool_journal.specs.Queue.{record_in}
 use Rattle.pool_journal.specs.Reaches.{Reaches}
 use Rattle.pool_journal.specs.declared.entry.Entry.{Entry}
 use Rattle.pool_journal.specs.declared.record.Record.{Record}
 use Rattle.pool_journal.specs.declared.input.Input.{Input}
-use Rattle.pool_journal.specs.declared.input.Input.TheVariants.{Borrow, Ready, GiveBack, Park, Destroyed}
+use Rattle.pool_journal.specs.declared.input.Input.TheVariants.{Borrow, Ready, GiveBack, Park, Invalidate, Use, Add, Fill, Added}
+use Rattle.pool_journal.specs.declared.input.Input.TheVariants.{Evict, EvictNext, Tested, Reclaim, ReclaimNext, Clear, ClearNext}
+use Rattle.pool_journal.specs.declared.input.Input.TheVariants.{Destroyed, Close}
+use Rattle.pool_journal.specs.declared.answer.Answer.{Answer}
+use Rattle.pool_journal.specs.declared.answer.Answer.TheVariants as answers
 use Rattle.pool_journal.specs.declared.record.Phase.{Phase}
 use Rattle.pool_journal.specs.declared.record.Phase.TheVariants as phases
 use Rattle.pool_journal.proofs.Found.{found, not_found}
 use Rattle.pool_settings.specs.declared.settings.Settings.{Settings}
-use Rattle.pool_core.specs.Reply.{reply, is_below, choice, borrow_reply, ready_reply, give_back_reply, park_reply, destroyed_reply}
+use Rattle.pool_core.specs.Reply.{reply, has_room, ready_reply, lent_reply, park_reply, added_reply, tested_reply, destroyed_reply}
 use Rattle.pool_core.specs.Table.{phase_of, new_of, table}
 
 -- an object that is not present is absent or gone
@@ -54,15 +58,38 @@ pub length-records : (J : List Entry) → length (records J) ≡ length (present
 unfolding records
 length-records J = length-map (present J) (record_of J)
 
-pub reply_is : (S : Settings) (J : List Entry) (rs : List Record) (next : ℕ) → Reaches J rs next → (at : ℕ) (input : Input) → reply S J at input ≡ table S rs next at input
-reply_is S J rs next reaches at (Borrow began) =
-    let room : length (present J) ≡ length rs = sym (length-records J) ∙ ap length (sym reaches.shown) in
-    ap (λ (ks : List Record). borrow_reply (choice S.lifo ks) (is_below S.max_total (length (present J))) (drawn J)) (sym reaches.shown)
-    ∙ ap (λ (n : ℕ). borrow_reply (choice S.lifo rs) (is_below S.max_total n) (drawn J)) room
-    ∙ ap (λ (n : ℕ). borrow_reply (choice S.lifo rs) (is_below S.max_total (length rs)) n) (sym reaches.next_is)
+-- the same of what is asked of a lent object
+lent_is : (S : Settings) (J : List Entry) (rs : List Record) (next : ℕ) → Reaches J rs next → (i : ℕ) (a : Answer)
+    → lent_reply S.abandoned (phase i J) a ≡ lent_reply S.abandoned (phase_of (record_in rs i)) a
+lent_is S J rs next reaches i a =
+    asks J rs next reaches i (λ p new. lent_reply S.abandoned p a) (λ new. refl) (λ new. gone S.abandoned)
+  where
+    gone : (b : Bool) → lent_reply b phases.Gone a ≡ lent_reply b phases.Absent a
+    gone true = refl
+    gone false = refl
+
+-- the table gives the answer that is due
+pub reply_is : (S : Settings) (J : List Entry) (rs : List Record) (next : ℕ) → Reaches J rs next → (at : ℕ) (input : Input)
+    → reply S J at input ≡ table S rs next (closed J) (cursor J) at input
 reply_is S J rs next reaches at (Ready i o) = asks J rs next reaches i (λ p new. ready_reply p new o) (λ new. refl) (λ new. refl)
-reply_is S J rs next reaches at (GiveBack i) = asks J rs next reaches i (λ p new. give_back_reply p) (λ new. refl) (λ new. refl)
+reply_is S J rs next reaches at (GiveBack i) = lent_is S J rs next reaches i answers.Check
+reply_is S J rs next reaches at (Invalidate i) = lent_is S J rs next reaches i answers.Destroy
+reply_is S J rs next reaches at (Use i) = lent_is S J rs next reaches i answers.Noted
 reply_is S J rs next reaches at (Park i o) =
-    asks J rs next reaches i (λ p new. park_reply p o (is_below S.max_idle (queue_length (records J)))) (λ new. refl) (λ new. refl)
-    ∙ ap (λ (ks : List Record). park_reply (phase_of (record_in rs i)) o (is_below S.max_idle (queue_length ks))) (sym reaches.shown)
+    asks J rs next reaches i (λ p new. park_reply p o (has_room S (closed J) (records J))) (λ new. refl) (λ new. refl)
+    ∙ ap (λ (ks : List Record). park_reply (phase_of (record_in rs i)) o (has_room S (closed J) ks)) (sym reaches.shown)
+reply_is S J rs next reaches at (Added i o) =
+    asks J rs next reaches i (λ p new. added_reply p o (not (closed J))) (λ new. refl) (λ new. refl)
+reply_is S J rs next reaches at (Tested i o) =
+    asks J rs next reaches i (λ p new. tested_reply p o (not (closed J))) (λ new. refl) (λ new. refl)
 reply_is S J rs next reaches at (Destroyed i) = asks J rs next reaches i (λ p new. destroyed_reply p) (λ new. refl) (λ new. refl)
+reply_is S J rs next reaches at (Borrow began) = rw (← (length-records J), ← reaches.shown, ← reaches.next_is) refl
+reply_is S J rs next reaches at Add = rw (← (length-records J), ← reaches.shown, ← reaches.next_is) refl
+reply_is S J rs next reaches at Fill = rw (← (length-records J), ← reaches.shown, ← reaches.next_is) refl
+reply_is S J rs next reaches at Evict = rw (← reaches.shown) refl
+reply_is S J rs next reaches at EvictNext = rw (← reaches.shown) refl
+reply_is S J rs next reaches at (Reclaim on) = rw (← reaches.shown) refl
+reply_is S J rs next reaches at ReclaimNext = rw (← reaches.shown) refl
+reply_is S J rs next reaches at Clear = rw (← reaches.shown) refl
+reply_is S J rs next reaches at ClearNext = rw (← reaches.shown) refl
+reply_is S J rs next reaches at Close = rw (← reaches.shown) refl

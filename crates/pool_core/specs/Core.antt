@@ -11,7 +11,8 @@ use Rattle.pool_core.specs.Kept.{Hands}
 use Rattle.pool_core.specs.Pool.{Pool}
 
 -- the new pool has one entry more, which fits and has the answer that is due
-pub record Answered {T : Type 0} (caller at : ℕ) (input : Input) (handed : Option T) (old new : Pool T) (answer : Answer) (out : Option T) : Type 0 where
+pub record Answered {T : Type 0} (caller at : ℕ) (input : Input) (handed : Option T) (old new : Pool T) (answer : Answer)
+    (out : Option T) : Type 0 where
   pub due : answer ≡ reply old.settings old.journal at input
   pub appended : new.journal ≡ old.journal ++ entry_due old.settings old.journal caller at input ∷ []
   pub fits : Fits old.settings new.journal
@@ -20,5 +21,7 @@ pub record Answered {T : Type 0} (caller at : ℕ) (input : Input) (handed : Opt
 
 -- the journal is full exactly where the entry that is due doesn't fit, and what was handed in comes back
 abbrev pub Faulted : {T : Type 0} → ℕ → ℕ → Input → Option T → Pool T → StepFault T → Type 0
-Faulted caller at input handed old (JournalFull out) = IsTooLong old.settings (old.journal ++ entry_due old.settings old.journal caller at input ∷ []) × (out ≡ handed)
-Faulted caller at input handed old (OutOfMemory out) = Fits old.settings (old.journal ++ entry_due old.settings old.journal caller at input ∷ []) × (out ≡ handed)
+Faulted caller at input handed old (JournalFull out) =
+    IsTooLong old.settings (old.journal ++ entry_due old.settings old.journal caller at input ∷ []) × (out ≡ handed)
+Faulted caller at input handed old (OutOfMemory out) =
+    Fits old.settings (old.journal ++ entry_due old.settings old.journal caller at input ∷ []) × (out ≡ handed)

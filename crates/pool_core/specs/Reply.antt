@@ -1,19 +1,29 @@
 -- What the pool answers to an input after a journal.
-use Rattle.std.specs.Prelude.{ℕ, Bool, true, false, if◌then◌else◌, nat_lt, List, length, Option, Some, None, ℤ, pos, negsuc}
-use Rattle.std.specs.Option.{option_map}
+use Rattle.std.specs.Prelude.{ℕ, ◌+◌, ◌-◌, Bool, true, false, not, ◌&&◌, ◌||◌, if◌then◌else◌, nat_lt, nat_le, min}
+use Rattle.std.specs.Prelude.{List, [], length, filter, count_by, Option, Some, None, ℤ, pos, negsuc, int_le, int_lt}
+use Rattle.std.specs.Int.{div_ceil}
+use Rattle.std.specs.Option.{option_map, option_or}
 use Rattle.pool_journal.specs.declared.entry.Entry.{Entry}
 use Rattle.pool_journal.specs.declared.record.Record.{Record}
 use Rattle.pool_journal.specs.declared.input.Input.{Input}
-use Rattle.pool_journal.specs.declared.input.Input.TheVariants.{Borrow, Ready, GiveBack, Park, Destroyed}
+use Rattle.pool_journal.specs.declared.input.Input.TheVariants.{Borrow, Ready, GiveBack, Park, Invalidate, Use, Add, Fill, Added}
+use Rattle.pool_journal.specs.declared.input.Input.TheVariants.{Evict, EvictNext, Tested, Reclaim, ReclaimNext, Clear, ClearNext}
+use Rattle.pool_journal.specs.declared.input.Input.TheVariants.{Destroyed, Close}
 use Rattle.pool_journal.specs.declared.input.Outcome.{Outcome}
 use Rattle.pool_journal.specs.declared.input.Outcome.TheVariants as outcomes
+use Rattle.pool_journal.specs.declared.input.When.{When}
+use Rattle.pool_journal.specs.declared.input.When.TheVariants as times
 use Rattle.pool_journal.specs.declared.answer.Answer.{Answer}
 use Rattle.pool_journal.specs.declared.answer.Answer.TheVariants as answers
 use Rattle.pool_journal.specs.declared.answer.Cause.TheVariants as causes
 use Rattle.pool_journal.specs.declared.record.Phase.{Phase}
 use Rattle.pool_journal.specs.declared.record.Phase.TheVariants as phases
-use Rattle.pool_journal.specs.Journal.{phase, is_new, drawn, present, records}
+use Rattle.pool_journal.specs.Journal.{phase, is_new, drawn, present, records, closed, cursor}
 use Rattle.pool_journal.specs.Queue.{idle_queue, first_of, last_of, queue_length}
+use Rattle.pool_places.specs.After.{is_after}
+use Rattle.pool_places.specs.Counts.{is_adding}
+use Rattle.pool_places.specs.Overdue.{overdue}
+use Rattle.pool_settings.specs.EffectiveMinIdle.{effective_min_idle}
 use Rattle.pool_settings.specs.declared.settings.Settings.{Settings}
 
 -- fewer than a limit, where a negative one is none
@@ -21,17 +31,78 @@ abbrev pub is_below : ℤ → ℕ → Bool
 is_below (pos limit) n = nat_lt n limit
 is_below (negsuc _) n = true
 
--- the object that a borrow takes: the one parked last or first
+-- as long as a limit, where a negative one is none
+abbrev pub has_reached : ℤ → ℕ → Bool
+has_reached (pos limit) t = nat_le limit t
+has_reached (negsuc _) t = false
+
+-- longer than a limit, where one that isn't positive is none
+abbrev pub is_past : ℤ → ℕ → Bool
+is_past (pos limit) t = nat_lt 0 limit && nat_lt limit t
+is_past (negsuc _) t = false
+
+-- more than a limit less 3; always so where the limit is negative, and none
+abbrev pub is_nearly_full : ℤ → ℕ → Bool
+is_nearly_full (pos limit) n = nat_lt limit (n + 3)
+is_nearly_full (negsuc _) n = true
+
+-- how many tests an eviction run makes on a queue of q: n, but no more than q, and for a negative n that part of q, rounded up
+abbrev pub tests : ℤ → ℕ → ℕ
+tests (pos n) q = min n q
+tests (negsuc n) q = div_ceil q (n + 1)
+
+-- the object that a borrow takes: the one that was parked last, or first
 abbrev pub choice : Bool → List Record → Option ℕ
 choice lifo rs = option_map (λ r. r.id) (if lifo then last_of (idle_queue rs) else first_of (idle_queue rs))
 
--- to a borrow: an idle object is taken; with none, one is made where a place is free, and else the borrow waits
-abbrev pub borrow_reply : Option ℕ → Bool → ℕ → Answer
-borrow_reply (Some i) room next = answers.Take i
-borrow_reply None true next = answers.Make next
-borrow_reply None false next = answers.Wait
+-- the object that is examined next: the first idle one that was parked after the cursor, else the first idle one
+abbrev pub examined : Option ℕ → List Record → Option Record
+examined cursor rs = option_or (first_of (filter (is_after cursor) (idle_queue rs))) (first_of (idle_queue rs))
 
--- to what making an object ready came to: a new one was made for this borrow, any other was taken from the queue
+-- an idle object of a queue of q is evicted: it was idle too long, or so long that those go which needn't be kept
+abbrev pub evicts : Settings → ℕ → ℕ → Record → Bool
+evicts S q at r =
+    is_past S.min_evictable_idle_millis (at - r.since)
+    || (is_past S.soft_min_evictable_idle_millis (at - r.since) && int_lt (effective_min_idle S) (pos q))
+
+-- the lent objects that were not used for the timeout, by rising id; none where it is negative
+abbrev pub forgotten_for : ℤ → ℕ → List Record → List Record
+forgotten_for (pos timeout) at rs = overdue at timeout rs
+forgotten_for (negsuc _) at rs = []
+
+abbrev pub forgotten : Settings → ℕ → List Record → List Record
+forgotten S at rs = forgotten_for S.remove_abandoned_timeout_millis at rs
+
+-- fewer than two objects are in the queue, and the others are more than the greatest number of objects less 3
+abbrev pub is_scarce : Settings → List Record → Bool
+is_scarce S rs = nat_lt (queue_length rs) 2 && is_nearly_full S.max_total (length rs - queue_length rs)
+
+-- a removal takes something; one on a borrow only from an open pool, where idle objects and places are scarce
+abbrev pub reclaims : Settings → Bool → List Record → When → Bool
+reclaims S shut rs times.Maintain = S.abandoned && S.remove_abandoned_on_maintenance
+reclaims S shut rs times.Borrow = S.abandoned && S.remove_abandoned_on_borrow && not shut && is_scarce S rs
+
+-- there are as many objects in the queue, or on their way to it, as are to be kept
+abbrev pub has_enough : Settings → List Record → Bool
+has_enough S rs = int_le (effective_min_idle S) (pos (queue_length rs + count_by (λ r. is_adding r.phase) rs))
+
+-- the queue of an open pool takes one object more
+abbrev pub has_room : Settings → Bool → List Record → Bool
+has_room S shut rs = not shut && is_below S.max_idle (queue_length rs)
+
+-- no object can be made: a borrow waits until its time is up, or is refused at once
+abbrev pub full_reply : Settings → ℕ → Answer
+full_reply S waited =
+    if S.block_when_exhausted then (if has_reached S.max_wait_millis waited then answers.TimedOut else answers.Wait)
+    else answers.Exhausted
+
+-- a borrow of an open pool
+abbrev pub borrow_reply : Option ℕ → Bool → ℕ → Answer → Answer
+borrow_reply (Some i) room next full = answers.Take i
+borrow_reply None true next full = answers.Make next
+borrow_reply None false next full = full
+
+-- what making an object ready came to; one that was taken from the queue was not made
 abbrev pub readying_reply : Bool → Outcome → Answer
 readying_reply new outcomes.PassivateFailed = answers.Refused causes.BadOutcome
 readying_reply false outcomes.MakeFailed = answers.Refused causes.BadOutcome
@@ -40,37 +111,103 @@ readying_reply new outcomes.Good = answers.Lent
 readying_reply new outcomes.MakeFailed = answers.Freed
 readying_reply new _ = answers.Destroy
 
--- to the same, where the object may be in any phase
 abbrev pub ready_reply : Phase → Bool → Outcome → Answer
 ready_reply phases.Readying new o = readying_reply new o
 ready_reply _ new o = answers.Refused causes.NotHeld
 
--- to the return of an object
-abbrev pub give_back_reply : Phase → Answer
-give_back_reply phases.Lent = answers.Check
-give_back_reply _ = answers.Refused causes.NotLent
+-- what is done with a lent object; one that isn't present may have been reclaimed, where abandoned objects are removed
+abbrev pub lent_reply : Bool → Phase → Answer → Answer
+lent_reply abandoned phases.Lent a = a
+lent_reply true phases.Absent a = answers.Gone
+lent_reply true phases.Gone a = answers.Gone
+lent_reply abandoned _ a = answers.Refused causes.NotLent
 
--- to what checking a returned object came to, and whether the queue has room for it
+-- what checking a returned object came to
 abbrev pub returning_reply : Outcome → Bool → Answer
 returning_reply outcomes.Good room = if room then answers.Parked else answers.Destroy
 returning_reply outcomes.TestFailed room = answers.Destroy
 returning_reply outcomes.PassivateFailed room = answers.Destroy
 returning_reply _ room = answers.Refused causes.BadOutcome
 
--- to the same, where the object may be in any phase
 abbrev pub park_reply : Phase → Outcome → Bool → Answer
 park_reply phases.Returning o room = returning_reply o room
 park_reply _ o room = answers.Refused causes.NotHeld
 
--- to the word that an object was destroyed, whose place is free from then on
+-- what making an object for the queue came to
+abbrev pub adding_reply : Outcome → Bool → Answer
+adding_reply outcomes.ActivateFailed is_open = answers.Refused causes.BadOutcome
+adding_reply outcomes.TestFailed is_open = answers.Refused causes.BadOutcome
+adding_reply outcomes.Good is_open = if is_open then answers.Parked else answers.Destroy
+adding_reply outcomes.MakeFailed is_open = answers.Freed
+adding_reply _ is_open = answers.Destroy
+
+abbrev pub added_reply : Phase → Outcome → Bool → Answer
+added_reply phases.Adding o is_open = adding_reply o is_open
+added_reply _ o is_open = answers.Refused causes.NotHeld
+
+-- what testing an idle object came to
+abbrev pub testing_reply : Outcome → Bool → Answer
+testing_reply outcomes.MakeFailed is_open = answers.Refused causes.BadOutcome
+testing_reply outcomes.CreateTestFailed is_open = answers.Refused causes.BadOutcome
+testing_reply outcomes.Good is_open = if is_open then answers.Kept else answers.Destroy
+testing_reply _ is_open = answers.Destroy
+
+abbrev pub tested_reply : Phase → Outcome → Bool → Answer
+tested_reply phases.Testing o is_open = testing_reply o is_open
+tested_reply _ o is_open = answers.Refused causes.NotHeld
+
+-- an object was destroyed
 abbrev pub destroyed_reply : Phase → Answer
 destroyed_reply phases.Destroying = answers.Freed
 destroyed_reply _ = answers.Refused causes.NotHeld
 
--- the answer that is due to an input at a moment: the table of all answers
+-- an object is made for the queue, where there is a place
+abbrev pub add_reply : Bool → ℕ → Answer
+add_reply room next = if room then answers.Make next else answers.NoPlace
+
+-- an idle object is examined, if there is one
+abbrev pub evict_next_reply : Settings → ℕ → ℕ → Option Record → Answer
+evict_next_reply S q at None = answers.Nothing
+evict_next_reply S q at (Some r) =
+    if evicts S q at r then answers.DestroyIdle r.id
+    else (if S.test_while_idle then answers.Test r.id else answers.KeptIdle r.id)
+
+-- an object is reclaimed, where abandoned ones are removed and there is one
+abbrev pub reclaim_next_reply : Bool → Option Record → Answer
+reclaim_next_reply true (Some r) = answers.Reclaimed r.id
+reclaim_next_reply _ _ = answers.Nothing
+
+-- an idle object is destroyed, if there is one
+abbrev pub clear_next_reply : Option Record → Answer
+clear_next_reply (Some r) = answers.DestroyIdle r.id
+clear_next_reply None = answers.Nothing
+
+-- the answer that is due
 abbrev pub reply : Settings → List Entry → ℕ → Input → Answer
-reply S J at (Borrow began) = borrow_reply (choice S.lifo (records J)) (is_below S.max_total (length (present J))) (drawn J)
+reply S J at (Borrow began) =
+    if closed J then answers.Refused causes.Closed
+    else borrow_reply (choice S.lifo (records J)) (is_below S.max_total (length (present J))) (drawn J) (full_reply S (at - began))
 reply S J at (Ready i o) = ready_reply (phase i J) (is_new i J) o
-reply S J at (GiveBack i) = give_back_reply (phase i J)
-reply S J at (Park i o) = park_reply (phase i J) o (is_below S.max_idle (queue_length (records J)))
+reply S J at (GiveBack i) = lent_reply S.abandoned (phase i J) answers.Check
+reply S J at (Park i o) = park_reply (phase i J) o (has_room S (closed J) (records J))
+reply S J at (Invalidate i) = lent_reply S.abandoned (phase i J) answers.Destroy
+reply S J at (Use i) = lent_reply S.abandoned (phase i J) answers.Noted
+reply S J at Add =
+    if closed J then answers.Refused causes.Closed
+    else add_reply (is_below S.max_total (length (present J))) (drawn J)
+reply S J at Fill =
+    if closed J || has_enough S (records J) then answers.Enough
+    else add_reply (is_below S.max_total (length (present J))) (drawn J)
+reply S J at (Added i o) = added_reply (phase i J) o (not (closed J))
+reply S J at Evict =
+    if closed J then answers.Refused causes.Closed
+    else answers.Count (tests S.num_tests_per_eviction_run (queue_length (records J)))
+reply S J at EvictNext = evict_next_reply S (queue_length (records J)) at (examined (cursor J) (records J))
+reply S J at (Tested i o) = tested_reply (phase i J) o (not (closed J))
+reply S J at (Reclaim on) =
+    answers.Count (if reclaims S (closed J) (records J) on then length (forgotten S at (records J)) else 0)
+reply S J at ReclaimNext = reclaim_next_reply S.abandoned (first_of (forgotten S at (records J)))
+reply S J at Clear = answers.Count (length (idle_queue (records J)))
+reply S J at ClearNext = clear_next_reply (first_of (idle_queue (records J)))
 reply S J at (Destroyed i) = destroyed_reply (phase i J)
+reply S J at Close = if closed J then answers.Nothing else answers.Count (length (idle_queue (records J)))

@@ -1,5 +1,5 @@
 -- One step on what the pool keeps beside its journal.
-use Rattle.std.specs.Prelude.{◌≡◌, ℕ, ◌+◌, ◌<◌, ◌^◌, Bool, true, false, List, Some, IsSomeAnd}
+use Rattle.std.specs.Prelude.{◌≡◌, ℕ, ◌+◌, ◌<◌, ◌^◌, ◌||◌, Bool, true, false, List, Option, Some, unwrap_or, IsSome, IsSomeAnd, ⊤}
 use Rattle.std.specs.List.{AllByRecursion}
 use Rattle.pool_journal.specs.declared.record.Record.{Record}
 use Rattle.pool_journal.specs.declared.input.Input.{Input}
@@ -7,9 +7,12 @@ use Rattle.pool_journal.specs.declared.answer.Answer.{Answer}
 use Rattle.pool_journal.specs.declared.answer.Answer.TheVariants as answers
 use Rattle.pool_journal.specs.declared.record.Phase.{Phase}
 use Rattle.pool_journal.specs.declared.record.Phase.TheVariants as phases
-use Rattle.pool_journal.specs.Journal.{id_of}
+use Rattle.pool_journal.specs.Journal.{id_of, is_borrow, made_to, is_closing, examined_by}
+use Rattle.pool_journal.specs.Carrying.{carries}
 use Rattle.pool_journal.specs.OneMore.{stays, stepped, next_after}
 use Rattle.pool_journal.specs.Queue.{record_in}
+use Rattle.pool_journal.specs.Reaches.{place_known}
+use Rattle.pool_places.specs.Changes.{IsInPhase}
 use Rattle.pool_places.specs.Shelf.{records_in}
 use Rattle.pool_core.specs.Legal.{entry_of}
 use Rattle.pool_core.specs.Table.{table}
@@ -20,11 +23,22 @@ use Rattle.pool_core.specs.declared.state.State.{State}
 abbrev pub known_after : Moment → Input → Answer → ℕ → List Record → List Record
 known_after now input answer next rs = stepped now.position (entry_of 0 now.at input answer) next rs
 
+-- whether the pool is closed after a step
+abbrev pub closed_after : Answer → Input → Bool → Bool
+closed_after answer input shut = shut || is_closing answer input
+
+-- the cursor after a step
+abbrev pub cursor_after : Answer → Input → List Record → Option ℕ → Option ℕ
+cursor_after answer input rs cursor = unwrap_or (place_known (examined_by answer input) rs) cursor
+
 -- the new state has taken the step that the input asks for, with the answer that is due
 pub record TakesStep {T : Type 0} (now : Moment) (input : Input) (old new : State T) (answer : Answer) : Type 0 where
-  pub due : answer ≡ table old.settings (records_in old.places.kept) old.next now.at input
+  pub due : answer ≡ table old.settings (records_in old.places.kept) old.next old.closed old.cursor now.at input
   pub known : records_in new.places.kept ≡ known_after now input answer old.next (records_in old.places.kept)
   pub next_is : new.next ≡ next_after (entry_of 0 now.at input answer) old.next
+  pub closed_is : new.closed ≡ closed_after answer input old.closed
+  pub cursor_is : new.cursor ≡ cursor_after answer input (records_in old.places.kept) old.cursor
+  pub owed_stays : new.owed ≡ old.owed
   pub settings_stay : new.settings ≡ old.settings
 
 -- each record is that of a present object
@@ -45,12 +59,42 @@ abbrev pub comes_from : Answer → Phase → Bool
 comes_from answers.Lent phases.Readying = true
 comes_from answers.Check phases.Lent = true
 comes_from answers.Parked phases.Returning = true
+comes_from answers.Parked phases.Adding = true
+comes_from answers.Kept phases.Testing = true
 comes_from answers.Destroy phases.Readying = true
+comes_from answers.Destroy phases.Lent = true
 comes_from answers.Destroy phases.Returning = true
+comes_from answers.Destroy phases.Adding = true
+comes_from answers.Destroy phases.Testing = true
 comes_from answers.Freed phases.Readying = true
+comes_from answers.Freed phases.Adding = true
 comes_from answers.Freed phases.Destroying = true
+comes_from answers.Noted phases.Lent = true
 comes_from _ _ = false
 
 -- the object that the input names is present, in a phase from which the answer moves it
 abbrev pub MovesNamed : Input → Answer → List Record → Type 0
 MovesNamed input a rs = IsSomeAnd (id_of input) (λ i. IsSomeAnd (record_in rs i) (λ r. comes_from a r.phase ≡ true))
+
+-- the object that the input names is idle from then on, with its value
+abbrev pub keeps_value : Answer → Bool
+keeps_value answers.Parked = true
+keeps_value answers.Kept = true
+keeps_value _ = false
+
+-- what an answer finds: an idle object that it takes, a lent one that it reclaims, the next id, or the object that the input
+-- names, in a phase from which it moves it; and with the input a value, where the object keeps one
+abbrev pub Finds : Input → Answer → List Record → ℕ → Type 0
+Finds input (answers.Take i) rs next = IsInPhase rs i phases.Idle × (is_borrow input ≡ true)
+Finds input (answers.Test i) rs next = IsInPhase rs i phases.Idle × (carries input ≡ false)
+Finds input (answers.DestroyIdle i) rs next = IsInPhase rs i phases.Idle × (carries input ≡ false)
+Finds input (answers.Reclaimed i) rs next = IsInPhase rs i phases.Lent
+Finds input (answers.Make i) rs next = (i ≡ next) × IsSome (made_to input i)
+Finds input answers.Parked rs next = MovesNamed input answers.Parked rs × (carries input ≡ true)
+Finds input answers.Kept rs next = MovesNamed input answers.Kept rs × (carries input ≡ true)
+Finds input answers.Lent rs next = MovesNamed input answers.Lent rs
+Finds input answers.Check rs next = MovesNamed input answers.Check rs
+Finds input answers.Destroy rs next = MovesNamed input answers.Destroy rs
+Finds input answers.Freed rs next = MovesNamed input answers.Freed rs
+Finds input answers.Noted rs next = MovesNamed input answers.Noted rs
+Finds input _ rs next = ⊤

@@ -1,46 +1,61 @@
-ghost use Rattle.std.specs.Prelude.{◌≡◌, ◌≤◌, Some, None, true, false, is_some};
+ghost use Rattle.std.specs.Prelude.{◌≡◌, ◌≤◌, Some, None, IsSome, if◌then◌else◌, true, false, is_some};
 ghost use Rattle.pool_journal.specs.Carrying.{carries};
-ghost use Rattle.pool_journal.specs.Journal.{id_of, is_make_answer, is_parked_answer};
+ghost use Rattle.pool_journal.specs.Journal.{id_of, is_borrow, is_make_answer};
+ghost use Rattle.pool_journal.specs.declared.record.Phase.TheVariants as phases;
 ghost use Rattle.pool_places.specs.Shelf.{records_in};
 ghost use Rattle.pool_core.specs.Table.{table};
 
+use crate::marks::{closes, examined, id_in, next_after};
 use crate::state::{Moment, State};
 use pool_journal::{Answer, Input, Phase};
 
 // The object that an input names.
-fn named_by(input: Input) -> Option<u64>
-    ensures { result ≡ id_of input }
+fn named_by(input: Input) -> u64
+    requires { IsSome (id_of input) }
+    ensures { id_of input ≡ Some result }
+{
+    id_in(input).unwrap()
+}
+
+// The phase in which an object begins that is made for an input.
+fn begins_as(input: Input) -> Phase
+    ensures { result ≡ (if is_borrow input then phases.Readying else phases.Adding) }
 {
     match input {
-        Input::Borrow { began: _ } => None,
-        Input::Ready { id, outcome: _ } => Some(id),
-        Input::GiveBack { id } => Some(id),
-        Input::Park { id, outcome: _ } => Some(id),
-        Input::Destroyed { id } => Some(id),
+        Input::Borrow { began: _ } => Phase::Readying,
+        _ => Phase::Adding,
+    }
+}
+
+// The value that was taken, where none was handed in.
+fn taken<T>(handed: Option<T>, value: T) -> Option<T>
+    requires { handed ≡ None }
+    ensures { result ≡ Some value }
+{
+    match handed {
+        None => Some(value),
+        Some(_) => unreachable!(),
     }
 }
 
 impl<T> State<T> {
-    ghost use Rattle.pool_core.specs.Steps.{TakesStep, IsBefore, MovesNamed, known_after};
+    ghost use Rattle.pool_core.specs.Steps.{TakesStep, IsBefore, MovesNamed, Finds, known_after, cursor_after, keeps_value};
     ghost use Rattle.pool_core.specs.Kept.{Hands, Keeps, SameValues};
 
     // The object that the input names comes to where the answer brings it, without a value.
     fn bring(&mut self, now: Moment, input: Input, answer: Answer)
         requires before { IsBefore now.position (records_in self.old.places.kept) self.old.next }
         requires moves { MovesNamed input answer (records_in self.old.places.kept) }
-        requires not_parked { is_parked_answer answer ≡ false }
+        requires bare { keeps_value answer ≡ false }
         ensures known { records_in self.new.places.kept
             ≡ known_after now input answer self.old.next (records_in self.old.places.kept) }
         ensures values { SameValues self.old.places.kept self.new.places.kept }
-        ensures next { self.new.next ≡ self.old.next }
-        ensures settings { self.new.settings ≡ self.old.settings }
+        ensures rest { self.new ≡ record self.old { places = self.new.places } }
     {
-        let id = match named_by(input) {
-            Some(id) => id,
-            None => unreachable!(),
-        };
+        let id = named_by(input);
         match answer {
             Answer::Lent => self.places.set_lent(id, now.at),
+            Answer::Noted => self.places.set_used(id, now.at),
             Answer::Check => self.places.set_phase(id, Phase::Returning),
             Answer::Destroy => self.places.set_phase(id, Phase::Destroying),
             Answer::Freed => self.places.free(id),
@@ -48,20 +63,77 @@ impl<T> State<T> {
         }
     }
 
-    // The object that the input names comes to the end of the queue, with its value.
-    fn park(&mut self, now: Moment, input: Input, value: T)
+    // The object that the input names is idle, with its value: one under an idle test where it was in
+    // the queue, another at the end.
+    fn keep(&mut self, now: Moment, input: Input, answer: Answer, value: T)
         requires before { IsBefore now.position (records_in self.old.places.kept) self.old.next }
-        requires moves { MovesNamed input Answer.Parked (records_in self.old.places.kept) }
-        requires carried { carries input ≡ true }
+        requires moves { MovesNamed input answer (records_in self.old.places.kept) }
+        requires keeps { keeps_value answer ≡ true }
         ensures known { records_in self.new.places.kept
-            ≡ known_after now input Answer.Parked self.old.next (records_in self.old.places.kept) }
+            ≡ known_after now input answer self.old.next (records_in self.old.places.kept) }
         ensures values { Keeps input self.old.places.kept self.new.places.kept (Some value) None }
-        ensures next { self.new.next ≡ self.old.next }
-        ensures settings { self.new.settings ≡ self.old.settings }
+        ensures rest { self.new ≡ record self.old { places = self.new.places } }
     {
-        match named_by(input) {
-            Some(id) => self.places.park(id, now.position, now.at, value),
-            None => unreachable!(),
+        let id = named_by(input);
+        match answer {
+            Answer::Parked => self.places.park(id, now.position, now.at, value),
+            Answer::Kept => self.places.put_value(id, value),
+            _ => unreachable!(),
+        }
+    }
+
+    // Does what the answer says of the objects and their values.
+    fn move_object(
+        &mut self,
+        now: Moment,
+        input: Input,
+        answer: Answer,
+        value: Option<T>,
+    ) -> Option<T>
+        requires before { IsBefore now.position (records_in self.old.places.kept) self.old.next }
+        requires finds { Finds input answer (records_in self.old.places.kept) self.old.next }
+        requires carried { is_some value ≡ carries input }
+        requires reserved { is_make_answer answer ≡ true → 1 ≤ self.old.places.spare }
+        ensures known { records_in self.new.places.kept
+            ≡ known_after now input answer self.old.next (records_in self.old.places.kept) }
+        ensures values { Hands answer input self.old.places.kept self.new.places.kept value result }
+        ensures rest { self.new ≡ record self.old { places = self.new.places } }
+    {
+        match answer {
+            Answer::Take(id) => taken(value, self.places.take_value(id, Phase::Readying)),
+            Answer::Test(id) => taken(value, self.places.take_value(id, Phase::Testing)),
+            Answer::DestroyIdle(id) => taken(value, self.places.take_value(id, Phase::Destroying)),
+            Answer::Make(id) => {
+                self.places.open(id, begins_as(input));
+                value
+            }
+            Answer::Parked | Answer::Kept => {
+                self.keep(now, input, answer, value.unwrap());
+                None
+            }
+            Answer::Lent | Answer::Noted | Answer::Check | Answer::Destroy | Answer::Freed => {
+                self.bring(now, input, answer);
+                value
+            }
+            Answer::Reclaimed(id) => {
+                self.places.free(id);
+                value
+            }
+            _ => value,
+        }
+    }
+
+    // Where the next eviction step goes on.
+    fn cursor_after(&self, input: Input, answer: Answer) -> Option<u64>
+        ensures { result
+            ≡ cursor_after answer input (records_in self.now.places.kept) self.now.cursor }
+    {
+        match examined(answer, input) {
+            None => self.cursor,
+            Some(id) => match self.places.find(id) {
+                None => self.cursor,
+                Some(known) => Some(known.parked),
+            },
         }
     }
 
@@ -76,31 +148,18 @@ impl<T> State<T> {
     ) -> Option<T>
         requires before { IsBefore now.position (records_in self.old.places.kept) self.old.next }
         requires due { answer
-            ≡ table self.old.settings (records_in self.old.places.kept) self.old.next now.at input }
+            ≡ table self.old.settings (records_in self.old.places.kept) self.old.next
+            self.old.closed self.old.cursor now.at input }
         requires carried { is_some value ≡ carries input }
         requires reserved { is_make_answer answer ≡ true → 1 ≤ self.old.places.spare }
         ensures step { TakesStep now input self.old self.new answer }
         ensures values { Hands answer input self.old.places.kept self.new.places.kept value result }
     {
-        match answer {
-            Answer::Take(id) => match value {
-                None => Some(self.places.take_value(id, Phase::Readying)),
-                Some(_) => unreachable!(),
-            },
-            Answer::Make(id) => {
-                self.places.open(id, Phase::Readying);
-                self.next = id + 1;
-                value
-            }
-            Answer::Parked => {
-                self.park(now, input, value.unwrap());
-                None
-            }
-            Answer::Wait | Answer::Refused(_) => value,
-            Answer::Lent | Answer::Check | Answer::Destroy | Answer::Freed => {
-                self.bring(now, input, answer);
-                value
-            }
-        }
+        let cursor = self.cursor_after(input, answer);
+        let out = self.move_object(now, input, answer, value);
+        self.next = next_after(self.next, answer);
+        self.closed = self.closed || closes(answer, input);
+        self.cursor = cursor;
+        out
     }
 }

@@ -1,17 +1,22 @@
 ghost use Rattle.std.specs.Prelude.{◌≡◌, length};
-ghost use Rattle.pool_journal.specs.Queue.{record_in, queue_length};
+ghost use Rattle.std.specs.Option.{option_map};
+ghost use Rattle.pool_journal.specs.Queue.{record_in, queue_length, idle_queue, first_of};
 ghost use Rattle.pool_places.specs.Shelf.{records_in};
-ghost use Rattle.pool_core.specs.Reply.{is_below, choice};
+ghost use Rattle.pool_core.specs.Reply.{is_below, choice, examined, forgotten, is_scarce, reclaims, has_enough, has_room, tests, lent_reply, add_reply, evict_next_reply, reclaim_next_reply, clear_next_reply};
 ghost use Rattle.pool_core.specs.Table.{phase_of, new_of, table};
 
 use crate::answers::{
-    borrow_answer, destroyed_answer, give_back_answer, is_below_limit, park_answer, ready_answer,
+    add_answer, added_answer, borrow_answer, destroyed_answer, evict_next_answer, lent_answer,
+    park_answer, ready_answer, tested_answer,
 };
+use crate::limits::{is_at_least, is_below_limit, is_near_limit, number_of_tests};
 use crate::state::State;
-use pool_journal::{Answer, Input, Phase};
+use pool_journal::{Answer, Cause, Input, Phase, Record, When};
+
+const CLOSED: Answer = Answer::Refused(Cause::Closed);
 
 impl<T> State<T> {
-    // The phase of an object, and whether it is new.
+    // The phase of an object, and whether nothing has happened to it since it was made.
     fn look(&self, id: u64) -> (Phase, bool)
         ensures phase { result.0 ≡ phase_of (record_in (records_in self.now.places.kept) id) }
         ensures is_new { result.1 ≡ new_of (record_in (records_in self.now.places.kept) id) }
@@ -38,33 +43,202 @@ impl<T> State<T> {
         ensures { result
             ≡ is_below self.now.settings.max_total (length (records_in self.now.places.kept)) }
     {
-        is_below_limit(self.settings.max_total, self.places.present())
+        is_below_limit(self.settings.max_total, self.places.present() as u64)
     }
 
     // Whether the queue takes one object more.
-    fn has_room(&self) -> bool
+    fn takes_one_more(&self) -> bool
         ensures { result
-            ≡ is_below self.now.settings.max_idle (queue_length (records_in self.now.places.kept)) }
+            ≡ has_room self.now.settings self.now.closed (records_in self.now.places.kept) }
     {
-        is_below_limit(self.settings.max_idle, self.places.queued())
+        !self.closed && is_below_limit(self.settings.max_idle, self.places.queued() as u64)
+    }
+
+    // Whether there are as many objects in the queue, or on their way to it, as are to be kept.
+    fn is_filled(&self) -> bool
+        ensures { result ≡ has_enough self.now.settings (records_in self.now.places.kept) }
+    {
+        let counts = self.places.counts();
+        is_at_least(
+            counts.queue + counts.adding,
+            self.settings.effective_min_idle(),
+        )
+    }
+
+    // The id of the idle object that is examined next.
+    fn examined_id(&self) -> Option<u64>
+        ensures { result
+            ≡ option_map (λ r. r.id) (examined self.now.cursor (records_in self.now.places.kept)) }
+    {
+        match self.cursor {
+            Some(parked) => match self.places.next_idle_after(parked) {
+                Some(id) => Some(id),
+                None => self.places.first_idle(),
+            },
+            None => self.places.first_idle(),
+        }
+    }
+
+    // The idle object that is examined next.
+    fn examine(&self) -> Option<Record>
+        ensures { result ≡ examined self.now.cursor (records_in self.now.places.kept) }
+    {
+        let id = self.examined_id()?;
+        self.places.find(id)
+    }
+
+    // How many idle objects there are.
+    fn count_idle(&self) -> u64
+        ensures { result ≡ length (idle_queue (records_in self.now.places.kept)) }
+    {
+        self.places.counts().idle
+    }
+
+    // Whether fewer than two objects are idle, and at most two could still be made.
+    fn is_scarce(&self) -> bool
+        ensures { result ≡ is_scarce self.now.settings (records_in self.now.places.kept) }
+    {
+        let counts = self.places.counts();
+        counts.queue < 2 && is_near_limit(self.settings.max_total, counts.present - counts.queue)
+    }
+
+    // Whether a removal of abandoned objects takes any.
+    fn removes(&self, on: When) -> bool
+        ensures { result
+            ≡ reclaims self.now.settings self.now.closed (records_in self.now.places.kept) on }
+    {
+        let settings = &self.settings;
+        match on {
+            When::Maintain => settings.abandoned && settings.remove_abandoned_on_maintenance,
+            When::Borrow => {
+                settings.abandoned
+                    && settings.remove_abandoned_on_borrow
+                    && !self.closed
+                    && self.is_scarce()
+            }
+        }
+    }
+
+    // How many lent objects were not used for the timeout, at the moment `at` (milliseconds).
+    fn count_forgotten(&self, at: u64) -> u64
+        ensures { result ≡
+            length (forgotten self.now.settings at (records_in self.now.places.kept)) }
+    {
+        match u64::try_from(self.settings.remove_abandoned_timeout_millis) {
+            Ok(timeout) => self.places.count_overdue(at, timeout),
+            Err(_) => 0,
+        }
+    }
+
+    // The answer that reclaims the first of them.
+    fn reclaim_next(&self, at: u64) -> Answer
+        ensures { result ≡ reclaim_next_reply self.now.settings.abandoned
+            (first_of (forgotten self.now.settings at (records_in self.now.places.kept))) }
+    {
+        let timeout = self.settings.remove_abandoned_timeout_millis;
+        if !self.settings.abandoned || timeout < 0 {
+            return Answer::Nothing;
+        }
+        match self.places.least_overdue(at, timeout as u64) {
+            Some(id) => Answer::Reclaimed(id),
+            None => Answer::Nothing,
+        }
+    }
+
+    // The answer that destroys the idle object that was parked first.
+    fn clear_next(&self) -> Answer
+        ensures { result
+            ≡ clear_next_reply (first_of (idle_queue (records_in self.now.places.kept))) }
+    {
+        match self.places.first_idle() {
+            Some(id) => Answer::DestroyIdle(id),
+            None => Answer::Nothing,
+        }
+    }
+
+    // The answer to a call of an object: `answer` where it is lent.
+    fn answer_if_lent(&self, id: u64, answer: Answer) -> Answer
+        ensures { result ≡ lent_reply self.now.settings.abandoned
+            (phase_of (record_in (records_in self.now.places.kept) id)) answer }
+    {
+        lent_answer(self.settings.abandoned, self.look(id).0, answer)
+    }
+
+    // The answer to a borrow that began at a moment (milliseconds).
+    fn decide_borrow(&self, at: u64, began: u64) -> Answer
+        ensures { result ≡ table self.now.settings (records_in self.now.places.kept)
+            self.now.next self.now.closed self.now.cursor at (Input.Borrow began) }
+    {
+        if self.closed {
+            return CLOSED;
+        }
+        borrow_answer(
+            &self.settings,
+            self.choose(),
+            self.has_free_place(),
+            self.next,
+            at.saturating_sub(began),
+        )
+    }
+
+    // The answer where an object is wanted in the queue, with a place for it or none.
+    fn add_one(&self) -> Answer
+        ensures { result ≡ add_reply (is_below self.now.settings.max_total
+            (length (records_in self.now.places.kept))) self.now.next }
+    {
+        add_answer(self.has_free_place(), self.next)
+    }
+
+    // How many tests an eviction run makes.
+    fn count_tests(&self) -> u64
+        ensures { result ≡ tests self.now.settings.num_tests_per_eviction_run
+            (queue_length (records_in self.now.places.kept)) }
+    {
+        let queue = self.places.queued() as u64;
+        number_of_tests(self.settings.num_tests_per_eviction_run, queue)
+    }
+
+    // The answer to the next step of an eviction run.
+    fn evict_next(&self, at: u64) -> Answer
+        ensures { result ≡ evict_next_reply self.now.settings
+            (queue_length (records_in self.now.places.kept)) at
+            (examined self.now.cursor (records_in self.now.places.kept)) }
+    {
+        let queue = self.places.queued() as u64;
+        evict_next_answer(&self.settings, queue, at, self.examine())
     }
 
     /// The answer that is due to an input at a moment (milliseconds).
     pub fn decide(&self, at: u64, input: Input) -> Answer
-        ensures { result
-            ≡ table self.now.settings (records_in self.now.places.kept) self.now.next at input }
+        ensures { result ≡ table self.now.settings (records_in self.now.places.kept)
+            self.now.next self.now.closed self.now.cursor at input }
     {
-        let _ = at;
         match input {
-            Input::Borrow { began: _ } => {
-                borrow_answer(self.choose(), self.has_free_place(), self.next)
-            }
+            Input::Borrow { began } => self.decide_borrow(at, began),
             Input::Ready { id, outcome } => {
                 let (phase, is_new) = self.look(id);
                 ready_answer(phase, is_new, outcome)
             }
-            Input::GiveBack { id } => give_back_answer(self.look(id).0),
-            Input::Park { id, outcome } => park_answer(self.look(id).0, outcome, self.has_room()),
+            Input::GiveBack { id } => self.answer_if_lent(id, Answer::Check),
+            Input::Park { id, outcome } => {
+                park_answer(self.look(id).0, outcome, self.takes_one_more())
+            }
+            Input::Invalidate { id } => self.answer_if_lent(id, Answer::Destroy),
+            Input::Use { id } => self.answer_if_lent(id, Answer::Noted),
+            Input::Add | Input::Evict if self.closed => CLOSED,
+            Input::Add => self.add_one(),
+            Input::Fill if self.closed || self.is_filled() => Answer::Enough,
+            Input::Fill => self.add_one(),
+            Input::Added { id, outcome } => added_answer(self.look(id).0, outcome, !self.closed),
+            Input::Evict => Answer::Count(self.count_tests()),
+            Input::EvictNext => self.evict_next(at),
+            Input::Tested { id, outcome } => tested_answer(self.look(id).0, outcome, !self.closed),
+            Input::Reclaim { on } if self.removes(on) => Answer::Count(self.count_forgotten(at)),
+            Input::Reclaim { on: _ } => Answer::Count(0),
+            Input::ReclaimNext => self.reclaim_next(at),
+            Input::Close if self.closed => Answer::Nothing,
+            Input::Clear | Input::Close => Answer::Count(self.count_idle()),
+            Input::ClearNext => self.clear_next(),
             Input::Destroyed { id } => destroyed_answer(self.look(id).0),
         }
     }

@@ -8,10 +8,16 @@ pub struct Moment {
     pub at: u64,
 }
 
-/// What the pool keeps beside its journal: the objects, and the id that is drawn next.
+/// What the pool keeps beside its journal.
 #[derive(Drop)]
 pub struct State<T> {
     pub settings: Settings,
     pub places: Places<T>,
+    /// The id that is drawn next.
     pub next: u64,
+    pub closed: bool,
+    /// Where the object was parked that the last eviction step examined.
+    pub cursor: Option<u64>,
+    /// How many entries at most are still needed to close the pool and to end what was begun.
+    pub owed: u64,
 }

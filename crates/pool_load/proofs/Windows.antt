@@ -19,11 +19,15 @@ take-copy_within xs a b ordered within =
     ∙ take-paste xs 0 (drop a xs) (b - a) (omega arith) (omega (arith, length-drop a xs))
 
 -- what stands in front, and what came behind it
+pub take-grown : (xs front : List ℕ) (n more : ℕ) → take n xs ≡ front → take (n + more) xs ≡ front ++ slice_range xs n (n + more)
+take-grown xs front n more h =
+    let rest : (n + more) - n ≡ more = omega arith in
+    take-add n more xs ∙ ap (λ l. l ++ take more (drop n xs)) h ∙ ap (λ k. front ++ take k (drop n xs)) (sym rest)
+
 pub slice_range-grown : (xs front : List ℕ) (n more : ℕ) → take n xs ≡ front → slice_range xs 0 (n + more) ≡ front ++ slice_range xs n (n + more)
 slice_range-grown xs front n more h =
     let here : (n + more) - 0 ≡ n + more = omega arith in
-    let rest : (n + more) - n ≡ more = omega arith in
-    ap (λ k. take k xs) here ∙ take-add n more xs ∙ ap (λ l. l ++ take more (drop n xs)) h ∙ ap (λ k. front ++ take k (drop n xs)) (sym rest)
+    ap (λ k. take k xs) here ∙ take-grown xs front n more h
 
 pub length-slice_range : (xs : List ℕ) (n more : ℕ) → n + more ≤ length xs → length (slice_range xs n (n + more)) ≡ more
 length-slice_range xs n more h = omega (arith, length-take ((n + more) - n) (drop n xs), length-drop n xs)

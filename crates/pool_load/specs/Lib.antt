@@ -7,3 +7,4 @@ pub mod Runner
 pub mod Check
 pub mod Checker
 pub mod Verdict
+pub mod SettingsFile

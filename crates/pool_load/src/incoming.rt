@@ -73,7 +73,7 @@ impl Incoming {
 }
 
 /// Reads into the buffer from a place on.
-fn read_behind<R: Read>(
+pub(crate) fn read_behind<R: Read>(
     buffer: &mut [u8],
     from: usize,
     reader: &mut R,

@@ -4,18 +4,22 @@
 mod checker;
 mod engine;
 mod engine_fault;
+mod file_fault;
 mod incoming;
 mod laws;
 mod outgoing;
 mod runner;
+mod settings_file;
 mod step;
 mod turn;
 mod verdict;
 
 pub use checker::check;
 pub use engine_fault::EngineFault;
+pub use file_fault::FileFault;
 pub use laws::runs_are_determined;
 pub use runner::run;
+pub use settings_file::read_settings;
 
 #[cfg(test)]
 mod tests;

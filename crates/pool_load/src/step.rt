@@ -20,10 +20,12 @@ fn value_of(input: &Input) -> Option<u64>
     ensures { is_some result ≡ carries input.now }
 {
     match input {
-        Input::Park {
-            id,
-            outcome: Outcome::Good,
-        } => Some(*id),
+        Input::Park { id, outcome }
+        | Input::Added { id, outcome }
+        | Input::Tested { id, outcome } => match outcome {
+            Outcome::Good => Some(*id),
+            _ => None,
+        },
         _ => None,
     }
 }

@@ -6,6 +6,7 @@ use std::cell::Cell;
 use std::process::Abort;
 use std::test::Fail;
 
+mod settings_files;
 mod streams;
 
 use streams::{Failing, Pieces, Stingy};
@@ -141,12 +142,13 @@ fn runs_end_at_faults(rt: HostRuntime) -> Result<(), Fail> {
             first,
         ),
         (
-            2,
-            "0 10 borrow 10\n0 11 ready 0 good\n0 15 return 0\n",
+            7,
+            "0 10 borrow 10\n0 11 ready 0 good\n1 12 borrow 12\n0 15 return 0\n",
             EngineFault::Full(3),
             two,
         ),
-        (0, "0 10 borrow 10\n", EngineFault::Full(1), ""),
+        (6, "0 10 borrow 10\n", EngineFault::Full(1), ""),
+        (2, "0 10 borrow 10\n", EngineFault::Full(1), ""),
     ];
     for (limit, script, fault, journal) in cases {
         let mut written = Vec::new(rt.alloc());
@@ -174,6 +176,7 @@ fn runs_end_at_faults(rt: HostRuntime) -> Result<(), Fail> {
 fn checks_end_at_the_first_wrong_answer(rt: HostRuntime) -> Result<(), Fail> {
     let wrong =
         "0 10 borrow 10 = make 0\n0 11 ready 0 good = lent\n0 15 return 0 = parked\nno line";
+    let no_room = "0 10 borrow 10 = make 0\n0 11 ready 0 good = lent\n1 12 borrow 12 = wait\n";
     let cases = [
         (9, wrong, Ok(false), "illegal 2 check\n"),
         (
@@ -200,7 +203,8 @@ fn checks_end_at_the_first_wrong_answer(rt: HostRuntime) -> Result<(), Fail> {
             Err(EngineFault::Line(2, LineFault::Truncated)),
             "",
         ),
-        (2, wrong, Err(EngineFault::Full(3)), ""),
+        (2, wrong, Err(EngineFault::Full(1)), ""),
+        (7, no_room, Err(EngineFault::Full(3)), ""),
     ];
     for (limit, journal, legal, told) in cases {
         let mut written = Vec::new(rt.alloc());

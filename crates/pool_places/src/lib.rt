@@ -9,6 +9,7 @@ mod places;
 mod positions;
 mod queue;
 
+pub use phase_tests::weight_of_phase;
 pub use place::Place;
 pub use place_counts::PlaceCounts;
 pub use places::Places;

@@ -1,17 +1,21 @@
 ghost use Rattle.std.specs.Prelude.{◌≡◌, IfOk};
 ghost use Rattle.pool_core.specs.Reply.{reply};
 
-use crate::queue::count_queued;
-use crate::records::{count_drawn, record_of, records_of};
+use crate::abandoned::{reply_to_reclaim, reply_to_reclaim_next};
+use crate::adding::{reply_to_add, reply_to_fill};
+use crate::borrowing::reply_to_borrow;
+use crate::clearing::{reply_to_clear, reply_to_clear_next, reply_to_close};
+use crate::evicting::{reply_to_evict, reply_to_evict_next};
 use crate::replies::{
-    is_below_limit, reply_to_borrow, reply_to_destroyed, reply_to_give_back, reply_to_park,
-    reply_to_ready,
+    reply_if_lent, reply_to_added, reply_to_destroyed, reply_to_ready, reply_to_tested,
 };
+use crate::returning::reply_to_park;
 use pool_journal::{Answer, Entry, Input};
 use pool_settings::Settings;
 use std::alloc::{AllocError, Global};
 
-/// The answer that is due to an input after a journal.
+/// The answer that is due to an input at the moment `at`, in milliseconds, after a journal. It is
+/// refused only where memory is.
 pub fn reply(
     alloc: Global,
     settings: &Settings,
@@ -21,23 +25,24 @@ pub fn reply(
 ) -> Result<Answer, AllocError>
     ensures { IfOk result (λ a. a ≡ reply settings.now entries.now at input) }
 {
-    let _ = at;
-    let answer = match input {
-        Input::Borrow { began: _ } => {
-            let known = records_of(alloc, entries)?;
-            reply_to_borrow(settings, &known, count_drawn(entries) as u64)
-        }
-        Input::Ready { id, outcome } => {
-            let known = record_of(entries, id);
-            reply_to_ready(known.phase, known.is_new, outcome)
-        }
-        Input::GiveBack { id } => reply_to_give_back(record_of(entries, id).phase),
-        Input::Park { id, outcome } => {
-            let known = records_of(alloc, entries)?;
-            let room = is_below_limit(settings.max_idle, count_queued(&known));
-            reply_to_park(record_of(entries, id).phase, outcome, room)
-        }
-        Input::Destroyed { id } => reply_to_destroyed(record_of(entries, id).phase),
-    };
-    Ok(answer)
+    match input {
+        Input::Borrow { began } => reply_to_borrow(alloc, settings, entries, at, began),
+        Input::Ready { id, outcome } => Ok(reply_to_ready(entries, id, outcome)),
+        Input::GiveBack { id } => Ok(reply_if_lent(settings, entries, id, Answer::Check)),
+        Input::Park { id, outcome } => reply_to_park(alloc, settings, entries, id, outcome),
+        Input::Invalidate { id } => Ok(reply_if_lent(settings, entries, id, Answer::Destroy)),
+        Input::Use { id } => Ok(reply_if_lent(settings, entries, id, Answer::Noted)),
+        Input::Add => reply_to_add(alloc, settings, entries),
+        Input::Fill => reply_to_fill(alloc, settings, entries),
+        Input::Added { id, outcome } => Ok(reply_to_added(entries, id, outcome)),
+        Input::Evict => reply_to_evict(alloc, settings, entries),
+        Input::EvictNext => reply_to_evict_next(alloc, settings, entries, at),
+        Input::Tested { id, outcome } => Ok(reply_to_tested(entries, id, outcome)),
+        Input::Reclaim { on } => reply_to_reclaim(alloc, settings, entries, at, on),
+        Input::ReclaimNext => reply_to_reclaim_next(alloc, settings, entries, at),
+        Input::Clear => reply_to_clear(alloc, entries),
+        Input::ClearNext => reply_to_clear_next(alloc, entries),
+        Input::Destroyed { id } => Ok(reply_to_destroyed(entries, id)),
+        Input::Close => reply_to_close(alloc, entries),
+    }
 }

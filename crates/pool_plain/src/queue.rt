@@ -1,8 +1,12 @@
-ghost use Rattle.std.specs.Prelude.{◌≡◌, fold, filter, None};
-ghost use Rattle.pool_journal.specs.Queue.{is_idle, is_queued, queue_length, earlier, later};
-ghost use Rattle.pool_core.specs.Reply.{choice};
+ghost use Rattle.std.specs.Prelude.{◌≡◌, ◌≤◌, IfOk, length, filter, find, count_by};
+ghost use Rattle.std.specs.List.{insert};
+ghost use Rattle.std.specs.Option.{option_or};
+ghost use Rattle.pool_journal.specs.Queue.{is_idle, is_queued, put_rising, queue_length, idle_queue, first_of, last_of};
+ghost use Rattle.pool_places.specs.After.{is_after};
+ghost use Rattle.pool_places.specs.Counts.{is_adding};
 
 use pool_journal::{Phase, Record};
+use std::alloc::{AllocError, Global};
 
 fn is_idle_phase(phase: Phase) -> bool
     ensures { result ≡ is_idle phase }
@@ -16,71 +20,100 @@ fn is_queued_phase(phase: Phase) -> bool
     matches!(phase, Phase::Idle | Phase::Testing)
 }
 
-fn earlier_of(best: Option<Record>, known: Record) -> Option<Record>
-    ensures { result ≡ earlier (λ r. r.parked) best known }
+fn is_adding_phase(phase: Phase) -> bool
+    ensures { result ≡ is_adding phase }
 {
-    match best {
-        Some(found) if known.parked >= found.parked => Some(found),
-        _ => Some(known),
-    }
+    matches!(phase, Phase::Adding)
 }
 
-fn later_of(best: Option<Record>, known: Record) -> Option<Record>
-    ensures { result ≡ later (λ r. r.parked) best known }
+// Where an object goes into a queue: before the first that was parked later.
+fn place_for(queue: &[Record], object: Record) -> usize
+    ensures bound { result ≤ length queue.now }
+    ensures place { insert queue.now result object ≡ put_rising (λ r. r.parked) queue.now object }
 {
-    match best {
-        Some(found) if known.parked < found.parked => Some(found),
-        _ => Some(known),
-    }
-}
-
-// The idle object that was parked first.
-fn first_parked(known: &[Record]) -> Option<Record>
-    ensures { result
-        ≡ fold (earlier (λ r. r.parked)) None (filter (λ r. is_idle r.phase) known.now) }
-{
-    let mut best = None;
-    for record in known {
-        if is_idle_phase(record.phase) {
-            best = earlier_of(best, *record);
+    for (index, queued) in queue.iter().enumerate() {
+        if object.parked < queued.parked {
+            return index;
         }
     }
-    best
+    queue.len()
 }
 
-// The idle object that was parked last.
-fn last_parked(known: &[Record]) -> Option<Record>
-    ensures { result
-        ≡ fold (later (λ r. r.parked)) None (filter (λ r. is_idle r.phase) known.now) }
+// The idle objects, in the order in which they were parked.
+#[tactic(auto, using(crate::proofs::Queues::queue_none))]
+pub fn idle_queue_of(alloc: Global, known: &[Record]) -> Result<Vec<Record>, AllocError>
+    ensures { IfOk result (λ v. v.items ≡ idle_queue known.now) }
 {
-    let mut best = None;
+    let mut queue = Vec::new(alloc);
     for record in known {
         if is_idle_phase(record.phase) {
-            best = later_of(best, *record);
+            let place = place_for(&queue, *record);
+            queue.insert(place, *record)?;
         }
     }
-    best
+    Ok(queue)
 }
 
-pub fn choose(lifo: bool, known: &[Record]) -> Option<u64>
-    ensures { result ≡ choice lifo known.now }
+pub fn first(queue: &[Record]) -> Option<Record>
+    ensures { result ≡ first_of queue.now }
 {
-    let best = if lifo {
-        last_parked(known)
-    } else {
-        first_parked(known)
-    };
-    match best {
-        Some(record) => Some(record.id),
-        None => None,
+    match queue {
+        [first, ..] => Some(*first),
+        [] => None,
     }
 }
 
+pub fn last(queue: &[Record]) -> Option<Record>
+    ensures { result ≡ last_of queue.now }
+{
+    queue.last().copied()
+}
+
+fn is_parked_after(cursor: Option<u64>, object: Record) -> bool
+    ensures { result ≡ is_after cursor object }
+{
+    match cursor {
+        Some(position) => object.parked > position,
+        None => true,
+    }
+}
+
+fn first_after(cursor: Option<u64>, queue: &[Record]) -> Option<Record>
+    ensures { result ≡ find (is_after cursor) queue.now }
+{
+    queue
+        .iter()
+        .map(|record| *record)
+        .find(|record| is_parked_after(cursor, *record))
+}
+
+// The object of a queue that is examined next.
+#[tactic(auto, using(crate::proofs::Queues::first_found))]
+pub fn examine(cursor: Option<u64>, queue: &[Record]) -> Option<Record>
+    ensures { result ≡ option_or (first_of (filter (is_after cursor) queue.now)) (first_of queue.now) }
+{
+    match first_after(cursor, queue) {
+        Some(record) => Some(record),
+        None => first(queue),
+    }
+}
+
+// How many objects are in the queue.
 pub fn count_queued(known: &[Record]) -> usize
     ensures { result ≡ queue_length known.now }
 {
     known
         .iter()
         .filter(|record| is_queued_phase(record.phase))
+        .count()
+}
+
+// How many objects are being made for the queue.
+pub fn count_adding(known: &[Record]) -> usize
+    ensures { result ≡ count_by (λ r. is_adding r.phase) known.now }
+{
+    known
+        .iter()
+        .filter(|record| is_adding_phase(record.phase))
         .count()
 }

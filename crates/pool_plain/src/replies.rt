@@ -1,41 +1,22 @@
-ghost use Rattle.std.specs.Prelude.{◌≡◌, length};
-ghost use Rattle.pool_core.specs.Reply.{is_below, choice, borrow_reply, ready_reply, give_back_reply, park_reply, destroyed_reply};
+ghost use Rattle.std.specs.Prelude.{◌≡◌, not};
+ghost use Rattle.pool_journal.specs.Journal.{phase, is_new, closed};
+ghost use Rattle.pool_core.specs.Reply.{ready_reply, lent_reply, park_reply, added_reply, tested_reply, destroyed_reply};
 
-use crate::queue::choose;
-use pool_journal::{Answer, Cause, Outcome, Phase, Record};
+use crate::marks::is_closed;
+use crate::records::{is_here, phase_of, record_of};
+use pool_journal::{Answer, Cause, Entry, Outcome, Phase};
 use pool_settings::Settings;
 
-pub fn is_below_limit(limit: i32, n: usize) -> bool
-    ensures { result ≡ is_below limit n }
+// What making an object ready came to.
+pub fn reply_to_ready(entries: &[Entry], id: u64, outcome: Outcome) -> Answer
+    ensures { result ≡ ready_reply (phase id entries.now) (is_new id entries.now) outcome }
 {
-    limit < 0 || n < limit as usize
-}
-
-pub fn reply_to_borrow(settings: &Settings, known: &[Record], next: u64) -> Answer
-    ensures { result
-        ≡ borrow_reply (choice settings.now.lifo known.now)
-        (is_below settings.now.max_total (length known.now)) next }
-{
-    match choose(settings.lifo, known) {
-        Some(id) => Answer::Take(id),
-        None => {
-            if is_below_limit(settings.max_total, known.len()) {
-                Answer::Make(next)
-            } else {
-                Answer::Wait
-            }
-        }
-    }
-}
-
-pub fn reply_to_ready(phase: Phase, is_new: bool, outcome: Outcome) -> Answer
-    ensures { result ≡ ready_reply phase is_new outcome }
-{
-    match (phase, outcome) {
+    let known = record_of(entries, id);
+    match (known.phase, outcome) {
         (Phase::Readying, Outcome::PassivateFailed) => Answer::Refused(Cause::BadOutcome),
         (Phase::Readying, Outcome::Good) => Answer::Lent,
-        (Phase::Readying, Outcome::MakeFailed) if is_new => Answer::Freed,
-        (Phase::Readying, Outcome::CreateTestFailed) if is_new => Answer::Destroy,
+        (Phase::Readying, Outcome::MakeFailed) if known.is_new => Answer::Freed,
+        (Phase::Readying, Outcome::CreateTestFailed) if known.is_new => Answer::Destroy,
         (Phase::Readying, Outcome::MakeFailed | Outcome::CreateTestFailed) => {
             Answer::Refused(Cause::BadOutcome)
         }
@@ -44,32 +25,67 @@ pub fn reply_to_ready(phase: Phase, is_new: bool, outcome: Outcome) -> Answer
     }
 }
 
-pub fn reply_to_park(phase: Phase, outcome: Outcome, room: bool) -> Answer
+// What is done with an object that its holder names: `answer` where it is lent.
+pub fn reply_if_lent(settings: &Settings, entries: &[Entry], id: u64, answer: Answer) -> Answer
+    ensures { result ≡ lent_reply settings.now.abandoned (phase id entries.now) answer }
+{
+    let phase = phase_of(entries, id);
+    if matches!(phase, Phase::Lent) {
+        answer
+    } else if settings.abandoned && !is_here(phase) {
+        Answer::Gone
+    } else {
+        Answer::Refused(Cause::NotLent)
+    }
+}
+
+// What checking a returned object came to, where the queue has room for it or not.
+pub fn reply_to_check(phase: Phase, outcome: Outcome, room: bool) -> Answer
     ensures { result ≡ park_reply phase outcome room }
 {
-    match phase {
-        Phase::Returning => match outcome {
-            Outcome::Good if room => Answer::Parked,
-            Outcome::Good | Outcome::TestFailed | Outcome::PassivateFailed => Answer::Destroy,
-            _ => Answer::Refused(Cause::BadOutcome),
-        },
-        _ => Answer::Refused(Cause::NotHeld),
+    match (phase, outcome) {
+        (Phase::Returning, Outcome::Good) if room => Answer::Parked,
+        (Phase::Returning, Outcome::Good | Outcome::TestFailed | Outcome::PassivateFailed) =>
+            Answer::Destroy,
+        (Phase::Returning, _) => Answer::Refused(Cause::BadOutcome),
+        (_, _) => Answer::Refused(Cause::NotHeld),
     }
 }
 
-pub fn reply_to_give_back(phase: Phase) -> Answer
-    ensures { result ≡ give_back_reply phase }
+// What making an object for the queue came to.
+pub fn reply_to_added(entries: &[Entry], id: u64, outcome: Outcome) -> Answer
+    ensures { result ≡ added_reply (phase id entries.now) outcome (not (closed entries.now)) }
 {
-    match phase {
-        Phase::Lent => Answer::Check,
-        _ => Answer::Refused(Cause::NotLent),
+    match (phase_of(entries, id), outcome) {
+        (Phase::Adding, Outcome::ActivateFailed | Outcome::TestFailed) => {
+            Answer::Refused(Cause::BadOutcome)
+        }
+        (Phase::Adding, Outcome::Good) if !is_closed(entries) => Answer::Parked,
+        (Phase::Adding, Outcome::MakeFailed) => Answer::Freed,
+        (Phase::Adding, _) => Answer::Destroy,
+        (_, _) => Answer::Refused(Cause::NotHeld),
     }
 }
 
-pub fn reply_to_destroyed(phase: Phase) -> Answer
-    ensures { result ≡ destroyed_reply phase }
+// What testing an idle object came to.
+pub fn reply_to_tested(entries: &[Entry], id: u64, outcome: Outcome) -> Answer
+    ensures { result ≡ tested_reply (phase id entries.now) outcome (not (closed entries.now)) }
 {
-    match phase {
+    match (phase_of(entries, id), outcome) {
+        (Phase::Testing, Outcome::MakeFailed | Outcome::CreateTestFailed) => {
+            Answer::Refused(Cause::BadOutcome)
+        }
+        (Phase::Testing, Outcome::Good) if !is_closed(entries) => Answer::Kept,
+        (Phase::Testing, _) => Answer::Destroy,
+        (_, _) => Answer::Refused(Cause::NotHeld),
+    }
+}
+
+// An object was destroyed.
+pub fn reply_to_destroyed(entries: &[Entry], id: u64) -> Answer
+    ensures { result ≡ destroyed_reply (phase id entries.now) }
+{
+    match phase_of(entries, id) {
         Phase::Destroying => Answer::Freed,
         _ => Answer::Refused(Cause::NotHeld),
     }

@@ -1,61 +1,238 @@
-ghost use Rattle.std.specs.Prelude.{◌≡◌};
+ghost use Rattle.std.specs.Prelude.{◌≡◌, [], Ok, IfOk};
+ghost use Rattle.pool_settings.specs.Answer.{IsAnswer};
+ghost use Rattle.pool_settings.specs.Defaults.{defaults};
+ghost use Rattle.pool_settings.specs.EffectiveMinIdle.{effective_min_idle};
+ghost use Rattle.pool_settings.specs.Ranges.{IsInRange};
 
-/// How a pool is to behave.
+use crate::fault::SettingsFault;
+use crate::reading::put_table;
+use std::alloc::Global;
+
+/// How a pool is to behave. A key of a settings text has the field's name with capitals in place of underscores, as `maxTotal`; the
+/// fields that begin with `remove_abandoned` are keys of the table `abandoned`.
 #[derive(Clone, Copy, Debug, PartialEq, Eq)]
 pub struct Settings {
-    /// The greatest number of entries that the journal may have. Default 1,000,000.
+    /// Whether lent objects that nobody uses any more can be reclaimed.
+    pub abandoned: bool,
+    /// Whether a borrow waits when no object is free; else it is refused at once.
+    pub block_when_exhausted: bool,
+    /// How many entries the journal can hold, from 1 to 2^32.
     pub journal_limit: u64,
-    /// Whether a borrow takes the idle object that was parked last, and not the one parked first.
-    /// Default true.
+    /// Whether the object that was parked last is lent first; else the one that was parked first.
     pub lifo: bool,
-    /// How many objects may be in the queue before a returned one is destroyed; no limit where it
-    /// is negative. Default 8.
+    /// The greatest number of idle objects; negative for no limit.
     pub max_idle: i32,
-    /// How many objects may be present at once; no limit where it is negative. Default 8.
+    /// The greatest number of objects that are present; negative for no limit.
     pub max_total: i32,
+    /// How long a borrow waits, in milliseconds up to 2^53; negative for no limit.
+    pub max_wait_millis: i64,
+    /// How long an object may be idle until it is evicted, in milliseconds up to 2^53; 0 or negative for ever.
+    pub min_evictable_idle_millis: i64,
+    /// How many idle objects are to be kept ready, as far as `max_idle` allows; not negative in a text.
+    pub min_idle: i32,
+    /// How many idle objects an eviction run examines; at `-n`, one in n of them, rounded up.
+    pub num_tests_per_eviction_run: i32,
+    /// Whether a borrow reclaims abandoned objects first, when few are left.
+    pub remove_abandoned_on_borrow: bool,
+    /// Whether maintenance reclaims abandoned objects.
+    pub remove_abandoned_on_maintenance: bool,
+    /// How long an object may be lent unused until it is abandoned, in milliseconds from 0 to 2^53.
+    pub remove_abandoned_timeout_millis: i64,
+    /// The same as `min_evictable_idle_millis`, for objects beyond those that are to be kept ready.
+    pub soft_min_evictable_idle_millis: i64,
+    /// Whether an object is validated before it is lent.
+    pub test_on_borrow: bool,
+    /// Whether an object is validated after it is made.
+    pub test_on_create: bool,
+    /// Whether an object is validated when it is given back.
+    pub test_on_return: bool,
+    /// Whether idle objects are validated by an eviction run.
+    pub test_while_idle: bool,
 }
 
 impl Default for Settings {
-    ghost use Rattle.pool_settings.specs.Defaults.{defaults};
-
     ghost is_default = { λ s. s ≡ defaults };
 
     fn default() -> Self {
         Settings {
+            abandoned: false,
+            block_when_exhausted: true,
             journal_limit: 1_000_000,
             lifo: true,
             max_idle: 8,
             max_total: 8,
+            max_wait_millis: -1,
+            min_evictable_idle_millis: 1_800_000,
+            min_idle: 0,
+            num_tests_per_eviction_run: 3,
+            remove_abandoned_on_borrow: false,
+            remove_abandoned_on_maintenance: false,
+            remove_abandoned_timeout_millis: 300_000,
+            soft_min_evictable_idle_millis: -1,
+            test_on_borrow: false,
+            test_on_create: false,
+            test_on_return: false,
+            test_while_idle: false,
         }
     }
 }
 
 impl Settings {
-    /// The greatest number of entries that the journal may have.
+    /// Reads settings from a TOML document, where what isn't said has its default.
+    ///
+    /// The first fault is the answer: that of the document as a whole, then that of the first key, in the order of their bytes,
+    /// that is unknown, of the wrong type or out of its range. The keys of the table `abandoned` are looked at in that key's
+    /// place. `OutOfMemory` may stand in place of each answer, but the empty text always gives the defaults.
+    #[tactic(auto, using(crate::proofs::Blank::empty_document), unfolding(crate::specs::Answer::settings_of))]
+    pub fn from_text(alloc: Global, text: &str) -> Result<Settings, SettingsFault>
+        ensures answer { IsAnswer text.now result }
+        ensures empty { text.now ≡ [] → result ≡ Ok defaults }
+        ensures in_range { IfOk result IsInRange }
+    {
+        let table = match toml::table_from_str(alloc, text) {
+            Ok(table) => table,
+            Err(refused) if refused.is_memory() => return Err(SettingsFault::OutOfMemory),
+            Err(_) => return Err(SettingsFault::NotToml),
+        };
+        let mut settings = Settings::default();
+        put_table(alloc, &mut settings, &table)?;
+        Ok(settings)
+    }
+
+    /// The number of idle objects to be kept ready: `min_idle`, but no more than `max_idle` where that isn't negative.
+    pub fn effective_min_idle(&self) -> i32
+        ensures { result ≡ effective_min_idle self.now }
+    {
+        if self.max_idle < 0 {
+            self.min_idle
+        } else {
+            self.min_idle.min(self.max_idle)
+        }
+    }
+
+    /// Whether lent objects that nobody uses any more can be reclaimed.
+    pub fn abandoned(&self) -> bool
+        ensures { result ≡ self.now.abandoned }
+    {
+        self.abandoned
+    }
+
+    /// Whether a borrow waits when no object is free; else it is refused at once.
+    pub fn block_when_exhausted(&self) -> bool
+        ensures { result ≡ self.now.block_when_exhausted }
+    {
+        self.block_when_exhausted
+    }
+
+    /// How many entries the journal can hold, from 1 to 2^32.
     pub fn journal_limit(&self) -> u64
         ensures { result ≡ self.now.journal_limit }
     {
         self.journal_limit
     }
 
-    /// Whether a borrow takes the idle object that was parked last.
+    /// Whether the object that was parked last is lent first; else the one that was parked first.
     pub fn lifo(&self) -> bool
         ensures { result ≡ self.now.lifo }
     {
         self.lifo
     }
 
-    /// How many objects may be in the queue; no limit where it is negative.
+    /// The greatest number of idle objects; negative for no limit.
     pub fn max_idle(&self) -> i32
         ensures { result ≡ self.now.max_idle }
     {
         self.max_idle
     }
 
-    /// How many objects may be present at once; no limit where it is negative.
+    /// The greatest number of objects that are present; negative for no limit.
     pub fn max_total(&self) -> i32
         ensures { result ≡ self.now.max_total }
     {
         self.max_total
+    }
+
+    /// How long a borrow waits, in milliseconds up to 2^53; negative for no limit.
+    pub fn max_wait_millis(&self) -> i64
+        ensures { result ≡ self.now.max_wait_millis }
+    {
+        self.max_wait_millis
+    }
+
+    /// How long an object may be idle until it is evicted, in milliseconds up to 2^53; 0 or negative for ever.
+    pub fn min_evictable_idle_millis(&self) -> i64
+        ensures { result ≡ self.now.min_evictable_idle_millis }
+    {
+        self.min_evictable_idle_millis
+    }
+
+    /// How many idle objects are to be kept ready, as far as `max_idle` allows; not negative in a text.
+    pub fn min_idle(&self) -> i32
+        ensures { result ≡ self.now.min_idle }
+    {
+        self.min_idle
+    }
+
+    /// How many idle objects an eviction run examines; at `-n`, one in n of them, rounded up.
+    pub fn num_tests_per_eviction_run(&self) -> i32
+        ensures { result ≡ self.now.num_tests_per_eviction_run }
+    {
+        self.num_tests_per_eviction_run
+    }
+
+    /// Whether a borrow reclaims abandoned objects first, when few are left.
+    pub fn remove_abandoned_on_borrow(&self) -> bool
+        ensures { result ≡ self.now.remove_abandoned_on_borrow }
+    {
+        self.remove_abandoned_on_borrow
+    }
+
+    /// Whether maintenance reclaims abandoned objects.
+    pub fn remove_abandoned_on_maintenance(&self) -> bool
+        ensures { result ≡ self.now.remove_abandoned_on_maintenance }
+    {
+        self.remove_abandoned_on_maintenance
+    }
+
+    /// How long an object may be lent unused until it is abandoned, in milliseconds from 0 to 2^53.
+    pub fn remove_abandoned_timeout_millis(&self) -> i64
+        ensures { result ≡ self.now.remove_abandoned_timeout_millis }
+    {
+        self.remove_abandoned_timeout_millis
+    }
+
+    /// The same as `min_evictable_idle_millis`, for objects beyond those that are to be kept ready.
+    pub fn soft_min_evictable_idle_millis(&self) -> i64
+        ensures { result ≡ self.now.soft_min_evictable_idle_millis }
+    {
+        self.soft_min_evictable_idle_millis
+    }
+
+    /// Whether an object is validated before it is lent.
+    pub fn test_on_borrow(&self) -> bool
+        ensures { result ≡ self.now.test_on_borrow }
+    {
+        self.test_on_borrow
+    }
+
+    /// Whether an object is validated after it is made.
+    pub fn test_on_create(&self) -> bool
+        ensures { result ≡ self.now.test_on_create }
+    {
+        self.test_on_create
+    }
+
+    /// Whether an object is validated when it is given back.
+    pub fn test_on_return(&self) -> bool
+        ensures { result ≡ self.now.test_on_return }
+    {
+        self.test_on_return
+    }
+
+    /// Whether idle objects are validated by an eviction run.
+    pub fn test_while_idle(&self) -> bool
+        ensures { result ≡ self.now.test_while_idle }
+    {
+        self.test_while_idle
     }
 }

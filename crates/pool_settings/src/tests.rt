@@ -1,25 +1,354 @@
 use crate::Settings;
+use std::process::Abort;
+use std::test::Fail;
 
-// The defaults that GenericObjectPoolConfig documents, and the journal's limit.
+/// What the program tells of a text: `ok`, or the fault's line.
+fn told(rt: &impl AllocGlobal, text: &str) -> Result<String, Fail> {
+    Ok(match Settings::from_text(rt.alloc(), text) {
+        Ok(_) => String::from_str(rt.alloc(), "ok")?,
+        Err(fault) => format!(in rt.alloc(); "{fault}")?,
+    })
+}
+
+fn read(rt: &impl AllocGlobal, text: &str) -> Result<Settings, Fail> {
+    Ok(Settings::from_text(rt.alloc(), text).map_err(|_| "the text is accepted")?)
+}
+
+fn all_told(rt: &(impl AllocGlobal + Abort), cases: &[(&str, &str)]) -> Result<(), Fail> {
+    for (text, answer) in cases {
+        assert_eq!(rt; told(rt, text)?.as_str(), *answer, "{text}");
+    }
+    Ok(())
+}
+
+// The defaults that GenericObjectPoolConfig and AbandonedConfig document, and the journal's limit.
 #[test]
-fn defaults(rt: HostRuntime) {
+fn defaults(rt: HostRuntime) -> Result<(), Fail> {
     let settings = Settings::default();
-    assert_eq!(rt; settings.max_total(), 8);
-    assert_eq!(rt; settings.max_idle(), 8);
-    assert!(rt; settings.lifo());
+    assert!(rt; !settings.abandoned());
+    assert!(rt; settings.block_when_exhausted());
     assert_eq!(rt; settings.journal_limit(), 1_000_000);
+    assert!(rt; settings.lifo());
+    assert_eq!(rt; settings.max_idle(), 8);
+    assert_eq!(rt; settings.max_total(), 8);
+    assert_eq!(rt; settings.max_wait_millis(), -1);
+    assert_eq!(rt; settings.min_evictable_idle_millis(), 1_800_000);
+    assert_eq!(rt; settings.min_idle(), 0);
+    assert_eq!(rt; settings.num_tests_per_eviction_run(), 3);
+    assert!(rt; !settings.remove_abandoned_on_borrow());
+    assert!(rt; !settings.remove_abandoned_on_maintenance());
+    assert_eq!(rt; settings.remove_abandoned_timeout_millis(), 300_000);
+    assert_eq!(rt; settings.soft_min_evictable_idle_millis(), -1);
+    assert!(rt; !settings.test_on_borrow() && !settings.test_on_create());
+    assert!(rt; !settings.test_on_return() && !settings.test_while_idle());
+    assert_eq!(rt; settings.effective_min_idle(), 0);
+    assert_eq!(rt; read(&rt, "")?, settings);
+    assert_eq!(rt; read(&rt, "# nothing is said\n\n")?, settings);
+    Ok(())
+}
+
+// Each setting is put at its key, all at values that are no other's.
+#[test]
+fn every_key_is_read(rt: HostRuntime) -> Result<(), Fail> {
+    let text = "
+blockWhenExhausted = false
+journalLimit = 20
+lifo = false
+maxIdle = 3
+maxTotal = -4
+maxWaitMillis = 50
+minEvictableIdleMillis = 60
+minIdle = 7
+numTestsPerEvictionRun = -8
+softMinEvictableIdleMillis = 90
+testOnBorrow = true
+testOnCreate = true
+testOnReturn = true
+testWhileIdle = true
+[abandoned]
+removeAbandonedOnBorrow = true
+removeAbandonedOnMaintenance = true
+removeAbandonedTimeoutMillis = 100
+";
+    let settings = read(&rt, text)?;
+    assert!(rt; settings.abandoned());
+    assert!(rt; !settings.block_when_exhausted());
+    assert_eq!(rt; settings.journal_limit(), 20);
+    assert!(rt; !settings.lifo());
+    assert_eq!(rt; settings.max_idle(), 3);
+    assert_eq!(rt; settings.max_total(), -4);
+    assert_eq!(rt; settings.max_wait_millis(), 50);
+    assert_eq!(rt; settings.min_evictable_idle_millis(), 60);
+    assert_eq!(rt; settings.min_idle(), 7);
+    assert_eq!(rt; settings.num_tests_per_eviction_run(), -8);
+    assert!(rt; settings.remove_abandoned_on_borrow());
+    assert!(rt; settings.remove_abandoned_on_maintenance());
+    assert_eq!(rt; settings.remove_abandoned_timeout_millis(), 100);
+    assert_eq!(rt; settings.soft_min_evictable_idle_millis(), 90);
+    assert!(rt; settings.test_on_borrow() && settings.test_on_create());
+    assert!(rt; settings.test_on_return() && settings.test_while_idle());
+    assert_eq!(rt; settings.effective_min_idle(), 3);
+    Ok(())
+}
+
+// Of the four tests each one alone.
+#[test]
+fn tests_are_told_apart(rt: HostRuntime) -> Result<(), Fail> {
+    let borrowed = read(&rt, "testOnBorrow = true")?;
+    assert!(rt; borrowed.test_on_borrow() && !borrowed.test_on_create());
+    let created = read(&rt, "testOnCreate = true")?;
+    assert!(rt; created.test_on_create() && !created.test_on_return());
+    let returned = read(&rt, "testOnReturn = true")?;
+    assert!(rt; returned.test_on_return() && !returned.test_while_idle());
+    let idle = read(&rt, "testWhileIdle = true")?;
+    assert!(rt; idle.test_while_idle() && !idle.test_on_borrow());
+    let maintained = read(&rt, "[abandoned]\nremoveAbandonedOnMaintenance = true")?;
+    assert!(rt;
+        maintained.remove_abandoned_on_maintenance() && !maintained.remove_abandoned_on_borrow()
+    );
+    Ok(())
 }
 
 #[test]
-fn getters_tell_the_fields(rt: HostRuntime) {
-    let settings = Settings {
-        journal_limit: 7,
-        lifo: false,
-        max_idle: -1,
-        max_total: 3,
-    };
-    assert_eq!(rt; settings.max_total(), 3);
-    assert_eq!(rt; settings.max_idle(), -1);
-    assert!(rt; !settings.lifo());
-    assert_eq!(rt; settings.journal_limit(), 7);
+fn faults_in_order(rt: HostRuntime) -> Result<(), Fail> {
+    all_told(
+        &rt,
+        &[
+            ("maxTotal =", "settings: not TOML"),
+            ("maxTotal = 8\nmaxTotal = 8", "settings: not TOML"),
+            ("maxTotal = 9223372036854775808", "settings: not TOML"),
+            ("maxTotl = 8", "settings: unknown key maxTotl"),
+            ("maxTotal = \"8\"", "settings: wrong type maxTotal"),
+            ("maxTotal = 8.0", "settings: wrong type maxTotal"),
+            ("minIdle = -1", "settings: out of range minIdle"),
+            ("maxIdle = true\nlifo = 1", "settings: wrong type lifo"),
+            ("maxIdle = true\nzzz = 1", "settings: wrong type maxIdle"),
+            ("maxIdle = true\naaa = 1", "settings: unknown key aaa"),
+            (
+                "minIdle = -1\nmaxTotal = true",
+                "settings: wrong type maxTotal",
+            ),
+            (
+                "testOnBorrow = 1\nminIdle = -1",
+                "settings: out of range minIdle",
+            ),
+            ("é = 1", "settings: not TOML"),
+            (
+                "\"é\" = 1\nmaxTotal = true",
+                "settings: wrong type maxTotal",
+            ),
+            ("\"é\" = 1", "settings: unknown key é"),
+            ("\"\" = 1\nabandoned = 1", "settings: unknown key "),
+            ("Lifo = true\nabandoned = 1", "settings: unknown key Lifo"),
+        ],
+    )
+}
+
+#[test]
+fn table_of_abandoned_objects(rt: HostRuntime) -> Result<(), Fail> {
+    let settings = read(&rt, "[abandoned]")?;
+    assert!(rt; settings.abandoned());
+    assert!(rt; !settings.remove_abandoned_on_borrow());
+    assert!(rt; !settings.remove_abandoned_on_maintenance());
+    assert_eq!(rt; settings.remove_abandoned_timeout_millis(), 300_000);
+    all_told(
+        &rt,
+        &[
+            ("abandoned = {}", "ok"),
+            ("abandoned.removeAbandonedOnBorrow = true", "ok"),
+            ("abandoned = 1", "settings: wrong type abandoned"),
+            ("[[abandoned]]", "settings: wrong type abandoned"),
+            (
+                "maxTotal = \"8\"\nabandoned = 1",
+                "settings: wrong type abandoned",
+            ),
+            (
+                "[abandoned]\nfoo = 1",
+                "settings: unknown key abandoned.foo",
+            ),
+            (
+                "[abandoned]\nlifo = true",
+                "settings: unknown key abandoned.lifo",
+            ),
+            (
+                "[abandoned]\nremoveAbandonedOnBorrow = 1\nfoo = 1",
+                "settings: unknown key abandoned.foo",
+            ),
+            (
+                "lifo = 1\n[abandoned]\nremoveAbandonedOnMaintenance = 1",
+                "settings: wrong type abandoned.removeAbandonedOnMaintenance",
+            ),
+            (
+                "[abandoned]\nremoveAbandonedTimeoutMillis = true\nremoveAbandonedOnBorrow = 1",
+                "settings: wrong type abandoned.removeAbandonedOnBorrow",
+            ),
+            (
+                "removeAbandonedOnBorrow = true",
+                "settings: unknown key removeAbandonedOnBorrow",
+            ),
+            (
+                "'abandoned.removeAbandonedOnBorrow' = true",
+                "settings: unknown key abandoned.removeAbandonedOnBorrow",
+            ),
+        ],
+    )
+}
+
+#[test]
+fn ends_of_the_numbers_of_objects(rt: HostRuntime) -> Result<(), Fail> {
+    assert_eq!(rt;
+        read(&rt, "journalLimit = 4294967296")?.journal_limit(),
+        4_294_967_296
+    );
+    all_told(
+        &rt,
+        &[
+            ("journalLimit = 1", "ok"),
+            ("journalLimit = 0", "settings: out of range journalLimit"),
+            ("journalLimit = 4294967296", "ok"),
+            (
+                "journalLimit = 4294967297",
+                "settings: out of range journalLimit",
+            ),
+            ("maxIdle = -2147483648", "ok"),
+            ("maxIdle = -2147483649", "settings: out of range maxIdle"),
+            ("maxIdle = 2147483647", "ok"),
+            ("maxIdle = 2147483648", "settings: out of range maxIdle"),
+            ("maxTotal = -2147483648", "ok"),
+            ("maxTotal = -2147483649", "settings: out of range maxTotal"),
+            ("maxTotal = 2147483647", "ok"),
+            ("maxTotal = 2147483648", "settings: out of range maxTotal"),
+            ("minIdle = 0", "ok"),
+            ("minIdle = -1", "settings: out of range minIdle"),
+            ("minIdle = 2147483647", "ok"),
+            ("minIdle = 2147483648", "settings: out of range minIdle"),
+            ("numTestsPerEvictionRun = -2147483648", "ok"),
+            (
+                "numTestsPerEvictionRun = -2147483649",
+                "settings: out of range numTestsPerEvictionRun",
+            ),
+            ("numTestsPerEvictionRun = 2147483647", "ok"),
+            (
+                "numTestsPerEvictionRun = 2147483648",
+                "settings: out of range numTestsPerEvictionRun",
+            ),
+        ],
+    )
+}
+
+#[test]
+fn ends_of_the_times(rt: HostRuntime) -> Result<(), Fail> {
+    let longest = read(&rt, "maxWaitMillis = 9007199254740992")?;
+    assert_eq!(rt; longest.max_wait_millis(), 9_007_199_254_740_992);
+    for key in [
+        "maxWaitMillis",
+        "minEvictableIdleMillis",
+        "softMinEvictableIdleMillis",
+    ] {
+        let out_of_range = format!(in rt.alloc(); "settings: out of range {key}")?;
+        for (end, answer) in [
+            ("-1", "ok"),
+            ("-2", out_of_range.as_str()),
+            ("9007199254740992", "ok"),
+            ("9007199254740993", out_of_range.as_str()),
+        ] {
+            let text = format!(in rt.alloc(); "{key} = {end}")?;
+            assert_eq!(rt; told(&rt, text.as_str())?.as_str(), answer, "{text}");
+        }
+    }
+    let timeout = "settings: out of range abandoned.removeAbandonedTimeoutMillis";
+    all_told(
+        &rt,
+        &[
+            ("[abandoned]\nremoveAbandonedTimeoutMillis = 0", "ok"),
+            ("[abandoned]\nremoveAbandonedTimeoutMillis = -1", timeout),
+            (
+                "[abandoned]\nremoveAbandonedTimeoutMillis = 9007199254740992",
+                "ok",
+            ),
+            (
+                "[abandoned]\nremoveAbandonedTimeoutMillis = 9007199254740993",
+                timeout,
+            ),
+        ],
+    )
+}
+
+#[test]
+fn every_key_has_its_type(rt: HostRuntime) -> Result<(), Fail> {
+    let flags = [
+        "blockWhenExhausted",
+        "lifo",
+        "testOnBorrow",
+        "testOnCreate",
+        "testOnReturn",
+        "testWhileIdle",
+        "abandoned.removeAbandonedOnBorrow",
+        "abandoned.removeAbandonedOnMaintenance",
+    ];
+    for key in flags {
+        let text = format!(in rt.alloc(); "{key} = 1")?;
+        let answer = format!(in rt.alloc(); "settings: wrong type {key}")?;
+        assert_eq!(rt; told(&rt, text.as_str())?.as_str(), answer.as_str());
+    }
+    let numbers = [
+        "journalLimit",
+        "maxIdle",
+        "maxTotal",
+        "maxWaitMillis",
+        "minEvictableIdleMillis",
+        "minIdle",
+        "numTestsPerEvictionRun",
+        "softMinEvictableIdleMillis",
+        "abandoned.removeAbandonedTimeoutMillis",
+    ];
+    for key in numbers {
+        let text = format!(in rt.alloc(); "{key} = true")?;
+        let answer = format!(in rt.alloc(); "settings: wrong type {key}")?;
+        assert_eq!(rt; told(&rt, text.as_str())?.as_str(), answer.as_str());
+    }
+    Ok(())
+}
+
+#[test]
+fn least_idle_under_the_greatest(rt: HostRuntime) -> Result<(), Fail> {
+    assert_eq!(rt;
+        read(&rt, "minIdle = 5\nmaxIdle = 3")?.effective_min_idle(),
+        3
+    );
+    assert_eq!(rt;
+        read(&rt, "minIdle = 5\nmaxIdle = -1")?.effective_min_idle(),
+        5
+    );
+    assert_eq!(rt;
+        read(&rt, "minIdle = 5\nmaxIdle = 0")?.effective_min_idle(),
+        0
+    );
+    assert_eq!(rt;
+        read(&rt, "minIdle = 5\nmaxIdle = 5")?.effective_min_idle(),
+        5
+    );
+    assert_eq!(rt; read(&rt, "minIdle = 5")?.effective_min_idle(), 5);
+    Ok(())
+}
+
+#[test]
+fn names_of_unknown_keys(rt: HostRuntime) -> Result<(), Fail> {
+    match Settings::from_text(rt.alloc(), "[abandoned]\nfoo = 1") {
+        Err(crate::SettingsFault::UnknownKey(name)) => {
+            assert_eq!(rt; name.as_str(), "abandoned.foo");
+            Ok(())
+        }
+        _ => Err("an unknown key".into()),
+    }
+}
+
+#[test]
+fn want_of_memory_as_text(rt: HostRuntime) -> Result<(), Fail> {
+    let fault = crate::SettingsFault::OutOfMemory;
+    assert_eq!(rt;
+        format!(in rt.alloc(); "{fault}")?.as_str(),
+        "out of memory"
+    );
+    Ok(())
 }

@@ -1,10 +1,23 @@
-use Rattle.std.proofs.Common.{◌≡◌, rules, length}
-use Rattle.pool_core.specs.Reply.{is_below, choice, borrow_reply}
-use Rattle.pool_plain.proofs.Scans.{borrow_due}
+-- What holds at any moment and with any settings holds with these.
 use Rattle.pool_plain.proofs.due.reply.Goals as goal
 
-pub returns-in_ok-known-in-Borrow : goal.returns-in_ok-known-in-Borrow
-returns-in_ok-known-in-Borrow c =
-    let due : c.reply_to_borrow-answer.result ≡ borrow_reply (choice c.args.settings.now.lifo c.deref.result.now) (is_below c.args.settings.now.max_total (length c.deref.result.now)) c.count_drawn.result = search rules in
-    borrow_due c.args.settings.now c.args.entries.now c.deref.result.now c.in_ok-known-in-Borrow.known.items c.count_drawn.result c.args.at c.args.input c.in-Borrow.began c.reply_to_borrow-answer.result
-    c.in-Borrow.is c.deref.ensures.value c.in_ok-known-in-Borrow.ensures c.count_drawn.ensures due
+pub returns-in-Park : goal.returns-in-Park
+returns-in-Park c = rw c.in-Park.is (c.reply_to_park.ensures c.args.at)
+
+pub returns-in-Add : goal.returns-in-Add
+returns-in-Add c = rw c.in-Add.is (c.reply_to_add.ensures c.args.at)
+
+pub returns-in-Fill : goal.returns-in-Fill
+returns-in-Fill c = rw c.in-Fill.is (c.reply_to_fill.ensures c.args.at)
+
+pub returns-in-Evict : goal.returns-in-Evict
+returns-in-Evict c = rw c.in-Evict.is (c.reply_to_evict.ensures c.args.at)
+
+pub returns-in-Clear : goal.returns-in-Clear
+returns-in-Clear c = rw c.in-Clear.is (c.reply_to_clear.ensures c.args.settings.now c.args.at)
+
+pub returns-in-ClearNext : goal.returns-in-ClearNext
+returns-in-ClearNext c = rw c.in-ClearNext.is (c.reply_to_clear_next.ensures c.args.settings.now c.args.at)
+
+pub returns-in-Close : goal.returns-in-Close
+returns-in-Close c = rw c.in-Close.is (c.reply_to_close.ensures c.args.settings.now c.args.at)

@@ -1,0 +1,79 @@
+ghost use Rattle.std.specs.Prelude.{◌<◌};
+
+use pool_journal::{Input, Outcome, When};
+
+/// Numbers that look like chance, and are the same in each run.
+#[derive(Drop)]
+pub struct Dice {
+    state: u64,
+}
+
+impl Dice {
+    pub fn new(seed: u64) -> Dice {
+        Dice { state: seed }
+    }
+
+    fn roll(&mut self, sides: u64) -> u64
+        requires { 0 < sides }
+        ensures { result < sides }
+    {
+        self.state = self
+            .state
+            .wrapping_mul(6_364_136_223_846_793_005)
+            .wrapping_add(1_442_695_040_888_963_407);
+        (self.state >> 33) % sides
+    }
+
+    /// Most outcomes are good.
+    fn outcome(&mut self) -> Outcome {
+        match self.roll(12) {
+            0 => Outcome::MakeFailed,
+            1 => Outcome::CreateTestFailed,
+            2 => Outcome::ActivateFailed,
+            3 => Outcome::TestFailed,
+            4 => Outcome::PassivateFailed,
+            _ => Outcome::Good,
+        }
+    }
+
+    /// An input about one of the objects that were drawn last.
+    pub fn input(&mut self, at: u64, last: u64) -> Input {
+        let id = last.saturating_sub(self.roll(4));
+        let outcome = self.outcome();
+        match self.roll(24) {
+            0..=3 => Input::Borrow { began: at },
+            4..=8 => Input::Ready { id, outcome },
+            9..=10 => Input::GiveBack { id },
+            11..=12 => Input::Park { id, outcome },
+            13 => Input::Destroyed { id },
+            14 => Input::Tested { id, outcome },
+            15..=16 => Input::Added { id, outcome },
+            _ => self.plain_input(id),
+        }
+    }
+
+    /// An input that tells no outcome.
+    fn plain_input(&mut self, id: u64) -> Input {
+        match self.roll(13) {
+            0 => Input::Invalidate { id },
+            1 => Input::Use { id },
+            2..=3 => Input::Add,
+            4 => Input::Fill,
+            5 => Input::Evict,
+            6..=7 => Input::EvictNext,
+            8 => Input::Reclaim { on: When::Maintain },
+            9 => Input::ReclaimNext,
+            10 => Input::Clear,
+            11 => Input::ClearNext,
+            _ => self.closing(),
+        }
+    }
+
+    /// A pool is closed now and then.
+    fn closing(&mut self) -> Input {
+        match self.roll(6) {
+            0 => Input::Close,
+            _ => Input::Reclaim { on: When::Borrow },
+        }
+    }
+}

@@ -1,0 +1,36 @@
+//! A test program: lives pools to the last lines of their journals, in many ways, and then finishes all that was begun.
+//!
+//! Each life is lived twice. A step that wants memory is taken again, so that the two are the same also where an allocation
+//! was refused in one of them. For each limit of the journal a line tells what was found.
+#![tactic(auto)]
+
+mod dice;
+mod life;
+
+use crate::life::Life;
+use std::alloc::AllocError;
+use std::process::ExitCode;
+
+/// The limits of the journals.
+const LIMITS: [u64; 4] = [1, 8, 16, 30];
+
+/// Lives two lives of one kind, and tells how they ended.
+fn verdict(rt: &HostRuntime, limit: u64) -> Result<&'static str, AllocError> {
+    let one = Life::lived(rt.alloc(), limit)?;
+    let other = Life::lived(rt.alloc(), limit)?;
+    Ok(if !one.is_finished() || !other.is_finished() {
+        "something is left"
+    } else if one.journal() != other.journal() {
+        "the two differ"
+    } else {
+        "finished, the same twice"
+    })
+}
+
+fn main(rt: HostRuntime) -> ExitCode {
+    for limit in LIMITS {
+        let found = verdict(&rt, limit).unwrap_or("out of memory");
+        let _ = println!(rt; "journalLimit {limit}: {found}");
+    }
+    ExitCode::SUCCESS
+}

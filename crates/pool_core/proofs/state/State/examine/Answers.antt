@@ -1,0 +1,12 @@
+use Rattle.std.proofs.Common.{sym, ◌∙◌}
+use Rattle.pool_places.specs.Shelf.{records_in}
+use Rattle.pool_places.proofs.Picks.{each_is_found}
+use Rattle.pool_core.proofs.Queues.{examined_found}
+use Rattle.pool_core.proofs.state.State.examine.Goals as goal
+
+-- the record that is found under its id is the one that is examined
+pub returns : goal.returns
+returns g c =
+    c.find.ensures.value
+    ∙ examined_found c.args.self.now.cursor (records_in c.args.self.now.places.kept) c.in_ok-id.id
+    (each_is_found c.args.self.now.places.kept c.find.ensures.shelf.rising) (sym c.examined_id.ensures ∙ c.in_ok-id.was)

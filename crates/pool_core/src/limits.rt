@@ -1,0 +1,57 @@
+ghost use Rattle.std.specs.Prelude.{◌≡◌, int_le, int_lt, pos};
+ghost use Rattle.pool_core.specs.Reply.{is_below, has_reached, is_past, is_nearly_full, tests};
+
+/// Whether `n` is below a limit, where a negative one is none.
+pub fn is_below_limit(limit: i32, n: u64) -> bool
+    ensures { result ≡ is_below limit n }
+{
+    limit < 0 || n < limit as u64
+}
+
+/// Whether a limit in milliseconds is reached, where a negative one is none.
+pub fn has_reached_limit(limit: i64, millis: u64) -> bool
+    ensures { result ≡ has_reached limit millis }
+{
+    limit >= 0 && millis >= limit as u64
+}
+
+/// Whether a limit in milliseconds is passed, where one that isn't positive is none.
+pub fn is_past_limit(limit: i64, millis: u64) -> bool
+    ensures { result ≡ is_past limit millis }
+{
+    limit > 0 && millis > limit as u64
+}
+
+/// Whether `n` is more than a limit less 3, where a negative limit is none and it always is.
+pub fn is_near_limit(limit: i32, n: u64) -> bool
+    ensures { result ≡ is_nearly_full limit n }
+{
+    limit < 0 || n.saturating_add(3) > limit as u64
+}
+
+/// Whether there are at least `least` of `n`, which may be negative.
+pub fn is_at_least(n: u64, least: i32) -> bool
+    ensures { result ≡ int_le least (pos n) }
+{
+    least < 0 || n >= least as u64
+}
+
+/// Whether there are more than `least` of `n`, which may be negative.
+pub fn is_more_than(n: u64, least: i32) -> bool
+    ensures { result ≡ int_lt least (pos n) }
+{
+    least < 0 || n > least as u64
+}
+
+/// How many tests an eviction run makes on a queue: `number`, or a part of the queue where it is
+/// negative, rounded up.
+pub fn number_of_tests(number: i32, queue: u64) -> u64
+    ensures { result ≡ tests number queue }
+{
+    let parts = u64::from(number.unsigned_abs());
+    if number < 0 {
+        queue.div_ceil(parts)
+    } else {
+        queue.min(parts)
+    }
+}

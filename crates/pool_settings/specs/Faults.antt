@@ -1,0 +1,38 @@
+-- Why a text gives no settings, with the names of keys as bytes.
+use Rattle.std.specs.Prelude.{◌≡◌, ◌≢◌, ⊤, ℕ, List, Result, Ok, Err, IsErr}
+use Rattle.pool_settings.specs.declared.fault.SettingsFault.{SettingsFault}
+use Rattle.pool_settings.specs.declared.fault.SettingsFault.TheVariants as told
+
+pub data Fault : Type 0 where
+  not_toml : Fault
+  unknown_key : List ℕ → Fault
+  wrong_type : List ℕ → Fault
+  out_of_range : List ℕ → Fault
+  out_of_memory : Fault
+
+abbrev pub fault_of : SettingsFault → Fault
+fault_of told.NotToml = not_toml
+fault_of (told.UnknownKey key) = unknown_key key
+fault_of (told.WrongType key) = wrong_type key.now
+fault_of (told.OutOfRange key) = out_of_range key.now
+fault_of told.OutOfMemory = out_of_memory
+
+-- What a function answered is what is given.
+abbrev pub Gives : {A : Type 0} → Result A SettingsFault → Result A Fault → Type 0
+Gives (Ok x) given = given ≡ Ok x
+Gives (Err fault) given = given ≡ Err (fault_of fault)
+
+-- The same, where want of memory may stand in place of what is given.
+abbrev pub GivesInMemory : {A : Type 0} → Result A SettingsFault → Result A Fault → Type 0
+GivesInMemory (Ok x) given = given ≡ Ok x
+GivesInMemory (Err fault) given = fault_of fault ≢ out_of_memory → given ≡ Err (fault_of fault)
+
+-- The same of what a function left behind. Want of memory stands only in place of a fault.
+abbrev pub Makes : {A : Type 0} → Result ⊤ SettingsFault → A → Result A Fault → Type 0
+Makes (Ok _) left given = given ≡ Ok left
+Makes (Err fault) left given = IsErr given × (fault_of fault ≢ out_of_memory → given ≡ Err (fault_of fault))
+
+-- The same of one setting, that it is put as the value given.
+abbrev pub Puts : {A B : Type 0} → (A → B) → Result ⊤ SettingsFault → B → Result A Fault → Type 0
+Puts {A} put (Ok _) left given = (x : A) × (given ≡ Ok x) × (left ≡ put x)
+Puts put (Err fault) left given = given ≡ Err (fault_of fault)

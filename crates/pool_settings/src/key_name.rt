@@ -1,0 +1,42 @@
+ghost use Rattle.std.specs.Prelude.{◌≡◌, ℕ, List, ◌++◌, IfOk, string_bytes};
+
+use std::alloc::{AllocError, Global};
+use std::fmt;
+use std::fmt::Formatter;
+use std::marker::Model;
+
+/// The name of a key, as its text.
+#[derive(Debug, Drop)]
+pub struct KeyName {
+    text: String,
+}
+
+impl Model for KeyName {
+    ghost Value = { List ℕ };
+
+    ghost view = { λ name. string_bytes name.text };
+}
+
+impl KeyName {
+    /// The name of a key in a table whose keys are told with this prefix.
+    pub(crate) fn new(alloc: Global, prefix: &str, key: &str) -> Result<KeyName, AllocError>
+        ensures { IfOk result (λ name. name ≡ prefix.now ++ key.now) }
+    {
+        let mut text = String::from_str(alloc, prefix)?;
+        text.push_str(key)?;
+        Ok(KeyName { text })
+    }
+
+    /// The name's text.
+    pub fn as_str(&self) -> &str
+        ensures { result.now ≡ self.now }
+    {
+        self.text.as_str()
+    }
+}
+
+impl fmt::Display for KeyName {
+    fn fmt<W: fmt::Write>(&self, f: &mut Formatter<W>) -> fmt::Result {
+        f.write_str(self.as_str())
+    }
+}
