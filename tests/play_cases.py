@@ -10,6 +10,8 @@
   answer that was due.
 - For a file NAME.claimed `POOL check NAME.toml NAME.claimed` must answer what NAME.verdict says: a line with the status,
   and then what it writes, to standard error where the status is 3, else to standard output.
+- For a file NAME.stats `POOL stats NAME.journal` must write it to standard output, and end with status 0 and nothing on
+  standard error.
 - For files NAME.toml and NAME.answer `POOL run` of an empty script with these settings must end with status 0 where the
   answer is 'ok', and else with status 3 and that line on standard error.
 
@@ -79,6 +81,8 @@ def cases(folder):
         yield from cases_of_script(script)
     for claimed in sorted(folder.glob("*.claimed")):
         yield claimed, ["check", claimed.with_suffix(".toml"), claimed], b"", wanted_of_claimed(claimed)
+    for stats in sorted(folder.glob("*.stats")):
+        yield stats, ["stats", stats.with_suffix(".journal")], b"", (contents(stats), b"", 0)
     for answer in sorted(folder.glob("*.answer")):
         yield answer, ["run", answer.with_suffix(".toml"), "/dev/null"], b"", wanted_of_settings(answer)
 

@@ -47,6 +47,8 @@ FILES = {
     "truncated": b"0 1 borrow 1",
 }
 
+NAMES = ["borrowed", "returned", "created", "destroyed", "evicted", "borrowtestfailed", "reclaimed", "longest", "total"]
+
 TWO_BORROWS = b"0 0 borrow 0 = make 0\n1 5 borrow 5 = wait\n"
 
 WRONG_ARGUMENTS = [
@@ -56,6 +58,8 @@ WRONG_ARGUMENTS = [
     "check defaults.toml plain.journal more", "run -x defaults.toml plain.script", "run --settings defaults.toml plain.script",
     "run defaults.toml --script=plain.script", "-- run defaults.toml plain.script", "-q run defaults.toml plain.script",
     "defaults.toml plain.script", "run run", "run --", "run -- defaults.toml",
+    "stats", "STATS plain.journal", "stats --help", "stats -h", "help stats", "stats plain.journal more", "stats defaults.toml plain.journal",
+    "stats -x plain.journal", "stats --journal plain.journal", "stats --",
 ]
 
 NOT_TEXT = [[b"\xff"], [b"run", b"\xff", b"plain.script"], [b"run", b"defaults.toml", b"\xc3"], [b"check", b"\xe2\x82", b"plain.journal"]]
@@ -78,6 +82,11 @@ SETTINGS_FAULTS = {
 }
 
 LINE_FAULTS = {"long_line": "line too long", "not_a_line": "not a line", "bad_number": "bad number", "truncated": "truncated"}
+
+
+def statistics(*numbers):
+    """The lines of statistics."""
+    return "".join(f"{name} {number}\n" for name, number in zip(NAMES, numbers)).encode()
 
 
 def fault(text):
@@ -141,6 +150,26 @@ def play_good(play):
     play.expect(["check", "small.toml", "/dev/stdin"], b"legal 2\n", b"", 0, input=TWO_BORROWS)
 
 
+def play_statistics(play):
+    play.expect(["stats", "plain.journal"], statistics(1, 1, 1, 0, 0, 0, 0, 4, 4), b"", 0)
+    play.expect(["stats", "--", "plain.journal"], statistics(1, 1, 1, 0, 0, 0, 0, 4, 4), b"", 0)
+    play.expect(["stats", "empty"], statistics(0, 0, 0, 0, 0, 0, 0, 0, 0), b"", 0)
+    play.expect(["stats", "illegal.journal"], statistics(1, 0, 1, 0, 0, 0, 0, 0, 0), b"", 0)
+    play.expect(["stats", "/dev/stdin"], statistics(0, 1, 0, 0, 0, 0, 0, 0, 0), b"", 0, input=b"0 5 return 0 = check\n")
+    longest = b"0 0 ready 0 good = lent\n0 18446744073709551615 return 0 = check\n"
+    most = 2**64 - 1
+    play.expect(["stats", "/dev/stdin"], statistics(2, 2, 0, 0, 0, 0, 0, most, most), b"", 0, input=longest * 2)
+    for name, told in LINE_FAULTS.items():
+        claimed = FILES[name].replace(b"\n", b" = make 0\n")
+        play.expect(["stats", "/dev/stdin"], b"", *fault("line 1: " + told), input=claimed)
+        play.expect(["stats", "/dev/stdin"], b"", *fault("line 5: " + told), input=PLAIN_LIFE + claimed)
+    play.expect(["stats", "plain.script"], b"", *fault("line 1: not a line"))
+    play.expect(["stats", "missing"], b"", *fault("cannot open missing"))
+    play.expect(["stats", "folder"], b"", *fault("read failed"))
+    with open("/dev/full", "wb") as full:
+        play.expect(["stats", "plain.journal"], b"", *fault("write failed"), stdout=full)
+
+
 def play_wrong_arguments(play):
     wrong = (b"", b"pool: wrong arguments\n", 2)
     for words in WRONG_ARGUMENTS:
@@ -169,7 +198,7 @@ def play_stream_faults(play):
     for command in ["run", "check"]:
         play.expect([command, "defaults.toml", "missing"], b"", *fault("cannot open missing"))
         play.expect([command, "defaults.toml", "folder"], b"", *fault("read failed"))
-    # Room is kept for what each object still owes.
+    # An object needs room until its place is free.
     play.expect(["run", "two_entries.toml", "plain.script"], b"", *fault("line 1: journal full"))
     play.expect(["check", "two_entries.toml", "plain.journal"], b"", *fault("line 1: journal full"))
 
@@ -179,6 +208,7 @@ def play_unreadable(play):
     if not os.access(play.folder / "unreadable", os.R_OK):
         play.expect(["run", "unreadable", "plain.script"], b"", *fault("cannot open unreadable"))
         play.expect(["check", "defaults.toml", "unreadable"], b"", *fault("cannot open unreadable"))
+        play.expect(["stats", "unreadable"], b"", *fault("cannot open unreadable"))
 
 
 def play_failing_streams(play):
@@ -200,6 +230,7 @@ def main(pool):
         play = Play(str(pathlib.Path(pool).resolve()).encode(), pathlib.Path(made))
         make_files(play.folder)
         play_good(play)
+        play_statistics(play)
         play_wrong_arguments(play)
         play_settings_faults(play)
         play_stream_faults(play)

@@ -8,6 +8,8 @@ const RUN: &str = "run";
 
 const CHECK: &str = "check";
 
+const STATS: &str = "stats";
+
 const SETTINGS: &str = "SETTINGS";
 
 const SCRIPT: &str = "SCRIPT";
@@ -23,6 +25,8 @@ pub(crate) enum Task {
     Run { settings: String, script: String },
     /// To judge a journal.
     Check { settings: String, journal: String },
+    /// To tell the statistics of a journal.
+    Stats { journal: String },
 }
 
 /// Reads the program's arguments. No argument at all asks for a run of standard input.
@@ -55,7 +59,8 @@ fn command<'a>(alloc: Global) -> Result<Command<'a>, AllocError> {
     Command::new(alloc, "pool")
         .subcommand_required(true)
         .subcommand(command_of(alloc, RUN, &[SETTINGS, SCRIPT])?)?
-        .subcommand(command_of(alloc, CHECK, &[SETTINGS, JOURNAL])?)
+        .subcommand(command_of(alloc, CHECK, &[SETTINGS, JOURNAL])?)?
+        .subcommand(command_of(alloc, STATS, &[JOURNAL])?)
 }
 
 /// A command and what it is given, in this order.
@@ -79,6 +84,9 @@ fn task_in(alloc: Global, matches: &ArgMatches<'_>) -> Result<Task, Fault> {
         }),
         Some((CHECK, given)) => Ok(Task::Check {
             settings: path_in(alloc, given, SETTINGS)?,
+            journal: path_in(alloc, given, JOURNAL)?,
+        }),
+        Some((STATS, given)) => Ok(Task::Stats {
             journal: path_in(alloc, given, JOURNAL)?,
         }),
         _ => Err(Fault::WrongArguments),

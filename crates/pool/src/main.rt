@@ -1,9 +1,9 @@
-//! The program: plays scripts on a pool, and judges journals.
+//! The program: plays scripts on a pool, judges journals, and tells their statistics.
 //!
 //! Without arguments it plays standard input with the default settings; `run SETTINGS SCRIPT` plays a
-//! file, and `check SETTINGS JOURNAL` judges one. It writes to standard output. The status is 0 where all
-//! went well, 1 for a journal that isn't legal, 2 for any other arguments, and 3 at a fault; what is
-//! wrong is told in one line on standard error.
+//! file, `check SETTINGS JOURNAL` judges one, and `stats JOURNAL` tells its statistics. It writes to
+//! standard output. The status is 0 where all went well, 1 for a journal that isn't legal, 2 for any
+//! other arguments, and 3 at a fault; what is wrong is told in one line on standard error.
 #![tactic(auto)]
 
 mod arguments;
@@ -11,7 +11,7 @@ mod fault;
 
 use arguments::{Task, task_of};
 use fault::Fault;
-use pool_load::{check, read_settings, run};
+use pool_load::{check, read_settings, run, stats};
 use pool_settings::Settings;
 use std::fs::File;
 use std::process::ExitCode;
@@ -34,6 +34,7 @@ fn perform(rt: &HostRuntime, task: Task) -> Result<ExitCode, Fault> {
         Task::RunInput => run_input(rt),
         Task::Run { settings, script } => run_script(rt, settings, script),
         Task::Check { settings, journal } => check_journal(rt, settings, journal),
+        Task::Stats { journal } => tell_statistics(rt, journal),
     }
 }
 
@@ -58,6 +59,12 @@ fn check_journal(rt: &HostRuntime, settings: String, journal: String) -> Result<
     } else {
         Ok(ExitCode::from(ILLEGAL))
     }
+}
+
+fn tell_statistics(rt: &HostRuntime, journal: String) -> Result<ExitCode, Fault> {
+    let mut journal = open(rt, journal)?;
+    stats(rt.alloc(), &mut journal, &mut rt.stdout())?;
+    Ok(ExitCode::SUCCESS)
 }
 
 fn settings_in(rt: &HostRuntime, path: String) -> Result<Settings, Fault> {

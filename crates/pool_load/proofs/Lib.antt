@@ -6,3 +6,5 @@ pub mod Checking
 pub mod Verdicts
 pub mod OneRun
 pub mod Empty
+pub mod Parts
+pub mod Tallying

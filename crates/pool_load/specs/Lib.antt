@@ -8,3 +8,6 @@ pub mod Check
 pub mod Checker
 pub mod Verdict
 pub mod SettingsFile
+pub mod StatisticsLines
+pub mod Stats
+pub mod Tallier

@@ -10,7 +10,9 @@ mod laws;
 mod outgoing;
 mod runner;
 mod settings_file;
+mod statistics_lines;
 mod step;
+mod tallier;
 mod turn;
 mod verdict;
 
@@ -20,6 +22,7 @@ pub use file_fault::FileFault;
 pub use laws::runs_are_determined;
 pub use runner::run;
 pub use settings_file::read_settings;
+pub use tallier::stats;
 
 #[cfg(test)]
 mod tests;

@@ -7,6 +7,7 @@ use std::process::Abort;
 use std::test::Fail;
 
 mod settings_files;
+mod statistics;
 mod streams;
 
 use streams::{Failing, Pieces, Stingy};

@@ -264,26 +264,38 @@ fn some_settings(dice: &mut Dice, limit: u64) -> Settings {
     }
 }
 
+// Takes sixty inputs and brings all to an end. The answer is how many steps were refused.
+fn live(rt: &impl Abort, dice: &mut Dice, mut core: Core<u64>, limit: u64) -> u64 {
+    let mut at = 0u64;
+    let mut refused = 0u64;
+    for _ in 0..60 {
+        at = at.saturating_add(dice.roll() % 20);
+        let input = next_input(dice, core.journal(), at);
+        if !may_step(rt, &mut core, at, input) {
+            refused = refused.saturating_add(1);
+        }
+        agrees(rt, &core, limit);
+    }
+    end_all(rt, &mut core, at, limit, dice.roll() % 2 == 0);
+    refused
+}
+
+// At most one pool is not opened, for want of memory.
 #[test]
 fn all_that_was_begun_can_end(rt: HostRuntime) -> Result<(), Fail> {
     let mut dice = Dice { state: 1 };
+    let mut lives = 0u64;
     let mut refused = 0u64;
     for limit in 1..31 {
         for _ in 0..6 {
             let settings = some_settings(&mut dice, limit);
-            let mut core = Core::open(rt.alloc(), settings)?;
-            let mut at = 0u64;
-            for _ in 0..60 {
-                at = at.saturating_add(dice.roll() % 20);
-                let input = next_input(&mut dice, core.journal(), at);
-                if !may_step(&rt, &mut core, at, input) {
-                    refused = refused.saturating_add(1);
-                }
-                agrees(&rt, &core, limit);
+            if let Ok(core) = Core::open(rt.alloc(), settings) {
+                lives = lives.saturating_add(1);
+                refused = live(&rt, &mut dice, core, limit).saturating_add(refused);
             }
-            end_all(&rt, &mut core, at, limit, dice.roll() % 2 == 0);
         }
     }
+    assert!(rt; lives >= 179);
     assert!(rt; refused > 1000);
     Ok(())
 }

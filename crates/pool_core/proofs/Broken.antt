@@ -1,0 +1,57 @@
+-- Journals that break one law each.
+use Rattle.std.proofs.Common.{List, [], ◌∷◌, ◌++◌, refl, arith}
+use Rattle.std.specs.Prelude.{pos}
+use Rattle.pool_journal.specs.Latest.{latest}
+use Rattle.pool_journal.specs.Journal.{phase, drawn, present, records, parked, since, lent, used, is_new}
+use Rattle.pool_journal.specs.declared.entry.Entry.{Entry}
+use Rattle.pool_journal.specs.declared.record.Phase.TheVariants as phases
+use Rattle.pool_journal.specs.declared.input.Input.{Input}
+use Rattle.pool_journal.specs.declared.input.Input.TheVariants.{Borrow, Ready, Add, Added, Close}
+use Rattle.pool_journal.specs.declared.input.Outcome.TheVariants.{Good, MakeFailed}
+use Rattle.pool_journal.specs.declared.answer.Answer.{Answer}
+use Rattle.pool_journal.specs.declared.answer.Answer.TheVariants.{Make, Lent, Parked, Freed, Count}
+use Rattle.pool_settings.specs.Defaults.{defaults}
+use Rattle.pool_core.specs.Laws.{AtMostMaxTotal, ClosedParksNone, MadeAndGoneOnce, LentInTurn, NothingLost}
+use Rattle.pool_core.specs.Legal.{entry_of}
+
+abbrev said : Input → Answer → Entry
+said input answer = entry_of 0 0 input answer
+
+-- an object is made where none may be present
+one_too_many : AtMostMaxTotal (record defaults { max_total = pos 0 }) (said Add (Make 0) ∷ []) → ⊥
+unfolding present drawn phase latest
+one_too_many law = omega (arith, law)
+
+-- an object is parked after the pool was closed
+parked_when_closed : ClosedParksNone (said Add (Make 0) ∷ said Close (Count 0) ∷ said (Added 0 Good) Parked ∷ []) → ⊥
+parked_when_closed law = law 1 2 (said Close (Count 0)) (said (Added 0 Good) Parked) (omega arith) refl refl refl 0 refl
+
+-- an object is made for the queue, which fails
+abbrev made_in_vain : List Entry
+made_in_vain = said Add (Make 0) ∷ said (Added 0 MakeFailed) Freed ∷ []
+
+-- an id is made again
+made_again : MadeAndGoneOnce (made_in_vain ++ said Add (Make 0) ∷ []) → ⊥
+made_again law =
+    law.made_once 0 2 (said Add (Make 0)) (said Add (Make 0)) (omega arith) refl refl 0 refl refl
+
+-- an id is given up again
+gone_again : MadeAndGoneOnce (made_in_vain ++ made_in_vain) → ⊥
+gone_again law =
+    law.gone_once 1 3 (said (Added 0 MakeFailed) Freed) (said (Added 0 MakeFailed) Freed) (omega arith) refl refl 0 refl refl
+
+-- an object is moved that was given up
+moved_when_gone : MadeAndGoneOnce (made_in_vain ++ said Add (Make 0) ∷ []) → ⊥
+moved_when_gone law =
+    law.gone_stays 1 2 (said (Added 0 MakeFailed) Freed) (said Add (Make 0)) (omega arith) refl refl 0 phases.Adding refl refl
+
+-- an object is lent twice
+lent_twice : LentInTurn (said (Borrow 0) (Make 0) ∷ said (Ready 0 Good) Lent ∷ said (Ready 0 Good) Lent ∷ []) → ⊥
+lent_twice law =
+    let between = law 0 1 2 (said (Ready 0 Good) Lent) (said (Ready 0 Good) Lent) (omega arith) refl refl refl refl in
+    omega (arith, between.1, between.2)
+
+-- an id is drawn that is not the next
+id_left_out : NothingLost (said Add (Make 1) ∷ []) → ⊥
+unfolding records present drawn phase parked since lent used is_new latest
+id_left_out law = absurd (cc law)

@@ -1,0 +1,4 @@
+pub mod Answers
+pub mod Counts
+pub mod Lendings
+pub mod Statistics
