@@ -2,8 +2,8 @@
 ghost use Rattle.std.specs.Prelude.{◌≡◌, ◌<◌, is_some};
 ghost use Rattle.pool_journal.specs.Carrying.{carries};
 
-use crate::reply;
 use crate::tests::dice::Dice;
+use crate::{counts, reply};
 use pool_core::{Core, StepFault};
 use pool_journal::{Answer, Input};
 use pool_settings::Settings;
@@ -12,6 +12,9 @@ use std::process::Abort;
 use std::test::Fail;
 
 const STEPS: usize = 400;
+
+// After so many steps the counts are compared.
+const COUNTED: usize = 20;
 
 // The place of a full journal in the list of what was seen, behind those of the answers.
 const FULL: usize = 22;
@@ -73,7 +76,15 @@ fn told_by(answer: Answer) -> Option<u64> {
     }
 }
 
-// Steps a core, and compares each answer with the plain one. It marks what came.
+// Compares the counts of a core with the plain ones.
+fn compare_counts(rt: &impl Abort, alloc: Global, core: &Core<u64>) -> Result<(), Fail> {
+    let plain = counts(alloc, core.journal())?;
+    assert_eq!(rt; core.counts(), plain);
+    Ok(())
+}
+
+// Steps a core, and compares each answer with the plain one, and now and then the counts. It marks what
+// came.
 fn compare(
     rt: &impl Abort,
     alloc: Global,
@@ -98,8 +109,11 @@ fn compare(
             Err(StepFault::JournalFull(_)) => seen[FULL] = true,
             Err(StepFault::OutOfMemory(_)) => panic!(rt; "no memory in step {number}"),
         }
+        if number % COUNTED == 0 {
+            compare_counts(rt, alloc, &core)?;
+        }
     }
-    Ok(())
+    compare_counts(rt, alloc, &core)
 }
 
 // Compares over some seeds.
