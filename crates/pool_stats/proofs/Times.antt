@@ -1,5 +1,6 @@
 -- What one more entry does to the lendings.
-use Rattle.std.proofs.Common.{◌≡◌, ℕ, ◌+◌, ◌-◌, ◌^◌, ◌<◌, if◌then◌else◌, Option, Some, None, List, [], ◌∷◌, ◌++◌, length, get_or, take, refl, ap, sym, ◌∙◌, arith, append-nil}
+use Rattle.std.proofs.Common.{◌≡◌, ℕ, ◌+◌, ◌-◌, ◌^◌, ◌<◌, if◌then◌else◌, Option, Some, None, List, [], ◌∷◌, ◌++◌, length, get_or}
+use Rattle.std.proofs.Common.{take, refl, ap, sym, ◌∙◌, arith, append-nil}
 use Rattle.std.specs.Prelude.{unwrap_or, filter_map, max, min}
 use Rattle.std.specs.List.{enumerate_from, AllByRecursion, cons_option}
 use Rattle.std.specs.Option.{option_map}
@@ -17,18 +18,22 @@ begun_none : (i : ℕ) → begun i [] ≡ None
 unfolding begun latest
 begun_none i = refl
 
-begun-push : (i : ℕ) (J : List Entry) (e : Entry) → begun i (J ++ e ∷ []) ≡ (if is_of i (begun_by e.answer e.input) then Some e.at else begun i J)
+begun-push : (i : ℕ) (J : List Entry) (e : Entry) → begun i (J ++ e ∷ []) ≡
+    (if is_of i (begun_by e.answer e.input) then Some e.at else begun i J)
 unfolding begun
 begun-push i J e = latest_push_if _ _ None J e
 
 begun_more : (J : List Entry) (k : ℕ) (d : Entry) → k < length J → (i : ℕ)
-    → begun i (take (k + 1) J) ≡ (if is_of i (begun_by (get_or J k d).answer (get_or J k d).input) then Some (get_or J k d).at else begun i (take k J))
+    → begun i (take (k + 1) J) ≡ (if is_of i (begun_by (get_or J k d).answer (get_or J k d).input) then Some (get_or J k d).at else
+    begun i (take k J))
 begun_more J k d lt i = ap (begun i) (take_more J k d lt) ∙ begun-push i (take k J) (get_or J k d)
 
 -- two functions that agree on each element give the same
-filter_map_agree : {X Y : Type 0} (f g : X → Option Y) (xs : List X) → AllByRecursion (λ x. f x ≡ g x) xs → filter_map f xs ≡ filter_map g xs
+filter_map_agree : {X Y : Type 0} (f g : X → Option Y) (xs : List X) → AllByRecursion (λ x. f x ≡ g x) xs
+    → filter_map f xs ≡ filter_map g xs
 filter_map_agree f g [] same = refl
-filter_map_agree f g (x ∷ xs) same = ap (λ o. cons_option o (filter_map f xs)) same.0 ∙ ap (cons_option (g x)) (filter_map_agree f g xs same.1)
+filter_map_agree f g (x ∷ xs) same = ap (λ o. cons_option o (filter_map f xs)) same.0
+    ∙ ap (cons_option (g x)) (filter_map_agree f g xs same.1)
 
 times_none : times [] ≡ []
 unfolding times
@@ -39,13 +44,16 @@ unfolding times
 times-push J e =
     ap (filter_map (λ (k, x). time_ended (take k (J ++ e ∷ [])) x)) (enumerate_from_push 0 J e)
     ∙ filter_map-append (λ (k, x). time_ended (take k (J ++ e ∷ [])) x) (enumerate_from 0 J) ((0 + length J, e) ∷ [])
-    ∙ ap (λ (K : List Entry). filter_map (λ (k, x). time_ended (take k (J ++ e ∷ [])) x) (enumerate_from 0 J) ++ cons_option (time_ended K e) []) (take_at J (e ∷ []) (0 + length J) (omega arith))
+    ∙ ap (λ (K : List Entry). filter_map (λ (k, x). time_ended (take k (J ++ e ∷ [])) x) (enumerate_from 0 J) ++ cons_option
+    (time_ended K e) []) (take_at J (e ∷ []) (0 + length J) (omega arith))
     ∙ ap (λ (ns : List ℕ). ns ++ cons_option (time_ended J e) [])
     (filter_map_agree (λ (k, x). time_ended (take k (J ++ e ∷ [])) x) (λ (k, x). time_ended (take k J) x) (enumerate_from 0 J)
-    (numbers_below (λ (k : ℕ) (x : Entry). time_ended (take k (J ++ e ∷ [])) x ≡ time_ended (take k J) x) 0 (length J) J (omega arith)
+    (numbers_below (λ (k : ℕ) (x : Entry). time_ended (take k (J ++ e ∷ [])) x ≡ time_ended (take k J) x) 0 (length J) J
+    (omega arith)
     (λ k x below. ap (λ (K : List Entry). time_ended K x) (take-append-le k J (e ∷ []) (omega arith)))))
 
-times_more : (J : List Entry) (k : ℕ) (d : Entry) → k < length J → times (take (k + 1) J) ≡ times (take k J) ++ cons_option (time_ended (take k J) (get_or J k d)) []
+times_more : (J : List Entry) (k : ℕ) (d : Entry) → k < length J → times (take (k + 1) J) ≡ times (take k J) ++ cons_option
+    (time_ended (take k J) (get_or J k d)) []
 times_more J k d lt = ap times (take_more J k d lt) ∙ times-push (take k J) (get_or J k d)
 
 -- one more number, if there is one
@@ -53,7 +61,8 @@ greatest-push : (ns : List ℕ) (o : Option ℕ) → greatest (ns ++ cons_option
 greatest-push ns None = ap greatest (append-nil ns) ∙ omega arith
 greatest-push ns (Some n) = fold_push max 0 ns n
 
-bounded_sum-push : (ns : List ℕ) (o : Option ℕ) → bounded_sum (ns ++ cons_option o []) ≡ min (bounded_sum ns + unwrap_or o 0) (2 ^ 64 - 1)
+bounded_sum-push : (ns : List ℕ) (o : Option ℕ) → bounded_sum (ns ++ cons_option o []) ≡ min (bounded_sum ns + unwrap_or o 0)
+    (2 ^ 64 - 1)
 bounded_sum-push ns None = ap bounded_sum (append-nil ns) ∙ omega arith
 bounded_sum-push ns (Some n) = omega (arith, sum_by-append (λ (x : ℕ). x) ns (n ∷ []))
 
@@ -77,20 +86,27 @@ same_time : (moments : ℕ → Option ℕ) (K : List Entry) (at : ℕ) (o : Opti
 same_time moments K at None same = refl
 same_time moments K at (Some i) same = ap (λ (m : Option ℕ). time_since m at) (same i)
 
-pub walked_more : (J : List Entry) (k : ℕ) (d : Entry) (moments noted : ℕ → Option ℕ) (longest total time longer more : ℕ) → k < length J → Walked (take k J) moments longest total
-    → time ≡ unwrap_or (option_map (λ i. time_since (moments i) (get_or J k d).at) (ended_by (get_or J k d).answer (get_or J k d).input)) 0
+pub walked_more : (J : List Entry) (k : ℕ) (d : Entry) (moments noted : ℕ → Option ℕ) (longest total time longer more : ℕ)
+    → k < length J → Walked (take k J) moments longest total
+    → time ≡ unwrap_or (option_map (λ i. time_since (moments i) (get_or J k d).at)
+    (ended_by (get_or J k d).answer (get_or J k d).input)) 0
     → longer ≡ max longest time → more ≡ min (total + time) (2 ^ 64 - 1)
-    → ((i : ℕ) → noted i ≡ (if is_of i (begun_by (get_or J k d).answer (get_or J k d).input) then Some (get_or J k d).at else moments i))
+    → ((i : ℕ) → noted i ≡ (if is_of i (begun_by (get_or J k d).answer (get_or J k d).input) then Some (get_or J k d).at else
+    moments i))
     → Walked (take (k + 1) J) noted longer more
 walked_more J k d moments noted longest total time longer more lt so_far time_is longer_is more_is noted_is =
     let e = get_or J k d in
     let K = take k J in
-    let same : time ≡ unwrap_or (time_ended K e) 0 = time_is ∙ same_time moments K e.at (ended_by e.answer e.input) so_far.begun_is in
+    let same : time ≡ unwrap_or (time_ended K e) 0 = time_is ∙ same_time moments K e.at (ended_by e.answer e.input) so_far.begun_is
+        in
     record {
-      begun_is = λ i. noted_is i ∙ ap (λ (m : Option ℕ). if is_of i (begun_by e.answer e.input) then Some e.at else m) (so_far.begun_is i) ∙ sym (begun_more J k d lt i);
+      begun_is = λ i. noted_is i ∙ ap (λ (m : Option ℕ). if is_of i (begun_by e.answer e.input) then Some e.at else m)
+          (so_far.begun_is i) ∙ sym (begun_more J k d lt i);
       longest_is =
-          longer_is ∙ ap (λ (n : ℕ). max n time) so_far.longest_is ∙ ap (max (greatest (times K))) same ∙ sym (greatest-push (times K) (time_ended K e)) ∙ ap greatest (sym (times_more J k d lt));
+          longer_is ∙ ap (λ (n : ℕ). max n time) so_far.longest_is ∙ ap (max (greatest (times K))) same
+              ∙ sym (greatest-push (times K) (time_ended K e)) ∙ ap greatest (sym (times_more J k d lt));
       total_is =
-          more_is ∙ ap (λ (n : ℕ). min (n + time) (2 ^ 64 - 1)) so_far.total_is ∙ ap (λ (n : ℕ). min (bounded_sum (times K) + n) (2 ^ 64 - 1)) same
+          more_is ∙ ap (λ (n : ℕ). min (n + time) (2 ^ 64 - 1)) so_far.total_is
+              ∙ ap (λ (n : ℕ). min (bounded_sum (times K) + n) (2 ^ 64 - 1)) same
           ∙ sym (bounded_sum-push (times K) (time_ended K e)) ∙ ap bounded_sum (sym (times_more J k d lt));
     }
