@@ -4,8 +4,11 @@ use Rattle.pool_journal.specs.Appending.{Extends}
 
 pub extends_more : {a b c : List ℕ} → Extends a b → Extends b c → Extends a c
 extends_more {a} first next =
-    record { tail = first.tail ++ next.tail; parts = next.parts ∙ ap (λ l. l ++ next.tail) first.parts
-        ∙ append_assoc a first.tail next.tail }
+    record {
+      tail = first.tail ++ next.tail;
+      parts = next.parts ∙ ap (λ l. l ++ next.tail) first.parts
+          ∙ append_assoc a first.tail next.tail;
+    }
 
 pub extends_six : {a b c d e f g : List ℕ} → Extends a b → Extends b c → Extends c d → Extends d e → Extends e f → Extends f g
     → Extends a g

@@ -98,15 +98,15 @@ walked_more J k d moments noted longest total time longer more lt so_far time_is
     let e = get_or J k d in
     let K = take k J in
     let same : time ≡ unwrap_or (time_ended K e) 0 = time_is ∙ same_time moments K e.at (ended_by e.answer e.input) so_far.begun_is
-        in
+    in
     record {
       begun_is = λ i. noted_is i ∙ ap (λ (m : Option ℕ). if is_of i (begun_by e.answer e.input) then Some e.at else m)
           (so_far.begun_is i) ∙ sym (begun_more J k d lt i);
       longest_is =
           longer_is ∙ ap (λ (n : ℕ). max n time) so_far.longest_is ∙ ap (max (greatest (times K))) same
-              ∙ sym (greatest-push (times K) (time_ended K e)) ∙ ap greatest (sym (times_more J k d lt));
+          ∙ sym (greatest-push (times K) (time_ended K e)) ∙ ap greatest (sym (times_more J k d lt));
       total_is =
           more_is ∙ ap (λ (n : ℕ). min (n + time) (2 ^ 64 - 1)) so_far.total_is
-              ∙ ap (λ (n : ℕ). min (bounded_sum (times K) + n) (2 ^ 64 - 1)) same
+          ∙ ap (λ (n : ℕ). min (bounded_sum (times K) + n) (2 ^ 64 - 1)) same
           ∙ sym (bounded_sum-push (times K) (time_ended K e)) ∙ ap bounded_sum (sym (times_more J k d lt));
     }

@@ -13,7 +13,7 @@ use std::test::Fail;
 
 const STEPS: usize = 400;
 
-// After so many steps the counts are compared.
+// The counts are compared at each step whose number this divides, and at the end.
 const COUNTED: usize = 20;
 
 // The place of a full journal in the list of what was seen, behind those of the answers.

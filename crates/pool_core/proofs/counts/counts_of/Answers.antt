@@ -5,13 +5,25 @@ use Rattle.pool_core.proofs.counts.counts_of.Goals as goal
 pub overflow_sub-result-2 : goal.overflow_sub-result-2
 overflow_sub-result-2 g c =
     let found = c.counts-places.ensures in
-    omega (arith, found.present, found.queue, found.lent, whole c.args.entries.now c.args.state.now.places.kept
-        c.args.state.now.next c.requires)
+    omega (
+      arith,
+      found.present,
+      found.queue,
+      found.lent,
+      whole c.args.entries.now c.args.state.now.places.kept
+          c.args.state.now.next c.requires,
+    )
 
 pub returns : goal.returns
 returns g c =
     let found = c.counts-places.ensures in
     counts_are c.args.entries.now c.args.state.now.places.kept c.args.state.now.next _ _ _ _ _ _ c.requires found.queue found.lent
-    (omega (arith, found.present, found.queue, found.lent, whole c.args.entries.now c.args.state.now.places.kept
-    c.args.state.now.next c.requires))
+    (omega (
+      arith,
+      found.present,
+      found.queue,
+      found.lent,
+      whole c.args.entries.now c.args.state.now.places.kept
+          c.args.state.now.next c.requires,
+    ))
     c.count_destroyed.ensures c.count_evicted.ensures c.count_reclaimed.ensures

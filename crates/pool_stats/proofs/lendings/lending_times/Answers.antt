@@ -11,6 +11,6 @@ loop-entry-init c = walked_none (get nat_cmp c.new-begun.result) (λ i. grind (a
 pub loop-entry-preserved : goal.loop-entry-preserved
 loop-entry-preserved c =
     walked_more c.args.entries.now c.loop-entry.entry-index _ (get nat_cmp c.loop-entry.begun) (get nat_cmp c.note_begun.new.begun)
-        c.loop-entry.longest c.loop-entry.total c.time_ended-time.result c.max-longest.result c.saturating_add-total.result
+    c.loop-entry.longest c.loop-entry.total c.time_ended-time.result c.max-longest.result c.saturating_add-total.result
     c.loop-entry-test.true c.loop-entry.invariant c.time_ended-time.ensures c.max-longest.ensures c.saturating_add-total.ensures
-        c.in_ok-note_begun.ensures
+    c.in_ok-note_begun.ensures
