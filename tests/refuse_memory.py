@@ -1,14 +1,18 @@
 #!/usr/bin/env python3
-"""Refuses a program each of its allocations in turn, and sees that it gives no wrong answer.
+"""Refuses a program allocations, one in each run, and sees that it gives no wrong answer.
 
     refuse_memory.py ends CRATE OUTPUT ARGUMENTS..
     refuse_memory.py goes-on CRATE OUTPUT ARGUMENTS..
 
 CRATE is the folder of the program, and the file OUTPUT has what it writes where all allocations are granted. The program is
-run with ARGUMENTS, once so, and then once for each of its allocations with that one refused, as `rt try --fail-alloc` does it.
-A program that `ends` must then end with status 3 and the line 'pool: out of memory', after some whole lines from the front of
-OUTPUT; one that `goes-on` must write the whole of it. Prints each run that differs, and in the end the line
-'N passed, M failed'.
+run with ARGUMENTS where its Nth allocation is refused, as `rt try --fail-alloc N` does it.
+
+- One that `ends` is refused some of its allocations, ever further apart, since each run takes half a minute. It must end with
+  status 3 and the line 'pool: out of memory', after some whole lines from the front of OUTPUT; or write the whole of it, where
+  it can do without what was refused, but not at the first allocation.
+- One that `goes-on` is refused each of its allocations in turn, and must write the whole of OUTPUT.
+
+Prints each run that differs, and in the end the line 'N passed, M failed'.
 """
 
 import pathlib
@@ -16,6 +20,7 @@ import re
 import subprocess
 import sys
 
+NUMBERS = [1, 2, 3, 5, 8, 13, 21, 34]
 BEYOND = 1_000_000
 FAULT = b"pool: out of memory"
 
@@ -33,30 +38,39 @@ class Program:
         done = subprocess.run(command, cwd=self.crate, stdin=subprocess.DEVNULL, capture_output=True, timeout=600)
         return done.stdout, done.stderr, done.returncode
 
-    def ends(self, output, error, status):
+    def is_whole(self, output, error, status):
+        return status == 0 and output == self.wanted
+
+    def is_refused(self, output, error, status):
         whole_lines = output == b"" or output.endswith(b"\n")
         return status == 3 and FAULT in error.splitlines() and whole_lines and self.wanted.startswith(output)
 
-    def goes_on(self, output, error, status):
-        return status == 0 and output == self.wanted
+
+def runs_that_end(program):
+    """Each run, and whether it is right: refused, or whole but for the first."""
+    for number in NUMBERS:
+        ended = program.refuse(number)
+        yield number, ended, program.is_refused(*ended) or (number > 1 and program.is_whole(*ended))
+
+
+def runs_that_go_on(program):
+    """Each run, and whether it is right: the whole output, whichever allocation is refused."""
+    ended = program.refuse(BEYOND)
+    made = re.search(rb"^allocations: (\d+)$", ended[1], re.MULTILINE)
+    yield BEYOND, ended, program.is_whole(*ended) and made is not None
+    for number in range(1, int(made[1]) + 1 if made else 1):
+        ended = program.refuse(number)
+        yield number, ended, program.is_whole(*ended)
 
 
 def main(kind, program):
-    output, error, status = program.refuse(BEYOND)
-    found = re.search(rb"^allocations: (\d+)$", error, re.MULTILINE)
-    if status != 0 or output != program.wanted or not found:
-        print(f"with all allocations granted: status {status}, wrote {output!r} and {error!r}")
-        print("0 passed, 1 failed")
-        return 1
-    is_right = {"ends": program.ends, "goes-on": program.goes_on}[kind]
-    passed, failed = 1, 0
-    for number in range(1, int(found[1]) + 1):
-        ended = program.refuse(number)
-        if is_right(*ended):
+    passed, failed = 0, 0
+    for number, (output, error, status), is_right in {"ends": runs_that_end, "goes-on": runs_that_go_on}[kind](program):
+        if is_right:
             passed += 1
         else:
             failed += 1
-            print(f"allocation {number}: status {ended[2]}, wrote {ended[0]!r} and {ended[1]!r}")
+            print(f"allocation {number}: status {status}, wrote {output!r} and {error!r}")
     print(f"{passed} passed, {failed} failed")
     return 1 if failed else 0
 
