@@ -19,11 +19,10 @@ Journals of more than MOST_CHANGED lines are changed at MOST_CHANGED places only
 that differs, and in the end the line 'N passed, M failed'.
 """
 
-import concurrent.futures
-import os
-import pathlib
 import subprocess
 import sys
+
+from playing import differing, play_folders
 
 MOST_CHANGED = 200
 TEXT = "/dev/stdin"
@@ -31,12 +30,6 @@ TEXT = "/dev/stdin"
 
 def contents(path):
     return path.read_bytes() if path.exists() else b""
-
-
-def play(arguments, text):
-    """What the program writes to standard output and standard error, and its status."""
-    done = subprocess.run(arguments, input=text, capture_output=True, timeout=60)
-    return done.stdout, done.stderr, done.returncode
 
 
 def wanted_of_script(script):
@@ -88,26 +81,14 @@ def cases(folder):
 
 
 def differences(pool, case):
-    """What is wanted and what is got, for each of the streams and the status that differ."""
+    """What is wanted and what is got, where they differ."""
     name, arguments, text, wanted = case
-    got = play([pool, *arguments], text)
-    kinds = zip(("output", "standard error", "status"), wanted, got)
-    return [f"{name}: {kind}: wanted {want!r}, got {have!r}" for kind, want, have in kinds if want != have]
+    done = subprocess.run([pool, *arguments], input=text, capture_output=True, timeout=60)
+    return differing(name, wanted, done)
 
 
 def main(pool, folders):
-    passed, failed = 0, 0
-    with concurrent.futures.ThreadPoolExecutor(os.cpu_count()) as workers:
-        for folder in map(pathlib.Path, folders):
-            found = list(workers.map(lambda case: differences(pool, case), cases(folder)))
-            for difference in (line for lines in found for line in lines):
-                print(difference)
-            if not found:
-                print(f"{folder}: no case")
-            bad = sum(map(bool, found))
-            passed, failed = passed + len(found) - bad, failed + bad + (not found)
-    print(f"{passed} passed, {failed} failed")
-    return 1 if failed else 0
+    return play_folders(folders, cases, lambda case: differences(pool, case))
 
 
 if __name__ == "__main__":
