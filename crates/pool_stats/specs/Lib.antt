@@ -2,3 +2,4 @@ pub mod Answers
 pub mod Counts
 pub mod Lendings
 pub mod Statistics
+pub mod Words

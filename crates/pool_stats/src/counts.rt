@@ -18,3 +18,40 @@ pub struct Counts {
     /// The abandoned objects that lost their places.
     pub reclaimed: u64,
 }
+
+impl Counts {
+    ghost use Rattle.std.specs.Prelude.{◌≡◌};
+    ghost use Rattle.pool_stats.specs.Words.{words_of};
+
+    /// The eight numbers, in the order of the fields.
+    pub fn to_words(&self) -> [u64; 8]
+        ensures { result ≡ words_of self.now }
+    {
+        [
+            self.steps,
+            self.idle,
+            self.lent,
+            self.reserved,
+            self.created,
+            self.destroyed,
+            self.evicted,
+            self.reclaimed,
+        ]
+    }
+
+    /// The counts with these numbers.
+    pub fn from_words(words: [u64; 8]) -> Counts
+        ensures { words_of result ≡ words }
+    {
+        Counts {
+            steps: words[0],
+            idle: words[1],
+            lent: words[2],
+            reserved: words[3],
+            created: words[4],
+            destroyed: words[5],
+            evicted: words[6],
+            reclaimed: words[7],
+        }
+    }
+}

@@ -1,0 +1,5 @@
+pub mod Tended
+pub mod Rule
+pub mod Standings
+pub mod Ends
+pub mod Stored

@@ -1,0 +1,52 @@
+-- The entries of a return.
+use Rattle.std.proofs.Common.{◌≡◌, ℕ, false, true≢false, List, [], Option, None, Err, append-nil, refl, sym, ap, ◌∙◌, subst}
+use Rattle.pool_journal.specs.Journal.{phase}
+use Rattle.pool_journal.specs.declared.entry.Entry.{Entry}
+use Rattle.pool_journal.specs.declared.record.Phase.{Phase}
+use Rattle.pool_journal.specs.declared.record.Phase.TheVariants as phases
+use Rattle.pool_journal.specs.declared.input.Outcome.{Outcome}
+use Rattle.pool_journal.specs.declared.input.Input.TheVariants.{GiveBack, Park, Destroyed}
+use Rattle.pool_journal.specs.declared.answer.Answer.{Answer}
+use Rattle.pool_journal.specs.declared.answer.Answer.TheVariants as answers
+use Rattle.pool_settings.specs.declared.settings.Settings.{Settings}
+use Rattle.pool_core.specs.declared.step_fault.StepFault.{StepFault}
+use Rattle.pool_core.specs.declared.step_fault.StepFault.TheVariants.{JournalFull}
+use Rattle.pool_core.specs.Finishing.{finishes}
+use Rattle.pool_core.specs.Reply.{reply, lent_reply}
+use Rattle.pool_history.specs.Standings.{Standing}
+use Rattle.pool_shared.specs.declared.faults.ReturnFault.TheVariants as faults
+use Rattle.pool_shared.specs.declared.faults.Returned.TheVariants as returned
+use Rattle.pool_shared.specs.declared.lent.Lent.{Lent}
+use Rattle.pool_desk.specs.Sections.{Makes, Refuses}
+use Rattle.pool_shared.specs.Returns as returns
+use Rattle.pool_shared.specs.Returns.{gives, checks, destroys, done, MayComeOut, Goes_on, ReturnRow, Finishes}
+use Rattle.pool_shared.proofs.Walking.{walk_one, walk_on}
+
+-- an object that came back is destroyed
+pub destroyed : (s : Settings) (i : ℕ) (o : Outcome) (a : Answer) (before mid after : Standing) → MayComeOut s o → a ≡ answers.Destroy → Makes (Park i o) a before mid → Makes (Destroyed i) answers.Freed mid after
+    → Goes_on s i checks before after (done returned.Destroyed)
+destroyed s i o a before mid after may is made freed =
+    walk_on (returns.Due s i) returns.next checks destroys (done returned.Destroyed) before mid after
+    (walk_one (returns.Due s i) returns.next checks destroys (Park i o) answers.Destroy before mid (subst (λ b. Makes (Park i o) b before mid) is made) (λ n at. (refl, may)) (λ n at. refl))
+    (walk_one (returns.Due s i) returns.next destroys (done returned.Destroyed) (Destroyed i) answers.Freed mid after freed (λ n at. refl) (λ n at. refl))
+
+not_lent : (s : Settings) (at i : ℕ) (seen : List Entry) → finishes (reply s seen at (GiveBack i)) (GiveBack i) ≡ false → phase i seen ≡ phases.Lent → ⊥
+not_lent s at i seen unfinished lent =
+    let due : reply s seen at (GiveBack i) ≡ answers.Check = ap (λ (p : Phase). lent_reply s.abandoned p answers.Check) lent in
+    true≢false (sym (ap (λ a. finishes a (GiveBack i)) due) ∙ unfinished)
+
+-- a return that was refused for want of room
+pub full_row : {T : Type 0} (s : Settings) (number : ℕ) (l : Lent T) (f : StepFault T) (out : Option T) (before after : Standing) → f ≡ JournalFull out → l.pool ≡ number → Refuses s (GiveBack l.id) None f before after
+    → ReturnRow s number l (Err (faults.JournalFull, l)) before after
+full_row {T} s number l f out before after is pool refuses =
+    let r : Refuses s (GiveBack l.id) None (JournalFull out) before after = subst (λ (g : StepFault T). Refuses s (GiveBack l.id) None g before after) is refuses in (
+      pool,
+      record { es = []; made = r.same ∙ sym (append-nil before.made); due = tt; ends = tt; leaves = (r.there.why.0, not_lent s r.there.at l.id after.seen r.there.unfinished) },
+    )
+
+-- so for want of memory
+pub short_row : {T : Type 0} (s : Settings) (number : ℕ) (l : Lent T) (f : StepFault T) (before after : Standing) → l.pool ≡ number → Refuses s (GiveBack l.id) None f before after → ReturnRow s number l (Err (faults.OutOfMemory, l)) before after
+short_row s number l f before after pool r = (
+  pool,
+  record { es = []; made = r.same ∙ sym (append-nil before.made); due = tt; ends = tt; leaves = not_lent s r.there.at l.id after.seen r.there.unfinished },
+)

@@ -1,0 +1,4 @@
+pub mod Walking
+pub mod Backs
+pub mod Sweeping
+pub mod Removing

@@ -1,0 +1,138 @@
+-- The entries of a sweep over idle objects.
+use Rattle.std.proofs.Common.{◌≡◌, ℕ, zero, suc, ◌+◌, ◌-◌, ◌<◌, Bool, true, false, true≢false, if◌then◌else◌, List, [], ◌∷◌, length, Option, None, Some, Result, Ok, Err, refl, sym, ◌∙◌, subst, arith}
+use Rattle.pool_journal.specs.Journal.{closed, records}
+use Rattle.pool_journal.specs.Queue.{idle_queue, first_of}
+use Rattle.pool_journal.specs.declared.record.Record.{Record}
+use Rattle.pool_journal.specs.declared.input.Input.{Input}
+use Rattle.pool_journal.specs.declared.input.Input.TheVariants.{Clear, ClearNext, Close, Destroyed}
+use Rattle.pool_journal.specs.declared.answer.Answer.{Answer}
+use Rattle.pool_journal.specs.declared.answer.Answer.TheVariants as answers
+use Rattle.pool_settings.specs.declared.settings.Settings.{Settings}
+use Rattle.pool_core.specs.declared.step_fault.StepFault.{StepFault}
+use Rattle.pool_core.specs.declared.step_fault.StepFault.TheVariants.{JournalFull}
+use Rattle.pool_core.specs.Finishing.{finishes}
+use Rattle.pool_core.specs.Reply.{reply, clear_next_reply}
+use Rattle.pool_history.specs.Standings.{Standing, Goes, Knows}
+use Rattle.pool_history.proofs.Hands.{begins_trans, begins_self}
+use Rattle.pool_shared.specs.declared.faults.PoolFault.{PoolFault}
+use Rattle.pool_shared.specs.declared.faults.PoolFault.TheVariants as faults
+use Rattle.pool_desk.specs.Sections.{Makes, Refuses}
+use Rattle.pool_shared.specs.Walks.{EndsWithMade}
+use Rattle.pool_shared.specs.Clears as clears
+use Rattle.pool_shared.specs.Clears.{Stage, begins, sweeps, destroys, through, Goes_on, NoneIdle, IsOver, Sweeps, ClearEnds, CloseEnds, ClearRow, CloseRow}
+use Rattle.pool_shared.proofs.Walking.{walk_one, walk_on, walk_none}
+
+pub goes_then : (s : Settings) (a b c : Standing) → Goes s a b → Goes s b c → Goes s a c
+goes_then s a b c p q =
+    record { number = q.number ∙ p.number; later = begins_trans a.seen b.seen c.seen p.later q.later; legal = q.legal; tended = q.tended; all = q.all }
+
+pub goes_self : (s : Settings) (a : Standing) → Knows s a → Goes s a a
+goes_self s a k = record { number = refl; later = begins_self a.seen; legal = k.legal; tended = k.tended; all = k.all }
+
+pub took_one : (first : Input) (count left taken i : ℕ) (a b c d : Standing) → 0 < left → Goes_on first (sweeps count 0) a b (sweeps left taken) → Makes ClearNext (answers.DestroyIdle i) b c → Makes (Destroyed i) answers.Freed c d
+    → Goes_on first (sweeps count 0) a d (sweeps (left - 1) (taken + 1))
+took_one first count left taken i a b c d some w took freed =
+    let Due = clears.Due first in
+    walk_on Due clears.next (sweeps count 0) (sweeps left taken) (sweeps (left - 1) (taken + 1)) a b d w
+    (walk_on Due clears.next (sweeps left taken) (destroys i (left - 1) (taken + 1)) (sweeps (left - 1) (taken + 1)) b c d
+    (walk_one Due clears.next (sweeps left taken) (destroys i (left - 1) (taken + 1)) ClearNext (answers.DestroyIdle i) b c took (λ n at. (some, refl)) (λ n at. refl))
+    (walk_one Due clears.next (destroys i (left - 1) (taken + 1)) (sweeps (left - 1) (taken + 1)) (Destroyed i) answers.Freed c d freed (λ n at. refl) (λ n at. refl)))
+
+pub took_none : (first : Input) (count left taken : ℕ) (a b c : Standing) → 0 < left → Goes_on first (sweeps count 0) a b (sweeps left taken) → Makes ClearNext answers.Nothing b c → Goes_on first (sweeps count 0) a c (through taken)
+took_none first count left taken a b c some w none =
+    walk_on (clears.Due first) clears.next (sweeps count 0) (sweeps left taken) (through taken) a b c w
+    (walk_one (clears.Due first) clears.next (sweeps left taken) (through taken) ClearNext answers.Nothing b c none (λ n at. (some, refl)) (λ n at. refl))
+
+none_first : {X : Type 0} (xs : List X) → first_of xs ≡ None → xs ≡ []
+none_first [] is = refl
+none_first (x ∷ xs) is = absurd (cc is)
+
+stops : (o : Option Record) → finishes (clear_next_reply o) ClearNext ≡ false → o ≡ None
+stops None is = refl
+stops (Some r) is = absurd (true≢false is)
+
+-- a ClearNext that finishes nothing finds none
+pub none_idle : (s : Settings) (at : ℕ) (me : Standing) → finishes (reply s me.seen at ClearNext) ClearNext ≡ false → NoneIdle me
+none_idle s at me unfinished = none_first (idle_queue (records me.seen)) (stops (first_of (idle_queue (records me.seen))) unfinished)
+
+shut : (b : Bool) (n : ℕ) → finishes (if b then answers.Nothing else answers.Count n) Close ≡ false → b ≡ true
+shut true n is = refl
+shut false n is = absurd (true≢false is)
+
+-- a Close that finishes nothing finds the pool closed
+pub was_closed : (s : Settings) (at : ℕ) (me : Standing) → finishes (reply s me.seen at Close) Close ≡ false → closed me.seen ≡ true
+was_closed s at me unfinished = shut (closed me.seen) (length (idle_queue (records me.seen))) unfinished
+
+-- a sweep that was refused
+pub refused_full : {T : Type 0} (s : Settings) (first : Input) (count left taken : ℕ) (f : StepFault T) (out : Option T) (a b c : Standing) → f ≡ JournalFull out → 0 < left → Goes_on first (sweeps count 0) a b (sweeps left taken)
+    → Refuses s ClearNext None f b c → Sweeps s first count (Err (taken, faults.JournalFull)) a c
+refused_full {T} s first count left taken f out a b c is some w refuses =
+    let r : Refuses s ClearNext None (JournalFull out) b c = subst (λ (g : StepFault T). Refuses s ClearNext None g b c) is refuses in
+    let more : left ≡ suc (left - 1) = omega (arith, some) in (
+      left - 1,
+      subst (λ (k : ℕ). Goes_on first (sweeps count 0) a c (sweeps k taken)) more
+          (walk_on (clears.Due first) clears.next (sweeps count 0) (sweeps left taken) (sweeps left taken) a b c w (walk_none (clears.Due first) clears.next (sweeps left taken) b c r.same)),
+      r.there.why.0,
+      none_idle s r.there.at c r.there.unfinished,
+    )
+
+pub refused_memory : {T : Type 0} (s : Settings) (first : Input) (count left taken : ℕ) (f : StepFault T) (a b c : Standing) → 0 < left → Goes_on first (sweeps count 0) a b (sweeps left taken)
+    → Refuses s ClearNext None f b c → Sweeps s first count (Err (taken, faults.OutOfMemory)) a c
+refused_memory s first count left taken f a b c some w r =
+    let more : left ≡ suc (left - 1) = omega (arith, some) in (
+      left - 1,
+      subst (λ (k : ℕ). Goes_on first (sweeps count 0) a c (sweeps k taken)) more
+          (walk_on (clears.Due first) clears.next (sweeps count 0) (sweeps left taken) (sweeps left taken) a b c w (walk_none (clears.Due first) clears.next (sweeps left taken) b c r.same)),
+      tt,
+      none_idle s r.there.at c r.there.unfinished,
+    )
+
+begun : (first : Input) (n : ℕ) (a : Answer) (b c : Standing) → a ≡ answers.Count n → Makes first a b c → Goes_on first begins b c (sweeps n 0)
+begun first n a b c is made =
+    walk_one (clears.Due first) clears.next begins (sweeps n 0) first (answers.Count n) b c (subst (λ (x : Answer). Makes first x b c) is made) (λ m at. refl) (λ m at. refl)
+
+clear_from : (s : Settings) (r : Result ℕ PoolFault) (to : Stage) (b d : Standing) → Goes_on Clear begins b d to → ClearEnds s to r d → ClearRow s r b d
+clear_from s r to b d w ends = record { es = w.es; made = w.made; due = w.due; ends = subst (λ st. ClearEnds s st r d) (sym w.comes) ends }
+
+close_from : (s : Settings) (r : Result ℕ PoolFault) (to : Stage) (b d : Standing) → Goes_on Close begins b d to → CloseEnds s to r d → CloseRow s r b d
+close_from s r to b d w ends = record { es = w.es; made = w.made; due = w.due; ends = subst (λ st. CloseEnds s st r d) (sym w.comes) ends }
+
+clear_over : (s : Settings) (to : Stage) (n : ℕ) (me : Standing) → IsOver to n → EndsWithMade me → ClearEnds s to (Ok n) me
+clear_over s (through taken) n me over ends = (over, ends)
+clear_over s (sweeps zero taken) n me over ends = (over.1, ends)
+clear_over s (sweeps (suc left) taken) n me over ends = let none : suc left ≡ 0 = over.0 in absurd (omega (arith, none))
+clear_over s _ n me over ends = absurd over
+
+close_over : (s : Settings) (to : Stage) (n : ℕ) (me : Standing) → IsOver to n → EndsWithMade me → CloseEnds s to (Ok n) me
+close_over s (through taken) n me over ends = (over, ends)
+close_over s (sweeps zero taken) n me over ends = (over.1, ends)
+close_over s (sweeps (suc left) taken) n me over ends = let none : suc left ≡ 0 = over.0 in absurd (omega (arith, none))
+close_over s _ n me over ends = absurd over
+
+-- a clear that is through
+pub cleared : (s : Settings) (n taken : ℕ) (a : Answer) (b c d : Standing) → a ≡ answers.Count n → Makes Clear a b c → Sweeps s Clear n (Ok taken) c d → EndsWithMade d → ClearRow s (Ok taken) b d
+cleared s n taken a b c d is made swept ends =
+    clear_from s (Ok taken) swept.0 b d (walk_on (clears.Due Clear) clears.next begins (sweeps n 0) swept.0 b c d (begun Clear n a b c is made) swept.1) (clear_over s swept.0 taken d swept.2 ends)
+
+pub cleared_part : (s : Settings) (n taken : ℕ) (f : PoolFault) (a : Answer) (b c d : Standing) → a ≡ answers.Count n → Makes Clear a b c → Sweeps s Clear n (Err (taken, f)) c d → ClearRow s (Err f) b d
+cleared_part s n taken f a b c d is made swept =
+    clear_from s (Err f) (sweeps (suc swept.0) taken) b d (walk_on (clears.Due Clear) clears.next begins (sweeps n 0) (sweeps (suc swept.0) taken) b c d (begun Clear n a b c is made) swept.1) (swept.2, swept.3)
+
+pub shut_down : (s : Settings) (n taken : ℕ) (a : Answer) (b c d : Standing) → a ≡ answers.Count n → Makes Close a b c → Sweeps s Close n (Ok taken) c d → EndsWithMade d → CloseRow s (Ok taken) b d
+shut_down s n taken a b c d is made swept ends =
+    close_from s (Ok taken) swept.0 b d (walk_on (clears.Due Close) clears.next begins (sweeps n 0) swept.0 b c d (begun Close n a b c is made) swept.1) (close_over s swept.0 taken d swept.2 ends)
+
+pub shut_down_part : (s : Settings) (n taken : ℕ) (f : PoolFault) (a : Answer) (b c d : Standing) → a ≡ answers.Count n → Makes Close a b c → Sweeps s Close n (Err (taken, f)) c d → CloseRow s (Ok taken) b d
+shut_down_part s n taken f a b c d is made swept =
+    close_from s (Ok taken) (sweeps (suc swept.0) taken) b d (walk_on (clears.Due Close) clears.next begins (sweeps n 0) (sweeps (suc swept.0) taken) b c d (begun Close n a b c is made) swept.1) (refl, swept.3)
+
+-- where the first section was refused
+pub clear_full : {T : Type 0} (s : Settings) (f : StepFault T) (out : Option T) (b c : Standing) → f ≡ JournalFull out → Refuses s Clear None f b c → ClearRow s (Err faults.JournalFull) b c
+clear_full {T} s f out b c is refuses =
+    let r : Refuses s Clear None (JournalFull out) b c = subst (λ (g : StepFault T). Refuses s Clear None g b c) is refuses in
+    clear_from s (Err faults.JournalFull) begins b c (walk_none (clears.Due Clear) clears.next begins b c r.same) r.there.why.0
+
+pub close_full : {T : Type 0} (s : Settings) (f : StepFault T) (out : Option T) (b c : Standing) → f ≡ JournalFull out → Refuses s Close None f b c → CloseRow s (Err faults.JournalFull) b c
+close_full {T} s f out b c is refuses =
+    let r : Refuses s Close None (JournalFull out) b c = subst (λ (g : StepFault T). Refuses s Close None g b c) is refuses in
+    close_from s (Err faults.JournalFull) begins b c (walk_none (clears.Due Close) clears.next begins b c r.same) (r.there.why.0, was_closed s r.there.at c r.there.unfinished)

@@ -1,0 +1,118 @@
+-- Entries that lead on, one after the other.
+use Rattle.std.proofs.Common.{◌≡◌, ℕ, List, [], ◌∷◌, ◌++◌, Result, append_assoc, append-nil, refl, sym, ap, ◌∙◌, subst}
+use Rattle.pool_journal.specs.declared.entry.Entry.{Entry}
+use Rattle.pool_journal.specs.declared.input.Input.{Input}
+use Rattle.pool_journal.specs.declared.answer.Answer.{Answer}
+use Rattle.pool_settings.specs.declared.settings.Settings.{Settings}
+use Rattle.pool_core.specs.Legal.{entry_of}
+use Rattle.pool_history.specs.Rule.{Begins}
+use Rattle.pool_history.specs.Standings.{Standing, Goes}
+use Rattle.pool_history.proofs.Hands.{begins_trans}
+use Rattle.pool_journal.specs.declared.input.Input.TheVariants.{Borrow}
+use Rattle.pool_journal.specs.declared.answer.Answer.TheVariants as answers
+use Rattle.pool_shared.specs.declared.faults.BorrowFault.{BorrowFault}
+use Rattle.pool_shared.specs.declared.lent.Lent.{Lent}
+use Rattle.pool_journal.specs.declared.answer.Cause.TheVariants as causes
+use Rattle.pool_desk.specs.Sections.{Makes, IsAnswerTo}
+use Rattle.pool_shared.specs.Walks.{walked, AllDue, Walks, Ends}
+use Rattle.pool_shared.specs.Borrows as borrows
+use Rattle.pool_shared.specs.Borrows.{asks, after_asking, Stage, Goes_on, Finishes, IsResult, Leaves}
+
+module _ {A : Type 0} (Due : A → Entry → Type 0) (next : A → Entry → A) where
+  due_append : (st : A) (xs ys : List Entry) → AllDue Due next st xs → AllDue Due next (walked next st xs) ys → AllDue Due next st (xs ++ ys)
+  due_append st [] ys p q = q
+  due_append st (x ∷ xs) ys p q = (p.0, due_append (next st x) xs ys p.1 q)
+
+  walked_append : (st : A) (xs ys : List Entry) → walked next st (xs ++ ys) ≡ walked next (walked next st xs) ys
+  walked_append st [] ys = refl
+  walked_append st (x ∷ xs) ys = walked_append (next st x) xs ys
+
+  made_append : (a b c xs ys : List Entry) → b ≡ a ++ xs → c ≡ b ++ ys → c ≡ a ++ (xs ++ ys)
+  made_append a b c xs ys p q = q ∙ ap (λ l. l ++ ys) p ∙ append_assoc a xs ys
+
+  pub walk_none : (st : A) (before after : Standing) → after.made ≡ before.made → Walks Due next st before after st
+  walk_none st before after same = record { es = []; made = same ∙ sym (append-nil before.made); due = tt; comes = refl }
+
+  pub walk_on : (from mid to : A) (a b c : Standing) → Walks Due next from a b mid → Walks Due next mid b c to → Walks Due next from a c to
+  walk_on from mid to a b c p q =
+      record {
+        es = p.es ++ q.es;
+        made = made_append a.made b.made c.made p.es q.es p.made q.made;
+        due = due_append from p.es q.es p.due (subst (λ st. AllDue Due next st q.es) (sym p.comes) q.due);
+        comes = walked_append from p.es q.es ∙ ap (λ st. walked next st q.es) p.comes ∙ q.comes;
+      }
+
+  pub walk_one : (from to : A) (input : Input) (answer : Answer) (before after : Standing) → Makes input answer before after
+      → ((n at : ℕ) → Due from (entry_of n at input answer)) → ((n at : ℕ) → next from (entry_of n at input answer) ≡ to) → Walks Due next from before after to
+  walk_one from to input answer before after made due comes =
+      record { es = entry_of before.number made.0 input answer ∷ []; made = made.1.more; due = (due before.number made.0, tt); comes = comes before.number made.0 }
+
+pub ends_of : (input : Input) (answer : Answer) (before after : Standing) → after.number ≡ before.number → Makes input answer before after → Ends input answer after
+ends_of input answer before after same made =
+    let e = λ (n : ℕ). entry_of n made.0 input answer ∷ [] in
+    record {
+      at = made.0;
+      made = before.made;
+      found = made.1.found;
+      last_made = made.1.more ∙ ap (λ n. before.made ++ e n) (sym same);
+      last_seen = made.1.ends ∙ ap (λ n. made.1.found ++ e n) (sym same);
+    }
+
+-- what a borrow made up to a stage at which it has its result
+pub finishes : {T E : Type 0} (s : Settings) (number began : ℕ) (from to : Stage) (result : Result (Lent T) (BorrowFault E)) (before after : Standing)
+    → Goes_on s began from before after to → IsResult number to result → Leaves s began to result after → Finishes s number began from result before after
+finishes s number began from to result before after w is leaves =
+    record { es = w.es; made = w.made; due = w.due; ends = subst (λ st. IsResult number st result) (sym w.comes) is; leaves = subst (λ st. Leaves s began st result after) (sym w.comes) leaves }
+
+pub finishes_on : {T E : Type 0} (s : Settings) (number began : ℕ) (from mid : Stage) (result : Result (Lent T) (BorrowFault E)) (a b c : Standing)
+    → Goes_on s began from a b mid → Finishes s number began mid result b c → Finishes s number began from result a c
+finishes_on s number began from mid result a b c w f =
+    let Due = borrows.Due s began in
+    let next = borrows.next in
+    record {
+      es = w.es ++ f.es;
+      made = made_append Due next a.made b.made c.made w.es f.es w.made f.made;
+      due = due_append Due next from w.es f.es w.due (subst (λ st. AllDue Due next st f.es) (sym w.comes) f.due);
+      ends = subst (λ st. IsResult number st result) (sym (walked_append Due next from w.es f.es ∙ ap (λ st. walked next st f.es) w.comes)) f.ends;
+      leaves = subst (λ st. Leaves s began st result c) (sym (walked_append Due next from w.es f.es ∙ ap (λ st. walked next st f.es) w.comes)) f.leaves;
+    }
+
+-- a borrow that asked once more
+pub asked_on : (s : Settings) (began : ℕ) (a : Answer) (first now after : Standing) → Goes_on s began asks first now asks → Makes (Borrow began) a now after → Goes_on s began asks first after (after_asking a)
+asked_on s began a first now after w made =
+    walk_on (borrows.Due s began) borrows.next asks asks (after_asking a) first now after w
+    (walk_one (borrows.Due s began) borrows.next asks (after_asking a) (Borrow began) a now after made (λ n at. refl) (λ n at. refl))
+
+-- a borrow that asked and has to wait
+pub waited : (s : Settings) (began : ℕ) (a : Answer) (first now after : Standing) → a ≡ answers.Wait → now.number ≡ first.number → Begins first.seen now.seen → Goes_on s began asks first now asks
+    → Goes s now after → Makes (Borrow began) a now after → (after.number ≡ first.number) × Begins first.seen after.seen × Goes_on s began asks first after asks
+waited s began a first now after is same begun w goes made =
+    (goes.number ∙ same, begins_trans first.seen now.seen after.seen begun goes.later, subst (λ b. Goes_on s began asks first after (after_asking b)) is (asked_on s began a first now after w made))
+
+-- a borrow that asked and was refused for want of room or memory
+pub refused_on : (s : Settings) (began : ℕ) (first now after : Standing) → Goes_on s began asks first now asks → after.made ≡ now.made → Goes_on s began asks first after asks
+refused_on s began first now after w same =
+    walk_on (borrows.Due s began) borrows.next asks asks asks first now after w (walk_none (borrows.Due s began) borrows.next asks now after same)
+
+pub to_there : (s : Settings) (began : ℕ) (a b : Answer) (before after : Standing) → a ≡ b → Goes_on s began asks before after (after_asking a) → Goes_on s began asks before after (after_asking b)
+to_there s began a b before after is w = subst (λ c. Goes_on s began asks before after (after_asking c)) is w
+
+-- a borrow whose round had no result
+pub once_more : (s : Settings) (began : ℕ) (first now after : Standing) → now.number ≡ first.number → Begins first.seen now.seen → Goes_on s began asks first now asks
+    → Goes s now after → Goes_on s began asks now after asks → (after.number ≡ first.number) × Begins first.seen after.seen × Goes_on s began asks first after asks
+once_more s began first now after same begun w goes more =
+    (goes.number ∙ same, begins_trans first.seen now.seen after.seen begun goes.later, walk_on (borrows.Due s began) borrows.next asks asks asks first now after w more)
+
+pub goes_far : (s : Settings) (first now after : Standing) → now.number ≡ first.number → Begins first.seen now.seen → Goes s now after → Goes s first after
+goes_far s first now after same begun goes =
+    record { number = goes.number ∙ same; later = begins_trans first.seen now.seen after.seen begun goes.later; legal = goes.legal; tended = goes.tended; all = goes.all }
+
+pub is_found : (began : ℕ) (a : Answer) → IsAnswerTo (Borrow began) a → (a ≡ answers.Wait → ⊥) → borrows.IsFound a
+is_found began (answers.Take i) it other = tt
+is_found began (answers.Make i) it other = tt
+is_found began answers.Wait it other = absurd (other refl)
+is_found began answers.Exhausted it other = tt
+is_found began answers.TimedOut it other = tt
+is_found began (answers.Refused causes.Closed) it other = tt
+is_found began (answers.Refused _) it other = absurd it
+is_found began _ it other = absurd it

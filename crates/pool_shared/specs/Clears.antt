@@ -1,0 +1,100 @@
+-- The sections of a clear and of a close.
+use Rattle.std.specs.Prelude.{◌≡◌, ℕ, zero, suc, ◌+◌, ◌-◌, ◌<◌, true, List, [], ◌++◌, Result, Ok, Err}
+use Rattle.pool_journal.specs.declared.entry.Entry.{Entry}
+use Rattle.pool_journal.specs.declared.input.Input.{Input}
+use Rattle.pool_journal.specs.declared.input.Input.TheVariants.{Clear, ClearNext, Close, Destroyed}
+use Rattle.pool_journal.specs.declared.answer.Answer.{Answer}
+use Rattle.pool_journal.specs.declared.answer.Answer.TheVariants as answers
+use Rattle.pool_journal.specs.Journal.{closed, records}
+use Rattle.pool_journal.specs.Queue.{idle_queue}
+use Rattle.pool_settings.specs.declared.settings.Settings.{Settings}
+use Rattle.pool_history.specs.Standings.{Standing}
+use Rattle.pool_desk.specs.Sections.{IsFullFor}
+use Rattle.pool_shared.specs.declared.faults.PoolFault.{PoolFault}
+use Rattle.pool_shared.specs.declared.faults.PoolFault.TheVariants as faults
+use Rattle.pool_shared.specs.Walks.{walked, AllDue, Walks, EndsWithMade}
+
+-- where a clear stands: it begins; it goes over so many objects more, and took so many; it destroys one; it is through
+pub data Stage : Type 0 where
+  begins : Stage
+  sweeps : ℕ → ℕ → Stage
+  destroys : ℕ → ℕ → ℕ → Stage
+  through : ℕ → Stage
+  lost : Stage
+
+abbrev pub after_beginning : Answer → Stage
+after_beginning (answers.Count n) = sweeps n 0
+after_beginning answers.Nothing = through 0
+after_beginning a = lost
+
+abbrev pub after_sweeping : ℕ → ℕ → Answer → Stage
+after_sweeping left taken (answers.DestroyIdle i) = destroys i (left - 1) (taken + 1)
+after_sweeping left taken answers.Nothing = through taken
+after_sweeping left taken a = lost
+
+abbrev pub next : Stage → Entry → Stage
+next begins e = after_beginning e.answer
+next (sweeps left taken) e = after_sweeping left taken e.answer
+next (destroys i left taken) e = sweeps left taken
+next stage e = stage
+
+-- the input that is next, where it began with this one
+abbrev pub Due : Input → Stage → Entry → Type 0
+Due first begins e = e.input ≡ first
+Due first (sweeps left taken) e = (0 < left) × (e.input ≡ ClearNext)
+Due first (destroys i left taken) e = e.input ≡ Destroyed i
+Due first _ e = ⊥
+
+abbrev pub Goes_on : Input → Stage → Standing → Standing → Stage → Type 0
+Goes_on first from before after to = Walks (Due first) next from before after to
+
+-- no object is idle
+abbrev pub NoneIdle : Standing → Type 0
+NoneIdle me = idle_queue (records me.seen) ≡ []
+
+-- the next section was refused
+abbrev pub IsRoomFault : Settings → Input → PoolFault → Standing → Type 0
+IsRoomFault s input faults.JournalFull me = IsFullFor s input me
+IsRoomFault s input faults.OutOfMemory me = Unit {0}
+IsRoomFault s input faults.Closed me = ⊥
+
+-- a sweep is over that stands there
+abbrev pub IsOver : Stage → ℕ → Type 0
+IsOver (through taken) n = n ≡ taken
+IsOver (sweeps left taken) n = (left ≡ 0) × (n ≡ taken)
+IsOver _ n = ⊥
+
+-- a sweep of so many: it is over, or a section was refused
+abbrev pub Sweeps : Settings → Input → ℕ → Result ℕ (ℕ × PoolFault) → Standing → Standing → Type 0
+Sweeps s first count (Ok n) before after = (to : Stage) × Goes_on first (sweeps count 0) before after to × IsOver to n
+Sweeps s first count (Err (n, f)) before after =
+    (left : ℕ) × Goes_on first (sweeps count 0) before after (sweeps (suc left) n) × IsRoomFault s ClearNext f after × NoneIdle after
+
+-- what a clear answers that stands there, and what is seen then
+abbrev pub ClearEnds : Settings → Stage → Result ℕ PoolFault → Standing → Type 0
+ClearEnds s (through taken) (Ok n) me = (n ≡ taken) × EndsWithMade me
+ClearEnds s (sweeps zero taken) (Ok n) me = (n ≡ taken) × EndsWithMade me
+ClearEnds s begins (Err f) me = IsRoomFault s Clear f me
+ClearEnds s (sweeps (suc left) taken) (Err f) me = IsRoomFault s ClearNext f me × NoneIdle me
+ClearEnds s _ _ me = ⊥
+
+-- so for a close: a ClearNext that is refused ends it, for no object is idle then, and the first close is never refused
+abbrev pub CloseEnds : Settings → Stage → Result ℕ PoolFault → Standing → Type 0
+CloseEnds s (through taken) (Ok n) me = (n ≡ taken) × EndsWithMade me
+CloseEnds s (sweeps zero taken) (Ok n) me = (n ≡ taken) × EndsWithMade me
+CloseEnds s (sweeps (suc left) taken) (Ok n) me = (n ≡ taken) × NoneIdle me
+CloseEnds s begins (Err f) me = IsRoomFault s Close f me × (closed me.seen ≡ true)
+CloseEnds s _ _ me = ⊥
+
+-- what a clear made
+pub record ClearRow (s : Settings) (result : Result ℕ PoolFault) (before after : Standing) : Type 0 where
+  pub es : List Entry
+  pub made : after.made ≡ before.made ++ es
+  pub due : AllDue (Due Clear) next begins es
+  pub ends : ClearEnds s (walked next begins es) result after
+
+pub record CloseRow (s : Settings) (result : Result ℕ PoolFault) (before after : Standing) : Type 0 where
+  pub es : List Entry
+  pub made : after.made ≡ before.made ++ es
+  pub due : AllDue (Due Close) next begins es
+  pub ends : CloseEnds s (walked next begins es) result after

@@ -1,0 +1,6 @@
+pub mod Pools
+pub mod Walks
+pub mod Touches
+pub mod Borrows
+pub mod Returns
+pub mod Clears

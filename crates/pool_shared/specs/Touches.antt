@@ -1,0 +1,21 @@
+-- What a call made that notes a use.
+use Rattle.std.specs.Prelude.{◌≡◌, ◌≢◌, ℕ, Result, Ok, Err}
+use Rattle.pool_journal.specs.declared.input.Input.TheVariants.{Use}
+use Rattle.pool_journal.specs.declared.answer.Answer.TheVariants as answers
+use Rattle.pool_journal.specs.declared.answer.Cause.TheVariants as causes
+use Rattle.pool_settings.specs.declared.settings.Settings.{Settings}
+use Rattle.pool_history.specs.Standings.{Standing}
+use Rattle.pool_shared.specs.declared.faults.ReturnFault.{ReturnFault}
+use Rattle.pool_shared.specs.declared.faults.ReturnFault.TheVariants as faults
+use Rattle.pool_shared.specs.declared.faults.Touched.{Touched}
+use Rattle.pool_shared.specs.declared.faults.Touched.TheVariants as touched
+use Rattle.pool_desk.specs.Sections.{Makes, IsFullFor}
+
+-- one entry, or none where the object is of another pool or the section was refused
+abbrev pub TouchRow : Settings → ℕ → ℕ → ℕ → Result Touched ReturnFault → Standing → Standing → Type 0
+TouchRow s number pool i (Ok touched.Noted) before after = (pool ≡ number) × Makes (Use i) answers.Noted before after
+TouchRow s number pool i (Ok touched.Gone) before after = (pool ≡ number) × Makes (Use i) answers.Gone before after
+TouchRow s number pool i (Err faults.ForeignObject) before after = (pool ≢ number) × (after ≡ before)
+TouchRow s number pool i (Err faults.NotLent) before after = (pool ≡ number) × Makes (Use i) (answers.Refused causes.NotLent) before after
+TouchRow s number pool i (Err faults.JournalFull) before after = (pool ≡ number) × (after.made ≡ before.made) × IsFullFor s (Use i) after
+TouchRow s number pool i (Err faults.OutOfMemory) before after = (pool ≡ number) × (after.made ≡ before.made)

@@ -1,0 +1,35 @@
+-- What a call of several sections made: each entry is the one that is next after those before it.
+use Rattle.std.specs.Prelude.{◌≡◌, ℕ, List, [], ◌∷◌, ◌++◌}
+use Rattle.pool_journal.specs.declared.entry.Entry.{Entry}
+use Rattle.pool_journal.specs.declared.input.Input.{Input}
+use Rattle.pool_journal.specs.declared.answer.Answer.{Answer}
+use Rattle.pool_core.specs.Legal.{entry_of}
+use Rattle.pool_history.specs.Standings.{Standing}
+
+-- where a call stands after its entries
+abbrev pub walked : {A : Type 0} → (A → Entry → A) → A → List Entry → A
+walked next stage [] = stage
+walked next stage (e ∷ es) = walked next (next stage e) es
+
+-- each entry is due where the call stands before it
+abbrev pub AllDue : {A : Type 0} → (A → Entry → Type 0) → (A → Entry → A) → A → List Entry → Type 0
+AllDue Due next stage [] = Unit {0}
+AllDue Due next stage (e ∷ es) = Due stage e × AllDue Due next (next stage e) es
+
+-- the caller made entries that lead from one stage to another, and no others
+pub record Walks {A : Type 0} (Due : A → Entry → Type 0) (next : A → Entry → A) (from : A) (before after : Standing) (to : A) : Type 0 where
+  pub es : List Entry
+  pub made : after.made ≡ before.made ++ es
+  pub due : AllDue Due next from es
+  pub comes : walked next from es ≡ to
+
+-- the last entry that the caller made ends what it has seen
+pub record Ends (input : Input) (a : Answer) (me : Standing) : Type 0 where
+  pub at : ℕ
+  pub made : List Entry
+  pub found : List Entry
+  pub last_made : me.made ≡ made ++ entry_of me.number at input a ∷ []
+  pub last_seen : me.seen ≡ found ++ entry_of me.number at input a ∷ []
+
+abbrev pub EndsWithMade : Standing → Type 0
+EndsWithMade me = (input : Input) × (a : Answer) × Ends input a me

@@ -1,0 +1,341 @@
+// A borrow, in its sections.
+ghost use Rattle.std.specs.Prelude.{◌≡◌, ℕ, Bool, true, false, None, Err, IfOk, OnOk, IfErr, IfSome, IfNone};
+ghost use Rattle.pool_journal.specs.Carrying.{carries};
+ghost use Rattle.pool_journal.specs.declared.record.Phase.TheVariants as phases;
+ghost use Rattle.pool_journal.specs.declared.answer.Answer.TheVariants as answers;
+ghost use Rattle.pool_journal.specs.declared.input.Input.TheVariants as inputs;
+ghost use Rattle.pool_journal.specs.declared.input.Outcome.TheVariants as outcomes;
+ghost use Rattle.pool_history.specs.Standings.{Goes, Knows};
+ghost use Rattle.pool_desk.specs.Sections.{HasInHand, MayAsk, IsAnswerTo, Makes, Gets, IsRefused, goes_on};
+ghost use Rattle.pool_shared.specs.Walks.{Ends};
+ghost use Rattle.pool_shared.specs.Borrows.{removes, reclaims, reclaiming, asks, readies, lent, after_asking, after_destroying, Goes_on, Finishes, BorrowRow, IsLentWell, IsFaultFrom, IsWhyUnready, IsFound, taken_to, IsFailure};
+
+use crate::faults::BorrowFault;
+use crate::lent::Lent;
+use crate::pool::SharedPool;
+use pool_core::StepFault;
+use pool_desk::{Clock, Factory};
+use pool_history::{Caller, Room};
+use pool_journal::{Answer, Cause, Input, Outcome, When};
+use std::sync::Wait;
+
+/// Why an object did not get ready.
+#[derive(Drop)]
+pub(crate) enum Unready<E> {
+    Activate(E),
+    Test,
+}
+
+impl<T: Drop, E: Drop, F: Factory<T, E> + Drop, C: Clock + Drop, B: Room> SharedPool<
+    T,
+    E,
+    F,
+    C,
+    B,
+> {
+    // A section in which the caller goes on with its object. It is never refused.
+    pub(crate) fn carry_on<R: Wait>(&self, rt: &R, me: &mut Caller<B>, input: Input) -> Answer
+        requires may { MayAsk me.old input }
+        requires on { goes_on input ≡ true }
+        requires empty { carries input ≡ false }
+        ensures goes { Goes B.settings me.old me.new }
+        ensures asked { IsAnswerTo input result }
+        ensures made { Makes input result me.old me.new }
+        ensures ends { Ends input result me.new }
+    {
+        match self.ask(rt, me, input, None) {
+            Ok((answer, _)) => answer,
+            Err(_) => unreachable!(),
+        }
+    }
+
+    // Asks for an object, and waits while there is none.
+    fn look<R: Wait>(
+        &self,
+        rt: &R,
+        me: &mut Caller<B>,
+        began: u64,
+    ) -> Result<(Answer, Option<T>), StepFault<T>>
+        ensures goes { Goes B.settings me.old me.new }
+        ensures found { IfOk result (λ r. IsFound r.0) }
+        ensures walk { IfOk result (λ r. Goes_on B.settings began asks me.old me.new (after_asking r.0)) }
+        ensures ends { IfOk result (λ r. Ends (inputs.Borrow began) r.0 me.new) }
+        ensures out { IfOk result (λ r. Gets F.passive r.0 None r.1) }
+        ensures none { IfErr result (λ f. Goes_on B.settings began asks me.old me.new asks) }
+        ensures refused { IfErr result (λ f. IsRefused B.settings (inputs.Borrow began) None f me.new) }
+    {
+        let input = Input::Borrow { began };
+        let mut desk = self.desk.lock(rt);
+        for _ in rt.forever() {
+            match desk.step(rt, &self.cell, &self.clock, me, input, None) {
+                Ok((answer, out)) => match answer {
+                    Answer::Wait => desk = self.changed.wait(rt, desk),
+                    found => return Ok((found, out)),
+                },
+                Err(fault) => return Err(fault),
+            }
+        }
+        unreachable!()
+    }
+
+    // Makes a value ready for a holder.
+    fn activate(&self, value: &mut T) -> Result<(), Unready<E>>
+        ensures ok { OnOk result (IsLentWell B.settings F.active F.valid value.new) }
+        ensures err { IfErr result (IsWhyUnready B.settings F.from_activate) }
+    {
+        match self.factory.activate(value) {
+            Ok(()) => {
+                if self.settings.test_on_borrow && !self.factory.validate(value) {
+                    Err(Unready::Test)
+                } else {
+                    Ok(())
+                }
+            }
+            Err(fault) => Err(Unready::Activate(fault)),
+        }
+    }
+
+    // The place of a destroyed object is given up, and those who wait are told.
+    pub(crate) fn give_up<R: Wait>(&self, rt: &R, me: &mut Caller<B>, id: u64)
+        requires { (new : Bool) × HasInHand me.old id phases.Destroying new }
+        ensures goes { Goes B.settings me.old me.new }
+        ensures made { Makes (inputs.Destroyed id) answers.Freed me.old me.new }
+        ensures ends { Ends (inputs.Destroyed id) answers.Freed me.new }
+    {
+        match self.carry_on(rt, me, Input::Destroyed { id }) {
+            Answer::Freed => self.changed.notify_all(),
+            _ => unreachable!(),
+        }
+    }
+
+    // An object did not get ready: it is destroyed.
+    fn fail<R: Wait>(&self, rt: &R, me: &mut Caller<B>, id: u64, outcome: Outcome, value: T)
+        requires { (new : Bool) × HasInHand me.old id phases.Readying new × IsFailure B.settings new outcome }
+        ensures goes { Goes B.settings me.old me.new }
+        ensures walk { (began : ℕ) (new : Bool) → IsFailure B.settings new outcome → Goes_on B.settings began (readies id new) me.old me.new (after_destroying new outcome) }
+        ensures ends { Ends (inputs.Destroyed id) answers.Freed me.new }
+    {
+        match self.carry_on(rt, me, Input::Ready { id, outcome }) {
+            Answer::Destroy => {
+                self.factory.destroy(value);
+                self.give_up(rt, me, id);
+            }
+            _ => unreachable!(),
+        }
+    }
+
+    // A ready object is lent.
+    fn lend<R: Wait>(&self, rt: &R, me: &mut Caller<B>, id: u64, value: T) -> Lent<T>
+        requires hand { (new : Bool) × HasInHand me.old id phases.Readying new }
+        ensures goes { Goes B.settings me.old me.new }
+        ensures walk { (began : ℕ) (new : Bool) → Goes_on B.settings began (readies id new) me.old me.new (lent id) }
+        ensures ends { Ends (inputs.Ready id outcomes.Good) answers.Lent me.new }
+        ensures lent { result ≡ record { pool = self.now.number; id = id; value = value } }
+    {
+        let outcome = Outcome::Good;
+        match self.carry_on(rt, me, Input::Ready { id, outcome }) {
+            Answer::Lent => Lent {
+                pool: self.number,
+                id,
+                value,
+            },
+            _ => unreachable!(),
+        }
+    }
+
+    // An object that was idle is lent, or destroyed.
+    fn lend_taken<R: Wait>(&self, rt: &R, me: &mut Caller<B>, id: u64, value: T) -> Option<Lent<T>>
+        requires hand { HasInHand me.old id phases.Readying false }
+        ensures goes { Goes B.settings me.old me.new }
+        ensures walk { (began : ℕ) → Goes_on B.settings began (readies id false) me.old me.new (taken_to id result) }
+        ensures lent { IfSome result (λ l. (l.pool ≡ self.now.number) × (l.id ≡ id) × IsLentWell B.settings F.active F.valid l.value) }
+        ensures ends { IfSome result (λ l. Ends (inputs.Ready id outcomes.Good) answers.Lent me.new) }
+    {
+        let mut value = value;
+        match self.activate(&mut value) {
+            Ok(()) => Some(self.lend(rt, me, id, value)),
+            Err(Unready::Activate(_)) => {
+                self.fail(rt, me, id, Outcome::ActivateFailed, value);
+                None
+            }
+            Err(Unready::Test) => {
+                self.fail(rt, me, id, Outcome::TestFailed, value);
+                None
+            }
+        }
+    }
+
+    // A new object is lent, or destroyed.
+    fn lend_made<R: Wait>(
+        &self,
+        rt: &R,
+        me: &mut Caller<B>,
+        id: u64,
+    ) -> Result<Lent<T>, BorrowFault<E>>
+        requires hand { HasInHand me.old id phases.Readying true }
+        ensures goes { Goes B.settings me.old me.new }
+        ensures row { (began : ℕ) → Finishes B.settings self.now.number began (readies id true) result me.old me.new }
+        ensures lent { IfOk result (λ l. IsLentWell B.settings F.active F.valid l.value) }
+        ensures fault { IfErr result (IsFaultFrom F.from_make F.from_activate) }
+    {
+        match self.factory.make(id) {
+            Ok(made) => self.lend_new(rt, me, id, made),
+            Err(fault) => {
+                let outcome = Outcome::MakeFailed;
+                match self.carry_on(rt, me, Input::Ready { id, outcome }) {
+                    Answer::Freed => {
+                        self.changed.notify_all();
+                        Err(BorrowFault::MakeFailed(fault))
+                    }
+                    _ => unreachable!(),
+                }
+            }
+        }
+    }
+
+    // The value of a new object is made.
+    fn lend_new<R: Wait>(
+        &self,
+        rt: &R,
+        me: &mut Caller<B>,
+        id: u64,
+        made: T,
+    ) -> Result<Lent<T>, BorrowFault<E>>
+        requires hand { HasInHand me.old id phases.Readying true }
+        ensures goes { Goes B.settings me.old me.new }
+        ensures row { (began : ℕ) → Finishes B.settings self.now.number began (readies id true) result me.old me.new }
+        ensures lent { IfOk result (λ l. IsLentWell B.settings F.active F.valid l.value) }
+        ensures fault { IfErr result (IsFaultFrom F.from_make F.from_activate) }
+    {
+        let mut value = made;
+        if self.settings.test_on_create && !self.factory.validate(&value) {
+            self.fail(rt, me, id, Outcome::CreateTestFailed, value);
+            return Err(BorrowFault::CreateTestFailed);
+        }
+        match self.activate(&mut value) {
+            Ok(()) => Ok(self.lend(rt, me, id, value)),
+            Err(Unready::Activate(fault)) => {
+                self.fail(rt, me, id, Outcome::ActivateFailed, value);
+                Err(BorrowFault::ActivateFailed(fault))
+            }
+            Err(Unready::Test) => {
+                self.fail(rt, me, id, Outcome::TestFailed, value);
+                Err(BorrowFault::BorrowTestFailed)
+            }
+        }
+    }
+
+    // One round of a borrow, which has no result where an idle object did not get ready.
+    fn try_once<R: Wait>(
+        &self,
+        rt: &R,
+        me: &mut Caller<B>,
+        began: u64,
+    ) -> Option<Result<Lent<T>, BorrowFault<E>>>
+        ensures goes { Goes B.settings me.old me.new }
+        ensures row { IfSome result (λ r. Finishes B.settings self.now.number began asks r me.old me.new) }
+        ensures again { IfNone result (Goes_on B.settings began asks me.old me.new asks) }
+        ensures lent { IfSome result (λ r. IfOk r (λ l. IsLentWell B.settings F.active F.valid l.value)) }
+        ensures fault { IfSome result (λ r. IfErr r (IsFaultFrom F.from_make F.from_activate)) }
+    {
+        match self.look(rt, me, began) {
+            Ok((Answer::Take(id), Some(value))) => match self.lend_taken(rt, me, id, value) {
+                Some(lent) => Some(Ok(lent)),
+                None => None,
+            },
+            Ok((Answer::Make(id), _)) => Some(self.lend_made(rt, me, id)),
+            Ok((Answer::Refused(Cause::Closed), _)) => Some(Err(BorrowFault::Closed)),
+            Ok((Answer::Exhausted, _)) => Some(Err(BorrowFault::Exhausted)),
+            Ok((Answer::TimedOut, _)) => Some(Err(BorrowFault::TimedOut)),
+            Ok(_) => unreachable!(),
+            Err(StepFault::JournalFull(_)) => Some(Err(BorrowFault::JournalFull)),
+            Err(StepFault::OutOfMemory(_)) => Some(Err(BorrowFault::OutOfMemory)),
+        }
+    }
+
+    // Asks until there is a result.
+    fn keep_asking<R: Wait>(
+        &self,
+        rt: &R,
+        me: &mut Caller<B>,
+        began: u64,
+    ) -> Result<Lent<T>, BorrowFault<E>>
+        ensures goes { Goes B.settings me.old me.new }
+        ensures row { Finishes B.settings self.now.number began asks result me.old me.new }
+        ensures lent { IfOk result (λ l. IsLentWell B.settings F.active F.valid l.value) }
+        ensures fault { IfErr result (IsFaultFrom F.from_make F.from_activate) }
+    {
+        for _ in rt.forever() {
+            match self.try_once(rt, me, began) {
+                Some(done) => return done,
+                None => {}
+            }
+        }
+        unreachable!()
+    }
+
+    // Takes away abandoned objects, up to a count.
+    fn reclaim_some<R: Wait>(
+        &self,
+        rt: &R,
+        me: &mut Caller<B>,
+        count: u64,
+    ) -> Result<(), StepFault<T>>
+        requires knows { Knows B.settings me.old }
+        ensures goes { Goes B.settings me.old me.new }
+        ensures walk { OnOk result ((began : ℕ) → Goes_on B.settings began (reclaiming count) me.old me.new asks) }
+        ensures part { IfErr result (λ f. (left : ℕ) × ((began : ℕ) → Goes_on B.settings began (reclaiming count) me.old me.new (reclaims left))) }
+        ensures refused { IfErr result (λ f. IsRefused B.settings inputs.ReclaimNext None f me.new) }
+    {
+        for taken in 0..count {
+            match self.ask(rt, me, Input::ReclaimNext, None) {
+                Ok((Answer::Reclaimed(_), _)) => {
+                    let _ = taken;
+                    self.changed.notify_all();
+                }
+                Ok((Answer::Nothing, _)) => return Ok(()),
+                Ok(_) => unreachable!(),
+                Err(fault) => return Err(fault),
+            }
+        }
+        Ok(())
+    }
+
+    // Takes away abandoned objects, where a borrow begins with that.
+    fn remove<R: Wait>(&self, rt: &R, me: &mut Caller<B>) -> Result<(), BorrowFault<E>>
+        ensures goes { Goes B.settings me.old me.new }
+        ensures walk { OnOk result ((began : ℕ) → Goes_on B.settings began removes me.old me.new asks) }
+        ensures row { IfErr result (λ f. (number began : ℕ) → Finishes {T = T} B.settings number began removes (Err f) me.old me.new) }
+        ensures fault { IfErr result (IsFaultFrom F.from_make F.from_activate) }
+    {
+        let on = When::Borrow;
+        match self.ask(rt, me, Input::Reclaim { on }, None) {
+            Ok((Answer::Count(count), _)) => match self.reclaim_some(rt, me, count) {
+                Ok(()) => Ok(()),
+                Err(StepFault::JournalFull(_)) => Err(BorrowFault::JournalFull),
+                Err(StepFault::OutOfMemory(_)) => Err(BorrowFault::OutOfMemory),
+            },
+            Ok(_) => unreachable!(),
+            Err(StepFault::JournalFull(_)) => Err(BorrowFault::JournalFull),
+            Err(StepFault::OutOfMemory(_)) => Err(BorrowFault::OutOfMemory),
+        }
+    }
+
+    /// Lends an object: an idle one, or a new one where there is a free place.
+    pub fn borrow<R: Wait>(&self, rt: &R, me: &mut Caller<B>) -> Result<Lent<T>, BorrowFault<E>>
+        ensures goes { Goes B.settings me.old me.new }
+        ensures row { BorrowRow B.settings self.now.number result me.old me.new }
+        ensures lent { IfOk result (λ l. IsLentWell B.settings F.active F.valid l.value) }
+        ensures fault { IfErr result (IsFaultFrom F.from_make F.from_activate) }
+    {
+        let began = self.clock.now();
+        if self.settings.remove_abandoned_on_borrow {
+            match self.remove(rt, me) {
+                Ok(()) => self.keep_asking(rt, me, began),
+                Err(fault) => Err(fault),
+            }
+        } else {
+            self.keep_asking(rt, me, began)
+        }
+    }
+}

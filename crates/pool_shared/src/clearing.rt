@@ -1,0 +1,86 @@
+// A clear and a close, in their sections.
+ghost use Rattle.std.specs.Prelude.{◌≡◌, ℕ, IfOk};
+ghost use Rattle.pool_journal.specs.declared.input.Input.TheVariants as inputs;
+ghost use Rattle.pool_history.specs.Standings.{Goes, Knows};
+ghost use Rattle.pool_shared.specs.Walks.{EndsWithMade};
+ghost use Rattle.pool_shared.specs.Clears.{Sweeps, ClearRow, CloseRow};
+
+use crate::faults::PoolFault;
+use crate::pool::SharedPool;
+use pool_core::StepFault;
+use pool_desk::{Clock, Factory};
+use pool_history::{Caller, Room};
+use pool_journal::{Answer, Input};
+use std::sync::Wait;
+
+impl<T: Drop, E: Drop, F: Factory<T, E> + Drop, C: Clock + Drop, B: Room> SharedPool<
+    T,
+    E,
+    F,
+    C,
+    B,
+> {
+    // Destroys idle objects, as many as there are up to a count. The number is how many it took.
+    fn sweep<R: Wait>(
+        &self,
+        rt: &R,
+        me: &mut Caller<B>,
+        count: u64,
+    ) -> Result<u64, (u64, PoolFault)>
+        requires knows { Knows B.settings me.old }
+        requires ended { EndsWithMade me.old }
+        ensures goes { Goes B.settings me.old me.new }
+        ensures walk { (first : inputs.the_data) → Sweeps B.settings first count result me.old me.new }
+        ensures ends { IfOk result (λ n. EndsWithMade me.new) }
+    {
+        for taken in 0..count {
+            match self.ask(rt, me, Input::ClearNext, None) {
+                Ok((Answer::DestroyIdle(id), Some(value))) => {
+                    self.factory.destroy(value);
+                    self.give_up(rt, me, id);
+                }
+                Ok((Answer::Nothing, _)) => return Ok(taken),
+                Ok(_) => unreachable!(),
+                Err(StepFault::JournalFull(_)) => return Err((taken, PoolFault::JournalFull)),
+                Err(StepFault::OutOfMemory(_)) => return Err((taken, PoolFault::OutOfMemory)),
+            }
+        }
+        Ok(count)
+    }
+
+    /// Destroys the idle objects. The number is how many.
+    pub fn clear<R: Wait>(&self, rt: &R, me: &mut Caller<B>) -> Result<u64, PoolFault>
+        ensures goes { Goes B.settings me.old me.new }
+        ensures row { ClearRow B.settings result me.old me.new }
+    {
+        match self.ask(rt, me, Input::Clear, None) {
+            Ok((Answer::Count(count), _)) => match self.sweep(rt, me, count) {
+                Ok(taken) => Ok(taken),
+                Err((_, fault)) => Err(fault),
+            },
+            Ok(_) => unreachable!(),
+            Err(StepFault::JournalFull(_)) => Err(PoolFault::JournalFull),
+            Err(StepFault::OutOfMemory(_)) => Err(PoolFault::OutOfMemory),
+        }
+    }
+
+    /// Closes the pool, and destroys the idle objects. The number is how many.
+    pub fn close<R: Wait>(&self, rt: &R, me: &mut Caller<B>) -> Result<u64, PoolFault>
+        ensures goes { Goes B.settings me.old me.new }
+        ensures row { CloseRow B.settings result me.old me.new }
+    {
+        match self.ask(rt, me, Input::Close, None) {
+            Ok((Answer::Count(count), _)) => {
+                self.changed.notify_all();
+                match self.sweep(rt, me, count) {
+                    Ok(taken) => Ok(taken),
+                    Err((taken, _)) => Ok(taken),
+                }
+            }
+            Ok((Answer::Nothing, _)) => Ok(0),
+            Ok(_) => unreachable!(),
+            Err(StepFault::JournalFull(_)) => Err(PoolFault::JournalFull),
+            Err(StepFault::OutOfMemory(_)) => Err(PoolFault::OutOfMemory),
+        }
+    }
+}

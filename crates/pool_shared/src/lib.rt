@@ -1,0 +1,18 @@
+//! A pool that threads share.
+#![tactic(auto)]
+
+mod borrowing;
+mod clearing;
+mod faults;
+mod lent;
+mod pool;
+mod returning;
+
+pub use faults::{BorrowFault, FinishFault, OpenFault, PoolFault, ReturnFault, Returned, Touched};
+pub use lent::Lent;
+pub use pool::SharedPool;
+pub use pool_desk::{Clock, Factory};
+pub use pool_history::{Caller, Room, Site};
+
+#[cfg(test)]
+mod tests;

@@ -1,0 +1,126 @@
+// A return, in its sections.
+ghost use Rattle.std.specs.Prelude.{◌≡◌, ◌≢◌, true, Ok, IfErr};
+ghost use Rattle.pool_journal.specs.declared.answer.Answer.TheVariants as answers;
+ghost use Rattle.pool_journal.specs.declared.input.Input.TheVariants as inputs;
+ghost use Rattle.pool_journal.specs.declared.input.Outcome.TheVariants as outcomes;
+ghost use Rattle.pool_journal.specs.declared.record.Phase.TheVariants as phases;
+ghost use Rattle.pool_history.specs.Standings.{Goes};
+ghost use Rattle.pool_desk.specs.Sections.{HasInHand};
+ghost use Rattle.pool_shared.specs.Walks.{EndsWithMade};
+ghost use Rattle.pool_shared.specs.Returns.{checks, done, MayComeOut, Goes_on, ReturnRow};
+ghost use Rattle.pool_shared.specs.declared.faults.Returned.TheVariants as returned;
+
+use crate::faults::{ReturnFault, Returned};
+use crate::lent::Lent;
+use crate::pool::SharedPool;
+use pool_core::StepFault;
+use pool_desk::{Clock, Factory};
+use pool_history::{Caller, Room};
+use pool_journal::{Answer, Cause, Input, Outcome};
+use std::sync::Wait;
+
+impl<T: Drop, E: Drop, F: Factory<T, E> + Drop, C: Clock + Drop, B: Room> SharedPool<
+    T,
+    E,
+    F,
+    C,
+    B,
+> {
+    // An object that came back did not pass: it is destroyed.
+    fn discard<R: Wait>(&self, rt: &R, me: &mut Caller<B>, id: u64, outcome: Outcome, value: T)
+        requires hand { (new : _) × HasInHand me.old id phases.Returning new }
+        requires outcome { (outcome ≢ outcomes.Good) × MayComeOut B.settings outcome }
+        ensures goes { Goes B.settings me.old me.new }
+        ensures walk { Goes_on B.settings id checks me.old me.new (done returned.Destroyed) }
+        ensures ends { EndsWithMade me.new }
+    {
+        match self.carry_on(rt, me, Input::Park { id, outcome }) {
+            Answer::Destroy => {
+                self.factory.destroy(value);
+                self.give_up(rt, me, id);
+            }
+            _ => unreachable!(),
+        }
+    }
+
+    // A passive object lies idle from then on, if there is room for it.
+    fn park<R: Wait>(&self, rt: &R, me: &mut Caller<B>, id: u64, value: T) -> Returned
+        requires hand { (new : _) × HasInHand me.old id phases.Returning new }
+        requires passive { F.passive value }
+        ensures goes { Goes B.settings me.old me.new }
+        ensures walk { Goes_on B.settings id checks me.old me.new (done result) }
+        ensures ends { EndsWithMade me.new }
+    {
+        let outcome = Outcome::Good;
+        match self.ask(rt, me, Input::Park { id, outcome }, Some(value)) {
+            Ok((Answer::Parked, _)) => {
+                self.changed.notify_all();
+                Returned::Parked
+            }
+            Ok((Answer::Destroy, Some(value))) => {
+                self.factory.destroy(value);
+                self.give_up(rt, me, id);
+                Returned::Destroyed
+            }
+            Ok(_) => unreachable!(),
+            Err(_) => unreachable!(),
+        }
+    }
+
+    // An object that came back is checked.
+    fn check<R: Wait>(&self, rt: &R, me: &mut Caller<B>, id: u64, value: T) -> Returned
+        requires hand { (new : _) × HasInHand me.old id phases.Returning new }
+        ensures goes { Goes B.settings me.old me.new }
+        ensures walk { Goes_on B.settings id checks me.old me.new (done result) }
+        ensures ends { EndsWithMade me.new }
+    {
+        let mut value = value;
+        if self.settings.test_on_return && !self.factory.validate(&value) {
+            self.discard(rt, me, id, Outcome::TestFailed, value);
+            return Returned::Destroyed;
+        }
+        match self.factory.passivate(&mut value) {
+            Ok(()) => self.park(rt, me, id, value),
+            Err(_) => {
+                self.discard(rt, me, id, Outcome::PassivateFailed, value);
+                Returned::Destroyed
+            }
+        }
+    }
+
+    /// Takes a lent object back.
+    pub fn give_back<R: Wait>(
+        &self,
+        rt: &R,
+        me: &mut Caller<B>,
+        lent: Lent<T>,
+    ) -> Result<Returned, (ReturnFault, Lent<T>)>
+        ensures goes { Goes B.settings me.old me.new }
+        ensures row { ReturnRow B.settings self.now.number lent result me.old me.new }
+        ensures back { IfErr result (λ r. r.1 ≡ lent) }
+    {
+        let _ = &me.pass;
+        if lent.pool != self.number {
+            return Err((ReturnFault::ForeignObject, lent));
+        }
+        match self.ask(rt, me, Input::GiveBack { id: lent.id }, None) {
+            Ok((Answer::Check, _)) => {
+                let Lent { pool: _, id, value } = lent;
+                Ok(self.check(rt, me, id, value))
+            }
+            Ok((Answer::Gone, _)) => {
+                let Lent {
+                    pool: _,
+                    id: _,
+                    value,
+                } = lent;
+                self.factory.destroy(value);
+                Ok(Returned::Gone)
+            }
+            Ok((Answer::Refused(Cause::NotLent), _)) => Err((ReturnFault::NotLent, lent)),
+            Ok(_) => unreachable!(),
+            Err(StepFault::JournalFull(_)) => Err((ReturnFault::JournalFull, lent)),
+            Err(StepFault::OutOfMemory(_)) => Err((ReturnFault::OutOfMemory, lent)),
+        }
+    }
+}
