@@ -2,16 +2,13 @@
 use Rattle.std.proofs.Common.{◌≡◌, ◌≢◌, ℕ, zero, suc, ◌+◌, ◌<◌, ◌≤◌, ◌==◌, Bool, true, false, if◌then◌else◌, List, []}
 use Rattle.std.proofs.Common.{◌∷◌, ◌++◌, length, Option, Some, None, refl, ap, sym, ◌∙◌, subst, arith, zero-add}
 use Rattle.std.specs.Prelude.{◌||◌, ◌-◌, not, count_by, IsSome, ℤ, pos, negsuc}
-use Rattle.std.specs.List.{range_with_len, AllByRecursion}
+use Rattle.std.specs.List.{range_with_len}
 use Rattle.std.proofs.lemmas.Bool.{ltb-true}
 use Rattle.std.proofs.lemmas.Bool.Decides.{nat_tests}
-use Rattle.std.proofs.lemmas.List.Sums.{length-filter, sum_by-cons, sum_by_push}
+use Rattle.std.proofs.lemmas.List.Sums.{length-filter, sum_by_push}
 use Rattle.pool_journal.specs.Journal.{made_to, phase, drawn, present, records, closed, is_present, is_make_answer}
-use Rattle.pool_journal.specs.Queue.{is_queued}
 use Rattle.pool_journal.specs.declared.entry.Entry.{Entry}
-use Rattle.pool_journal.specs.declared.record.Record.{Record}
 use Rattle.pool_journal.specs.declared.record.Phase.{Phase}
-use Rattle.pool_journal.specs.declared.record.Phase.TheVariants as phases
 use Rattle.pool_journal.specs.declared.input.Input.{Input}
 use Rattle.pool_journal.specs.declared.input.Input.TheVariants.{Borrow, Add, Fill}
 use Rattle.pool_journal.specs.declared.answer.Answer.{Answer}
@@ -21,7 +18,7 @@ use Rattle.pool_journal.proofs.Found.{each_present}
 use Rattle.pool_journal.proofs.Pushed.{drawn-push}
 use Rattle.pool_journal.proofs.Touched.{range-more}
 use Rattle.pool_stats.specs.Answers.{is_freed, is_reclaimed, count_answers}
-use Rattle.pool_stats.specs.Counts.{is_lent, is_reserved, counts_of}
+use Rattle.pool_stats.specs.Counts.{counts_of}
 use Rattle.pool_settings.specs.declared.settings.Settings.{Settings}
 use Rattle.pool_core.specs.Laws.{IsWithin, AtMostMaxTotal, NothingLost}
 use Rattle.pool_core.specs.Legal.{IsLegal}

@@ -14,6 +14,7 @@ use Rattle.pool_journal.specs.Queue.{record_in}
 use Rattle.pool_journal.specs.Reaches.{place_known}
 use Rattle.pool_places.specs.Changes.{IsInPhase}
 use Rattle.pool_places.specs.Shelf.{records_in}
+use Rattle.pool_stats.specs.Ended.{ended_after}
 use Rattle.pool_core.specs.Legal.{entry_of}
 use Rattle.pool_core.specs.Table.{table}
 use Rattle.pool_core.specs.declared.state.Moment.{Moment}
@@ -39,6 +40,7 @@ pub record TakesStep {T : Type 0} (now : Moment) (input : Input) (old new : Stat
   pub closed_is : new.closed ≡ closed_after answer input old.closed
   pub cursor_is : new.cursor ≡ cursor_after answer input (records_in old.places.kept) old.cursor
   pub owed_stays : new.owed ≡ old.owed
+  pub ended_is : new.ended ≡ ended_after answer input old.ended
   pub settings_stay : new.settings ≡ old.settings
 
 -- each record is that of a present object

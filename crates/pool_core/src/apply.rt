@@ -3,6 +3,7 @@ ghost use Rattle.pool_journal.specs.Carrying.{carries};
 ghost use Rattle.pool_journal.specs.Journal.{id_of, is_borrow, is_make_answer};
 ghost use Rattle.pool_journal.specs.declared.record.Phase.TheVariants as phases;
 ghost use Rattle.pool_places.specs.Shelf.{records_in};
+ghost use Rattle.pool_stats.specs.Ended.{MayGrow};
 ghost use Rattle.pool_core.specs.Table.{table};
 
 use crate::marks::{closes, examined, id_in, next_after};
@@ -152,6 +153,7 @@ impl<T> State<T> {
             self.old.closed self.old.cursor now.at input }
         requires carried { is_some value ≡ carries input }
         requires reserved { is_make_answer answer ≡ true → 1 ≤ self.old.places.spare }
+        requires few { MayGrow self.old.ended }
         ensures step { TakesStep now input self.old self.new answer }
         ensures values { Hands answer input self.old.places.kept self.new.places.kept value result }
     {
@@ -160,6 +162,7 @@ impl<T> State<T> {
         self.next = next_after(self.next, answer);
         self.closed = self.closed || closes(answer, input);
         self.cursor = cursor;
+        self.ended = self.ended.after(input, answer);
         out
     }
 }

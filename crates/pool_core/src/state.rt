@@ -1,5 +1,6 @@
 use pool_places::Places;
 use pool_settings::Settings;
+use pool_stats::Ended;
 
 /// Where in the journal and when a step is taken.
 #[derive(Clone, Copy)]
@@ -20,4 +21,6 @@ pub struct State<T> {
     pub cursor: Option<u64>,
     /// How many entries at most are still needed to close the pool and to end what was begun.
     pub owed: u64,
+    /// How many objects are at an end.
+    pub ended: Ended,
 }

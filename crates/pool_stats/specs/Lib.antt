@@ -1,5 +1,6 @@
 pub mod Answers
 pub mod Counts
+pub mod Ended
 pub mod Lendings
 pub mod Statistics
 pub mod Words

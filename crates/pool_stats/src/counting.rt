@@ -22,22 +22,25 @@ fn is_making(entry: &Entry) -> bool
     matches!(entry.answer, Answer::Make(_))
 }
 
-fn is_freeing(entry: &Entry) -> bool
-    ensures { result ≡ is_freed entry.now.answer }
+/// Whether the place is given up of an object that was destroyed or could not be made.
+pub(crate) fn is_freeing(answer: Answer) -> bool
+    ensures { result ≡ is_freed answer }
 {
-    matches!(entry.answer, Answer::Freed)
+    matches!(answer, Answer::Freed)
 }
 
-fn is_reclaiming(entry: &Entry) -> bool
-    ensures { result ≡ is_reclaimed entry.now.answer }
+/// Whether an abandoned object loses its place.
+pub(crate) fn is_reclaiming(answer: Answer) -> bool
+    ensures { result ≡ is_reclaimed answer }
 {
-    matches!(entry.answer, Answer::Reclaimed(_))
+    matches!(answer, Answer::Reclaimed(_))
 }
 
-fn is_evicting(entry: &Entry) -> bool
-    ensures { result ≡ is_evicting entry.now.answer entry.now.input }
+/// Whether an eviction run has an idle object destroyed, for its time or for a failed test.
+pub(crate) fn is_evicting(answer: Answer, input: Input) -> bool
+    ensures { result ≡ is_evicting answer input }
 {
-    match (entry.answer, entry.input) {
+    match (answer, input) {
         (Answer::DestroyIdle(_), Input::EvictNext) => true,
         (Answer::Destroy, Input::Tested { id: _, outcome }) => !matches!(outcome, Outcome::Good),
         _ => false,
@@ -79,17 +82,23 @@ pub(crate) fn count_created(entries: &[Entry]) -> u64
 }
 
 /// How many objects' places were given up after they were destroyed or could not be made.
-pub fn count_destroyed(entries: &[Entry]) -> u64
+pub(crate) fn count_destroyed(entries: &[Entry]) -> u64
     ensures { result ≡ count_answers is_freed entries.now }
 {
-    entries.iter().filter(|entry| is_freeing(entry)).count() as u64
+    entries
+        .iter()
+        .filter(|entry| is_freeing(entry.answer))
+        .count() as u64
 }
 
 /// How many idle objects were to be destroyed by an eviction run, for their time or for a failed test.
-pub fn count_evicted(entries: &[Entry]) -> u64
+pub(crate) fn count_evicted(entries: &[Entry]) -> u64
     ensures { result ≡ count_entries is_evicting entries.now }
 {
-    entries.iter().filter(|entry| is_evicting(entry)).count() as u64
+    entries
+        .iter()
+        .filter(|entry| is_evicting(entry.answer, entry.input))
+        .count() as u64
 }
 
 /// How many objects were to be destroyed because they failed their test for a borrow.
@@ -100,8 +109,11 @@ pub(crate) fn count_failed(entries: &[Entry]) -> u64
 }
 
 /// How many abandoned objects lost their places.
-pub fn count_reclaimed(entries: &[Entry]) -> u64
+pub(crate) fn count_reclaimed(entries: &[Entry]) -> u64
     ensures { result ≡ count_answers is_reclaimed entries.now }
 {
-    entries.iter().filter(|entry| is_reclaiming(entry)).count() as u64
+    entries
+        .iter()
+        .filter(|entry| is_reclaiming(entry.answer))
+        .count() as u64
 }

@@ -3,11 +3,12 @@
 
 mod counting;
 mod counts;
+mod ended;
 mod lendings;
 mod statistics;
 
-pub use counting::{count_destroyed, count_evicted, count_reclaimed};
 pub use counts::Counts;
+pub use ended::Ended;
 pub use statistics::Statistics;
 
 #[cfg(test)]

@@ -1,4 +1,4 @@
-use crate::{Statistics, count_destroyed, count_evicted, count_reclaimed};
+use crate::Statistics;
 use pool_journal::{Entry, read_entry};
 use std::alloc::{AllocError, Global};
 use std::process::Abort;
@@ -108,16 +108,5 @@ fn statistics_of_journals(rt: HostRuntime) -> Result<(), Fail> {
         let found = Statistics::of(rt.alloc(), &entries)?;
         assert_eq!(rt; found, numbers(wanted), "at {text}");
     }
-    Ok(())
-}
-
-#[test]
-fn numbers_that_counts_share(rt: HostRuntime) -> Result<(), Fail> {
-    let destroyed = entries_of(&rt, rt.alloc(), DESTROYED)?;
-    assert_eq!(rt; count_destroyed(&destroyed), 2);
-    assert_eq!(rt; count_evicted(&destroyed), 2);
-    assert_eq!(rt; count_reclaimed(&destroyed), 0);
-    let reclaimed = entries_of(&rt, rt.alloc(), RECLAIMED)?;
-    assert_eq!(rt; count_reclaimed(&reclaimed), 1);
     Ok(())
 }

@@ -1,4 +1,5 @@
-use Rattle.std.proofs.Common.{arith}
+use Rattle.std.proofs.Common.{arith, ap}
+use Rattle.pool_stats.specs.declared.ended.Ended.{Ended}
 use Rattle.pool_core.proofs.Counted.{whole, counts_are}
 use Rattle.pool_core.proofs.counts.counts_of.Goals as goal
 
@@ -11,19 +12,20 @@ overflow_sub-result-2 g c =
       found.queue,
       found.lent,
       whole c.args.entries.now c.args.state.now.places.kept
-          c.args.state.now.next c.requires,
+          c.args.state.now.next c.requires.reaches,
     )
 
 pub returns : goal.returns
 returns g c =
     let found = c.counts-places.ensures in
-    counts_are c.args.entries.now c.args.state.now.places.kept c.args.state.now.next _ _ _ _ _ _ c.requires found.queue found.lent
+    counts_are c.args.entries.now c.args.state.now.places.kept c.args.state.now.next _ _ _ _ _ _ c.requires.reaches found.queue found.lent
     (omega (
       arith,
       found.present,
       found.queue,
       found.lent,
       whole c.args.entries.now c.args.state.now.places.kept
-          c.args.state.now.next c.requires,
+          c.args.state.now.next c.requires.reaches,
     ))
-    c.count_destroyed.ensures c.count_evicted.ensures c.count_reclaimed.ensures
+    (ap (λ (n : Ended). n.destroyed) c.requires.ended) (ap (λ (n : Ended). n.evicted) c.requires.ended)
+    (ap (λ (n : Ended). n.reclaimed) c.requires.ended)
