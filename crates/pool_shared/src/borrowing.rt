@@ -14,10 +14,10 @@ use crate::faults::BorrowFault;
 use crate::lent::Lent;
 use crate::pool::SharedPool;
 use pool_core::StepFault;
-use pool_desk::{Clock, Factory};
+use pool_desk::{Clock, Desk, Factory};
 use pool_history::{Caller, Room};
 use pool_journal::{Answer, Cause, Input, Outcome, When};
-use std::sync::Wait;
+use std::sync::{MutexGuard, Wait};
 
 /// Why an object did not get ready.
 #[derive(Drop)]
@@ -49,6 +49,21 @@ impl<T: Drop, E: Drop, F: Factory<T, E> + Drop, C: Clock + Drop, B: Room> Shared
         }
     }
 
+    // Waits until the pool has changed. Where there is no limit to the wait, it sleeps on while a borrow would wait
+    // all the same, so that a borrower who is woken for nothing makes no entry.
+    fn wait<'a, R: Wait>(
+        &self,
+        rt: &R,
+        desk: MutexGuard<'a, Desk<T, E, F, B>>,
+        began: u64,
+    ) -> MutexGuard<'a, Desk<T, E, F, B>> {
+        if self.settings.max_wait_millis < 0 {
+            self.changed.wait_while(rt, desk, |desk| desk.would_wait(began))
+        } else {
+            self.changed.wait(rt, desk)
+        }
+    }
+
     // Asks for an object, and waits while there is none.
     fn look<R: Wait>(
         &self,
@@ -69,7 +84,7 @@ impl<T: Drop, E: Drop, F: Factory<T, E> + Drop, C: Clock + Drop, B: Room> Shared
         for _ in rt.forever() {
             match desk.step(rt, &self.cell, &self.clock, me, input, None) {
                 Ok((answer, out)) => match answer {
-                    Answer::Wait => desk = self.changed.wait(rt, desk),
+                    Answer::Wait => desk = self.wait(rt, desk, began),
                     found => return Ok((found, out)),
                 },
                 Err(fault) => return Err(fault),
