@@ -2,3 +2,5 @@ pub mod Walking
 pub mod Backs
 pub mod Sweeping
 pub mod Removing
+pub mod Rowing
+pub mod Examining

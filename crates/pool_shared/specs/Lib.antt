@@ -4,3 +4,5 @@ pub mod Touches
 pub mod Borrows
 pub mod Returns
 pub mod Clears
+pub mod Rows
+pub mod Evicts

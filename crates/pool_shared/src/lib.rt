@@ -3,11 +3,13 @@
 
 mod borrowing;
 mod clearing;
+mod evicting;
 mod faults;
 mod lent;
 mod pool;
 mod returning;
 
+pub use evicting::EvictRun;
 pub use faults::{BorrowFault, FinishFault, OpenFault, PoolFault, ReturnFault, Returned, Touched};
 pub use lent::Lent;
 pub use pool::SharedPool;

@@ -1,0 +1,52 @@
+-- Whole rows from their parts.
+use Rattle.std.proofs.Common.{◌≡◌, List, [], ◌∷◌, Option, None, refl, sym, ap, ◌∙◌, subst}
+use Rattle.pool_journal.specs.declared.entry.Entry.{Entry}
+use Rattle.pool_journal.specs.declared.input.Input.{Input}
+use Rattle.pool_settings.specs.declared.settings.Settings.{Settings}
+use Rattle.pool_core.specs.declared.step_fault.StepFault.{StepFault}
+use Rattle.pool_core.specs.declared.step_fault.StepFault.TheVariants.{JournalFull}
+use Rattle.pool_history.specs.Standings.{Standing}
+use Rattle.pool_desk.specs.Sections.{Refuses, IsFullFor}
+use Rattle.pool_shared.specs.Walks.{walked, AllDue, Walks}
+use Rattle.pool_shared.specs.Rows.{Row}
+use Rattle.pool_shared.proofs.Walking.{walk_on, walk_none}
+
+module _ {A R : Type 0} (Due : A → Entry → Type 0) (next : A → Entry → A) (Ends : A → R → Standing → Type 0) where
+  -- a call that ends where it stands
+  pub row_at : (from to : A) (r : R) (a b : Standing) → Walks Due next from a b to → Ends to r b → Row Due next Ends from r a b
+  row_at from to r a b w ends = record { es = w.es; made = w.made; due = w.due; ends = subst (λ st. Ends st r b) (sym w.comes) ends }
+
+  -- what a row leads to
+  pub walk_of : (from : A) (r : R) (a b : Standing) (row : Row Due next Ends from r a b) → Walks Due next from a b (walked next from row.es)
+  walk_of from r a b row = record { es = row.es; made = row.made; due = row.due; comes = refl }
+
+  -- a call that goes on, and then ends
+  pub row_on : (from mid : A) (r : R) (a b c : Standing) → Walks Due next from a b mid → Row Due next Ends mid r b c → Row Due next Ends from r a c
+  row_on from mid r a b c w row =
+      let to = walked next mid row.es in
+      row_at from to r a c (walk_on Due next from mid to a b c w (walk_of mid r b c row)) row.ends
+
+  -- a call whose next section was refused
+  pub row_stopped : (from at : A) (r : R) (a b c : Standing) → Walks Due next from a b at → c.made ≡ b.made → Ends at r c → Row Due next Ends from r a c
+  row_stopped from at r a b c w same ends = row_at from at r a c (walk_on Due next from at at a b c w (walk_none Due next at b c same)) ends
+
+-- entries that lead on in one call lead on so in another that goes the same way
+module _ {A B : Type 0} (Due : A → Entry → Type 0) (next : A → Entry → A) (Due' : B → Entry → Type 0) (next' : B → Entry → B) (f : A → B)
+    (due : (st : A) (e : Entry) → Due st e → Due' (f st) e) (goes : (st : A) (e : Entry) → Due st e → next' (f st) e ≡ f (next st e)) where
+  due_along : (st : A) (es : List Entry) → AllDue Due next st es → AllDue Due' next' (f st) es
+  due_along st [] d = tt
+  due_along st (e ∷ es) d = (due st e d.0, subst (λ t. AllDue Due' next' t es) (sym (goes st e d.0)) (due_along (next st e) es d.1))
+
+  walked_along : (st : A) (es : List Entry) → AllDue Due next st es → walked next' (f st) es ≡ f (walked next st es)
+  walked_along st [] d = refl
+  walked_along st (e ∷ es) d = ap (λ t. walked next' t es) (goes st e d.0) ∙ walked_along (next st e) es d.1
+
+  pub walk_along : (from to : A) (a b : Standing) → Walks Due next from a b to → Walks Due' next' (f from) a b (f to)
+  walk_along from to a b w =
+      record { es = w.es; made = w.made; due = due_along from w.es w.due; comes = walked_along from w.es w.due ∙ ap f w.comes }
+
+-- why a section was refused for want of room
+pub full_for : {T : Type 0} (s : Settings) (input : Input) (f : StepFault T) (out : Option T) (b c : Standing) → f ≡ JournalFull out → Refuses s input None f b c → IsFullFor s input c
+full_for {T} s input f out b c is refuses =
+    let r : Refuses s input None (JournalFull out) b c = subst (λ (g : StepFault T). Refuses s input None g b c) is refuses in
+    r.there.why.0

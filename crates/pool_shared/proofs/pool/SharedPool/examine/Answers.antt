@@ -1,0 +1,64 @@
+use Rattle.std.proofs.Common.{◌<◌, ◌+◌, ◌-◌, refl, ap, ◌∙◌, arith}
+use Rattle.pool_shared.specs.declared.evicting.EvictRun.{EvictRun}
+use Rattle.pool_shared.specs.Evicts as evicts
+use Rattle.pool_shared.specs.Evicts.{examines, none_yet, one_more, fared}
+use Rattle.pool_shared.proofs.Walking.{walk_none}
+use Rattle.pool_shared.proofs.Sweeping.{goes_self, goes_then}
+use Rattle.pool_shared.proofs.Examining.{stopped, all_examined, out_of_objects, one_examined, fared_examined, fared_destroyed}
+use Rattle.pool_shared.proofs.pool.SharedPool.examine.Goals as goal
+
+pub loop-taken-init : goal.loop-taken-init
+loop-taken-init g c = record {
+  goes = goes_self g.B.Room.settings c.args.me.now c.requires.knows;
+  ends = c.requires.ended;
+  examined = refl;
+  destroyed = omega arith;
+  left = c.args.count;
+  all = omega arith;
+  walk = walk_none evicts.Due evicts.next (examines c.args.count none_yet) _ _ refl;
+}
+
+pub loop-taken-preserved : goal.loop-taken-preserved
+loop-taken-preserved g c =
+    let i = c.loop-taken.invariant in
+    let fate = c.in-Ok-Some.fate in
+    let before = c.loop-taken.run in
+    let some : 0 < i.left = omega (arith, i.all, c.loop-taken-test.true) in
+    let examined = ap (λ (r : EvictRun). r.examined) c.count_in-run.ensures ∙ fared_examined (one_more before) fate in
+    let destroyed = ap (λ (r : EvictRun). r.destroyed) c.count_in-run.ensures in
+    let most = fared_destroyed (one_more before) fate in
+    record {
+      goes = goes_then g.B.Room.settings c.args.me.now c.loop-taken.me c.examine_next.new.me i.goes c.in-Ok-Some.ensures.goes;
+      ends = c.in-Ok-Some.ensures.ends;
+      examined = examined ∙ ap (λ k. k + 1) i.examined;
+      destroyed = omega (arith, destroyed, most, i.destroyed);
+      left = i.left - 1;
+      all = omega (arith, i.all, some);
+      walk = one_examined c.args.count i.left before _ fate _ _ _ _ c.in-Ok-Some.field-0-is c.count_in-run.ensures i.walk (c.in-Ok-Some.ensures.walk i.left before some);
+    }
+
+pub returns-in-Ok-None-clause-goes : goal.returns-in-Ok-None-clause-goes
+returns-in-Ok-None-clause-goes g c = goes_then g.B.Room.settings c.args.me.now c.loop-taken.me c.examine_next.new.me c.loop-taken.invariant.goes c.in-Ok-None.ensures.goes
+
+pub returns-in-Ok-None-clause-row : goal.returns-in-Ok-None-clause-row
+returns-in-Ok-None-clause-row g c =
+    let i = c.loop-taken.invariant in
+    let some : 0 < i.left = omega (arith, i.all, c.loop-taken-test.true) in
+    out_of_objects g.B.Room.settings c.args.count i.left c.loop-taken.run _ _ _ _ c.in-Ok-None.field-0-is i.walk (c.in-Ok-None.ensures.walk i.left c.loop-taken.run some) c.in-Ok-None.ensures.ends
+
+pub returns-in-Err-clause-goes : goal.returns-in-Err-clause-goes
+returns-in-Err-clause-goes g c = goes_then g.B.Room.settings c.args.me.now c.loop-taken.me c.examine_next.new.me c.loop-taken.invariant.goes c.in-Err.ensures.goes
+
+pub returns-in-Err-clause-row : goal.returns-in-Err-clause-row
+returns-in-Err-clause-row g c =
+    let i = c.loop-taken.invariant in
+    let some : 0 < i.left = omega (arith, i.all, c.loop-taken-test.true) in
+    stopped g.B.Room.settings c.args.count i.left c.loop-taken.run _ _ _ _ some i.walk c.in-Err.ensures.same c.in-Err.ensures.refused
+
+pub returns-clause-goes : goal.returns-clause-goes
+returns-clause-goes g c = c.loop-taken.invariant.goes
+
+pub returns-clause-row : goal.returns-clause-row
+returns-clause-row g c =
+    let i = c.loop-taken.invariant in
+    all_examined g.B.Room.settings c.args.count i.left c.loop-taken.run _ _ (omega (arith, i.all, c.loop-taken-test.false)) i.walk i.ends

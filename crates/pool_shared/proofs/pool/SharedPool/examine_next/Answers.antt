@@ -1,0 +1,12 @@
+use Rattle.std.proofs.Common.{◌-◌}
+use Rattle.pool_shared.specs.Evicts.{one_more}
+use Rattle.pool_shared.proofs.Examining.{destroyed_idle, tested_idle}
+use Rattle.pool_shared.proofs.pool.SharedPool.examine_next.Goals as goal
+
+pub returns-in-Ok-DestroyIdle-Some-clause-walk : goal.returns-in-Ok-DestroyIdle-Some-clause-walk
+returns-in-Ok-DestroyIdle-Some-clause-walk g c left run some =
+    destroyed_idle c.in-Ok-DestroyIdle-Some.id left run _ _ _ _ some c.in-Ok-DestroyIdle-Some.field-0-0-is c.in-Ok-DestroyIdle-Some.ensures.made c.give_up.ensures.made
+
+pub returns-in-Ok-Test-Some-clause-walk : goal.returns-in-Ok-Test-Some-clause-walk
+returns-in-Ok-Test-Some-clause-walk g c left run some =
+    tested_idle c.in-Ok-Test-Some.id left run _ _ _ _ _ some c.in-Ok-Test-Some.field-0-0-is c.in-Ok-Test-Some.ensures.made (c.test.ensures.walk (left - 1) (one_more run))

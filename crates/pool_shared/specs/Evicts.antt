@@ -1,0 +1,124 @@
+-- The sections of an eviction run.
+use Rattle.std.specs.Prelude.{◌≡◌, ℕ, zero, suc, ◌+◌, ◌-◌, ◌<◌, Option, None, Some, Result, Ok, Err}
+use Rattle.pool_journal.specs.declared.entry.Entry.{Entry}
+use Rattle.pool_journal.specs.declared.input.Input.{Input}
+use Rattle.pool_journal.specs.declared.input.Input.TheVariants.{Evict, EvictNext, Tested, Destroyed}
+use Rattle.pool_journal.specs.declared.input.Outcome.{Outcome}
+use Rattle.pool_journal.specs.declared.input.Outcome.TheVariants as outcomes
+use Rattle.pool_journal.specs.declared.answer.Answer.{Answer}
+use Rattle.pool_journal.specs.declared.answer.Answer.TheVariants as answers
+use Rattle.pool_journal.specs.declared.answer.Cause.TheVariants as causes
+use Rattle.pool_settings.specs.declared.settings.Settings.{Settings}
+use Rattle.pool_history.specs.Standings.{Standing}
+use Rattle.pool_desk.specs.Sections.{CanTest}
+use Rattle.pool_shared.specs.declared.evicting.EvictRun.{EvictRun}
+use Rattle.pool_shared.specs.declared.evicting.Fate.{Fate}
+use Rattle.pool_shared.specs.declared.evicting.Fate.TheVariants as fates
+use Rattle.pool_shared.specs.declared.faults.PoolFault.{PoolFault}
+use Rattle.pool_shared.specs.declared.faults.PoolFault.TheVariants as faults
+use Rattle.pool_shared.specs.Walks.{Walks, EndsWithMade}
+use Rattle.pool_shared.specs.Rows.{Row}
+use Rattle.pool_shared.specs.Clears.{IsRoomFault}
+
+-- where an eviction run stands: it begins; it examines so many objects more, after so many; it tests one; it destroys one; it is through; the pool is closed
+pub data Stage : Type 0 where
+  begins : Stage
+  examines : ℕ → EvictRun → Stage
+  tests : ℕ → ℕ → EvictRun → Stage
+  destroys : ℕ → ℕ → EvictRun → Stage
+  through : EvictRun → Stage
+  closed : Stage
+  lost : Stage
+
+abbrev pub none_yet : EvictRun
+none_yet = record { examined = 0; destroyed = 0 }
+
+-- one object more is examined
+abbrev pub one_more : EvictRun → EvictRun
+one_more run = record { examined = run.examined + 1; destroyed = run.destroyed }
+
+-- one object more is destroyed
+abbrev pub one_gone : EvictRun → EvictRun
+one_gone run = record { examined = run.examined; destroyed = run.destroyed + 1 }
+
+abbrev pub after_beginning : Answer → Stage
+after_beginning (answers.Count n) = examines n none_yet
+after_beginning (answers.Refused causes.Closed) = closed
+after_beginning a = lost
+
+abbrev pub after_examining : ℕ → EvictRun → Answer → Stage
+after_examining left run (answers.KeptIdle i) = examines (left - 1) (one_more run)
+after_examining left run (answers.Test i) = tests i (left - 1) (one_more run)
+after_examining left run (answers.DestroyIdle i) = destroys i (left - 1) (one_more run)
+after_examining left run answers.Nothing = through run
+after_examining left run a = lost
+
+abbrev pub after_testing : ℕ → ℕ → EvictRun → Answer → Stage
+after_testing i left run answers.Kept = examines left run
+after_testing i left run answers.Destroy = destroys i left run
+after_testing i left run a = lost
+
+abbrev pub next : Stage → Entry → Stage
+next begins e = after_beginning e.answer
+next (examines left run) e = after_examining left run e.answer
+next (tests i left run) e = after_testing i left run e.answer
+next (destroys i left run) e = examines left (one_gone run)
+next stage e = stage
+
+-- the outcome of a test is told
+abbrev pub IsTest : ℕ → Input → Type 0
+IsTest i (Tested j o) = (j ≡ i) × CanTest o
+IsTest i _ = ⊥
+
+-- the input that is next
+abbrev pub Due : Stage → Entry → Type 0
+Due begins e = e.input ≡ Evict
+Due (examines left run) e = (0 < left) × (e.input ≡ EvictNext)
+Due (tests i left run) e = IsTest i e.input
+Due (destroys i left run) e = e.input ≡ Destroyed i
+Due _ e = ⊥
+
+abbrev pub Goes_on : Stage → Standing → Standing → Stage → Type 0
+Goes_on from before after to = Walks Due next from before after to
+
+-- what an eviction run answers that stands there, and what is seen then
+abbrev pub EvictEnds : Settings → Stage → Result EvictRun PoolFault → Standing → Type 0
+EvictEnds s closed (Err faults.Closed) me = EndsWithMade me
+EvictEnds s (through run) (Ok r) me = (r ≡ run) × EndsWithMade me
+EvictEnds s (examines zero run) (Ok r) me = (r ≡ run) × EndsWithMade me
+EvictEnds s begins (Err f) me = IsRoomFault s Evict f me
+EvictEnds s (examines (suc left) run) (Err f) me = IsRoomFault s EvictNext f me
+EvictEnds s _ _ me = ⊥
+
+-- what an eviction run made from one stage on, up to its result
+abbrev pub EvictsFrom : Settings → Stage → Result EvictRun PoolFault → Standing → Standing → Type 0
+EvictsFrom s from result before after = Row Due next (EvictEnds s) from result before after
+
+-- what a whole eviction run made
+abbrev pub EvictRow : Settings → Result EvictRun PoolFault → Standing → Standing → Type 0
+EvictRow s result before after = EvictsFrom s begins result before after
+
+-- what a run did, where the last object that it examined fared so
+abbrev pub fared : EvictRun → Fate → EvictRun
+fared run fates.Kept = run
+fared run fates.Destroyed = one_gone run
+
+-- where a run stands after a test
+abbrev pub after_test : ℕ → EvictRun → Fate → Stage
+after_test left run fate = examines left (fared run fate)
+
+-- where a run stands that examined one object, or found none
+abbrev pub after_one : ℕ → EvictRun → Option Fate → Stage
+after_one left run (Some fate) = examines (left - 1) (fared (one_more run) fate)
+after_one left run None = through run
+
+-- how a test fails
+abbrev pub IsFailedTest : Outcome → Type 0
+IsFailedTest outcomes.Good = ⊥
+IsFailedTest o = CanTest o
+
+-- how a value fails that is woken and tested
+abbrev pub IsUnfit : Outcome → Type 0
+IsUnfit outcomes.ActivateFailed = Unit {0}
+IsUnfit outcomes.TestFailed = Unit {0}
+IsUnfit _ = ⊥

@@ -1,0 +1,12 @@
+-- What a call of several sections made, and how it ended.
+use Rattle.std.specs.Prelude.{◌≡◌, List, ◌++◌}
+use Rattle.pool_journal.specs.declared.entry.Entry.{Entry}
+use Rattle.pool_history.specs.Standings.{Standing}
+use Rattle.pool_shared.specs.Walks.{walked, AllDue}
+
+-- the caller made entries, each due where the call stood, from one stage on, and the call ended as it may where they lead
+pub record Row {A R : Type 0} (Due : A → Entry → Type 0) (next : A → Entry → A) (Ends : A → R → Standing → Type 0) (from : A) (result : R) (before after : Standing) : Type 0 where
+  pub es : List Entry
+  pub made : after.made ≡ before.made ++ es
+  pub due : AllDue Due next from es
+  pub ends : Ends (walked next from es) result after

@@ -1,0 +1,214 @@
+// An eviction run, in its sections.
+ghost use Rattle.std.specs.Prelude.{◌≡◌, ◌<◌, ℕ, IfOk, OnOk, IfErr, OnErr};
+ghost use Rattle.pool_journal.specs.declared.input.Input.TheVariants as inputs;
+ghost use Rattle.pool_journal.specs.declared.record.Phase.TheVariants as phases;
+ghost use Rattle.pool_history.specs.Standings.{Goes, Knows};
+ghost use Rattle.pool_desk.specs.Sections.{HasInHand};
+ghost use Rattle.pool_shared.specs.Walks.{EndsWithMade};
+ghost use Rattle.pool_shared.specs.Clears.{IsRoomFault};
+ghost use Rattle.pool_shared.specs.declared.evicting.EvictRun.{EvictRun};
+ghost use Rattle.pool_shared.specs.declared.evicting.Fate.TheVariants as fates;
+ghost use Rattle.pool_shared.specs.Evicts.{examines, tests, none_yet, one_more, fared, after_test, after_one, Goes_on, EvictsFrom, EvictRow, IsFailedTest, IsUnfit};
+
+use crate::faults::PoolFault;
+use crate::pool::SharedPool;
+use pool_core::StepFault;
+use pool_desk::{Clock, Factory};
+use pool_history::{Caller, Room};
+use pool_journal::{Answer, Cause, Input, Outcome};
+use std::sync::Wait;
+
+/// How many objects an eviction run examined, and how many of them it destroyed.
+#[derive(Clone, Copy, Debug)]
+pub struct EvictRun {
+    pub examined: u64,
+    pub destroyed: u64,
+}
+
+// What became of an examined object.
+#[derive(Clone, Copy)]
+pub(crate) enum Fate {
+    Kept,
+    Destroyed,
+}
+
+impl EvictRun {
+    // One object more was examined.
+    fn count_in(self, fate: Fate) -> EvictRun
+        requires examined { self.examined < u64.MAX }
+        requires destroyed { self.destroyed < u64.MAX }
+        ensures { result ≡ fared (one_more self) fate }
+    {
+        let destroyed = match fate {
+            Fate::Kept => self.destroyed,
+            Fate::Destroyed => self.destroyed + 1,
+        };
+        EvictRun {
+            examined: self.examined + 1,
+            destroyed,
+        }
+    }
+}
+
+impl<T: Drop, E: Drop, F: Factory<T, E> + Drop, C: Clock + Drop, B: Room> SharedPool<
+    T,
+    E,
+    F,
+    C,
+    B,
+> {
+    // Wakes a value and tests it.
+    fn wake(&self, value: &mut T) -> Result<(), Outcome>
+        ensures ok { OnOk result (F.active value.new × F.valid value.new) }
+        ensures err { IfErr result IsUnfit }
+    {
+        match self.factory.activate(value) {
+            Ok(()) => {
+                if self.factory.validate(value) {
+                    Ok(())
+                } else {
+                    Err(Outcome::TestFailed)
+                }
+            }
+            Err(_) => Err(Outcome::ActivateFailed),
+        }
+    }
+
+    // Wakes a value, tests it and lays it to rest.
+    fn try_out(&self, value: &mut T) -> Result<(), Outcome>
+        ensures ok { OnOk result (F.passive value.new) }
+        ensures err { IfErr result IsFailedTest }
+    {
+        self.wake(value)?;
+        match self.factory.passivate(value) {
+            Ok(()) => Ok(()),
+            Err(_) => Err(Outcome::PassivateFailed),
+        }
+    }
+
+    // An object that failed its test is destroyed.
+    fn reject<R: Wait>(&self, rt: &R, me: &mut Caller<B>, id: u64, outcome: Outcome, value: T)
+        requires hand { (new : _) × HasInHand me.old id phases.Testing new }
+        requires outcome { IsFailedTest outcome }
+        ensures goes { Goes B.settings me.old me.new }
+        ensures walk { (left : ℕ) (run : EvictRun) → Goes_on (tests id left run) me.old me.new (after_test left run fates.Destroyed) }
+        ensures ends { EndsWithMade me.new }
+    {
+        match self.carry_on(rt, me, Input::Tested { id, outcome }) {
+            Answer::Destroy => {
+                self.factory.destroy(value);
+                self.give_up(rt, me, id);
+            }
+            _ => unreachable!(),
+        }
+    }
+
+    // An object that passed its test lies idle again, where the pool is still open.
+    fn keep<R: Wait>(&self, rt: &R, me: &mut Caller<B>, id: u64, value: T) -> Fate
+        requires hand { (new : _) × HasInHand me.old id phases.Testing new }
+        requires passive { F.passive value }
+        ensures goes { Goes B.settings me.old me.new }
+        ensures walk { (left : ℕ) (run : EvictRun) → Goes_on (tests id left run) me.old me.new (after_test left run result) }
+        ensures ends { EndsWithMade me.new }
+    {
+        let outcome = Outcome::Good;
+        match self.ask(rt, me, Input::Tested { id, outcome }, Some(value)) {
+            Ok((Answer::Kept, _)) => {
+                self.changed.notify_all();
+                Fate::Kept
+            }
+            Ok((Answer::Destroy, Some(value))) => {
+                self.factory.destroy(value);
+                self.give_up(rt, me, id);
+                Fate::Destroyed
+            }
+            Ok(_) => unreachable!(),
+            Err(_) => unreachable!(),
+        }
+    }
+
+    // An object is tested.
+    fn test<R: Wait>(&self, rt: &R, me: &mut Caller<B>, id: u64, value: T) -> Fate
+        requires hand { (new : _) × HasInHand me.old id phases.Testing new }
+        ensures goes { Goes B.settings me.old me.new }
+        ensures walk { (left : ℕ) (run : EvictRun) → Goes_on (tests id left run) me.old me.new (after_test left run result) }
+        ensures ends { EndsWithMade me.new }
+    {
+        let mut value = value;
+        match self.try_out(&mut value) {
+            Ok(()) => self.keep(rt, me, id, value),
+            Err(outcome) => {
+                self.reject(rt, me, id, outcome, value);
+                Fate::Destroyed
+            }
+        }
+    }
+
+    // Examines the next idle object, if there is one.
+    fn examine_next<R: Wait>(&self, rt: &R, me: &mut Caller<B>) -> Result<Option<Fate>, PoolFault>
+        ensures goes { Goes B.settings me.old me.new }
+        ensures walk { IfOk result (λ fate. (left : ℕ) (run : EvictRun) → 0 < left → Goes_on (examines left run) me.old me.new (after_one left run fate)) }
+        ensures ends { OnOk result (EndsWithMade me.new) }
+        ensures same { OnErr result (me.new.made ≡ me.old.made) }
+        ensures refused { IfErr result (λ f. IsRoomFault B.settings inputs.EvictNext f me.new) }
+    {
+        match self.ask(rt, me, Input::EvictNext, None) {
+            Ok((Answer::KeptIdle(_), _)) => Ok(Some(Fate::Kept)),
+            Ok((Answer::DestroyIdle(id), Some(value))) => {
+                self.factory.destroy(value);
+                self.give_up(rt, me, id);
+                Ok(Some(Fate::Destroyed))
+            }
+            Ok((Answer::Test(id), Some(value))) => Ok(Some(self.test(rt, me, id, value))),
+            Ok((Answer::Nothing, _)) => Ok(None),
+            Ok(_) => unreachable!(),
+            Err(StepFault::JournalFull(_)) => Err(PoolFault::JournalFull),
+            Err(StepFault::OutOfMemory(_)) => Err(PoolFault::OutOfMemory),
+        }
+    }
+
+    // Examines idle objects, as many as there are up to a count.
+    fn examine<R: Wait>(
+        &self,
+        rt: &R,
+        me: &mut Caller<B>,
+        count: u64,
+    ) -> Result<EvictRun, PoolFault>
+        requires knows { Knows B.settings me.old }
+        requires ended { EndsWithMade me.old }
+        ensures goes { Goes B.settings me.old me.new }
+        ensures row { EvictsFrom B.settings (examines count none_yet) result me.old me.new }
+    {
+        let mut run = EvictRun {
+            examined: 0,
+            destroyed: 0,
+        };
+        for _taken in 0..count {
+            match self.examine_next(rt, me) {
+                Ok(Some(fate)) => run = run.count_in(fate),
+                Ok(None) => return Ok(run),
+                Err(fault) => return Err(fault),
+            }
+        }
+        Ok(run)
+    }
+
+    /// Examines idle objects, as many as the settings say, and goes on where the last run stopped. Each is destroyed that
+    /// lay idle for too long, or that fails its test where idle objects are tested.
+    ///
+    /// # Errors
+    ///
+    /// `Closed`, where the pool is closed; `JournalFull` and `OutOfMemory`, also in the middle: what was done before stays.
+    pub fn evict<R: Wait>(&self, rt: &R, me: &mut Caller<B>) -> Result<EvictRun, PoolFault>
+        ensures goes { Goes B.settings me.old me.new }
+        ensures row { EvictRow B.settings result me.old me.new }
+    {
+        match self.ask(rt, me, Input::Evict, None) {
+            Ok((Answer::Count(count), _)) => self.examine(rt, me, count),
+            Ok((Answer::Refused(Cause::Closed), _)) => Err(PoolFault::Closed),
+            Ok(_) => unreachable!(),
+            Err(StepFault::JournalFull(_)) => Err(PoolFault::JournalFull),
+            Err(StepFault::OutOfMemory(_)) => Err(PoolFault::OutOfMemory),
+        }
+    }
+}
