@@ -4,3 +4,4 @@ pub mod Sweeping
 pub mod Removing
 pub mod Rowing
 pub mod Examining
+pub mod Removals

@@ -1,75 +1,107 @@
 -- The entries of a removal at the start of a borrow.
-use Rattle.std.proofs.Common.{◌≡◌, ℕ, zero, suc, ◌-◌, ◌<◌, Bool, true, if◌then◌else◌, Option, None, Result, Err, refl, sym, ap, subst, arith}
-use Rattle.pool_journal.specs.declared.input.Input.TheVariants.{Reclaim, ReclaimNext}
+use Rattle.std.proofs.Common.{◌≡◌, ℕ, zero, suc, ◌<◌, Bool, true, if◌then◌else◌, Result, Ok, Err, refl, sym, ap, subst, arith}
+use Rattle.pool_journal.specs.declared.entry.Entry.{Entry}
 use Rattle.pool_journal.specs.declared.input.When.TheVariants as times
 use Rattle.pool_journal.specs.declared.answer.Answer.{Answer}
 use Rattle.pool_journal.specs.declared.answer.Answer.TheVariants as answers
 use Rattle.pool_settings.specs.declared.settings.Settings.{Settings}
-use Rattle.pool_core.specs.declared.step_fault.StepFault.{StepFault}
-use Rattle.pool_core.specs.declared.step_fault.StepFault.TheVariants.{JournalFull}
 use Rattle.pool_history.specs.Standings.{Standing}
 use Rattle.pool_shared.specs.declared.faults.BorrowFault.{BorrowFault}
 use Rattle.pool_shared.specs.declared.faults.BorrowFault.TheVariants as faults
+use Rattle.pool_shared.specs.declared.faults.PoolFault.{PoolFault}
+use Rattle.pool_shared.specs.declared.faults.PoolFault.TheVariants as pool_faults
 use Rattle.pool_shared.specs.declared.lent.Lent.{Lent}
-use Rattle.pool_desk.specs.Sections.{Makes, Refuses, IsRefused, IsFullFor}
+use Rattle.pool_shared.specs.Walks.{walked}
 use Rattle.pool_shared.specs.Borrows as borrows
-use Rattle.pool_shared.specs.Borrows.{Stage, removes, reclaims, reclaiming, asks, start, Goes_on, Finishes}
-use Rattle.pool_shared.proofs.Walking.{walk_one, walk_on, walk_none, finishes, finishes_on}
+use Rattle.pool_shared.specs.Borrows.{Stage, removes, reclaiming, asks, start, Goes_on, Finishes, IsResult, Leaves}
+use Rattle.pool_shared.specs.Reclaims as removals
+use Rattle.pool_shared.specs.Reclaims.{ReclaimEnds, ReclaimRow}
+use Rattle.pool_shared.proofs.Walking.{finishes, finishes_on}
+use Rattle.pool_shared.proofs.Rowing.{walk_of, walk_along}
 
-is_reclaims : (left : ℕ) → 0 < left → reclaiming left ≡ reclaims left
-is_reclaims zero some = absurd (omega (arith, some))
-is_reclaims (suc left) some = refl
+-- where a borrow stands that removes abandoned objects
+as_borrow : removals.Stage → Stage
+as_borrow removals.begins = removes
+as_borrow (removals.reclaims left taken) = reclaiming left
+as_borrow (removals.through taken) = asks
+as_borrow (removals.refused a) = borrows.refused a
 
-there : (s : Settings) (began count left : ℕ) (a b : Standing) → 0 < left → Goes_on s began (reclaiming count) a b (reclaiming left) → Goes_on s began (reclaiming count) a b (reclaims left)
-there s began count left a b some w = subst (λ st. Goes_on s began (reclaiming count) a b st) (is_reclaims left some) w
+module _ (s : Settings) (began : ℕ) where
+  due_too : (st : removals.Stage) (e : Entry) → removals.Due times.Borrow st e → borrows.Due s began (as_borrow st) e
+  unfolding as_borrow
+  due_too removals.begins e due = due
+  due_too (removals.reclaims zero taken) e due = let some : 0 < 0 = due.0 in absurd (omega (arith, some))
+  due_too (removals.reclaims (suc left) taken) e due = due.1
+  due_too (removals.through taken) e due = absurd due
+  due_too (removals.refused a) e due = absurd due
 
-pub reclaimed_one : (s : Settings) (began count left i : ℕ) (x : Answer) (a b c : Standing) → 0 < left → Goes_on s began (reclaiming count) a b (reclaiming left) → x ≡ answers.Reclaimed i → Makes ReclaimNext x b c
-    → Goes_on s began (reclaiming count) a c (reclaiming (left - 1))
-reclaimed_one s began count left i x a b c some w is made =
-    walk_on (borrows.Due s began) borrows.next (reclaiming count) (reclaims left) (reclaiming (left - 1)) a b c (there s began count left a b some w)
-    (walk_one (borrows.Due s began) borrows.next (reclaims left) (reclaiming (left - 1)) ReclaimNext (answers.Reclaimed i) b c (subst (λ y. Makes ReclaimNext y b c) is made) (λ n at. refl) (λ n at. refl))
+  begun_too : (a : Answer) → borrows.after_removing a ≡ as_borrow (removals.after_beginning a)
+  unfolding as_borrow
+  begun_too (answers.Count n) = refl
+  begun_too _ = refl
 
-pub reclaimed_none : (s : Settings) (began count left : ℕ) (x : Answer) (a b c : Standing) → 0 < left → Goes_on s began (reclaiming count) a b (reclaiming left) → x ≡ answers.Nothing → Makes ReclaimNext x b c
-    → Goes_on s began (reclaiming count) a c asks
-reclaimed_none s began count left x a b c some w is made =
-    walk_on (borrows.Due s began) borrows.next (reclaiming count) (reclaims left) asks a b c (there s began count left a b some w)
-    (walk_one (borrows.Due s began) borrows.next (reclaims left) asks ReclaimNext answers.Nothing b c (subst (λ y. Makes ReclaimNext y b c) is made) (λ n at. refl) (λ n at. refl))
+  taken_too : (left taken : ℕ) (a : Answer) → borrows.after_reclaiming left a ≡ as_borrow (removals.after_reclaiming left taken a)
+  unfolding as_borrow
+  taken_too left taken (answers.Reclaimed i) = refl
+  taken_too left taken answers.Nothing = refl
+  taken_too left taken _ = refl
 
-pub reclaim_refused : (s : Settings) (began count left : ℕ) (a b c : Standing) → 0 < left → Goes_on s began (reclaiming count) a b (reclaiming left) → c.made ≡ b.made → Goes_on s began (reclaiming count) a c (reclaims left)
-reclaim_refused s began count left a b c some w same =
-    walk_on (borrows.Due s began) borrows.next (reclaiming count) (reclaims left) (reclaims left) a b c (there s began count left a b some w) (walk_none (borrows.Due s began) borrows.next (reclaims left) b c same)
+  goes_too : (st : removals.Stage) (e : Entry) → removals.Due times.Borrow st e → borrows.next (as_borrow st) e ≡ as_borrow (removals.next st e)
+  unfolding as_borrow
+  goes_too removals.begins e due = begun_too e.answer
+  goes_too (removals.reclaims zero taken) e due = let some : 0 < 0 = due.0 in absurd (omega (arith, some))
+  goes_too (removals.reclaims (suc left) taken) e due = taken_too (suc left) taken e.answer
+  goes_too (removals.through taken) e due = absurd due
+  goes_too (removals.refused a) e due = absurd due
 
-pub reclaimed_all : (s : Settings) (began count left : ℕ) (a b : Standing) → left ≡ 0 → Goes_on s began (reclaiming count) a b (reclaiming left) → Goes_on s began (reclaiming count) a b asks
-reclaimed_all s began count left a b none w = subst (λ k. Goes_on s began (reclaiming count) a b (reclaiming k)) none w
+  -- a borrow whose removal made a row
+  along : (r : Result ℕ PoolFault) (a b : Standing) (row : ReclaimRow s times.Borrow r a b) → Goes_on s began removes a b (as_borrow (walked removals.next removals.begins row.es))
+  unfolding as_borrow
+  along r a b row =
+      let to = walked removals.next removals.begins row.es in
+      walk_along (removals.Due times.Borrow) removals.next (borrows.Due s began) borrows.next as_borrow due_too goes_too removals.begins to a b
+      (walk_of (removals.Due times.Borrow) removals.next (ReclaimEnds s times.Borrow) removals.begins r a b row)
 
-pub removal_begun : (s : Settings) (began n : ℕ) (x : Answer) (a b : Standing) → x ≡ answers.Count n → Makes (Reclaim times.Borrow) x a b → Goes_on s began removes a b (reclaiming n)
-removal_begun s began n x a b is made =
-    walk_one (borrows.Due s began) borrows.next removes (reclaiming n) (Reclaim times.Borrow) (answers.Count n) a b (subst (λ y. Makes (Reclaim times.Borrow) y a b) is made) (λ n at. refl) (λ n at. refl)
+  over : (st : removals.Stage) (n : ℕ) (me : Standing) → ReclaimEnds s times.Borrow st (Ok n) me → as_borrow st ≡ asks
+  unfolding as_borrow
+  over (removals.through taken) n me ends = refl
+  over (removals.reclaims zero taken) n me ends = refl
+  over (removals.reclaims (suc left) taken) n me ends = absurd ends
+  over _ n me ends = absurd ends
 
-pub removed : (s : Settings) (began n : ℕ) (x : Answer) (to : Stage) (a b c : Standing) → x ≡ answers.Count n → Makes (Reclaim times.Borrow) x a b → Goes_on s began (reclaiming n) b c to → Goes_on s began removes a c to
-removed s began n x to a b c is made w =
-    walk_on (borrows.Due s began) borrows.next removes (reclaiming n) to a b c (removal_begun s began n x a b is made) w
+  -- a removal that is through
+  pub removed : (n : ℕ) (a b : Standing) → ReclaimRow s times.Borrow (Ok n) a b → Goes_on s began removes a b asks
+  removed n a b row = subst (λ st. Goes_on s began removes a b st) (over (walked removals.next removals.begins row.es) n b row.ends) (along (Ok n) a b row)
 
-full_for : {T : Type 0} (s : Settings) (f : StepFault T) (out : Option T) (me : Standing) → f ≡ JournalFull out → IsRefused s ReclaimNext None f me → IsFullFor s ReclaimNext me
-full_for {T} s f out me is refused =
-    let r : IsRefused s ReclaimNext None (JournalFull out) me = subst (λ (g : StepFault T). IsRefused s ReclaimNext None g me) is refused in
-    r.why.0
+  full_there : (T E : Type 0) (number : ℕ) (st : removals.Stage) (me : Standing) → ReclaimEnds s times.Borrow st (Err pool_faults.JournalFull) me
+      → IsResult {T = T} {E = E} number (as_borrow st) (Err faults.JournalFull) × Leaves {T = T} {E = E} s began (as_borrow st) (Err faults.JournalFull) me
+  unfolding as_borrow
+  full_there T E number removals.begins me ends = (tt, ends)
+  full_there T E number (removals.reclaims zero taken) me ends = absurd ends
+  full_there T E number (removals.reclaims (suc left) taken) me ends = (tt, ends)
+  full_there T E number _ me ends = absurd ends
 
-pub removal_full : {T E : Type 0} (s : Settings) (number began n left : ℕ) (x : Answer) (f : StepFault T) (out : Option T) (a b c : Standing) → x ≡ answers.Count n → Makes (Reclaim times.Borrow) x a b
-    → Goes_on s began (reclaiming n) b c (reclaims left) → f ≡ JournalFull out → IsRefused s ReclaimNext None f c → Finishes {T = T} {E = E} s number began removes (Err faults.JournalFull) a c
-removal_full s number began n left x f out a b c is made w full refused =
-    finishes s number began removes (reclaims left) (Err faults.JournalFull) a c (removed s began n x (reclaims left) a b c is made w) tt (full_for s f out c full refused)
+  short_there : (T E : Type 0) (number : ℕ) (st : removals.Stage) (me : Standing) → ReclaimEnds s times.Borrow st (Err pool_faults.OutOfMemory) me
+      → IsResult {T = T} {E = E} number (as_borrow st) (Err faults.OutOfMemory)
+  unfolding as_borrow
+  short_there T E number removals.begins me ends = tt
+  short_there T E number (removals.reclaims zero taken) me ends = absurd ends
+  short_there T E number (removals.reclaims (suc left) taken) me ends = tt
+  short_there T E number _ me ends = absurd ends
 
-pub removal_short : {T E : Type 0} (s : Settings) (number began n left : ℕ) (x : Answer) (a b c : Standing) → x ≡ answers.Count n → Makes (Reclaim times.Borrow) x a b
-    → Goes_on s began (reclaiming n) b c (reclaims left) → Finishes {T = T} {E = E} s number began removes (Err faults.OutOfMemory) a c
-removal_short s number began n left x a b c is made w =
-    finishes s number began removes (reclaims left) (Err faults.OutOfMemory) a c (removed s began n x (reclaims left) a b c is made w) tt tt
+  -- a removal that was refused
+  pub removal_full : {T E : Type 0} (number : ℕ) (f : PoolFault) (a b : Standing) → f ≡ pool_faults.JournalFull → ReclaimRow s times.Borrow (Err f) a b → Finishes {T = T} {E = E} s number began removes (Err faults.JournalFull) a b
+  removal_full {T} {E} number f a b is made =
+      let row : ReclaimRow s times.Borrow (Err pool_faults.JournalFull) a b = subst (λ x. ReclaimRow s times.Borrow (Err x) a b) is made in
+      let to = walked removals.next removals.begins row.es in
+      let why = full_there T E number to b row.ends in
+      finishes s number began removes (as_borrow to) (Err faults.JournalFull) a b (along (Err pool_faults.JournalFull) a b row) why.0 why.1
 
-pub removal_not_begun : {T E : Type 0} (s : Settings) (number began : ℕ) (f : StepFault T) (out : Option T) (a b : Standing) → f ≡ JournalFull out → Refuses s (Reclaim times.Borrow) None f a b
-    → Finishes {T = T} {E = E} s number began removes (Err faults.JournalFull) a b
-removal_not_begun {T} s number began f out a b is refuses =
-    let r : Refuses s (Reclaim times.Borrow) None (JournalFull out) a b = subst (λ (g : StepFault T). Refuses s (Reclaim times.Borrow) None g a b) is refuses in
-    finishes s number began removes removes (Err faults.JournalFull) a b (walk_none (borrows.Due s began) borrows.next removes a b r.same) tt r.there.why.0
+  pub removal_short : {T E : Type 0} (number : ℕ) (f : PoolFault) (a b : Standing) → f ≡ pool_faults.OutOfMemory → ReclaimRow s times.Borrow (Err f) a b → Finishes {T = T} {E = E} s number began removes (Err faults.OutOfMemory) a b
+  removal_short {T} {E} number f a b is made =
+      let row : ReclaimRow s times.Borrow (Err pool_faults.OutOfMemory) a b = subst (λ x. ReclaimRow s times.Borrow (Err x) a b) is made in
+      let to = walked removals.next removals.begins row.es in
+      finishes s number began removes (as_borrow to) (Err faults.OutOfMemory) a b (along (Err pool_faults.OutOfMemory) a b row) (short_there T E number to b row.ends) tt
 
 -- a borrow that asks after its removal
 pub asks_then : {T E : Type 0} (s : Settings) (number began : ℕ) (r : Result (Lent T) (BorrowFault E)) (a b c : Standing) → s.remove_abandoned_on_borrow ≡ true → Goes_on s began removes a b asks → Finishes s number began asks r b c

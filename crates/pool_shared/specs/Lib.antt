@@ -6,3 +6,4 @@ pub mod Returns
 pub mod Clears
 pub mod Rows
 pub mod Evicts
+pub mod Reclaims

@@ -5,12 +5,12 @@ ghost use Rattle.pool_journal.specs.declared.record.Phase.TheVariants as phases;
 ghost use Rattle.pool_journal.specs.declared.answer.Answer.TheVariants as answers;
 ghost use Rattle.pool_journal.specs.declared.input.Input.TheVariants as inputs;
 ghost use Rattle.pool_journal.specs.declared.input.Outcome.TheVariants as outcomes;
-ghost use Rattle.pool_history.specs.Standings.{Goes, Knows};
+ghost use Rattle.pool_history.specs.Standings.{Goes};
 ghost use Rattle.pool_desk.specs.Sections.{HasInHand, MayAsk, IsAnswerTo, Makes, Gets, IsRefused, goes_on};
 ghost use Rattle.pool_shared.specs.Walks.{Ends};
-ghost use Rattle.pool_shared.specs.Borrows.{removes, reclaims, reclaiming, asks, readies, lent, after_asking, after_destroying, Goes_on, Finishes, BorrowRow, IsLentWell, IsFaultFrom, IsWhyUnready, IsFound, taken_to, IsFailure};
+ghost use Rattle.pool_shared.specs.Borrows.{removes, asks, readies, lent, after_asking, after_destroying, Goes_on, Finishes, BorrowRow, IsLentWell, IsFaultFrom, IsWhyUnready, IsFound, taken_to, IsFailure};
 
-use crate::faults::BorrowFault;
+use crate::faults::{BorrowFault, PoolFault};
 use crate::lent::Lent;
 use crate::pool::SharedPool;
 use pool_core::StepFault;
@@ -289,33 +289,6 @@ impl<T: Drop, E: Drop, F: Factory<T, E> + Drop, C: Clock + Drop, B: Room> Shared
         unreachable!()
     }
 
-    // Takes away abandoned objects, up to a count.
-    fn reclaim_some<R: Wait>(
-        &self,
-        rt: &R,
-        me: &mut Caller<B>,
-        count: u64,
-    ) -> Result<(), StepFault<T>>
-        requires knows { Knows B.settings me.old }
-        ensures goes { Goes B.settings me.old me.new }
-        ensures walk { OnOk result ((began : ℕ) → Goes_on B.settings began (reclaiming count) me.old me.new asks) }
-        ensures part { IfErr result (λ f. (left : ℕ) × ((began : ℕ) → Goes_on B.settings began (reclaiming count) me.old me.new (reclaims left))) }
-        ensures refused { IfErr result (λ f. IsRefused B.settings inputs.ReclaimNext None f me.new) }
-    {
-        for taken in 0..count {
-            match self.ask(rt, me, Input::ReclaimNext, None) {
-                Ok((Answer::Reclaimed(_), _)) => {
-                    let _ = taken;
-                    self.changed.notify_all();
-                }
-                Ok((Answer::Nothing, _)) => return Ok(()),
-                Ok(_) => unreachable!(),
-                Err(fault) => return Err(fault),
-            }
-        }
-        Ok(())
-    }
-
     // Takes away abandoned objects, where a borrow begins with that.
     fn remove<R: Wait>(&self, rt: &R, me: &mut Caller<B>) -> Result<(), BorrowFault<E>>
         ensures goes { Goes B.settings me.old me.new }
@@ -323,16 +296,11 @@ impl<T: Drop, E: Drop, F: Factory<T, E> + Drop, C: Clock + Drop, B: Room> Shared
         ensures row { IfErr result (λ f. (number began : ℕ) → Finishes {T = T} B.settings number began removes (Err f) me.old me.new) }
         ensures fault { IfErr result (IsFaultFrom F.from_make F.from_activate) }
     {
-        let on = When::Borrow;
-        match self.ask(rt, me, Input::Reclaim { on }, None) {
-            Ok((Answer::Count(count), _)) => match self.reclaim_some(rt, me, count) {
-                Ok(()) => Ok(()),
-                Err(StepFault::JournalFull(_)) => Err(BorrowFault::JournalFull),
-                Err(StepFault::OutOfMemory(_)) => Err(BorrowFault::OutOfMemory),
-            },
-            Ok(_) => unreachable!(),
-            Err(StepFault::JournalFull(_)) => Err(BorrowFault::JournalFull),
-            Err(StepFault::OutOfMemory(_)) => Err(BorrowFault::OutOfMemory),
+        match self.reclaim_on(rt, me, When::Borrow) {
+            Ok(_) => Ok(()),
+            Err(PoolFault::JournalFull) => Err(BorrowFault::JournalFull),
+            Err(PoolFault::OutOfMemory) => Err(BorrowFault::OutOfMemory),
+            Err(PoolFault::Closed) => unreachable!(),
         }
     }
 

@@ -7,6 +7,7 @@ mod evicting;
 mod faults;
 mod lent;
 mod pool;
+mod reclaiming;
 mod returning;
 
 pub use evicting::EvictRun;

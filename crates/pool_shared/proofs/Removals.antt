@@ -1,0 +1,54 @@
+-- The entries of a removal of abandoned objects.
+use Rattle.std.proofs.Common.{◌≡◌, ℕ, suc, ◌+◌, ◌-◌, ◌<◌, Result, Ok, Err, refl, sym, subst, arith}
+use Rattle.pool_journal.specs.declared.input.Input.TheVariants.{Reclaim, ReclaimNext}
+use Rattle.pool_journal.specs.declared.input.When.{When}
+use Rattle.pool_journal.specs.declared.answer.Answer.{Answer}
+use Rattle.pool_journal.specs.declared.answer.Answer.TheVariants as answers
+use Rattle.pool_settings.specs.declared.settings.Settings.{Settings}
+use Rattle.pool_history.specs.Standings.{Standing}
+use Rattle.pool_desk.specs.Sections.{Makes}
+use Rattle.pool_shared.specs.declared.faults.PoolFault.{PoolFault}
+use Rattle.pool_shared.specs.Clears.{IsRoomFault}
+use Rattle.pool_shared.specs.Walks.{EndsWithMade}
+use Rattle.pool_shared.specs.Reclaims as removals
+use Rattle.pool_shared.specs.Reclaims.{Stage, begins, reclaims, through, Goes_on, ReclaimEnds, ReclaimsFrom, ReclaimRow}
+use Rattle.pool_shared.proofs.Walking.{walk_one, walk_on}
+use Rattle.pool_shared.proofs.Rowing.{row_at, row_on, row_stopped}
+
+-- an object was taken away
+pub took_away : (time : When) (count left taken i : ℕ) (x : Answer) (a b c : Standing) → 0 < left → Goes_on time (reclaims count 0) a b (reclaims left taken) → x ≡ answers.Reclaimed i → Makes ReclaimNext x b c
+    → Goes_on time (reclaims count 0) a c (reclaims (left - 1) (taken + 1))
+took_away time count left taken i x a b c some w is made =
+    let Due = removals.Due time in
+    walk_on Due removals.next (reclaims count 0) (reclaims left taken) (reclaims (left - 1) (taken + 1)) a b c w
+    (walk_one Due removals.next (reclaims left taken) (reclaims (left - 1) (taken + 1)) ReclaimNext (answers.Reclaimed i) b c (subst (λ y. Makes ReclaimNext y b c) is made) (λ n at. (some, refl)) (λ n at. refl))
+
+-- no object was left
+pub none_abandoned : (s : Settings) (time : When) (count left taken : ℕ) (x : Answer) (a b c : Standing) → 0 < left → Goes_on time (reclaims count 0) a b (reclaims left taken) → x ≡ answers.Nothing → Makes ReclaimNext x b c → EndsWithMade c
+    → ReclaimsFrom s time (reclaims count 0) (Ok taken) a c
+none_abandoned s time count left taken x a b c some w is made ends =
+    let Due = removals.Due time in
+    row_at Due removals.next (ReclaimEnds s time) (reclaims count 0) (through taken) (Ok taken) a c
+    (walk_on Due removals.next (reclaims count 0) (reclaims left taken) (through taken) a b c w
+    (walk_one Due removals.next (reclaims left taken) (through taken) ReclaimNext answers.Nothing b c (subst (λ y. Makes ReclaimNext y b c) is made) (λ n at. (some, refl)) (λ n at. refl)))
+    (refl, ends)
+
+-- a removal that went over all of its objects
+pub all_taken : (s : Settings) (time : When) (count left taken : ℕ) (a b : Standing) → left ≡ 0 → taken ≡ count → Goes_on time (reclaims count 0) a b (reclaims left taken) → EndsWithMade b → ReclaimsFrom s time (reclaims count 0) (Ok count) a b
+all_taken s time count left taken a b none all w ends =
+    row_at (removals.Due time) removals.next (ReclaimEnds s time) (reclaims count 0) (reclaims 0 taken) (Ok count) a b (subst (λ k. Goes_on time (reclaims count 0) a b (reclaims k taken)) none w) (sym all, ends)
+
+-- a removal that stopped at a fault
+pub stopped : (s : Settings) (time : When) (count left taken : ℕ) (f : PoolFault) (a b c : Standing) → 0 < left → Goes_on time (reclaims count 0) a b (reclaims left taken) → c.made ≡ b.made → IsRoomFault s ReclaimNext f c
+    → ReclaimsFrom s time (reclaims count 0) (Err f) a c
+stopped s time count left taken f a b c some w same room =
+    let more : left ≡ suc (left - 1) = omega (arith, some) in
+    row_stopped (removals.Due time) removals.next (ReclaimEnds s time) (reclaims count 0) (reclaims (suc (left - 1)) taken) (Err f) a b c
+    (subst (λ k. Goes_on time (reclaims count 0) a b (reclaims k taken)) more w) same room
+
+-- a whole removal
+pub removal : (s : Settings) (time : When) (n : ℕ) (r : Result ℕ PoolFault) (x : Answer) (a b c : Standing) → x ≡ answers.Count n → Makes (Reclaim time) x a b → ReclaimsFrom s time (reclaims n 0) r b c → ReclaimRow s time r a c
+removal s time n r x a b c is made row =
+    let Due = removals.Due time in
+    row_on Due removals.next (ReclaimEnds s time) begins (reclaims n 0) r a b c
+    (walk_one Due removals.next begins (reclaims n 0) (Reclaim time) (answers.Count n) a b (subst (λ y. Makes (Reclaim time) y a b) is made) (λ m at. refl) (λ m at. refl)) row

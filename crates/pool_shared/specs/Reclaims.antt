@@ -1,0 +1,59 @@
+-- The sections of a removal of abandoned objects.
+use Rattle.std.specs.Prelude.{◌≡◌, ℕ, zero, suc, ◌+◌, ◌-◌, ◌<◌, Result, Ok, Err}
+use Rattle.pool_journal.specs.declared.entry.Entry.{Entry}
+use Rattle.pool_journal.specs.declared.input.Input.TheVariants.{Reclaim, ReclaimNext}
+use Rattle.pool_journal.specs.declared.input.When.{When}
+use Rattle.pool_journal.specs.declared.answer.Answer.{Answer}
+use Rattle.pool_journal.specs.declared.answer.Answer.TheVariants as answers
+use Rattle.pool_settings.specs.declared.settings.Settings.{Settings}
+use Rattle.pool_history.specs.Standings.{Standing}
+use Rattle.pool_shared.specs.declared.faults.PoolFault.{PoolFault}
+use Rattle.pool_shared.specs.Walks.{Walks, EndsWithMade}
+use Rattle.pool_shared.specs.Rows.{Row}
+use Rattle.pool_shared.specs.Clears.{IsRoomFault}
+
+-- where a removal stands: it begins; it goes over so many objects more, and reclaimed so many; it is through
+pub data Stage : Type 0 where
+  begins : Stage
+  reclaims : ℕ → ℕ → Stage
+  through : ℕ → Stage
+  refused : Answer → Stage
+
+abbrev pub after_beginning : Answer → Stage
+after_beginning (answers.Count n) = reclaims n 0
+after_beginning a = refused a
+
+abbrev pub after_reclaiming : ℕ → ℕ → Answer → Stage
+after_reclaiming left taken (answers.Reclaimed i) = reclaims (left - 1) (taken + 1)
+after_reclaiming left taken answers.Nothing = through taken
+after_reclaiming left taken a = refused a
+
+abbrev pub next : Stage → Entry → Stage
+next begins e = after_beginning e.answer
+next (reclaims left taken) e = after_reclaiming left taken e.answer
+next stage e = stage
+
+-- the input that is next, in a removal at this time
+abbrev pub Due : When → Stage → Entry → Type 0
+Due time begins e = e.input ≡ Reclaim time
+Due time (reclaims left taken) e = (0 < left) × (e.input ≡ ReclaimNext)
+Due time _ e = ⊥
+
+abbrev pub Goes_on : When → Stage → Standing → Standing → Stage → Type 0
+Goes_on time from before after to = Walks (Due time) next from before after to
+
+-- what a removal answers that stands there, and what is seen then
+abbrev pub ReclaimEnds : Settings → When → Stage → Result ℕ PoolFault → Standing → Type 0
+ReclaimEnds s time (through taken) (Ok n) me = (n ≡ taken) × EndsWithMade me
+ReclaimEnds s time (reclaims zero taken) (Ok n) me = (n ≡ taken) × EndsWithMade me
+ReclaimEnds s time begins (Err f) me = IsRoomFault s (Reclaim time) f me
+ReclaimEnds s time (reclaims (suc left) taken) (Err f) me = IsRoomFault s ReclaimNext f me
+ReclaimEnds s time _ _ me = ⊥
+
+-- what a removal made from one stage on, up to its result
+abbrev pub ReclaimsFrom : Settings → When → Stage → Result ℕ PoolFault → Standing → Standing → Type 0
+ReclaimsFrom s time from result before after = Row (Due time) next (ReclaimEnds s time) from result before after
+
+-- what a whole removal made
+abbrev pub ReclaimRow : Settings → When → Result ℕ PoolFault → Standing → Standing → Type 0
+ReclaimRow s time result before after = ReclaimsFrom s time begins result before after

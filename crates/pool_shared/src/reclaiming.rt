@@ -1,0 +1,77 @@
+// A removal of abandoned objects, in its sections.
+ghost use Rattle.std.specs.Prelude.{◌≡◌};
+ghost use Rattle.pool_journal.specs.declared.input.When.{When};
+ghost use Rattle.pool_journal.specs.declared.input.When.TheVariants as times;
+ghost use Rattle.pool_history.specs.Standings.{Goes, Knows};
+ghost use Rattle.pool_shared.specs.Walks.{EndsWithMade};
+ghost use Rattle.pool_shared.specs.Reclaims.{reclaims, ReclaimsFrom, ReclaimRow};
+
+use crate::faults::PoolFault;
+use crate::pool::SharedPool;
+use pool_core::StepFault;
+use pool_desk::{Clock, Factory};
+use pool_history::{Caller, Room};
+use pool_journal::{Answer, Input, When};
+use std::sync::Wait;
+
+impl<T: Drop, E: Drop, F: Factory<T, E> + Drop, C: Clock + Drop, B: Room> SharedPool<
+    T,
+    E,
+    F,
+    C,
+    B,
+> {
+    // Takes abandoned objects away, as many as there are up to a count. The number is how many it took.
+    fn reclaim_some<R: Wait>(
+        &self,
+        rt: &R,
+        me: &mut Caller<B>,
+        count: u64,
+    ) -> Result<u64, PoolFault>
+        requires knows { Knows B.settings me.old }
+        requires ended { EndsWithMade me.old }
+        ensures goes { Goes B.settings me.old me.new }
+        ensures row { (time : When) → ReclaimsFrom B.settings time (reclaims count 0) result me.old me.new }
+    {
+        for taken in 0..count {
+            match self.ask(rt, me, Input::ReclaimNext, None) {
+                Ok((Answer::Reclaimed(_), _)) => self.changed.notify_all(),
+                Ok((Answer::Nothing, _)) => return Ok(taken),
+                Ok(_) => unreachable!(),
+                Err(StepFault::JournalFull(_)) => return Err(PoolFault::JournalFull),
+                Err(StepFault::OutOfMemory(_)) => return Err(PoolFault::OutOfMemory),
+            }
+        }
+        Ok(count)
+    }
+
+    // Takes abandoned objects away, in a borrow or in maintenance. The number is how many.
+    pub(crate) fn reclaim_on<R: Wait>(
+        &self,
+        rt: &R,
+        me: &mut Caller<B>,
+        on: When,
+    ) -> Result<u64, PoolFault>
+        ensures goes { Goes B.settings me.old me.new }
+        ensures row { ReclaimRow B.settings on result me.old me.new }
+    {
+        match self.ask(rt, me, Input::Reclaim { on }, None) {
+            Ok((Answer::Count(count), _)) => self.reclaim_some(rt, me, count),
+            Ok(_) => unreachable!(),
+            Err(StepFault::JournalFull(_)) => Err(PoolFault::JournalFull),
+            Err(StepFault::OutOfMemory(_)) => Err(PoolFault::OutOfMemory),
+        }
+    }
+
+    /// Takes abandoned objects away, where that is set for maintenance. The number is how many.
+    ///
+    /// # Errors
+    ///
+    /// `JournalFull` and `OutOfMemory`, also in the middle: what was done before then stays.
+    pub fn reclaim<R: Wait>(&self, rt: &R, me: &mut Caller<B>) -> Result<u64, PoolFault>
+        ensures goes { Goes B.settings me.old me.new }
+        ensures row { ReclaimRow B.settings times.Maintain result me.old me.new }
+    {
+        self.reclaim_on(rt, me, When::Maintain)
+    }
+}
