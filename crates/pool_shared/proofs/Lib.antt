@@ -5,3 +5,4 @@ pub mod Removing
 pub mod Rowing
 pub mod Examining
 pub mod Removals
+pub mod Losses

@@ -7,3 +7,4 @@ pub mod Clears
 pub mod Rows
 pub mod Evicts
 pub mod Reclaims
+pub mod Invalidates

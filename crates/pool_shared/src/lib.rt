@@ -5,6 +5,7 @@ mod borrowing;
 mod clearing;
 mod evicting;
 mod faults;
+mod invalidating;
 mod lent;
 mod pool;
 mod reclaiming;

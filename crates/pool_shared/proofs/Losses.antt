@@ -1,0 +1,41 @@
+-- The entries of an invalidation.
+use Rattle.std.proofs.Common.{◌≡◌, ℕ, true, false, true≢false, List, [], Option, None, Err, append-nil, sym, ap, ◌∙◌, subst}
+use Rattle.pool_journal.specs.Journal.{phase}
+use Rattle.pool_journal.specs.declared.entry.Entry.{Entry}
+use Rattle.pool_journal.specs.declared.record.Phase.{Phase}
+use Rattle.pool_journal.specs.declared.record.Phase.TheVariants as phases
+use Rattle.pool_journal.specs.declared.input.Input.TheVariants.{Invalidate}
+use Rattle.pool_journal.specs.declared.answer.Answer.{Answer}
+use Rattle.pool_journal.specs.declared.answer.Answer.TheVariants as answers
+use Rattle.pool_settings.specs.declared.settings.Settings.{Settings}
+use Rattle.pool_core.specs.declared.step_fault.StepFault.{StepFault}
+use Rattle.pool_core.specs.declared.step_fault.StepFault.TheVariants.{JournalFull}
+use Rattle.pool_core.specs.Finishing.{finishes}
+use Rattle.pool_core.specs.Reply.{reply, lent_reply}
+use Rattle.pool_history.specs.Standings.{Standing}
+use Rattle.pool_shared.specs.declared.faults.ReturnFault.TheVariants as faults
+use Rattle.pool_shared.specs.declared.lent.Lent.{Lent}
+use Rattle.pool_desk.specs.Sections.{Refuses}
+use Rattle.pool_shared.specs.Invalidates.{InvalidateRow}
+
+not_lent : (s : Settings) (at i : ℕ) (seen : List Entry) → finishes (reply s seen at (Invalidate i)) (Invalidate i) ≡ false → phase i seen ≡ phases.Lent → ⊥
+not_lent s at i seen unfinished lent =
+    let due : reply s seen at (Invalidate i) ≡ answers.Destroy = ap (λ (p : Phase). lent_reply s.abandoned p answers.Destroy) lent in
+    true≢false (sym (ap (λ a. finishes a (Invalidate i)) due) ∙ unfinished)
+
+-- an invalidation that was refused for want of room
+pub full_row : {T : Type 0} (s : Settings) (number : ℕ) (l : Lent T) (f : StepFault T) (out : Option T) (before after : Standing) → f ≡ JournalFull out → l.pool ≡ number → Refuses s (Invalidate l.id) None f before after
+    → InvalidateRow s number l (Err (faults.JournalFull, l)) before after
+full_row {T} s number l f out before after is pool refuses =
+    let r : Refuses s (Invalidate l.id) None (JournalFull out) before after = subst (λ (g : StepFault T). Refuses s (Invalidate l.id) None g before after) is refuses in (
+      pool,
+      record { es = []; made = r.same ∙ sym (append-nil before.made); due = tt; ends = tt; leaves = (r.there.why.0, not_lent s r.there.at l.id after.seen r.there.unfinished) },
+    )
+
+-- so for want of memory
+pub short_row : {T : Type 0} (s : Settings) (number : ℕ) (l : Lent T) (f : StepFault T) (before after : Standing) → l.pool ≡ number → Refuses s (Invalidate l.id) None f before after
+    → InvalidateRow s number l (Err (faults.OutOfMemory, l)) before after
+short_row s number l f before after pool r = (
+  pool,
+  record { es = []; made = r.same ∙ sym (append-nil before.made); due = tt; ends = tt; leaves = not_lent s r.there.at l.id after.seen r.there.unfinished },
+)

@@ -1,0 +1,65 @@
+// An invalidation, in its sections.
+ghost use Rattle.std.specs.Prelude.{◌≡◌, IfErr};
+ghost use Rattle.pool_history.specs.Standings.{Goes};
+ghost use Rattle.pool_shared.specs.Invalidates.{InvalidateRow};
+
+use crate::faults::{ReturnFault, Returned};
+use crate::lent::Lent;
+use crate::pool::SharedPool;
+use pool_core::StepFault;
+use pool_desk::{Clock, Factory};
+use pool_history::{Caller, Room};
+use pool_journal::{Answer, Cause, Input};
+use std::sync::Wait;
+
+impl<T: Drop, E: Drop, F: Factory<T, E> + Drop, C: Clock + Drop, B: Room> SharedPool<
+    T,
+    E,
+    F,
+    C,
+    B,
+> {
+    /// Takes a lent object back and destroys it, as one that can't be used any more: `Destroyed`, or `Gone` where it
+    /// was reclaimed before. It is never parked.
+    ///
+    /// # Errors
+    ///
+    /// The object comes back with `ForeignObject`, where it is of another pool, and there is no entry; with `NotLent`;
+    /// and, only where it isn't lent any more, with `JournalFull` and `OutOfMemory`.
+    pub fn invalidate<R: Wait>(
+        &self,
+        rt: &R,
+        me: &mut Caller<B>,
+        lent: Lent<T>,
+    ) -> Result<Returned, (ReturnFault, Lent<T>)>
+        ensures goes { Goes B.settings me.old me.new }
+        ensures row { InvalidateRow B.settings self.now.number lent result me.old me.new }
+        ensures back { IfErr result (λ r. r.1 ≡ lent) }
+    {
+        let _ = &me.pass;
+        if lent.pool != self.number {
+            return Err((ReturnFault::ForeignObject, lent));
+        }
+        match self.ask(rt, me, Input::Invalidate { id: lent.id }, None) {
+            Ok((Answer::Destroy, _)) => {
+                let Lent { pool: _, id, value } = lent;
+                self.factory.destroy(value);
+                self.give_up(rt, me, id);
+                Ok(Returned::Destroyed)
+            }
+            Ok((Answer::Gone, _)) => {
+                let Lent {
+                    pool: _,
+                    id: _,
+                    value,
+                } = lent;
+                self.factory.destroy(value);
+                Ok(Returned::Gone)
+            }
+            Ok((Answer::Refused(Cause::NotLent), _)) => Err((ReturnFault::NotLent, lent)),
+            Ok(_) => unreachable!(),
+            Err(StepFault::JournalFull(_)) => Err((ReturnFault::JournalFull, lent)),
+            Err(StepFault::OutOfMemory(_)) => Err((ReturnFault::OutOfMemory, lent)),
+        }
+    }
+}
