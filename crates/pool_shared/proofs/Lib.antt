@@ -6,3 +6,4 @@ pub mod Rowing
 pub mod Examining
 pub mod Removals
 pub mod Losses
+pub mod Stocking

@@ -8,3 +8,5 @@ pub mod Rows
 pub mod Evicts
 pub mod Reclaims
 pub mod Invalidates
+pub mod Adds
+pub mod Fills

@@ -1,10 +1,12 @@
 //! A pool that threads share.
 #![tactic(auto)]
 
+mod adding;
 mod borrowing;
 mod clearing;
 mod evicting;
 mod faults;
+mod filling;
 mod invalidating;
 mod lent;
 mod pool;
@@ -13,6 +15,7 @@ mod returning;
 
 pub use evicting::EvictRun;
 pub use faults::{BorrowFault, FinishFault, OpenFault, PoolFault, ReturnFault, Returned, Touched};
+pub use faults::{AddFault, Addition, BorrowFault, FinishFault, OpenFault, PoolFault, ReturnFault, Returned, Touched};
 pub use lent::Lent;
 pub use pool::SharedPool;
 pub use pool_desk::{Clock, Factory};

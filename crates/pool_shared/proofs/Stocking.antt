@@ -1,0 +1,101 @@
+-- The entries of additions, and of a fill.
+use Rattle.std.proofs.Common.{◌≡◌, ℕ, ◌+◌, Bool, false, List, [], ◌∷◌, Option, None, Result, Ok, Err, refl, sym, ap, ◌∙◌, subst}
+use Rattle.pool_journal.specs.declared.entry.Entry.{Entry}
+use Rattle.pool_journal.specs.declared.input.Input.{Input}
+use Rattle.pool_journal.specs.declared.input.Input.TheVariants.{Fill, Added, Destroyed}
+use Rattle.pool_journal.specs.declared.input.Outcome.TheVariants as outcomes
+use Rattle.pool_journal.specs.declared.record.Phase.TheVariants as phases
+use Rattle.pool_journal.specs.declared.answer.Answer.{Answer}
+use Rattle.pool_journal.specs.declared.answer.Answer.TheVariants as answers
+use Rattle.pool_settings.specs.declared.settings.Settings.{Settings}
+use Rattle.pool_core.specs.declared.step_fault.StepFault.{StepFault}
+use Rattle.pool_core.specs.declared.step_fault.StepFault.TheVariants.{JournalFull}
+use Rattle.pool_core.specs.Legal.{entry_of}
+use Rattle.pool_history.specs.Standings.{Standing}
+use Rattle.pool_shared.specs.declared.faults.Addition.{Addition}
+use Rattle.pool_shared.specs.declared.faults.Addition.TheVariants as additions
+use Rattle.pool_shared.specs.declared.faults.AddFault.{AddFault}
+use Rattle.pool_shared.specs.declared.faults.AddFault.TheVariants as faults
+use Rattle.pool_desk.specs.Sections.{HasInHand, Makes, Refuses, IsFullFor}
+use Rattle.pool_shared.specs.Walks.{walked, AllDue, Walks, EndsWithMade}
+use Rattle.pool_shared.specs.Adds as addition
+use Rattle.pool_shared.specs.Adds.{makes, ending, Leaves, IsStocked}
+use Rattle.pool_shared.specs.Fills as fills
+use Rattle.pool_shared.specs.Fills.{Stage, asks, adds, adding, through, failed, Goes_on, Finishes, FillRow, Turns}
+use Rattle.pool_shared.proofs.Walking.{walk_none, walk_one, walk_on}
+
+stocked_leaves : {E : Type 0} (s : Settings) (input : Input) (r : Result Addition (AddFault E)) (me : Standing) → IsStocked r → EndsWithMade me → Leaves s input r me
+stocked_leaves s input (Ok a) me is ends = ends
+stocked_leaves s input (Err faults.Closed) me is ends = absurd is
+stocked_leaves s input (Err (faults.MakeFailed f)) me is ends = ends
+stocked_leaves s input (Err faults.CreateTestFailed) me is ends = ends
+stocked_leaves s input (Err (faults.PassivateFailed f)) me is ends = ends
+stocked_leaves s input (Err faults.JournalFull) me is ends = absurd is
+stocked_leaves s input (Err faults.OutOfMemory) me is ends = absurd is
+
+-- the pool was closed before the new object could lie idle
+pub shut_out : (s : Settings) (i : ℕ) (a : Answer) (before mid after : Standing) → a ≡ answers.Destroy → Makes (Added i outcomes.Good) a before mid → Makes (Destroyed i) answers.Freed mid after
+    → addition.Goes_on s (makes i) before after (addition.gone outcomes.Good)
+shut_out s i a before mid after is made freed =
+    walk_on (addition.Due s) addition.next (makes i) (addition.destroys i outcomes.Good) (addition.gone outcomes.Good) before mid after
+    (walk_one (addition.Due s) addition.next (makes i) (addition.destroys i outcomes.Good) (Added i outcomes.Good) answers.Destroy before mid (subst (λ b. Makes (Added i outcomes.Good) b before mid) is made) (λ n at. (refl, tt)) (λ n at. refl))
+    (walk_one (addition.Due s) addition.next (addition.destroys i outcomes.Good) (addition.gone outcomes.Good) (Destroyed i) answers.Freed mid after freed (λ n at. refl) (λ n at. refl))
+
+-- it is then in the caller's hands, to be destroyed
+pub has_shut_out : (i : ℕ) (a : Answer) (before after : Standing) → a ≡ answers.Destroy → Makes (Added i outcomes.Good) a before after → (new : Bool) × HasInHand after i phases.Destroying new
+has_shut_out i a before after is made =
+    let m : Makes (Added i outcomes.Good) answers.Destroy before after = subst (λ b. Makes (Added i outcomes.Good) b before after) is made in
+    (false, record { made = before.made; e = entry_of before.number m.0 (Added i outcomes.Good) answers.Destroy; last = m.1.more; moved = refl; is_new = refl })
+
+full_for : {T : Type 0} (s : Settings) (input : Input) (f : StepFault T) (out : Option T) (before after : Standing) → f ≡ JournalFull out → Refuses s input None f before after → IsFullFor s input after
+full_for {T} s input f out before after is refuses =
+    let r : Refuses s input None (JournalFull out) before after = subst (λ (g : StepFault T). Refuses s input None g before after) is refuses in
+    r.there.why.0
+
+-- an addition within a fill
+module _ (s : Settings) (n : ℕ) where
+  within : (stage : addition.Stage) (es : List Entry) → AllDue (addition.Due s) addition.next stage es
+      → (walked fills.next (adding n stage) es ≡ adding n (walked addition.next stage es)) × AllDue (fills.Due s) fills.next (adding n stage) es
+  within stage [] due = (refl, tt)
+  within addition.asks (e ∷ es) due = let r = within (addition.next addition.asks e) es due.1 in (r.0, (due.0, r.1))
+  within (addition.makes i) (e ∷ es) due = let r = within (addition.next (addition.makes i) e) es due.1 in (r.0, (due.0, r.1))
+  within (addition.destroys i o) (e ∷ es) due = let r = within (addition.next (addition.destroys i o) e) es due.1 in (r.0, (due.0, r.1))
+  within _ (e ∷ es) due = absurd due.0
+
+  walk_within : (from to : addition.Stage) (before after : Standing) → addition.Goes_on s from before after to → Goes_on s (adding n from) before after (adding n to)
+  walk_within from to before after w =
+      let r = within from w.es w.due in
+      record { es = w.es; made = w.made; due = r.1; comes = r.0 ∙ ap (adding n) w.comes }
+
+  turn_made : {E : Type 0} (r : Result Addition (AddFault E)) (before after : Standing) → IsStocked r → Goes_on s (asks n) before after (adding n (ending r)) → EndsWithMade after → Turns s n r before after
+  turn_made (Ok additions.Idle) before after is w ends = (w, ends)
+  turn_made (Ok additions.Destroyed) before after is w ends = (w, ends)
+  turn_made (Ok additions.NoPlace) before after is w ends = absurd is
+  turn_made (Err faults.Closed) before after is w ends = absurd is
+  turn_made (Err (faults.MakeFailed f)) before after is w ends = record { to = failed outcomes.MakeFailed; made = w; ends = tt; leaves = ends }
+  turn_made (Err faults.CreateTestFailed) before after is w ends = record { to = failed outcomes.CreateTestFailed; made = w; ends = tt; leaves = ends }
+  turn_made (Err (faults.PassivateFailed f)) before after is w ends = record { to = failed outcomes.PassivateFailed; made = w; ends = tt; leaves = ends }
+  turn_made (Err faults.JournalFull) before after is w ends = absurd is
+  turn_made (Err faults.OutOfMemory) before after is w ends = absurd is
+
+  -- a turn of a fill that found a place
+  pub turned : {E : Type 0} (i : ℕ) (a : Answer) (r : Result Addition (AddFault E)) (before mid after : Standing) → a ≡ answers.Make i → Makes Fill a before mid
+      → IsStocked r → addition.Goes_on s (makes i) mid after (ending r) → EndsWithMade after → Turns s n r before after
+  turned i a r before mid after is made stocked w ends =
+      turn_made r before after stocked
+      (walk_on (fills.Due s) fills.next (asks n) (adds n (makes i)) (adding n (ending r)) before mid after
+      (walk_one (fills.Due s) fills.next (asks n) (adds n (makes i)) Fill (answers.Make i) before mid (subst (λ b. Makes Fill b before mid) is made) (λ m at. refl) (λ m at. refl))
+      (walk_within (makes i) (ending r) mid after w)) ends
+
+  -- a turn that was refused for want of room
+  pub full_turn : {T E : Type 0} (f : StepFault T) (out : Option T) (before after : Standing) → f ≡ JournalFull out → Refuses s Fill None f before after → Turns {E = E} s n (Err faults.JournalFull) before after
+  full_turn f out before after is refuses =
+      record { to = asks n; made = walk_none (fills.Due s) fills.next (asks n) before after refuses.same; ends = tt; leaves = full_for s Fill f out before after is refuses }
+
+  -- so for want of memory
+  pub short_turn : {T E : Type 0} (f : StepFault T) (before after : Standing) → Refuses s Fill None f before after → Turns {E = E} s n (Err faults.OutOfMemory) before after
+  short_turn f before after refuses = record { to = asks n; made = walk_none (fills.Due s) fills.next (asks n) before after refuses.same; ends = tt; leaves = tt }
+
+  -- a turn after others
+  pub turns_on : {E : Type 0} (r : Result ℕ (AddFault E)) (a b c : Standing) → Goes_on s (asks 0) a b (asks n) → Finishes s (asks n) r b c → FillRow s r a c
+  turns_on r a b c w f = record { to = f.to; made = walk_on (fills.Due s) fills.next (asks 0) (asks n) f.to a b c w f.made; ends = f.ends; leaves = f.leaves }

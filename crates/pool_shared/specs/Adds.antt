@@ -1,0 +1,123 @@
+-- The sections of an addition.
+use Rattle.std.specs.Prelude.{◌≡◌, ℕ, true, Result, Ok, Err}
+use Rattle.pool_journal.specs.declared.entry.Entry.{Entry}
+use Rattle.pool_journal.specs.declared.input.Input.{Input}
+use Rattle.pool_journal.specs.declared.input.Input.TheVariants.{Add, Added, Destroyed}
+use Rattle.pool_journal.specs.declared.input.Outcome.{Outcome}
+use Rattle.pool_journal.specs.declared.input.Outcome.TheVariants as outcomes
+use Rattle.pool_journal.specs.declared.answer.Answer.{Answer}
+use Rattle.pool_journal.specs.declared.answer.Answer.TheVariants as answers
+use Rattle.pool_journal.specs.declared.answer.Cause.TheVariants as causes
+use Rattle.pool_settings.specs.declared.settings.Settings.{Settings}
+use Rattle.pool_history.specs.Standings.{Standing}
+use Rattle.pool_desk.specs.Sections.{IsFullFor}
+use Rattle.pool_shared.specs.declared.faults.Addition.{Addition}
+use Rattle.pool_shared.specs.declared.faults.Addition.TheVariants as additions
+use Rattle.pool_shared.specs.declared.faults.AddFault.{AddFault}
+use Rattle.pool_shared.specs.declared.faults.AddFault.TheVariants as faults
+use Rattle.pool_shared.specs.declared.adding.Unfit.{Unfit}
+use Rattle.pool_shared.specs.declared.adding.Unfit.TheVariants as unfit
+use Rattle.pool_shared.specs.Walks.{Walks, EndsWithMade}
+
+-- where an addition stands: it asks for a place; it makes an object; it destroys one, which came out so; it has parked one; the object is gone again, which came out so; it was refused
+pub data Stage : Type 0 where
+  asks : Stage
+  makes : ℕ → Stage
+  destroys : ℕ → Outcome → Stage
+  parked : Stage
+  gone : Outcome → Stage
+  refused : Answer → Stage
+
+abbrev pub after_asking : Answer → Stage
+after_asking (answers.Make i) = makes i
+after_asking a = refused a
+
+abbrev pub after_making : ℕ → Input → Answer → Stage
+after_making i (Added j o) answers.Parked = parked
+after_making i (Added j o) answers.Freed = gone o
+after_making i (Added j o) a = destroys i o
+after_making i input a = refused a
+
+abbrev pub next : Stage → Entry → Stage
+next asks e = after_asking e.answer
+next (makes i) e = after_making i e.input e.answer
+next (destroys i o) e = gone o
+next stage e = stage
+
+-- how making can come out: the first test fails only where it is set
+abbrev pub MayComeOut : Settings → Outcome → Type 0
+MayComeOut s outcomes.Good = Unit {0}
+MayComeOut s outcomes.MakeFailed = Unit {0}
+MayComeOut s outcomes.CreateTestFailed = s.test_on_create ≡ true
+MayComeOut s outcomes.PassivateFailed = Unit {0}
+MayComeOut s o = ⊥
+
+abbrev pub IsMade : Settings → ℕ → Input → Type 0
+IsMade s i (Added j o) = (j ≡ i) × MayComeOut s o
+IsMade s i _ = ⊥
+
+-- the input that is next
+abbrev pub Due : Settings → Stage → Entry → Type 0
+Due s asks e = e.input ≡ Add
+Due s (makes i) e = IsMade s i e.input
+Due s (destroys i o) e = e.input ≡ Destroyed i
+Due s _ e = ⊥
+
+abbrev pub Goes_on : Settings → Stage → Standing → Standing → Stage → Type 0
+Goes_on s from before after to = Walks (Due s) next from before after to
+
+-- where an addition stands that nothing failed in
+abbrev pub shelved : Addition → Stage
+shelved additions.Idle = parked
+shelved additions.Destroyed = gone outcomes.Good
+shelved additions.NoPlace = refused answers.NoPlace
+
+-- where an addition stands that answers this; where it asks, that section was refused
+abbrev pub ending : {E : Type 0} → Result Addition (AddFault E) → Stage
+ending (Ok a) = shelved a
+ending (Err faults.Closed) = refused (answers.Refused causes.Closed)
+ending (Err (faults.MakeFailed f)) = gone outcomes.MakeFailed
+ending (Err faults.CreateTestFailed) = gone outcomes.CreateTestFailed
+ending (Err (faults.PassivateFailed f)) = gone outcomes.PassivateFailed
+ending (Err faults.JournalFull) = asks
+ending (Err faults.OutOfMemory) = asks
+
+-- what is seen then: the last entry at its end, or, where the section was refused, a journal in which it doesn't fit if that is why
+abbrev pub Leaves : {A E : Type 0} → Settings → Input → Result A (AddFault E) → Standing → Type 0
+Leaves s input (Err faults.JournalFull) me = IsFullFor s input me
+Leaves s input (Err faults.OutOfMemory) me = Unit {0}
+Leaves s input _ me = EndsWithMade me
+
+-- what an addition made
+abbrev pub AddRow : {E : Type 0} → Settings → Result Addition (AddFault E) → Standing → Standing → Type 0
+AddRow s result before after = Goes_on s asks before after (ending result) × Leaves s Add result after
+
+-- the faults of the factory are from the calls that they are told of
+abbrev pub IsAddFaultFrom : {E : Type 0} → (E → Type 0) → (E → Type 0) → AddFault E → Type 0
+IsAddFaultFrom make passivate (faults.MakeFailed f) = make f
+IsAddFaultFrom make passivate (faults.PassivateFailed f) = passivate f
+IsAddFaultFrom make passivate _ = Unit {0}
+
+-- why a made object can't lie idle: its first test, which is set, or the factory's fault
+abbrev pub IsWhyUnfit : {E : Type 0} → Settings → (E → Type 0) → Unfit E → Type 0
+IsWhyUnfit s passivate unfit.Test = s.test_on_create ≡ true
+IsWhyUnfit s passivate (unfit.Passivate f) = passivate f
+
+-- how an object fails that was made
+abbrev pub IsFailure : Settings → Outcome → Type 0
+IsFailure s outcomes.CreateTestFailed = s.test_on_create ≡ true
+IsFailure s outcomes.PassivateFailed = Unit {0}
+IsFailure s o = ⊥
+
+-- there was a place
+abbrev pub IsPlaced : Addition → Type 0
+IsPlaced additions.NoPlace = ⊥
+IsPlaced _ = Unit {0}
+
+-- a result of an addition that made an object
+abbrev pub IsStocked : {E : Type 0} → Result Addition (AddFault E) → Type 0
+IsStocked (Ok a) = IsPlaced a
+IsStocked (Err faults.Closed) = ⊥
+IsStocked (Err faults.JournalFull) = ⊥
+IsStocked (Err faults.OutOfMemory) = ⊥
+IsStocked (Err _) = Unit {0}

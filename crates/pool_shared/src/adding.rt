@@ -1,0 +1,162 @@
+// An addition to the stock of idle objects, in its sections.
+ghost use Rattle.std.specs.Prelude.{◌≡◌, true, OnOk, IfErr};
+ghost use Rattle.pool_journal.specs.declared.input.Outcome.TheVariants as outcomes;
+ghost use Rattle.pool_journal.specs.declared.record.Phase.TheVariants as phases;
+ghost use Rattle.pool_history.specs.Standings.{Goes};
+ghost use Rattle.pool_desk.specs.Sections.{HasInHand};
+ghost use Rattle.pool_shared.specs.Walks.{EndsWithMade};
+ghost use Rattle.pool_shared.specs.Adds.{makes, gone, shelved, ending, Goes_on, AddRow, IsAddFaultFrom, IsWhyUnfit, IsFailure, IsPlaced, IsStocked};
+
+use crate::faults::{AddFault, Addition};
+use crate::pool::SharedPool;
+use pool_core::StepFault;
+use pool_desk::{Clock, Factory};
+use pool_history::{Caller, Room};
+use pool_journal::{Answer, Cause, Input, Outcome};
+use std::sync::Wait;
+
+/// Why a new object can't lie idle.
+#[derive(Drop)]
+pub(crate) enum Unfit<E> {
+    Test,
+    Passivate(E),
+}
+
+impl<T: Drop, E: Drop, F: Factory<T, E> + Drop, C: Clock + Drop, B: Room> SharedPool<T, E, F, C, B> {
+    // Makes a new value ready to lie idle, once it has passed its first test, where that is set.
+    fn prepare(&self, value: &mut T) -> Result<(), Unfit<E>>
+        ensures tested { OnOk result (B.settings.test_on_create ≡ true → F.valid value.old) }
+        ensures passive { OnOk result (F.passive value.new) }
+        ensures why { IfErr result (IsWhyUnfit B.settings F.from_passivate) }
+    {
+        if self.settings.test_on_create && !self.factory.validate(value) {
+            return Err(Unfit::Test);
+        }
+        match self.factory.passivate(value) {
+            Ok(()) => Ok(()),
+            Err(fault) => Err(Unfit::Passivate(fault)),
+        }
+    }
+
+    // A new object can't lie idle: it is destroyed.
+    fn reject<R: Wait>(&self, rt: &R, me: &mut Caller<B>, id: u64, outcome: Outcome, value: T)
+        requires hand { (new : _) × HasInHand me.old id phases.Adding new }
+        requires outcome { IsFailure B.settings outcome }
+        ensures goes { Goes B.settings me.old me.new }
+        ensures walk { Goes_on B.settings (makes id) me.old me.new (gone outcome) }
+        ensures ends { EndsWithMade me.new }
+    {
+        match self.carry_on(rt, me, Input::Added { id, outcome }) {
+            Answer::Destroy => {
+                self.factory.destroy(value);
+                self.give_up(rt, me, id);
+            }
+            _ => unreachable!(),
+        }
+    }
+
+    // A passive new object lies idle from then on, while the pool is open.
+    fn shelve<R: Wait>(&self, rt: &R, me: &mut Caller<B>, id: u64, value: T) -> Addition
+        requires hand { (new : _) × HasInHand me.old id phases.Adding new }
+        requires passive { F.passive value }
+        ensures goes { Goes B.settings me.old me.new }
+        ensures placed { IsPlaced result }
+        ensures walk { Goes_on B.settings (makes id) me.old me.new (shelved result) }
+        ensures ends { EndsWithMade me.new }
+    {
+        let outcome = Outcome::Good;
+        match self.ask(rt, me, Input::Added { id, outcome }, Some(value)) {
+            Ok((Answer::Parked, _)) => {
+                self.changed.notify_all();
+                Addition::Idle
+            }
+            Ok((Answer::Destroy, Some(value))) => {
+                self.factory.destroy(value);
+                self.give_up(rt, me, id);
+                Addition::Destroyed
+            }
+            Ok(_) => unreachable!(),
+            Err(_) => unreachable!(),
+        }
+    }
+
+    // The value of a new object is made.
+    fn stock_made<R: Wait>(
+        &self,
+        rt: &R,
+        me: &mut Caller<B>,
+        id: u64,
+        made: T,
+    ) -> Result<Addition, AddFault<E>>
+        requires hand { (new : _) × HasInHand me.old id phases.Adding new }
+        ensures goes { Goes B.settings me.old me.new }
+        ensures made { IsStocked result }
+        ensures walk { Goes_on B.settings (makes id) me.old me.new (ending result) }
+        ensures ends { EndsWithMade me.new }
+        ensures fault { IfErr result (IsAddFaultFrom F.from_make F.from_passivate) }
+    {
+        let mut value = made;
+        match self.prepare(&mut value) {
+            Ok(()) => Ok(self.shelve(rt, me, id, value)),
+            Err(Unfit::Test) => {
+                self.reject(rt, me, id, Outcome::CreateTestFailed, value);
+                Err(AddFault::CreateTestFailed)
+            }
+            Err(Unfit::Passivate(fault)) => {
+                self.reject(rt, me, id, Outcome::PassivateFailed, value);
+                Err(AddFault::PassivateFailed(fault))
+            }
+        }
+    }
+
+    // A new object is made for the place that was found.
+    pub(crate) fn stock<R: Wait>(
+        &self,
+        rt: &R,
+        me: &mut Caller<B>,
+        id: u64,
+    ) -> Result<Addition, AddFault<E>>
+        requires hand { (new : _) × HasInHand me.old id phases.Adding new }
+        ensures goes { Goes B.settings me.old me.new }
+        ensures made { IsStocked result }
+        ensures walk { Goes_on B.settings (makes id) me.old me.new (ending result) }
+        ensures ends { EndsWithMade me.new }
+        ensures fault { IfErr result (IsAddFaultFrom F.from_make F.from_passivate) }
+    {
+        match self.factory.make(id) {
+            Ok(made) => self.stock_made(rt, me, id, made),
+            Err(fault) => {
+                let outcome = Outcome::MakeFailed;
+                match self.carry_on(rt, me, Input::Added { id, outcome }) {
+                    Answer::Freed => {
+                        self.changed.notify_all();
+                        Err(AddFault::MakeFailed(fault))
+                    }
+                    _ => unreachable!(),
+                }
+            }
+        }
+    }
+
+    /// Makes an object and parks it, where there is a free place: `Idle`, or `NoPlace` where there is none, or
+    /// `Destroyed` where the pool was closed meanwhile.
+    ///
+    /// # Errors
+    ///
+    /// `Closed`. `MakeFailed`, `CreateTestFailed` and `PassivateFailed`, whichever comes first; the place is then free
+    /// again. `JournalFull` and `OutOfMemory`, before there is an object.
+    pub fn add<R: Wait>(&self, rt: &R, me: &mut Caller<B>) -> Result<Addition, AddFault<E>>
+        ensures goes { Goes B.settings me.old me.new }
+        ensures row { AddRow B.settings result me.old me.new }
+        ensures fault { IfErr result (IsAddFaultFrom F.from_make F.from_passivate) }
+    {
+        match self.ask(rt, me, Input::Add, None) {
+            Ok((Answer::Make(id), _)) => self.stock(rt, me, id),
+            Ok((Answer::NoPlace, _)) => Ok(Addition::NoPlace),
+            Ok((Answer::Refused(Cause::Closed), _)) => Err(AddFault::Closed),
+            Ok(_) => unreachable!(),
+            Err(StepFault::JournalFull(_)) => Err(AddFault::JournalFull),
+            Err(StepFault::OutOfMemory(_)) => Err(AddFault::OutOfMemory),
+        }
+    }
+}

@@ -1,0 +1,55 @@
+// A fill of the stock of idle objects, in its sections.
+ghost use Rattle.std.specs.Prelude.{ℕ, IfErr};
+ghost use Rattle.pool_history.specs.Standings.{Goes};
+ghost use Rattle.pool_shared.specs.Adds.{IsAddFaultFrom};
+ghost use Rattle.pool_shared.specs.Fills.{Turns, FillRow};
+
+use crate::faults::{AddFault, Addition};
+use crate::pool::SharedPool;
+use pool_core::StepFault;
+use pool_desk::{Clock, Factory};
+use pool_history::{Caller, Room};
+use pool_journal::{Answer, Input};
+use std::sync::Wait;
+
+impl<T: Drop, E: Drop, F: Factory<T, E> + Drop, C: Clock + Drop, B: Room> SharedPool<T, E, F, C, B> {
+    // One turn of a fill. There is no place for more where there is none, or none is missing.
+    fn add_missing<R: Wait>(&self, rt: &R, me: &mut Caller<B>) -> Result<Addition, AddFault<E>>
+        ensures goes { Goes B.settings me.old me.new }
+        ensures turn { (n : ℕ) → Turns B.settings n result me.old me.new }
+        ensures fault { IfErr result (IsAddFaultFrom F.from_make F.from_passivate) }
+    {
+        match self.ask(rt, me, Input::Fill, None) {
+            Ok((Answer::Make(id), _)) => self.stock(rt, me, id),
+            Ok((Answer::Enough, _)) => Ok(Addition::NoPlace),
+            Ok((Answer::NoPlace, _)) => Ok(Addition::NoPlace),
+            Ok(_) => unreachable!(),
+            Err(StepFault::JournalFull(_)) => Err(AddFault::JournalFull),
+            Err(StepFault::OutOfMemory(_)) => Err(AddFault::OutOfMemory),
+        }
+    }
+
+    /// Makes objects and parks them, until as many lie idle as the settings want or there is no free place. The number
+    /// is how many it parked, at most 2^64 - 1. On a closed pool it is 0.
+    ///
+    /// # Errors
+    ///
+    /// `MakeFailed`, `CreateTestFailed` and `PassivateFailed` of the first object that fails; the place is then free
+    /// again. `JournalFull` and `OutOfMemory`, between two objects. What was parked before stays. It is never `Closed`.
+    pub fn fill<R: Wait>(&self, rt: &R, me: &mut Caller<B>) -> Result<u64, AddFault<E>>
+        ensures goes { Goes B.settings me.old me.new }
+        ensures row { FillRow B.settings result me.old me.new }
+        ensures fault { IfErr result (IsAddFaultFrom F.from_make F.from_passivate) }
+    {
+        let mut parked = 0u64;
+        for _ in rt.forever() {
+            match self.add_missing(rt, me) {
+                Ok(Addition::Idle) => parked = parked.saturating_add(1),
+                Ok(Addition::Destroyed) => {}
+                Ok(Addition::NoPlace) => return Ok(parked),
+                Err(fault) => return Err(fault),
+            }
+        }
+        unreachable!()
+    }
+}
