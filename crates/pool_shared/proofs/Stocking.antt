@@ -1,5 +1,6 @@
 -- The entries of additions, and of a fill.
-use Rattle.std.proofs.Common.{◌≡◌, ℕ, ◌+◌, Bool, false, List, [], ◌∷◌, Option, None, Result, Ok, Err, refl, sym, ap, ◌∙◌, subst}
+use Rattle.std.proofs.Common.{◌≡◌, ℕ, ◌+◌, Bool, false, List, [], ◌∷◌, Option, None, Result, Ok, Err, refl, sym, ap, ◌∙◌, subst, arith}
+use Rattle.std.specs.Prelude.{min}
 use Rattle.pool_journal.specs.declared.entry.Entry.{Entry}
 use Rattle.pool_journal.specs.declared.input.Input.{Input}
 use Rattle.pool_journal.specs.declared.input.Input.TheVariants.{Fill, Added, Destroyed}
@@ -96,6 +97,26 @@ module _ (s : Settings) (n : ℕ) where
   pub short_turn : {T E : Type 0} (f : StepFault T) (before after : Standing) → Refuses s Fill None f before after → Turns {E = E} s n (Err faults.OutOfMemory) before after
   short_turn f before after refuses = record { to = asks n; made = walk_none (fills.Due s) fills.next (asks n) before after refuses.same; ends = tt; leaves = tt }
 
-  -- a turn after others
-  pub turns_on : {E : Type 0} (r : Result ℕ (AddFault E)) (a b c : Standing) → Goes_on s (asks 0) a b (asks n) → Finishes s (asks n) r b c → FillRow s r a c
-  turns_on r a b c w f = record { to = f.to; made = walk_on (fills.Due s) fills.next (asks 0) (asks n) f.to a b c w f.made; ends = f.ends; leaves = f.leaves }
+-- what a fill keeps, which has parked so many: the number that it tells
+abbrev pub IsFilling : Settings → ℕ → Standing → Standing → Type 0
+IsFilling s told first now = (n : ℕ) × (told ≡ min n 18446744073709551615) × Goes_on s (asks 0) first now (asks n)
+
+-- a fill after one more turn
+module _ (s : Settings) (n told : ℕ) (first now after : Standing) (telling : told ≡ min n 18446744073709551615) (w : Goes_on s (asks 0) first now (asks n)) where
+  further : (to : Stage) → Goes_on s (asks n) now after to → Goes_on s (asks 0) first after to
+  further to more = walk_on (fills.Due s) fills.next (asks 0) (asks n) to first now after w more
+
+  turned_to : (a b : Addition) → a ≡ b → Goes_on s (asks n) now after (fills.turned n a) → Goes_on s (asks 0) first after (fills.turned n b)
+  turned_to a b is turn = further (fills.turned n b) (subst (λ x. Goes_on s (asks n) now after (fills.turned n x)) is turn)
+
+  pub one_parked : (a : Addition) (more : ℕ) → a ≡ additions.Idle → more ≡ min (told + 1) 18446744073709551615 → Goes_on s (asks n) now after (fills.turned n a) → IsFilling s more first after
+  one_parked a more is counted turn = (n + 1, omega (arith, counted, telling), turned_to a additions.Idle is turn)
+
+  pub one_lost : (a : Addition) → a ≡ additions.Destroyed → Goes_on s (asks n) now after (fills.turned n a) → IsFilling s told first after
+  one_lost a is turn = (n, telling, turned_to a additions.Destroyed is turn)
+
+  pub all_filled : {E : Type 0} (a : Addition) → a ≡ additions.NoPlace → Goes_on s (asks n) now after (fills.turned n a) → EndsWithMade after → FillRow {E = E} s (Ok told) first after
+  all_filled a is turn ends = record { to = through n; made = turned_to a additions.NoPlace is turn; ends = telling; leaves = ends }
+
+  pub filled_part : {E : Type 0} (f : AddFault E) → Finishes s (asks n) (Err f) now after → FillRow s (Err f) first after
+  filled_part f turn = record { to = turn.to; made = further turn.to turn.made; ends = turn.ends; leaves = turn.leaves }

@@ -22,7 +22,13 @@ pub(crate) enum Unfit<E> {
     Passivate(E),
 }
 
-impl<T: Drop, E: Drop, F: Factory<T, E> + Drop, C: Clock + Drop, B: Room> SharedPool<T, E, F, C, B> {
+impl<T: Drop, E: Drop, F: Factory<T, E> + Drop, C: Clock + Drop, B: Room> SharedPool<
+    T,
+    E,
+    F,
+    C,
+    B,
+> {
     // Makes a new value ready to lie idle, once it has passed its first test, where that is set.
     fn prepare(&self, value: &mut T) -> Result<(), Unfit<E>>
         ensures tested { OnOk result (B.settings.test_on_create ≡ true → F.valid value.old) }

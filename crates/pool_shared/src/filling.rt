@@ -12,7 +12,13 @@ use pool_history::{Caller, Room};
 use pool_journal::{Answer, Input};
 use std::sync::Wait;
 
-impl<T: Drop, E: Drop, F: Factory<T, E> + Drop, C: Clock + Drop, B: Room> SharedPool<T, E, F, C, B> {
+impl<T: Drop, E: Drop, F: Factory<T, E> + Drop, C: Clock + Drop, B: Room> SharedPool<
+    T,
+    E,
+    F,
+    C,
+    B,
+> {
     // One turn of a fill. There is no place for more where there is none, or none is missing.
     fn add_missing<R: Wait>(&self, rt: &R, me: &mut Caller<B>) -> Result<Addition, AddFault<E>>
         ensures goes { Goes B.settings me.old me.new }

@@ -16,6 +16,10 @@ mod returning;
 pub use evicting::EvictRun;
 pub use faults::{BorrowFault, FinishFault, OpenFault, PoolFault, ReturnFault, Returned, Touched};
 pub use faults::{AddFault, Addition, BorrowFault, FinishFault, OpenFault, PoolFault, ReturnFault, Returned, Touched};
+pub use faults::{
+    AddFault, Addition, BorrowFault, FinishFault, OpenFault, PoolFault, ReturnFault, Returned,
+    Touched,
+};
 pub use lent::Lent;
 pub use pool::SharedPool;
 pub use pool_desk::{Clock, Factory};
