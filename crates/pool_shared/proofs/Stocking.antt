@@ -1,5 +1,5 @@
 -- The entries of additions, and of a fill.
-use Rattle.std.proofs.Common.{◌≡◌, ℕ, ◌+◌, Bool, false, List, [], ◌∷◌, Option, None, Result, Ok, Err, refl, sym, ap, ◌∙◌, subst, arith}
+use Rattle.std.proofs.Common.{◌≡◌, ℕ, ◌+◌, Bool, false, List, [], ◌∷◌, Option, None, Result, Ok, Err, refl, ap, ◌∙◌, subst, arith}
 use Rattle.std.specs.Prelude.{min}
 use Rattle.pool_journal.specs.declared.entry.Entry.{Entry}
 use Rattle.pool_journal.specs.declared.input.Input.{Input}
@@ -18,7 +18,7 @@ use Rattle.pool_shared.specs.declared.faults.Addition.TheVariants as additions
 use Rattle.pool_shared.specs.declared.faults.AddFault.{AddFault}
 use Rattle.pool_shared.specs.declared.faults.AddFault.TheVariants as faults
 use Rattle.pool_desk.specs.Sections.{HasInHand, Makes, Refuses, IsFullFor}
-use Rattle.pool_shared.specs.Walks.{walked, AllDue, Walks, EndsWithMade}
+use Rattle.pool_shared.specs.Walks.{walked, AllDue, EndsWithMade}
 use Rattle.pool_shared.specs.Adds as addition
 use Rattle.pool_shared.specs.Adds.{makes, ending, Leaves, IsStocked}
 use Rattle.pool_shared.specs.Fills as fills
