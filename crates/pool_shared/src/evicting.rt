@@ -87,7 +87,7 @@ impl<T: Drop, E: Drop, F: Factory<T, E> + Drop, C: Clock + Drop, B: Room> Shared
     }
 
     // An object that failed its test is destroyed.
-    fn reject<R: Wait>(&self, rt: &R, me: &mut Caller<B>, id: u64, outcome: Outcome, value: T)
+    fn fail_test<R: Wait>(&self, rt: &R, me: &mut Caller<B>, id: u64, outcome: Outcome, value: T)
         requires hand { (new : _) × HasInHand me.old id phases.Testing new }
         requires outcome { IsFailedTest outcome }
         ensures goes { Goes B.settings me.old me.new }
@@ -138,7 +138,7 @@ impl<T: Drop, E: Drop, F: Factory<T, E> + Drop, C: Clock + Drop, B: Room> Shared
         match self.try_out(&mut value) {
             Ok(()) => self.keep(rt, me, id, value),
             Err(outcome) => {
-                self.reject(rt, me, id, outcome, value);
+                self.fail_test(rt, me, id, outcome, value);
                 Fate::Destroyed
             }
         }

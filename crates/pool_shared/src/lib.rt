@@ -14,8 +14,6 @@ mod reclaiming;
 mod returning;
 
 pub use evicting::EvictRun;
-pub use faults::{BorrowFault, FinishFault, OpenFault, PoolFault, ReturnFault, Returned, Touched};
-pub use faults::{AddFault, Addition, BorrowFault, FinishFault, OpenFault, PoolFault, ReturnFault, Returned, Touched};
 pub use faults::{
     AddFault, Addition, BorrowFault, FinishFault, OpenFault, PoolFault, ReturnFault, Returned,
     Touched,
