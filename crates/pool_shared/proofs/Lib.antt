@@ -7,3 +7,4 @@ pub mod Examining
 pub mod Removals
 pub mod Losses
 pub mod Stocking
+pub mod Upkeep

@@ -10,3 +10,4 @@ pub mod Reclaims
 pub mod Invalidates
 pub mod Adds
 pub mod Fills
+pub mod Maintains

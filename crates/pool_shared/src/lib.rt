@@ -9,6 +9,7 @@ mod faults;
 mod filling;
 mod invalidating;
 mod lent;
+mod maintaining;
 mod pool;
 mod reclaiming;
 mod returning;

@@ -1,0 +1,51 @@
+// Maintenance: an eviction run, a removal and a fill.
+ghost use Rattle.std.specs.Prelude.{IfErr};
+ghost use Rattle.pool_history.specs.Standings.{Goes};
+ghost use Rattle.pool_shared.specs.Adds.{IsAddFaultFrom};
+ghost use Rattle.pool_shared.specs.Maintains.{MaintainRow};
+
+use crate::faults::{AddFault, PoolFault};
+use crate::pool::SharedPool;
+use pool_desk::{Clock, Factory};
+use pool_history::{Caller, Room};
+use std::sync::Wait;
+
+impl<E> From<PoolFault> for AddFault<E> {
+    ghost use Rattle.std.specs.Prelude.{◌≡◌};
+    ghost use Rattle.pool_shared.specs.Maintains.{told};
+
+    ghost from_gives = { λ f e. e ≡ told f };
+
+    fn from(fault: PoolFault) -> AddFault<E> {
+        match fault {
+            PoolFault::Closed => AddFault::Closed,
+            PoolFault::JournalFull => AddFault::JournalFull,
+            PoolFault::OutOfMemory => AddFault::OutOfMemory,
+        }
+    }
+}
+
+impl<T: Drop, E: Drop, F: Factory<T, E> + Drop, C: Clock + Drop, B: Room> SharedPool<
+    T,
+    E,
+    F,
+    C,
+    B,
+> {
+    /// An eviction run, then a removal of abandoned objects, then a fill.
+    ///
+    /// # Errors
+    ///
+    /// The first fault of the three ends it, and what was done before stays: `Closed`, `JournalFull` and `OutOfMemory`
+    /// of each, and those of an object that the fill made.
+    pub fn maintain<R: Wait>(&self, rt: &R, me: &mut Caller<B>) -> Result<(), AddFault<E>>
+        ensures goes { Goes B.settings me.old me.new }
+        ensures row { MaintainRow B.settings result me.old me.new }
+        ensures fault { IfErr result (IsAddFaultFrom F.from_make F.from_passivate) }
+    {
+        self.evict(rt, me)?;
+        self.reclaim(rt, me)?;
+        self.fill(rt, me)?;
+        Ok(())
+    }
+}
