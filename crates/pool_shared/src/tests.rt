@@ -13,6 +13,8 @@ use std::test::*;
 use std::thread;
 use std::thread::Threads;
 
+mod stock;
+
 #[derive(Drop)]
 struct Item {
     id: u64,
