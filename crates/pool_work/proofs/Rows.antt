@@ -3,6 +3,8 @@ use Rattle.std.proofs.Common.{◌≡◌, ℕ, zero, suc, ◌+◌, List, [], ◌+
 use Rattle.pool_journal.specs.declared.entry.Entry.{Entry}
 use Rattle.pool_journal.specs.declared.input.Outcome.{Outcome}
 use Rattle.pool_journal.specs.declared.input.Outcome.TheVariants as outcomes
+use Rattle.pool_journal.specs.declared.input.Input.TheVariants as inputs
+use Rattle.pool_journal.specs.declared.input.When.TheVariants as times
 use Rattle.pool_journal.specs.declared.answer.Answer.{Answer}
 use Rattle.pool_journal.specs.declared.answer.Answer.TheVariants as answers
 use Rattle.pool_journal.specs.declared.answer.Cause.TheVariants as causes
@@ -17,7 +19,10 @@ use Rattle.pool_shared.specs.declared.lent.Lent.{Lent}
 use Rattle.pool_shared.specs.Walks.{walked}
 use Rattle.pool_shared.specs.Borrows as borrows
 use Rattle.pool_shared.specs.Returns as returns
-use Rattle.pool_work.specs.Rounds.{IsRefusal, IsThrough, ReturnDone, Round, lends, refuses, IsWorked, MakesRound, MakesRounds, IsOwn}
+use Rattle.pool_core.specs.Legal.{IsLegal}
+use Rattle.pool_work.specs.declared.load_fault.LoadFault.{LoadFault}
+use Rattle.pool_work.specs.declared.load_fault.LoadFault.TheVariants as stops
+use Rattle.pool_work.specs.Rounds.{IsRefusal, IsThrough, BorrowDone, BorrowRefused, ReturnDone, Round, lends, refuses, IsWorked, MakesRound, MakesRounds, IsOwn, StopsFor, IsFull, Stops}
 
 module _ (T E : Type 0) (number : ℕ) where
   refused_no : (a : Answer) (l : Lent T) → borrows.IsResult {T = T} {E = E} number (borrows.refused a) (Ok l) → ⊥
@@ -42,12 +47,14 @@ module _ (T E : Type 0) (number : ℕ) where
 
 through_ok : (T : Type 0) (st : returns.Stage) (r : Returned) → returns.IsResult {T = T} st (Ok r) → IsThrough st
 through_ok T (returns.done q) r is = tt
-through_ok T (returns.refused a) r is = tt
+through_ok T (returns.refused (answers.Refused causes.NotLent)) r is = absurd is
+through_ok T (returns.refused _) r is = absurd is
 through_ok T _ r is = absurd is
 
 through_not_lent : {T : Type 0} (st : returns.Stage) (l : Lent T) → returns.IsResult st (Err (refusals.NotLent, l)) → IsThrough st
 through_not_lent (returns.done q) l is = tt
-through_not_lent (returns.refused a) l is = tt
+through_not_lent (returns.refused (answers.Refused causes.NotLent)) l is = tt
+through_not_lent (returns.refused _) l is = absurd is
 through_not_lent _ l is = absurd is
 
 own_stops : {E : Type 0} (f : BorrowFault E) → IsOwn f → borrows.IsRoomFault f → ⊥
@@ -59,7 +66,10 @@ refusal_is : (T : Type 0) {E : Type 0} (number : ℕ) (st : borrows.Stage) (f : 
 refusal_is T number borrows.removes f own is = absurd (own_stops f own is)
 refusal_is T number (borrows.reclaims n) f own is = absurd (own_stops f own is)
 refusal_is T number borrows.asks f own is = absurd (own_stops f own is)
-refusal_is T number (borrows.refused a) f own is = tt
+refusal_is T number (borrows.refused (answers.Refused causes.Closed)) f own is = tt
+refusal_is T number (borrows.refused answers.Exhausted) f own is = tt
+refusal_is T number (borrows.refused answers.TimedOut) f own is = tt
+refusal_is T number (borrows.refused _) f own is = absurd is
 refusal_is T number (borrows.failed o) f own is = tt
 refusal_is T number _ f own is = absurd is
 
@@ -86,6 +96,26 @@ pub kept_round : (E : Type 0) {T : Type 0} (s : Settings) (number : ℕ) (l m : 
 kept_round E {T} s number l m f a b c is row back =
     let there : returns.ReturnRow s number l (Err (refusals.NotLent, m)) b c = subst (λ x. returns.ReturnRow s number l (Err (x, m)) b c) is back in
     both E s number l a b c row there.1.es there.1.made (record { due = there.1.due; ends = through_not_lent (walked returns.next returns.gives there.1.es) m there.1.ends })
+
+-- where a borrow was refused for want of room, an entry was due that doesn't fit
+full_there : (s : Settings) (began : ℕ) (st : borrows.Stage) (me : Standing) → IsLegal s me.seen → borrows.IsFullAt s began st me → IsFull s me
+full_there s began borrows.removes me legal is = record { legal = legal; input = inputs.Reclaim times.Borrow; full = is }
+full_there s began (borrows.reclaims left) me legal is = record { legal = legal; input = inputs.ReclaimNext; full = is }
+full_there s began borrows.asks me legal is = record { legal = legal; input = inputs.Borrow began; full = is }
+full_there s began _ me legal is = absurd is
+
+pub stopped_borrow : (T : Type 0) {E : Type 0} (s : Settings) (number : ℕ) (f : BorrowFault E) (stop : LoadFault) (before after : Standing) → IsLegal s after.seen → StopsFor stop f → borrows.BorrowRow {T = T} s number (Err f) before after → Stops s stop after
+stopped_borrow T s number faults.JournalFull stops.JournalFull before after legal is row = full_there s row.0 (walked borrows.next (borrows.start s) row.1.es) after legal row.1.leaves
+stopped_borrow T s number faults.OutOfMemory stops.OutOfMemory before after legal is row = tt
+stopped_borrow T s number _ stops.JournalFull before after legal is row = absurd is
+stopped_borrow T s number _ stops.OutOfMemory before after legal is row = absurd is
+stopped_borrow T s number f _ before after legal is row = absurd is
+
+-- so was a return
+pub stopped_return : {T : Type 0} (s : Settings) (number : ℕ) (l m : Lent T) (f : ReturnFault) (before after : Standing) → f ≡ refusals.JournalFull → IsLegal s after.seen → returns.ReturnRow s number l (Err (f, m)) before after → IsFull s after
+stopped_return s number l m f before after is legal row =
+    let there : returns.ReturnRow s number l (Err (refusals.JournalFull, m)) before after = subst (λ x. returns.ReturnRow s number l (Err (x, m)) before after) is row in
+    record { legal = legal; input = inputs.GiveBack l.id; full = there.1.leaves.0 }
 
 worked_more : (s : Settings) (r f g : ℕ) (es xs : List Entry) → IsWorked s r f es → Round s g xs → IsWorked s (suc r) (f + g) (es ++ xs)
 worked_more s zero f g es xs w round =
