@@ -2,9 +2,14 @@
 #![tactic(auto)]
 
 mod gate;
+mod ids;
 mod load_fault;
+mod loading;
 mod rounds;
+mod starting;
+mod workers;
 
 pub use gate::Gate;
 pub use load_fault::LoadFault;
+pub use loading::{LoadReport, load};
 pub use rounds::work;

@@ -1,0 +1,36 @@
+use Rattle.std.proofs.Common.{◌≡◌, ◌∷◌, ◌++◌, [], List, map, Result, Ok, ap, sym, ◌∙◌, subst, ℕ}
+use Rattle.pool_settings.specs.declared.settings.Settings.{Settings}
+use Rattle.pool_stats.specs.Statistics.{statistics_of}
+use Rattle.pool_history.specs.Ends.{EachMade, AllUnder}
+use Rattle.pool_history.specs.Standings.{Standing}
+use Rattle.pool_work.specs.Workers.{AllWorked}
+use Rattle.pool_work.specs.Loads.{IsLoad}
+use Rattle.pool_work.proofs.Joined.{outcomes_within}
+use Rattle.pool_work.proofs.Whole.{loaded}
+use Rattle.pool_work.proofs.loading.load_on.Goals as goal
+
+pub collect_all-requires-clause-each : goal.collect_all-requires-clause-each
+collect_all-requires-clause-each g c =
+    outcomes_within (λ w. w.caller) (λ w. w.outcome) g.B.Room.settings c.args.rounds 1000000 c.pop.new.self.items c.in_ok-worked.worked.items c.in_ok-worked.ensures.ok c.requires.range.few_rounds
+
+pub returns-in-Ok-of-clause-load : goal.returns-in-Ok-of-clause-load
+returns-in-Ok-of-clause-load g c =
+    let s = g.B.Room.settings in
+    let workers = c.args.workers in
+    let rounds = c.args.rounds in
+    let refused = c.in_ok-refused.refused in
+    let stats = c.in-Ok-of.stats in
+    let front = c.pop.new.self.items in
+    let ws = c.in_ok-worked.worked.items in
+    let after = map (λ w. w.caller) ws in
+    let last = c.in-Some.last in
+    let last' = c.close.new.last in
+    let took = c.in_ok-refused.ensures in
+    let fs = took.refused.0 in
+    let row = c.in_ok-close.ensures.row in
+    let whole = c.in-Ok-finish.ensures.whole in
+    let back : c.push.new.self.items ≡ after ++ last' ∷ [] = c.in-Ok-push.ensures.items ∙ ap (λ l. l ++ last' ∷ []) took.callers in
+    let worked = subst (λ o. AllWorked s rounds front after o) took.refused.1 c.in_ok-worked.ensures.ok in
+    subst (λ (S : Settings). IsLoad S workers rounds refused stats) (sym c.requires.room.1)
+    (loaded s rounds workers front after last last' fs whole.whole refused row.0 stats c.in-Ok.opened.1.items c.in-Ok.ensures.count.1 c.in-Ok.ensures.new c.in-Some.ensures.items worked c.in_ok-close.ensures.number row.1 whole.legal
+      (subst (λ l. EachMade l whole.whole) back whole.each) (subst (λ l. AllUnder l whole.whole) back whole.all) took.refused.2 (c.in-Ok-of.ensures ∙ ap statistics_of (c.journal.ensures.entries ∙ whole.ends)))

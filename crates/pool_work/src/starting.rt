@@ -1,0 +1,46 @@
+// Where the threads of workers wait for one another.
+use std::sync::{Condvar, Mutex, Wait};
+
+#[derive(Clone, Copy)]
+enum Signal {
+    /// Not all threads are there yet.
+    Wait,
+    Work,
+    /// Some thread was not made.
+    GoHome,
+}
+
+/// Holds workers back until each has a thread, so that none waits at a gate for one that never comes.
+#[derive(Drop)]
+pub(crate) struct Start {
+    signal: Mutex<Signal>,
+    given: Condvar,
+}
+
+impl Start {
+    pub(crate) fn new() -> Start {
+        Start {
+            signal: Mutex::new(Signal::Wait),
+            given: Condvar::new(),
+        }
+    }
+
+    /// Lets the workers go: to work, if all of them are there.
+    pub(crate) fn give<R: Wait>(&self, rt: &R, all_there: bool) {
+        let mut signal = self.signal.lock(rt);
+        *signal = if all_there {
+            Signal::Work
+        } else {
+            Signal::GoHome
+        };
+        self.given.notify_all();
+    }
+
+    /// Waits for the signal, and tells whether it is to work.
+    pub(crate) fn wait<R: Wait>(&self, rt: &R) -> bool {
+        let signal = self.given.wait_while(rt, self.signal.lock(rt), |signal| {
+            matches!(*signal, Signal::Wait)
+        });
+        matches!(*signal, Signal::Work)
+    }
+}
