@@ -13,3 +13,6 @@ pub use gate::Gate;
 pub use load_fault::LoadFault;
 pub use loading::{LoadReport, load};
 pub use rounds::work;
+
+#[cfg(test)]
+mod tests;
