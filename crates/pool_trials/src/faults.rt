@@ -1,0 +1,118 @@
+// What each call is refused for, by one caller of a new pool.
+ghost use Rattle.std.specs.Prelude.{◌≡◌};
+
+use crate::clocks::Still;
+use crate::items::{Call, FAULT, Failing, Items, Record};
+use crate::openings::{NUMBER, Pool, single};
+use pool_settings::Settings;
+use pool_shared::{BorrowFault, OpenFault, Room, Site};
+use std::alloc::Global;
+use std::marker::Brand;
+use std::sync::Wait;
+use std::test::Fail;
+
+// Opens a pool for so many callers.
+fn opens<B: Room, R: Wait>(
+    rt: &R,
+    alloc: Global,
+    site: Site,
+    settings: Settings,
+    callers: u32,
+    record: &Record,
+) -> Result<(), OpenFault>
+    requires { (site ≡ B.table) × (settings ≡ B.settings) × (callers ≡ B.callers) }
+{
+    let items = Items {
+        record,
+        failing: Failing::Never,
+    };
+    let (_, _) = Pool::<B>::open(rt, alloc, site, settings, NUMBER, callers, items, Still)?;
+    Ok(())
+}
+
+#[test]
+fn pools_have_1_to_1024_callers(rt: HostRuntime) -> Result<(), Fail> {
+    let record = Record::new(rt.alloc(), 8)?;
+    for callers in [0, 1025] {
+        let site = Site::new(rt.alloc())?;
+        let opened = opens::<Brand, _>(
+            &rt,
+            rt.alloc(),
+            site,
+            Settings::default(),
+            callers,
+            &record,
+        );
+        assert!(rt;
+            matches!(&opened, Err(OpenFault::CallerCount)),
+            "at {callers}"
+        );
+    }
+    for callers in [1, 1024] {
+        let site = Site::new(rt.alloc())?;
+        let opened = opens::<Brand, _>(
+            &rt,
+            rt.alloc(),
+            site,
+            Settings::default(),
+            callers,
+            &record,
+        );
+        assert!(rt; opened.is_ok(), "at {callers}");
+    }
+    Ok(())
+}
+
+// The first borrow of a new pool: the id of what it lends.
+fn first_borrow<B: Room, R: Wait>(
+    rt: &R,
+    alloc: Global,
+    site: Site,
+    settings: Settings,
+    items: Items,
+) -> Result<Result<u64, BorrowFault<u8>>, Fail>
+    requires { (site ≡ B.table) × (settings ≡ B.settings) × (1 ≡ B.callers) }
+{
+    let (pool, callers) = Pool::<B>::open(rt, alloc, site, settings, NUMBER, 1, items, Still)?;
+    let mut me = single(callers).ok_or("a caller")?;
+    Ok(pool.borrow(rt, &mut me).map(|lent| lent.id()))
+}
+
+fn borrows<R: Wait>(
+    rt: &R,
+    alloc: Global,
+    text: &str,
+    failing: Failing,
+) -> Result<Result<u64, BorrowFault<u8>>, Fail> {
+    let site = Site::new(alloc)?;
+    let settings = Settings::from_text(alloc, text)?;
+    let record = Record::new(alloc, 8)?;
+    let items = Items {
+        record: &record,
+        failing,
+    };
+    first_borrow::<Brand, R>(rt, alloc, site, settings, items)
+}
+
+#[test]
+fn a_borrow_is_refused(rt: HostRuntime) -> Result<(), Fail> {
+    let a = rt.alloc();
+    let never = Failing::Never;
+    let found = borrows(&rt, a, "maxTotal = 0\nblockWhenExhausted = false", never)?;
+    assert!(rt; matches!(&found, Err(BorrowFault::Exhausted)));
+    let found = borrows(&rt, a, "maxTotal = 0\nmaxWaitMillis = 0", never)?;
+    assert!(rt; matches!(&found, Err(BorrowFault::TimedOut)));
+    let found = borrows(&rt, a, "", Failing::All(Call::Make))?;
+    assert!(rt; matches!(&found, Err(BorrowFault::MakeFailed(FAULT))));
+    let found = borrows(&rt, a, "testOnCreate = true", Failing::All(Call::Validate))?;
+    assert!(rt; matches!(&found, Err(BorrowFault::CreateTestFailed)));
+    let found = borrows(&rt, a, "", Failing::All(Call::Activate))?;
+    assert!(rt; matches!(&found, Err(BorrowFault::ActivateFailed(FAULT))));
+    let found = borrows(&rt, a, "testOnBorrow = true", Failing::All(Call::Validate))?;
+    assert!(rt; matches!(&found, Err(BorrowFault::BorrowTestFailed)));
+    let found = borrows(&rt, a, "journalLimit = 6", never)?;
+    assert!(rt; matches!(&found, Err(BorrowFault::JournalFull)));
+    let found = borrows(&rt, a, "journalLimit = 7", never)?;
+    assert!(rt; matches!(&found, Ok(0)));
+    Ok(())
+}

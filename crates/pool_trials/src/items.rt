@@ -1,0 +1,157 @@
+// The objects of the trials, the factory that makes them, and the record of what it did.
+ghost use Rattle.std.specs.Prelude.{◌≡◌, true, false};
+
+use pool_shared::Factory;
+use std::alloc::{AllocError, Global};
+use std::sync::atomic::{AtomicU64, Ordering};
+
+/// What each call of a factory that fails fails for.
+pub const FAULT: u8 = 7;
+
+/// An object of a trial.
+#[derive(Drop)]
+pub struct Item {
+    pub id: u64,
+    pub awake: bool,
+}
+
+/// The calls of a factory that can fail, or say no.
+#[derive(Clone, Copy, Debug, PartialEq, Eq)]
+pub enum Call {
+    Make,
+    Activate,
+    Validate,
+    Passivate,
+}
+
+/// Which of these calls fail.
+#[derive(Clone, Copy, Debug)]
+pub enum Failing {
+    Never,
+    /// All of one kind.
+    All(Call),
+    /// The one with this number, of whatever kind, counted from 1.
+    Nth(u64),
+}
+
+/// What a factory did: how many of its calls could fail, and what became of each object.
+#[derive(Drop)]
+pub struct Record {
+    calls: AtomicU64,
+    rows: Vec<Row>,
+}
+
+/// How often an object was made and destroyed.
+#[derive(Drop)]
+struct Row {
+    made: AtomicU64,
+    destroyed: AtomicU64,
+}
+
+impl Record {
+    /// A record of the objects with ids below `ids`.
+    pub fn new(alloc: Global, ids: usize) -> Result<Record, AllocError> {
+        let mut rows = Vec::new(alloc);
+        for _ in 0..ids {
+            rows.push(Row {
+                made: AtomicU64::new(0),
+                destroyed: AtomicU64::new(0),
+            })?;
+        }
+        Ok(Record {
+            calls: AtomicU64::new(0),
+            rows,
+        })
+    }
+
+    /// How many calls there were that can fail.
+    pub fn calls(&self) -> u64 {
+        self.calls.load(Ordering::SeqCst)
+    }
+
+    /// Whether each object was made at most once, and destroyed as often as it was made.
+    pub fn is_even(&self) -> bool {
+        self.rows.iter().all(|row| {
+            let made = row.made.load(Ordering::SeqCst);
+            made <= 1 && row.destroyed.load(Ordering::SeqCst) == made
+        })
+    }
+
+    fn note_made(&self, id: u64) {
+        if let Some(row) = self.rows.get(id as usize) {
+            row.made.fetch_add(1, Ordering::SeqCst);
+        }
+    }
+
+    fn note_destroyed(&self, id: u64) {
+        if let Some(row) = self.rows.get(id as usize) {
+            row.destroyed.fetch_add(1, Ordering::SeqCst);
+        }
+    }
+}
+
+/// A factory that fails where it is told to, and keeps a record.
+#[derive(Drop)]
+pub struct Items<'a> {
+    pub record: &'a Record,
+    pub failing: Failing,
+}
+
+impl Items<'_> {
+    // Whether this call fails.
+    fn fails(&self, call: Call) -> bool {
+        let before = self.record.calls.fetch_add(1, Ordering::SeqCst);
+        match self.failing {
+            Failing::Never => false,
+            Failing::All(kind) => kind == call,
+            Failing::Nth(number) => before.wrapping_add(1) == number,
+        }
+    }
+}
+
+impl Factory<Item, u8> for Items<'_> {
+    ghost active = { λ v. v.awake ≡ true };
+
+    ghost valid = { λ v. v.id ≡ v.id };
+
+    ghost passive = { λ v. v.awake ≡ false };
+
+    ghost from_make = { λ f. f ≡ 7 };
+
+    ghost from_activate = { λ f. f ≡ 7 };
+
+    ghost from_passivate = { λ f. f ≡ 7 };
+
+    fn make(&self, id: u64) -> Result<Item, u8> {
+        if self.fails(Call::Make) {
+            return Err(FAULT);
+        }
+        self.record.note_made(id);
+        Ok(Item { id, awake: false })
+    }
+
+    fn activate(&self, value: &mut Item) -> Result<(), u8> {
+        if self.fails(Call::Activate) {
+            return Err(FAULT);
+        }
+        value.awake = true;
+        Ok(())
+    }
+
+    fn validate(&self, value: &Item) -> bool {
+        let _ = value;
+        !self.fails(Call::Validate)
+    }
+
+    fn passivate(&self, value: &mut Item) -> Result<(), u8> {
+        if self.fails(Call::Passivate) {
+            return Err(FAULT);
+        }
+        value.awake = false;
+        Ok(())
+    }
+
+    fn destroy(&self, value: Item) {
+        self.record.note_destroyed(value.id);
+    }
+}

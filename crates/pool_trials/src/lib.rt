@@ -1,0 +1,23 @@
+//! Trials of a shared pool: what its calls do to one journal, and what runs beside what.
+#![tactic(auto)]
+
+#[cfg(test)]
+mod clocks;
+#[cfg(test)]
+mod dropping;
+#[cfg(test)]
+mod faults;
+#[cfg(test)]
+mod gates;
+#[cfg(test)]
+mod items;
+#[cfg(test)]
+mod openings;
+#[cfg(test)]
+mod turns;
+#[cfg(test)]
+mod twins;
+#[cfg(test)]
+mod waiting;
+#[cfg(test)]
+mod watching;
