@@ -225,7 +225,7 @@ fn counts_meanwhile<B: Room, R: Wait + Abort>(
 
 fn reclaims_meanwhile<B: Room, R: Wait + Abort>(rt: &R, pool: &HeldPool<B>, me: Caller<B>) {
     let mut caller = me;
-    assert!(rt; matches!(&pool.clear(rt, &mut caller), Ok(0)));
+    assert!(rt; matches!(&pool.reclaim(rt, &mut caller), Ok(0)));
 }
 
 fn counts_beside<B: Room + Send + Sync, R: Threads + Wait + Abort + Sync>(

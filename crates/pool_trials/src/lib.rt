@@ -6,11 +6,15 @@ mod clocks;
 #[cfg(test)]
 mod dropping;
 #[cfg(test)]
+mod failing;
+#[cfg(test)]
 mod faults;
 #[cfg(test)]
 mod gates;
 #[cfg(test)]
 mod items;
+#[cfg(test)]
+mod life;
 #[cfg(test)]
 mod openings;
 #[cfg(test)]

@@ -1,0 +1,16 @@
+// The judgement of a journal, by the engine that the program `pool check` runs.
+use crate::fault::Fault;
+use pool_journal::{Entry, print_entry};
+use pool_load::check;
+use pool_settings::Settings;
+use std::alloc::Global;
+
+/// Whether a pool with these settings gives just these answers.
+pub fn is_legal(alloc: Global, settings: Settings, journal: &[Entry]) -> Result<bool, Fault> {
+    let mut text = Vec::new(alloc);
+    for entry in journal {
+        print_entry(entry, &mut text)?;
+    }
+    let mut verdict = Vec::new(alloc);
+    check(alloc, settings, &mut text.as_slice(), &mut verdict).map_err(|_| Fault::NotJudged)
+}

@@ -1,0 +1,140 @@
+//! An example: four servers answer requests over a pool of three connections.
+//!
+//! In the course of the day one connection breaks, and one is forgotten by the server that borrowed it. In the evening the
+//! pool is maintained, which takes the forgotten one away, and closed, and its journal is judged.
+#![tactic(auto)]
+
+ghost use Rattle.std.specs.Prelude.{◌≡◌};
+
+mod connections;
+mod fault;
+mod judging;
+mod serving;
+
+use connections::{Connection, Connector, Unreachable};
+use fault::Fault;
+use judging::is_legal;
+use pool_core::Core;
+use pool_journal::{Entry, Input};
+use pool_settings::Settings;
+use pool_shared::{Clock, Room, SharedPool, Site};
+use serving::serve;
+use std::alloc::Global;
+use std::marker::Brand;
+use std::sync::Wait;
+use std::sync::atomic::{AtomicU64, Ordering};
+use std::thread;
+use std::thread::Threads;
+
+/// How the pool is to behave.
+const SETTINGS: &str = "maxTotal = 3
+minIdle = 1
+testOnBorrow = true
+
+[abandoned]
+removeAbandonedOnMaintenance = true
+removeAbandonedTimeoutMillis = 60000
+";
+
+/// The number that tells this pool from others.
+const NUMBER: u64 = 1;
+
+const SERVERS: u32 = 4;
+
+const MORNING: u64 = 0;
+
+/// Ten hours later, in milliseconds.
+const EVENING: u64 = 36_000_000;
+
+/// A clock that is set by hand.
+#[derive(Drop)]
+struct Watch<'a> {
+    moment: &'a AtomicU64,
+}
+
+impl Clock for Watch<'_> {
+    fn now(&self) -> u64 {
+        self.moment.load(Ordering::SeqCst)
+    }
+}
+
+/// The pool of connections.
+type Connections<'a, B> = SharedPool<Connection, Unreachable, Connector, Watch<'a>, B>;
+
+/// What is left of a day.
+#[derive(Drop)]
+struct Evening {
+    core: Core<Connection>,
+    answered: u64,
+}
+
+// A day of the pool, with a caller for each server and one for the keeper.
+fn day<B: Room + Send + Sync, R: Threads + Wait + Sync>(
+    rt: &R,
+    alloc: Global,
+    site: Site,
+    settings: Settings,
+    moment: &AtomicU64,
+) -> Result<Evening, Fault>
+    requires { (site ≡ B.table) × (settings ≡ B.settings) × (5 ≡ B.callers) }
+{
+    let watch = Watch { moment };
+    let (pool, mut callers) = Connections::<B>::open(
+        rt,
+        alloc,
+        site,
+        settings,
+        NUMBER,
+        SERVERS + 1,
+        Connector,
+        watch,
+    )
+    .map_err(|_| Fault::NotOpened)?;
+    let mut keeper = callers.pop().ok_or(Fault::CallerMissing)?;
+
+    let mut back = Vec::new(alloc);
+    let mut answered = 0u64;
+    for served in thread::map_vec(rt, callers, &|me| serve(rt, &pool, me))? {
+        let (caller, count) = served?;
+        back.push(caller)?;
+        answered = answered.saturating_add(count);
+    }
+
+    moment.store(EVENING, Ordering::SeqCst);
+    pool.maintain(rt, &mut keeper)
+        .map_err(|_| Fault::NotMaintained)?;
+    pool.close(rt, &mut keeper).map_err(|_| Fault::NotClosed)?;
+    back.push(keeper)?;
+    let core = pool.finish(rt, back).map_err(|_| Fault::CallerMissing)?;
+    Ok(Evening { core, answered })
+}
+
+// How many connections were found broken.
+fn broken(journal: &[Entry]) -> usize {
+    journal
+        .iter()
+        .filter(|entry| matches!(entry.input, Input::Invalidate { id: _ }))
+        .count()
+}
+
+fn main(rt: HostRuntime) -> Result<(), Fault> {
+    let site = Site::new(rt.alloc())?;
+    let settings = Settings::from_text(rt.alloc(), SETTINGS).map_err(|_| Fault::Settings)?;
+    let moment = AtomicU64::new(MORNING);
+    let evening = day::<Brand, _>(&rt, rt.alloc(), site, settings, &moment)?;
+
+    let journal = evening.core.journal();
+    let counts = evening.core.counts();
+    let still_open = counts.idle + counts.lent + counts.reserved;
+    println!(rt; "requests answered: {}", evening.answered)?;
+    println!(rt; "connections broken: {}", broken(journal))?;
+    println!(rt; "connections forgotten: {}", counts.reclaimed)?;
+    println!(rt; "connections still open: {still_open}")?;
+    let verdict = if is_legal(rt.alloc(), settings, journal)? {
+        "legal"
+    } else {
+        "illegal"
+    };
+    println!(rt; "the journal: {verdict}")?;
+    Ok(())
+}

@@ -1,0 +1,48 @@
+// What a server does all day.
+use crate::Connections;
+use crate::connections::Request;
+use crate::fault::Fault;
+use pool_shared::{Caller, Room};
+use std::sync::Wait;
+
+/// How many requests each server answers.
+const REQUESTS: u32 = 100;
+
+// What is special about a request of a server.
+fn request_of(server: u32, request: u32) -> Request {
+    match (server, request) {
+        (0, 10) => Request::Fatal,
+        _ => Request::Usual,
+    }
+}
+
+// Whether a server forgets the connection that it borrowed for a request.
+fn forgets(server: u32, request: u32) -> bool {
+    server == 1 && request == 20
+}
+
+/// Answers requests, each over a connection that is borrowed for it. The number is how many had an answer.
+pub fn serve<B: Room, R: Wait>(
+    rt: &R,
+    pool: &Connections<B>,
+    me: Caller<B>,
+) -> Result<(Caller<B>, u64), Fault> {
+    let mut me = me;
+    let mut answered = 0u64;
+    for request in 0..REQUESTS {
+        let mut connection = pool.borrow(rt, &mut me).map_err(|_| Fault::NotBorrowed)?;
+        if !connection.value_mut().ask(request_of(me.number, request)) {
+            pool.invalidate(rt, &mut me, connection)
+                .map_err(|_| Fault::NotTakenBack)?;
+            continue;
+        }
+        answered = answered.saturating_add(1);
+        if forgets(me.number, request) {
+            drop(connection);
+        } else {
+            pool.give_back(rt, &mut me, connection)
+                .map_err(|_| Fault::NotTakenBack)?;
+        }
+    }
+    Ok((me, answered))
+}
