@@ -11,3 +11,4 @@ pub mod SettingsFile
 pub mod StatisticsLines
 pub mod Stats
 pub mod Tallier
+pub mod ReportLines

@@ -36,7 +36,7 @@ fn push_lines(out: &mut Vec<u8>, found: &Statistics) -> Result<(), AllocError>
 }
 
 /// Appends the line of a name and its number.
-fn push_line(out: &mut Vec<u8>, name: &[u8], number: u64) -> Result<(), AllocError>
+pub(crate) fn push_line(out: &mut Vec<u8>, name: &[u8], number: u64) -> Result<(), AllocError>
     ensures ok { OnOk result (out.new.items ≡ out.old.items ++ number_line name.now number) }
     ensures grows { Extends out.old.items out.new.items }
 {

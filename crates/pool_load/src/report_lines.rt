@@ -1,0 +1,47 @@
+ghost use Rattle.std.specs.Prelude.{◌≡◌, ◌++◌, OnOk};
+ghost use Rattle.pool_journal.specs.Appending.{Extends};
+ghost use Rattle.pool_load.specs.ReportLines.{report_text, HandsReport};
+
+use crate::engine_fault::EngineFault;
+use crate::outgoing::hand_on;
+use crate::statistics_lines::{push_line, push_statistics};
+use pool_work::LoadReport;
+use std::alloc::{AllocError, Global};
+use std::io::Write;
+
+/// Writes what a load found: lines of the number of its workers, of the rounds of each, and of the
+/// borrows that were refused, and then those of its statistics.
+///
+/// # Errors
+///
+/// `OutOfMemory`: nothing is then written. `Write`: a front of the lines may be.
+pub fn write_report<W: Write>(
+    alloc: Global,
+    workers: u32,
+    rounds: u64,
+    report: &LoadReport,
+    writer: &mut W,
+) -> Result<(), EngineFault>
+    ensures { HandsReport (report_text workers rounds report.now)
+        (W.contents writer.old) (W.contents writer.new) result }
+{
+    let mut lines = Vec::new(alloc);
+    match push_report(&mut lines, workers, rounds, report) {
+        Ok(()) => hand_on(&mut lines, writer),
+        Err(_) => Err(EngineFault::OutOfMemory),
+    }
+}
+
+fn push_report(
+    out: &mut Vec<u8>,
+    workers: u32,
+    rounds: u64,
+    report: &LoadReport,
+) -> Result<(), AllocError>
+    ensures { OnOk result (out.new.items ≡ out.old.items ++ report_text workers rounds report.now) }
+{
+    push_line(out, b"workers", u64::from(workers))?;
+    push_line(out, b"rounds", rounds)?;
+    push_line(out, b"refused", report.refused)?;
+    push_statistics(out, &report.stats)
+}
