@@ -10,11 +10,17 @@ const CHECK: &str = "check";
 
 const STATS: &str = "stats";
 
+const LOAD: &str = "load";
+
 const SETTINGS: &str = "SETTINGS";
 
 const SCRIPT: &str = "SCRIPT";
 
 const JOURNAL: &str = "JOURNAL";
+
+const WORKERS: &str = "WORKERS";
+
+const ROUNDS: &str = "ROUNDS";
 
 /// What the arguments ask for. Files are named by their paths.
 #[derive(Debug, Drop)]
@@ -27,6 +33,12 @@ pub(crate) enum Task {
     Check { settings: String, journal: String },
     /// To tell the statistics of a journal.
     Stats { journal: String },
+    /// To put a load on a pool: so many workers, and so many rounds of each.
+    Load {
+        settings: String,
+        workers: u32,
+        rounds: u64,
+    },
 }
 
 /// Reads the program's arguments. No argument at all asks for a run of standard input.
@@ -60,7 +72,8 @@ fn command<'a>(alloc: Global) -> Result<Command<'a>, AllocError> {
         .subcommand_required(true)
         .subcommand(command_of(alloc, RUN, &[SETTINGS, SCRIPT])?)?
         .subcommand(command_of(alloc, CHECK, &[SETTINGS, JOURNAL])?)?
-        .subcommand(command_of(alloc, STATS, &[JOURNAL])?)
+        .subcommand(command_of(alloc, STATS, &[JOURNAL])?)?
+        .subcommand(command_of(alloc, LOAD, &[SETTINGS, WORKERS, ROUNDS])?)
 }
 
 /// A command and what it is given, in this order.
@@ -89,6 +102,11 @@ fn task_in(alloc: Global, matches: &ArgMatches<'_>) -> Result<Task, Fault> {
         Some((STATS, given)) => Ok(Task::Stats {
             journal: path_in(alloc, given, JOURNAL)?,
         }),
+        Some((LOAD, given)) => Ok(Task::Load {
+            settings: path_in(alloc, given, SETTINGS)?,
+            workers: workers_in(given)?,
+            rounds: number_in(given, ROUNDS)?,
+        }),
         _ => Err(Fault::WrongArguments),
     }
 }
@@ -98,4 +116,30 @@ fn path_in(alloc: Global, given: &ArgMatches<'_>, name: &str) -> Result<String, 
         Some(path) => Ok(String::from_str(alloc, path)?),
         None => Err(Fault::WrongArguments),
     }
+}
+
+fn workers_in(given: &ArgMatches<'_>) -> Result<u32, Fault> {
+    match u32::try_from(number_in(given, WORKERS)?) {
+        Ok(workers) => Ok(workers),
+        Err(_) => Err(Fault::WrongArguments),
+    }
+}
+
+/// The number at an argument: decimal digits without leading zeros.
+fn number_in(given: &ArgMatches<'_>, name: &str) -> Result<u64, Fault> {
+    let Some(word) = given.get_str(name) else {
+        return Err(Fault::WrongArguments);
+    };
+    if !is_decimal(word.as_bytes()) {
+        return Err(Fault::WrongArguments);
+    }
+    match word.parse() {
+        Ok(number) => Ok(number),
+        Err(_) => Err(Fault::WrongArguments),
+    }
+}
+
+fn is_decimal(word: &[u8]) -> bool {
+    let leads = word.len() > 1 && word[0] == b'0';
+    !word.is_empty() && !leads && word.iter().all(|byte| byte.is_ascii_digit())
 }

@@ -1,4 +1,4 @@
-use pool_load::{EngineFault, FileFault};
+use pool_load::{EngineFault, FileFault, LoadFault};
 use std::alloc::AllocError;
 use std::io;
 use std::io::ErrorKind;
@@ -23,6 +23,8 @@ pub(crate) enum Fault {
     Settings(#[from] FileFault),
     #[error(transparent)]
     Engine(#[from] EngineFault),
+    #[error(transparent)]
+    Load(LoadFault),
 }
 
 impl Fault {
@@ -55,6 +57,16 @@ impl Fault {
         match self {
             Fault::WrongArguments => WRONG_ARGUMENTS,
             _ => FAULT,
+        }
+    }
+}
+
+/// Numbers out of their ranges are wrong arguments.
+impl From<LoadFault> for Fault {
+    fn from(fault: LoadFault) -> Fault {
+        match fault {
+            LoadFault::WorkerCount | LoadFault::RoundCount => Fault::WrongArguments,
+            _ => Fault::Load(fault),
         }
     }
 }
