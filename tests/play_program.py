@@ -10,11 +10,14 @@ Prints each case that differs, and in the end the line 'N passed, M failed'.
 
 import os
 import pathlib
+import resource
 import subprocess
 import sys
 import tempfile
 
 MOST = 1_048_576
+
+LITTLE_MEMORY = 1 << 30
 
 PLAIN_LIFE = b"""0 10 borrow 10 = make 0
 0 11 ready 0 good = lent
@@ -26,6 +29,9 @@ FILES = {
     "defaults.toml": b"",
     "small.toml": b"maxTotal = 1\n",
     "two_entries.toml": b"journalLimit = 2\n",
+    "seven_entries.toml": b"journalLimit = 7\n",
+    "four_objects.toml": b"maxTotal = 4\n",
+    "no_objects.toml": b"maxTotal = 0\nblockWhenExhausted = false\n",
     "longest.toml": b"maxTotal = 1\n".ljust(MOST, b"\n"),
     "too_long.toml": b"\xff".ljust(MOST + 1, b"\n"),
     "not_utf8.toml": b"lifo = true # \xff\n",
@@ -60,7 +66,17 @@ WRONG_ARGUMENTS = [
     "defaults.toml plain.script", "run run", "run --", "run -- defaults.toml",
     "stats", "STATS plain.journal", "stats --help", "stats -h", "help stats", "stats plain.journal more", "stats defaults.toml plain.journal",
     "stats -x plain.journal", "stats --journal plain.journal", "stats --",
+    "load", "LOAD defaults.toml 1 1", "load --help", "help load", "load defaults.toml", "load defaults.toml 1", "load defaults.toml 1 1 1",
+    "load -x defaults.toml 1 1", "load defaults.toml --workers=1 1", "load defaults.toml -1 1", "load defaults.toml 1 -1",
+    # Numbers out of their ranges, where the settings are good.
+    "load defaults.toml 0 1", "load defaults.toml 1 0", "load defaults.toml 0 0", "load defaults.toml 1024 1", "load defaults.toml 1 1000001",
+    "load defaults.toml 4294967295 1", "load defaults.toml 1 18446744073709551615",
 ]
+
+# Words that are no numbers of the format. They are told before any file is opened.
+NO_NUMBERS = ["", " ", "x", "01", "00", "+1", "1.0", "1e3", "0x1", "1_000", " 1", "1 ", "\u0661", "18446744073709551616", "9" * 300]
+
+NO_WORKERS = ["4294967296", "18446744073709551615"]
 
 NOT_TEXT = [[b"\xff"], [b"run", b"\xff", b"plain.script"], [b"run", b"defaults.toml", b"\xc3"], [b"check", b"\xe2\x82", b"plain.journal"]]
 
@@ -103,15 +119,11 @@ class Play:
 
     def expect(self, arguments, output, error, status, **streams):
         """The program must answer so. A stream that is not given is a pipe; where it is, nothing is compared there."""
-        words = [self.pool] + [word if isinstance(word, bytes) else word.encode() for word in arguments]
-        options = {"stdout": subprocess.PIPE, "stderr": subprocess.PIPE, "input": b"", **streams}
-        if "stdin" in options:
-            del options["input"]
-        done = subprocess.run(words, cwd=self.folder, timeout=60, **options)
+        done = self.run(arguments, **streams)
         wanted = (output, error, status)
         got = (
-            done.stdout if options["stdout"] == subprocess.PIPE else output,
-            done.stderr if options["stderr"] == subprocess.PIPE else error,
+            done.stdout if "stdout" not in streams else output,
+            done.stderr if "stderr" not in streams else error,
             done.returncode,
         )
         if got == wanted:
@@ -120,7 +132,23 @@ class Play:
         self.failed += 1
         for name, want, have in zip(("output", "standard error", "status"), wanted, got):
             if want != have:
-                print(f"{words[1:]}: {name} is {have!r}, and should be {want!r}")
+                print(f"{arguments}: {name} is {have!r}, and should be {want!r}")
+
+    def run(self, arguments, **options):
+        """What the program answers. A stream that is not given is a pipe."""
+        words = [self.pool] + [word if isinstance(word, bytes) else word.encode() for word in arguments]
+        options = {"stdout": subprocess.PIPE, "stderr": subprocess.PIPE, "input": b"", **options}
+        if "stdin" in options:
+            del options["input"]
+        return subprocess.run(words, cwd=self.folder, timeout=60, **options)
+
+    def note(self, good, told):
+        """Counts a case, and tells what was answered where that is wrong."""
+        if good:
+            self.passed += 1
+        else:
+            self.failed += 1
+            print(told)
 
 
 def make_files(folder):
@@ -168,6 +196,66 @@ def play_statistics(play):
     play.expect(["stats", "folder"], b"", *fault("read failed"))
     with open("/dev/full", "wb") as full:
         play.expect(["stats", "plain.journal"], b"", *fault("write failed"), stdout=full)
+
+
+def load_lines(workers, rounds, refused, *numbers):
+    """The lines of a load."""
+    return f"workers {workers}\nrounds {rounds}\nrefused {refused}\n".encode() + statistics(*numbers)
+
+
+def numbers_of(lines):
+    """The numbers of a load's lines, by their names."""
+    return {name: int(number) for name, number in (line.split(" ") for line in lines.decode().splitlines())}
+
+
+def play_loads(play):
+    once = (1, 1, 1, 1, 0, 0, 0, 1, 1)
+    for settings in ["defaults.toml", "seven_entries.toml", "small.toml", "four_objects.toml"]:
+        play.expect(["load", settings, "1", "1"], load_lines(1, 1, 0, *once), b"", 0)
+    play.expect(["load", "--", "-hyphen.toml", "1", "1"], load_lines(1, 1, 0, *once), b"", 0)
+    play.expect(["load", "/dev/stdin", "1", "1"], load_lines(1, 1, 0, *once), b"", 0, input=b"journalLimit = 7\n")
+    play.expect(["load", "defaults.toml", "1", "1000"], load_lines(1, 1000, 0, 1000, 1000, 1, 1, 0, 0, 0, 1, 1000), b"", 0)
+    play.expect(["load", "no_objects.toml", "3", "5"], load_lines(3, 5, 15, 0, 0, 0, 0, 0, 0, 0, 0, 0), b"", 0)
+    play.expect(["load", "seven_entries.toml", "1", "2"], b"", *fault("journal full"))
+    play.expect(["load", "two_entries.toml", "1023", "1000000"], b"", *fault("journal full"))
+    play_many_workers(play, "four_objects.toml", 4, 10)
+    play_many_workers(play, "small.toml", 3, 7)
+    play_many_workers(play, "defaults.toml", 100, 3)
+
+
+def play_many_workers(play, settings, workers, rounds):
+    """Where borrows wait, each round lends an object, which comes back."""
+    done = play.run(["load", settings, str(workers), str(rounds)])
+    found = numbers_of(done.stdout)
+    objects = int(found["created"])
+    all_rounds = workers * rounds
+    most = {"four_objects.toml": 4, "small.toml": 1}.get(settings, 8)
+    got = (list(found), found["workers"], found["rounds"], found["refused"], found["borrowed"], found["returned"], found["destroyed"], done.stderr, done.returncode)
+    wanted = (["workers", "rounds", "refused", *NAMES], workers, rounds, 0, all_rounds, all_rounds, objects, b"", 0)
+    play.note(got == wanted and 1 <= objects <= most, f"load {settings} {workers} {rounds}: {done}")
+
+
+def play_load_faults(play):
+    wrong = (b"", b"pool: wrong arguments\n", 2)
+    for settings in ["defaults.toml", "missing.toml", "not_toml.toml"]:
+        for word in NO_NUMBERS:
+            play.expect(["load", settings, word, "1"], *wrong)
+            play.expect(["load", settings, "1", word], *wrong)
+        for word in NO_WORKERS:
+            play.expect(["load", settings, word, "1"], *wrong)
+    for settings, told in SETTINGS_FAULTS.items():
+        play.expect(["load", settings, "1", "1"], b"", *fault(told))
+        # They are judged before the numbers are.
+        play.expect(["load", settings, "0", "18446744073709551615"], b"", *fault(told))
+    with open("/dev/full", "wb") as full:
+        play.expect(["load", "defaults.toml", "1", "1"], b"", *fault("write failed"), stdout=full)
+    # There is no memory for the stacks of so many threads.
+    done = play.run(["load", "defaults.toml", "1023", "1"], preexec_fn=with_little_memory)
+    play.note((done.stdout, done.stderr, done.returncode) == (b"", *fault("no thread")), f"load with too many threads: {done}")
+
+
+def with_little_memory():
+    resource.setrlimit(resource.RLIMIT_AS, (LITTLE_MEMORY, LITTLE_MEMORY))
 
 
 def play_wrong_arguments(play):
@@ -231,6 +319,8 @@ def main(pool):
         make_files(play.folder)
         play_good(play)
         play_statistics(play)
+        play_loads(play)
+        play_load_faults(play)
         play_wrong_arguments(play)
         play_settings_faults(play)
         play_stream_faults(play)
