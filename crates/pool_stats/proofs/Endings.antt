@@ -6,7 +6,7 @@ use Rattle.pool_journal.specs.declared.entry.Entry.{Entry}
 use Rattle.pool_stats.specs.Answers.{is_freed, is_reclaimed, is_evicting}
 use Rattle.pool_stats.specs.Ended.{ended_of, ended_after, one_more_if, MayGrow}
 
-count_push : (p : Entry → Bool) (J : List Entry) (e : Entry) → count_by p (J ++ e ∷ []) ≡ one_more_if (p e) (count_by p J)
+pub count_push : (p : Entry → Bool) (J : List Entry) (e : Entry) → count_by p (J ++ e ∷ []) ≡ one_more_if (p e) (count_by p J)
 count_push p J e = sum_by_push (λ x. if p x then 1 else 0) J e
 
 pub ended_of-push : (J : List Entry) (e : Entry) → ended_of (J ++ e ∷ []) ≡ ended_after e.answer e.input (ended_of J)

@@ -3,4 +3,5 @@ pub mod Counts
 pub mod Ended
 pub mod Lendings
 pub mod Statistics
+pub mod Tallied
 pub mod Words

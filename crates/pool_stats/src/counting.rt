@@ -1,25 +1,28 @@
 ghost use Rattle.std.specs.Prelude.{◌≡◌};
-ghost use Rattle.pool_journal.specs.Journal.{is_lent_answer, is_make_answer, drawn};
-ghost use Rattle.pool_stats.specs.Answers.{is_check, is_freed, is_reclaimed, is_evicting, is_failing, count_answers, count_entries};
+ghost use Rattle.pool_journal.specs.Journal.{is_lent_answer, is_make_answer};
+ghost use Rattle.pool_stats.specs.Answers.{is_check, is_freed, is_reclaimed, is_evicting, is_failing};
 
-use pool_journal::{Answer, Entry, Input, Outcome};
+use pool_journal::{Answer, Input, Outcome};
 
-fn is_lending(entry: &Entry) -> bool
-    ensures { result ≡ is_lent_answer entry.now.answer }
+/// Whether an object is lent.
+pub(crate) fn is_lending(answer: Answer) -> bool
+    ensures { result ≡ is_lent_answer answer }
 {
-    matches!(entry.answer, Answer::Lent)
+    matches!(answer, Answer::Lent)
 }
 
-fn is_checking(entry: &Entry) -> bool
-    ensures { result ≡ is_check entry.now.answer }
+/// Whether a lent object comes back.
+pub(crate) fn is_checking(answer: Answer) -> bool
+    ensures { result ≡ is_check answer }
 {
-    matches!(entry.answer, Answer::Check)
+    matches!(answer, Answer::Check)
 }
 
-fn is_making(entry: &Entry) -> bool
-    ensures { result ≡ is_make_answer entry.now.answer }
+/// Whether an object is to be made.
+pub(crate) fn is_making(answer: Answer) -> bool
+    ensures { result ≡ is_make_answer answer }
 {
-    matches!(entry.answer, Answer::Make(_))
+    matches!(answer, Answer::Make(_))
 }
 
 /// Whether the place is given up of an object that was destroyed or could not be made.
@@ -47,73 +50,15 @@ pub(crate) fn is_evicting(answer: Answer, input: Input) -> bool
     }
 }
 
-fn is_failing(entry: &Entry) -> bool
-    ensures { result ≡ is_failing entry.now.answer entry.now.input }
+/// Whether an object is to be destroyed because it failed its test for a borrow.
+pub(crate) fn is_failing(answer: Answer, input: Input) -> bool
+    ensures { result ≡ is_failing answer input }
 {
-    match (entry.answer, entry.input) {
+    match (answer, input) {
         (Answer::Destroy, Input::Ready { id: _, outcome }) => matches!(
             outcome,
             Outcome::TestFailed
         ),
         _ => false,
     }
-}
-
-/// How often an object was lent.
-pub(crate) fn count_borrowed(entries: &[Entry]) -> u64
-    ensures { result ≡ count_answers is_lent_answer entries.now }
-{
-    entries.iter().filter(|entry| is_lending(entry)).count() as u64
-}
-
-/// How often a lent object came back.
-pub(crate) fn count_returned(entries: &[Entry]) -> u64
-    ensures { result ≡ count_answers is_check entries.now }
-{
-    entries.iter().filter(|entry| is_checking(entry)).count() as u64
-}
-
-/// How many objects were to be made.
-#[tactic(auto, unfolding(pool_journal::specs::Journal::drawn))]
-pub(crate) fn count_created(entries: &[Entry]) -> u64
-    ensures { result ≡ drawn entries.now }
-{
-    entries.iter().filter(|entry| is_making(entry)).count() as u64
-}
-
-/// How many objects' places were given up after they were destroyed or could not be made.
-pub(crate) fn count_destroyed(entries: &[Entry]) -> u64
-    ensures { result ≡ count_answers is_freed entries.now }
-{
-    entries
-        .iter()
-        .filter(|entry| is_freeing(entry.answer))
-        .count() as u64
-}
-
-/// How many idle objects were to be destroyed by an eviction run, for their time or for a failed test.
-pub(crate) fn count_evicted(entries: &[Entry]) -> u64
-    ensures { result ≡ count_entries is_evicting entries.now }
-{
-    entries
-        .iter()
-        .filter(|entry| is_evicting(entry.answer, entry.input))
-        .count() as u64
-}
-
-/// How many objects were to be destroyed because they failed their test for a borrow.
-pub(crate) fn count_failed(entries: &[Entry]) -> u64
-    ensures { result ≡ count_entries is_failing entries.now }
-{
-    entries.iter().filter(|entry| is_failing(entry)).count() as u64
-}
-
-/// How many abandoned objects lost their places.
-pub(crate) fn count_reclaimed(entries: &[Entry]) -> u64
-    ensures { result ≡ count_answers is_reclaimed entries.now }
-{
-    entries
-        .iter()
-        .filter(|entry| is_reclaiming(entry.answer))
-        .count() as u64
 }

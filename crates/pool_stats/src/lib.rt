@@ -6,6 +6,7 @@ mod counts;
 mod ended;
 mod lendings;
 mod statistics;
+mod tally;
 
 pub use counts::Counts;
 pub use ended::Ended;
