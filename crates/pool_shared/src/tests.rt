@@ -14,6 +14,7 @@ use std::thread;
 use std::thread::Threads;
 
 mod stock;
+mod upkeep;
 
 #[derive(Drop)]
 struct Item {
