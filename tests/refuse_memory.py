@@ -1,79 +1,87 @@
 #!/usr/bin/env python3
-"""Refuses a program allocations, one in each run, and sees that it gives no wrong answer.
+"""Refuses a program its allocations, each in turn, and sees that it gives no wrong answer.
 
-    refuse_memory.py ends CRATE OUTPUT ARGUMENTS..
-    refuse_memory.py goes-on CRATE OUTPUT ARGUMENTS..
+    refuse_memory.py ends PROGRAM OUTPUT ARGUMENTS..
+    refuse_memory.py goes-on PROGRAM OUTPUT ARGUMENTS..
 
-CRATE is the folder of the program, and the file OUTPUT has what it writes where all allocations are granted. The program is
-run with ARGUMENTS where its Nth allocation is refused, as `rt try --fail-alloc N` does it.
+The file OUTPUT has what PROGRAM writes with ARGUMENTS where all allocations are granted. It is run once for each of its
+allocations, which is refused then (tests/refuse.c, built with the C compiler that CC names, or cc).
 
-- One that `ends` is refused some of its allocations, ever further apart, since each run takes half a minute. It must end with
-  status 3 and the line 'pool: out of memory', after some whole lines from the front of OUTPUT; or write the whole of it, where
-  it can do without what was refused, but not at the first allocation.
-- One that `goes-on` is refused each of its allocations in turn, and must write the whole of OUTPUT.
+- One that `ends` must end with status 3 and the line 'pool: out of memory', or 'pool: no thread' where it starts threads, after
+  some whole lines from the front of OUTPUT; or write the whole of it, where it can do without what was refused. The first
+  allocation it can't do without.
+- One that `goes-on` must write the whole of OUTPUT.
 
 Prints each run that differs, and in the end the line 'N passed, M failed'.
 """
 
+import itertools
+import os
 import pathlib
-import re
 import subprocess
 import sys
+import tempfile
 
-NUMBERS = [1, 2, 3, 5, 8, 13, 21, 34]
-BEYOND = 1_000_000
-FAULT = b"pool: out of memory"
+SOURCE = pathlib.Path(__file__).resolve().parent / "refuse.c"
+FAULTS = {b"pool: out of memory", b"pool: no thread"}
 
 
 class Program:
     """A program with its arguments, and what it writes."""
 
-    def __init__(self, crate, output_file, arguments):
-        self.crate, self.arguments = crate, arguments
+    def __init__(self, folder, path, output_file, arguments):
+        self.command = [path, *arguments]
         self.wanted = pathlib.Path(output_file).read_bytes()
+        self.library, self.mark = folder / "refuse.so", folder / "refused"
+        compiler = os.environ.get("CC", "cc")
+        subprocess.run([compiler, "-O1", "-shared", "-fPIC", "-o", self.library, SOURCE, "-ldl"], check=True)
 
     def refuse(self, number):
-        """What it writes where this allocation is refused: standard output, standard error, status."""
-        command = ["rt", "try", "--fail-alloc", str(number), "--", *self.arguments]
-        done = subprocess.run(command, cwd=self.crate, stdin=subprocess.DEVNULL, capture_output=True, timeout=600)
+        """What it writes where this allocation is refused, or none where the number is 0: output, error, status."""
+        settings = {"LD_PRELOAD": self.library, "REFUSE": str(number), "REFUSED": self.mark}
+        self.mark.unlink(missing_ok=True)
+        done = subprocess.run(
+            self.command, env=os.environ | settings, stdin=subprocess.DEVNULL, capture_output=True, timeout=60
+        )
         return done.stdout, done.stderr, done.returncode
+
+    def was_refused(self):
+        """Whether the last run made so many allocations."""
+        return self.mark.exists()
 
     def is_whole(self, output, error, status):
         return status == 0 and output == self.wanted
 
     def is_refused(self, output, error, status):
         whole_lines = output == b"" or output.endswith(b"\n")
-        return status == 3 and FAULT in error.splitlines() and whole_lines and self.wanted.startswith(output)
+        return status == 3 and error.rstrip(b"\n") in FAULTS and whole_lines and self.wanted.startswith(output)
 
 
-def runs_that_end(program):
-    """Each run, and whether it is right: refused, or whole but for the first."""
-    for number in NUMBERS:
+def runs(program, may_end):
+    """Each run, and whether it is right."""
+    ended = program.refuse(0)
+    yield 0, ended, program.is_whole(*ended)
+    for number in itertools.count(1):
         ended = program.refuse(number)
-        yield number, ended, program.is_refused(*ended) or (number > 1 and program.is_whole(*ended))
+        if not program.was_refused():
+            break
+        refused = may_end and program.is_refused(*ended)
+        yield number, ended, refused or (program.is_whole(*ended) and not (may_end and number == 1))
 
 
-def runs_that_go_on(program):
-    """Each run, and whether it is right: the whole output, whichever allocation is refused."""
-    ended = program.refuse(BEYOND)
-    made = re.search(rb"^allocations: (\d+)$", ended[1], re.MULTILINE)
-    yield BEYOND, ended, program.is_whole(*ended) and made is not None
-    for number in range(1, int(made[1]) + 1 if made else 1):
-        ended = program.refuse(number)
-        yield number, ended, program.is_whole(*ended)
-
-
-def main(kind, program):
+def main(kind, path, output_file, *arguments):
     passed, failed = 0, 0
-    for number, (output, error, status), is_right in {"ends": runs_that_end, "goes-on": runs_that_go_on}[kind](program):
-        if is_right:
-            passed += 1
-        else:
-            failed += 1
-            print(f"allocation {number}: status {status}, wrote {output!r} and {error!r}")
+    with tempfile.TemporaryDirectory() as folder:
+        program = Program(pathlib.Path(folder), path, output_file, arguments)
+        for number, (output, error, status), is_right in runs(program, {"ends": True, "goes-on": False}[kind]):
+            if is_right:
+                passed += 1
+            else:
+                failed += 1
+                print(f"allocation {number}: status {status}, wrote {output!r} and {error!r}")
     print(f"{passed} passed, {failed} failed")
     return 1 if failed else 0
 
 
 if __name__ == "__main__":
-    sys.exit(main(sys.argv[1], Program(sys.argv[2], sys.argv[3], sys.argv[4:])))
+    sys.exit(main(*sys.argv[1:]))
