@@ -28,16 +28,17 @@ pub fn serve<B: Room, R: Wait>(
     me: Caller<B>,
 ) -> Result<(Caller<B>, u64), Fault> {
     let mut me = me;
+    let server = me.number();
     let mut answered = 0u64;
     for request in 0..REQUESTS {
         let mut connection = pool.borrow(rt, &mut me).map_err(|_| Fault::NotBorrowed)?;
-        if !connection.value_mut().ask(request_of(me.number, request)) {
+        if !connection.value_mut().ask(request_of(server, request)) {
             pool.invalidate(rt, &mut me, connection)
                 .map_err(|_| Fault::NotTakenBack)?;
             continue;
         }
         answered = answered.saturating_add(1);
-        if forgets(me.number, request) {
+        if forgets(server, request) {
             drop(connection);
         } else {
             pool.give_back(rt, &mut me, connection)
