@@ -1,5 +1,5 @@
 // Many workers at once, and what their history says.
-ghost use Rattle.std.specs.Prelude.{◌≡◌, ◌+◌, ℕ, Ok, IfOk, IfErr, OnOk};
+ghost use Rattle.std.specs.Prelude.{◌≡◌, ◌+◌, ◌*◌, ℕ, Ok, IfOk, IfErr, OnOk};
 ghost use Rattle.pool_shared.specs.Clears.{CloseRow};
 ghost use Rattle.pool_work.specs.Workers.{StopsLoad};
 ghost use Rattle.pool_work.specs.Loads.{IsInRange, IsLoad, IsLoadFault};
@@ -52,6 +52,7 @@ pub fn load<G: Gate, R: Threads + Wait + Sync>(
 ) -> Result<LoadReport, LoadFault>
     ensures range { OnOk result (IsInRange workers rounds) }
     ensures load { IfOk result (λ r. IsLoad settings workers rounds r.refused r.stats) }
+    ensures rounds { IfOk result (λ r. r.stats.borrowed + r.refused ≡ workers * rounds) }
     ensures fault { IfErr result (IsLoadFault settings workers rounds) }
 {
     if workers == 0 || workers > MOST_WORKERS {

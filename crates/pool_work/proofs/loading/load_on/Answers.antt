@@ -31,6 +31,8 @@ returns-in-Ok-of-clause-load g c =
     let whole = c.in-Ok-finish.ensures.whole in
     let back : c.push.new.self.items ≡ after ++ last' ∷ [] = c.in-Ok-push.ensures.items ∙ ap (λ l. l ++ last' ∷ []) took.callers in
     let worked = subst (λ o. AllWorked s rounds front after o) took.refused.1 c.in_ok-worked.ensures.ok in
+    let stored : c.journal.result.now ≡ whole.whole = c.journal.ensures.entries ∙ whole.ends in
+    let told : stats ≡ statistics_of whole.whole = c.in-Ok-of.ensures ∙ ap statistics_of stored in
     subst (λ (S : Settings). IsLoad S workers rounds refused stats) (sym c.requires.room.1)
     (loaded s rounds workers front after last last' fs whole.whole refused row.0 stats c.in-Ok.opened.1.items c.in-Ok.ensures.count.1 c.in-Ok.ensures.new c.in-Some.ensures.items worked c.in_ok-close.ensures.number row.1 whole.legal
-      (subst (λ l. EachMade l whole.whole) back whole.each) (subst (λ l. AllUnder l whole.whole) back whole.all) took.refused.2 (c.in-Ok-of.ensures ∙ ap statistics_of (c.journal.ensures.entries ∙ whole.ends)))
+      (subst (λ l. EachMade l whole.whole) back whole.each) (subst (λ l. AllUnder l whole.whole) back whole.all) took.refused.2 told)
