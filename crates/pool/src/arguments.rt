@@ -28,11 +28,19 @@ pub(crate) enum Task {
     /// To play standard input with the default settings.
     RunInput,
     /// To play a script.
-    Run { settings: String, script: String },
+    Run {
+        settings: String,
+        script: String,
+    },
     /// To judge a journal.
-    Check { settings: String, journal: String },
+    Check {
+        settings: String,
+        journal: String,
+    },
     /// To tell the statistics of a journal.
-    Stats { journal: String },
+    Stats {
+        journal: String,
+    },
     /// To put a load on a pool: so many workers, and so many rounds of each.
     Load {
         settings: String,

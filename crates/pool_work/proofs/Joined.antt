@@ -1,5 +1,5 @@
 -- What joined threads kept, in the order in which they were started.
-use Rattle.std.proofs.Common.{◌≡◌, ℕ, ◌+◌, ◌*◌, ◌<◌, ◌≤◌, List, [], ◌∷◌, ◌++◌, length, length-append, map, Option, Some, None, Result, Ok, Err, slice_get, refl, sym, ap, ◌∙◌, subst, add_assoc, arith}
+use Rattle.std.proofs.Common.{◌≡◌, ℕ, ◌+◌, ◌*◌, ◌<◌, ◌≤◌, List, [], ◌∷◌, ◌++◌, length, length-append, map, Option, Some, None, Result, Ok, Err, slice_get, refl, sym, ap, ◌∙◌, subst, arith}
 use Rattle.std.specs.Prelude.{slice_index_or, sum}
 use Rattle.std.specs.Option.{option_map}
 use Rattle.std.proofs.lemmas.List.{length-map, map-append}
@@ -47,8 +47,8 @@ module _ {H W : Type 0} (before : H → Standing) (rounds : H → ℕ) (caller :
           let handle : k.0 ≡ began.x = k.1 ∙ get_or_from_slice_get hs i began.x k.0 began.at in
           let worker : slice_index_or ws i ended.x ≡ ended.x = get_or_from_slice_get ws i ended.x ended.x ended.at in
           let counts : Some (rounds began.x) ≡ Some n =
-              sym (slice_get-map rounds hs i ∙ ap (option_map rounds) began.at) ∙ ap (λ (l : List ℕ). slice_get l i) each
-              ∙ slice_get-map (λ (c : Standing). n) cs i ∙ ap (option_map (λ (c : Standing). n)) at_b in
+          sym (slice_get-map rounds hs i ∙ ap (option_map rounds) began.at) ∙ ap (λ (l : List ℕ). slice_get l i) each
+          ∙ slice_get-map (λ (c : Standing). n) cs i ∙ ap (option_map (λ (c : Standing). n)) at_b in
           let count : rounds k.0 ≡ n = ap rounds handle ∙ cc counts in
           let w = subst (λ (w : W). Works s (rounds k.0) (outcome w) (before k.0) (caller w)) worker k.2 in
           let r = subst (λ (m : ℕ). Works s m (outcome ended.x) (before k.0) (caller ended.x)) count w in

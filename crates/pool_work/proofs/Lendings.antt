@@ -1,7 +1,6 @@
 -- Each round lends an object or is refused.
-use Rattle.std.proofs.Common.{◌≡◌, ℕ, zero, suc, ◌+◌, ◌*◌, ◌<◌, ◌≤◌, ◌==◌, Bool, true, false, cond, if◌then◌else◌, List, [], ◌∷◌, ◌++◌, length, Option, Some, None, Result, Ok, Err, slice_get, take, add-one, refl, sym, ap, ◌∙◌, subst, arith}
+use Rattle.std.proofs.Common.{◌≡◌, ℕ, zero, suc, ◌+◌, ◌*◌, ◌<◌, ◌≤◌, ◌==◌, Bool, true, false, cond, if◌then◌else◌, List, [], ◌∷◌, ◌++◌, length, Some, Result, Ok, Err, slice_get, take, add-one, refl, sym, ap, ◌∙◌, subst, arith}
 use Rattle.std.specs.Prelude.{IfOk, sum, slice_index}
-use Rattle.std.specs.List.{filter}
 use Rattle.std.proofs.lemmas.Bool.Decides.{nat_tests}
 use Rattle.std.proofs.lemmas.List.Sums.{sum_by-cons}
 use Rattle.std.proofs.Math.Nat.{zero-mul, suc-mul}
@@ -9,7 +8,6 @@ use Rattle.pool_journal.specs.Journal.{is_lent_answer}
 use Rattle.pool_journal.specs.declared.entry.Entry.{Entry}
 use Rattle.pool_journal.specs.declared.input.Input.{Input}
 use Rattle.pool_journal.specs.declared.input.Input.TheVariants as inputs
-use Rattle.pool_journal.specs.declared.input.When.TheVariants as times
 use Rattle.pool_journal.specs.declared.input.Outcome.{Outcome}
 use Rattle.pool_journal.specs.declared.answer.Answer.{Answer}
 use Rattle.pool_journal.specs.declared.answer.Answer.TheVariants as answers
@@ -17,15 +15,14 @@ use Rattle.pool_settings.specs.declared.settings.Settings.{Settings}
 use Rattle.pool_stats.specs.Answers.{count_answers}
 use Rattle.pool_core.specs.Legal.{IsLegal}
 use Rattle.pool_history.specs.Rule.{own, AllBelow}
-use Rattle.pool_history.specs.Standings.{Standing, newcomer_at}
 use Rattle.pool_shared.specs.Walks.{walked, AllDue}
 use Rattle.pool_shared.specs.Borrows as borrows
 use Rattle.pool_shared.specs.Returns as returns
 use Rattle.pool_shared.specs.Clears as clears
 use Rattle.pool_work.specs.declared.load_fault.LoadFault.{LoadFault}
 use Rattle.pool_work.specs.declared.loading.LoadReport.{LoadReport}
-use Rattle.pool_work.specs.Rounds.{IsRefusal, BorrowDone, BorrowRefused, ReturnDone, Round, lends, refuses, IsWorked}
-use Rattle.pool_work.specs.Loads.{OnlyCloses, IsLoad}
+use Rattle.pool_work.specs.Rounds.{IsRefusal, Round, lends, refuses, IsWorked}
+use Rattle.pool_work.specs.Loads.{IsLoad}
 use Rattle.pool_work.proofs.Replies.{is_ready, lends_ready}
 
 -- 1 for an answer that lends
@@ -284,7 +281,7 @@ all_rounds s workers rounds refused r load =
     let none = none_lent (own workers J) (ordered_own workers J all) (subst NoneReady last (close_none clears.begins row.es row.due)) in
     let each = pairs (λ w. lent_in (own w J)) (λ w. slice_index load.refusals w) rounds workers (λ w lt. worked_lends s rounds (slice_index load.refusals w) (own w J) (ordered_own w J all) (load.worked w lt)) in
     let sums : refused ≡ sum_to (λ w. slice_index load.refusals w) workers =
-        load.all ∙ sum_total load.refusals ∙ total_at load.refusals ∙ ap (λ n. sum_to (λ w. slice_index load.refusals w) n) load.each in
+    load.all ∙ sum_total load.refusals ∙ total_at load.refusals ∙ ap (λ n. sum_to (λ w. slice_index load.refusals w) n) load.each in
     let told : r.stats.borrowed ≡ lent_in J = ap (λ t. t.borrowed) load.told ∙ lent_counted J in
     omega (arith, lent, none, each, sums, told)
 

@@ -1,7 +1,7 @@
 -- Only an object that gets ready is lent.
-use Rattle.std.proofs.Common.{◌≡◌, ℕ, ◌||◌, Bool, true, false, if◌then◌else◌, List, [], ◌∷◌, length, Option, Some, None, refl, sym, ap, ◌∙◌}
+use Rattle.std.proofs.Common.{◌≡◌, ℕ, ◌||◌, Bool, true, false, if◌then◌else◌, List, length, Option, Some, None, refl}
 use Rattle.std.specs.Prelude.{not, ◌-◌}
-use Rattle.pool_journal.specs.Journal.{phase, is_new, drawn, closed, records, present, cursor, is_lent_answer}
+use Rattle.pool_journal.specs.Journal.{phase, drawn, closed, records, present, cursor, is_lent_answer}
 use Rattle.pool_journal.specs.Queue.{idle_queue, first_of, queue_length}
 use Rattle.pool_journal.specs.declared.record.Record.{Record}
 use Rattle.pool_journal.specs.declared.record.Phase.{Phase}
@@ -15,7 +15,7 @@ use Rattle.pool_journal.specs.declared.answer.Answer.{Answer}
 use Rattle.pool_journal.specs.declared.answer.Answer.TheVariants as answers
 use Rattle.pool_journal.specs.declared.answer.Cause.TheVariants as causes
 use Rattle.pool_settings.specs.declared.settings.Settings.{Settings}
-use Rattle.pool_core.specs.Reply.{reply, borrow_reply, full_reply, has_reached, choice, is_below, ready_reply, lent_reply, park_reply, returning_reply, has_room, added_reply, adding_reply, tested_reply, testing_reply, destroyed_reply, add_reply, has_enough, evicts, evict_next_reply, examined, reclaim_next_reply, clear_next_reply, forgotten}
+use Rattle.pool_core.specs.Reply.{reply, borrow_reply, full_reply, has_reached, choice, is_below, lent_reply, park_reply, returning_reply, has_room, added_reply, adding_reply, tested_reply, testing_reply, destroyed_reply, add_reply, has_enough, evicts, evict_next_reply, examined, reclaim_next_reply, clear_next_reply, forgotten}
 
 abbrev pub is_ready : Input → Bool
 is_ready (Ready i o) = true
@@ -91,7 +91,7 @@ pub lends_ready : (s : Settings) (at : ℕ) (J : List Entry) (input : Input) →
 lends_ready s at J (Borrow began) other =
     either (closed J) (answers.Refused causes.Closed) (borrow_reply (choice s.lifo (records J)) (is_below s.max_total (length (present J))) (drawn J) (full_reply s (at - began))) refl
     (borrow_idle (choice s.lifo (records J)) (is_below s.max_total (length (present J))) (drawn J) (full_reply s (at - began))
-      (either s.block_when_exhausted (if has_reached s.max_wait_millis (at - began) then answers.TimedOut else answers.Wait) answers.Exhausted (either (has_reached s.max_wait_millis (at - began)) answers.TimedOut answers.Wait refl refl) refl))
+    (either s.block_when_exhausted (if has_reached s.max_wait_millis (at - began) then answers.TimedOut else answers.Wait) answers.Exhausted (either (has_reached s.max_wait_millis (at - began)) answers.TimedOut answers.Wait refl refl) refl))
 lends_ready s at J (Ready i o) other = absurd (cc other)
 lends_ready s at J (GiveBack i) other = lent_idle s.abandoned (phase i J) answers.Check refl
 lends_ready s at J (Park i o) other = park_idle (phase i J) o (has_room s (closed J) (records J))

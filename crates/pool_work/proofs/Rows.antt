@@ -22,7 +22,7 @@ use Rattle.pool_shared.specs.Returns as returns
 use Rattle.pool_core.specs.Legal.{IsLegal}
 use Rattle.pool_work.specs.declared.load_fault.LoadFault.{LoadFault}
 use Rattle.pool_work.specs.declared.load_fault.LoadFault.TheVariants as stops
-use Rattle.pool_work.specs.Rounds.{IsRefusal, IsThrough, BorrowDone, BorrowRefused, ReturnDone, Round, lends, refuses, IsWorked, MakesRound, MakesRounds, IsOwn, StopsFor, IsFull, Stops}
+use Rattle.pool_work.specs.Rounds.{IsRefusal, IsThrough, ReturnDone, Round, lends, refuses, IsWorked, MakesRound, MakesRounds, IsOwn, StopsFor, IsFull, Stops}
 
 module _ (T E : Type 0) (number : ℕ) where
   refused_no : (a : Answer) (l : Lent T) → borrows.IsResult {T = T} {E = E} number (borrows.refused a) (Ok l) → ⊥

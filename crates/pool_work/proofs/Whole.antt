@@ -1,5 +1,5 @@
 -- A history that joined workers and a close have made.
-use Rattle.std.proofs.Common.{◌≡◌, ⊎_elim, ◌⊎◌, inl, inr, ℕ, zero, suc, ◌+◌, ◌<◌, ◌≤◌, List, [], ◌∷◌, ◌++◌, length, map, take, Option, Some, None, Result, Ok, slice_get, append-nil, length-append, add-one, refl, sym, ap, ◌∙◌, subst, arith}
+use Rattle.std.proofs.Common.{◌≡◌, ⊎_elim, ◌⊎◌, inl, inr, ℕ, zero, suc, ◌+◌, ◌<◌, List, [], ◌∷◌, ◌++◌, length, map, Some, Ok, slice_get, length-append, add-one, refl, sym, ap, ◌∙◌, subst, arith}
 use Rattle.std.specs.Prelude.{sum, slice_index, slice_index_or}
 use Rattle.std.specs.Option.{option_map}
 use Rattle.std.proofs.lemmas.List.{length-map}
@@ -10,13 +10,12 @@ use Rattle.pool_stats.specs.Statistics.{statistics_of}
 use Rattle.pool_stats.specs.declared.statistics.Statistics.{Statistics}
 use Rattle.pool_core.specs.Legal.{IsLegal}
 use Rattle.pool_history.specs.Ends.{EachMade, AllUnder}
-use Rattle.pool_history.specs.Rule.{own, AllBelow, Begins}
+use Rattle.pool_history.specs.Rule.{own, AllBelow}
 use Rattle.pool_history.specs.Standings.{Standing, newcomer_at}
 use Rattle.pool_shared.specs.Clears.{CloseRow}
-use Rattle.pool_work.specs.declared.load_fault.LoadFault.{LoadFault}
 use Rattle.pool_work.specs.Rounds.{IsWorked, MakesRounds}
-use Rattle.pool_work.specs.Workers.{Works, AllWorked}
-use Rattle.pool_work.specs.Loads.{OnlyCloses, IsLoad}
+use Rattle.pool_work.specs.Workers.{AllWorked}
+use Rattle.pool_work.specs.Loads.{IsLoad}
 
 below_of : (n : ℕ) (H : List Entry) → ((k : ℕ) (e : Entry) → slice_get H k ≡ Some e → e.caller < n) → AllBelow n H
 below_of n [] each = tt

@@ -83,7 +83,16 @@ fn load_on<B: Room + Send + Sync, G: Gate, R: Threads + Wait + Sync>(
     ensures stops { IfErr result (StopsLoad settings) }
 {
     let callers = workers + 1;
-    let (pool, mut callers) = match IdPool::<B>::open(rt, alloc, site, settings, 0, callers, Ids, Ticks::new()) {
+    let (pool, mut callers) = match IdPool::<B>::open(
+        rt,
+        alloc,
+        site,
+        settings,
+        0,
+        callers,
+        Ids,
+        Ticks::new(),
+    ) {
         Ok(opened) => opened,
         Err(OpenFault::CallerCount) => unreachable!(),
         Err(OpenFault::OutOfMemory) => return Err(LoadFault::OutOfMemory),

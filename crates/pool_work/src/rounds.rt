@@ -7,7 +7,8 @@ use crate::load_fault::LoadFault;
 use pool_shared::{BorrowFault, Caller, Clock, Factory, ReturnFault, Room, SharedPool};
 use std::sync::Wait;
 
-/// A borrow that the pool refused for a cause of its own is a refusal. For want of room or memory a worker stops.
+/// A borrow that the pool refused for a cause of its own is a refusal. For want of room or memory a
+/// worker stops.
 fn pass_over<E>(fault: &BorrowFault<E>) -> Result<(), LoadFault>
     ensures own { IfOk result (λ u. IsOwn fault.now) }
     ensures stops { IfErr result (λ stop. StopsFor stop fault.now) }

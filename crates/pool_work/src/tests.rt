@@ -33,7 +33,8 @@ impl Counter {
 impl Gate for Counter {
     fn pass(&self, _worker: u32, _round: u64) {
         let others = self.inside.fetch_add(1, Ordering::SeqCst);
-        self.most.fetch_max(others.saturating_add(1), Ordering::SeqCst);
+        self.most
+            .fetch_max(others.saturating_add(1), Ordering::SeqCst);
         self.passed.fetch_add(1, Ordering::SeqCst);
         thread::yield_now();
         self.inside.fetch_sub(1, Ordering::SeqCst);
@@ -116,15 +117,24 @@ fn one_round(rt: HostRuntime) -> Result<(), Fail> {
     };
     let report = LoadReport { refused: 0, stats };
     assert_eq!(rt; answer(&rt, rt.alloc(), "", 1, 1), (Ok(report), 1));
-    assert_eq!(rt; answer(&rt, rt.alloc(), "journalLimit = 7", 1, 1), (Ok(report), 1));
+    assert_eq!(rt;
+        answer(&rt, rt.alloc(), "journalLimit = 7", 1, 1),
+        (Ok(report), 1)
+    );
     Ok(())
 }
 
 #[test]
 fn no_room(rt: HostRuntime) -> Result<(), Fail> {
     let full = Err(LoadFault::JournalFull);
-    assert_eq!(rt; answer(&rt, rt.alloc(), "journalLimit = 7", 1, 2), (full, 1));
-    assert_eq!(rt; answer(&rt, rt.alloc(), "journalLimit = 6", 1, 1), (full, 0));
+    assert_eq!(rt;
+        answer(&rt, rt.alloc(), "journalLimit = 7", 1, 2),
+        (full, 1)
+    );
+    assert_eq!(rt;
+        answer(&rt, rt.alloc(), "journalLimit = 6", 1, 1),
+        (full, 0)
+    );
     Ok(())
 }
 
@@ -204,10 +214,25 @@ fn counted_from_0(rt: HostRuntime) -> Result<(), Fail> {
 
 #[test]
 fn words_of_faults(rt: HostRuntime) -> Result<(), Fail> {
-    assert_eq!(rt; format!(in rt.alloc(); "{}", LoadFault::JournalFull)?.as_str(), "pool: journal full");
-    assert_eq!(rt; format!(in rt.alloc(); "{}", LoadFault::OutOfMemory)?.as_str(), "pool: out of memory");
-    assert_eq!(rt; format!(in rt.alloc(); "{}", LoadFault::NoThread)?.as_str(), "pool: no thread");
-    assert_eq!(rt; format!(in rt.alloc(); "{}", LoadFault::WorkerCount)?.as_str(), "pool: wrong number of workers");
-    assert_eq!(rt; format!(in rt.alloc(); "{}", LoadFault::RoundCount)?.as_str(), "pool: wrong number of rounds");
+    assert_eq!(rt;
+        format!(in rt.alloc(); "{}", LoadFault::JournalFull)?.as_str(),
+        "pool: journal full"
+    );
+    assert_eq!(rt;
+        format!(in rt.alloc(); "{}", LoadFault::OutOfMemory)?.as_str(),
+        "pool: out of memory"
+    );
+    assert_eq!(rt;
+        format!(in rt.alloc(); "{}", LoadFault::NoThread)?.as_str(),
+        "pool: no thread"
+    );
+    assert_eq!(rt;
+        format!(in rt.alloc(); "{}", LoadFault::WorkerCount)?.as_str(),
+        "pool: wrong number of workers"
+    );
+    assert_eq!(rt;
+        format!(in rt.alloc(); "{}", LoadFault::RoundCount)?.as_str(),
+        "pool: wrong number of rounds"
+    );
     Ok(())
 }

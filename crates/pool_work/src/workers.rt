@@ -88,7 +88,8 @@ fn start_all<'s, E, B: Room + Send + Sync, G: Gate, R: Threads + Wait + Sync>(
     rounds: u64,
 ) -> Result<Vec<PromisedHandle<Worked<B>, WorkOf<B>>>, LoadFault>
     ensures begun { IfOk result (λ v. map (λ h. h.promise.before.value) v.items ≡ callers.items) }
-    ensures long { IfOk result (λ v. map (λ h. h.promise.rounds) v.items ≡ map (λ c. rounds) callers.items) }
+    ensures long { IfOk result (λ v.
+        map (λ h. h.promise.rounds) v.items ≡ map (λ c. rounds) callers.items) }
     ensures err { IfErr result (λ fault. IsWanting fault) }
 {
     let mut threads = Vec::new(alloc);
@@ -116,7 +117,8 @@ fn work_in<'s, E, B: Room + Send + Sync, G: Gate, R: Threads + Wait + Sync>(
     callers: Vec<Caller<B>>,
     rounds: u64,
 ) -> Result<Vec<Worked<B>>, LoadFault>
-    ensures ok { IfOk result (λ v. AllWorked B.settings rounds callers.items (map (λ w. w.caller) v.items) (map (λ w. w.outcome) v.items)) }
+    ensures ok { IfOk result (λ v. AllWorked B.settings rounds callers.items
+        (map (λ w. w.caller) v.items) (map (λ w. w.outcome) v.items)) }
     ensures err { IfErr result (λ fault. IsWanting fault) }
 {
     let started = start_all(scope, rt, alloc, pool, gate, start, callers, rounds);
@@ -143,7 +145,8 @@ pub(crate) fn work_all<B: Room + Send + Sync, G: Gate, R: Threads + Wait + Sync>
     callers: Vec<Caller<B>>,
     rounds: u64,
 ) -> Result<Vec<Worked<B>>, LoadFault>
-    ensures ok { IfOk result (λ v. AllWorked B.settings rounds callers.items (map (λ w. w.caller) v.items) (map (λ w. w.outcome) v.items)) }
+    ensures ok { IfOk result (λ v. AllWorked B.settings rounds callers.items
+        (map (λ w. w.caller) v.items) (map (λ w. w.outcome) v.items)) }
     ensures err { IfErr result (λ fault. IsWanting fault) }
 {
     let start = Start::new();
@@ -152,7 +155,8 @@ pub(crate) fn work_all<B: Room + Send + Sync, G: Gate, R: Threads + Wait + Sync>
         thread::scope_env(),
         rt,
         move |scope| -> Result<Vec<Worked<B>>, LoadFault>
-            ensures ok { IfOk result (λ v. AllWorked B.settings rounds callers.items (map (λ w. w.caller) v.items) (map (λ w. w.outcome) v.items)) }
+            ensures ok { IfOk result (λ v. AllWorked B.settings rounds callers.items
+                (map (λ w. w.caller) v.items) (map (λ w. w.outcome) v.items)) }
             ensures err { IfErr result (λ fault. IsWanting fault) }
         { work_in(scope, rt, alloc, pool, gate, shared, callers, rounds) },
     )
@@ -164,9 +168,11 @@ pub(crate) fn collect_all<B: Room>(
     workers: Vec<Worked<B>>,
 ) -> Result<(u64, Vec<Caller<B>>), LoadFault>
     requires few { length workers.items ≤ 1023 }
-    requires each { (i : ℕ) (d : _) → i < length workers.items → IsOutcome B.settings 1000000 (slice_index_or workers.items i d).outcome (slice_index_or workers.items i d).caller }
+    requires each { (i : ℕ) (d : _) → i < length workers.items → IsOutcome B.settings 1000000
+        (slice_index_or workers.items i d).outcome (slice_index_or workers.items i d).caller }
     ensures callers { IfOk result (λ r. r.1.items ≡ map (λ w. w.caller) workers.items) }
-    ensures refused { IfOk result (λ r. (refusals : List ℕ) × (map (λ w. w.outcome) workers.items ≡ map Ok refusals) × (r.0 ≡ sum refusals)) }
+    ensures refused { IfOk result (λ r. (refusals : List ℕ)
+        × (map (λ w. w.outcome) workers.items ≡ map Ok refusals) × (r.0 ≡ sum refusals)) }
     ensures stops { IfErr result (StopsLoad B.settings) }
 {
     let mut callers = Vec::new(alloc);

@@ -1,8 +1,7 @@
-use Rattle.std.proofs.Common.{◌≡◌, ◌∷◌, ◌++◌, [], List, map, Result, Ok, ap, sym, ◌∙◌, subst, ℕ}
+use Rattle.std.proofs.Common.{◌≡◌, ◌∷◌, ◌++◌, [], map, ap, sym, ◌∙◌, subst}
 use Rattle.pool_settings.specs.declared.settings.Settings.{Settings}
 use Rattle.pool_stats.specs.Statistics.{statistics_of}
 use Rattle.pool_history.specs.Ends.{EachMade, AllUnder}
-use Rattle.pool_history.specs.Standings.{Standing}
 use Rattle.pool_work.specs.Workers.{AllWorked}
 use Rattle.pool_work.specs.Loads.{IsLoad}
 use Rattle.pool_work.proofs.Joined.{outcomes_within}
@@ -35,4 +34,4 @@ returns-in-Ok-of-clause-load g c =
     let told : stats ≡ statistics_of whole.whole = c.in-Ok-of.ensures ∙ ap statistics_of stored in
     subst (λ (S : Settings). IsLoad S workers rounds refused stats) (sym c.requires.room.1)
     (loaded s rounds workers front after last last' fs whole.whole refused row.0 stats c.in-Ok.opened.1.items c.in-Ok.ensures.count.1 c.in-Ok.ensures.new c.in-Some.ensures.items worked c.in_ok-close.ensures.number row.1 whole.legal
-      (subst (λ l. EachMade l whole.whole) back whole.each) (subst (λ l. AllUnder l whole.whole) back whole.all) took.refused.2 told)
+    (subst (λ l. EachMade l whole.whole) back whole.each) (subst (λ l. AllUnder l whole.whole) back whole.all) took.refused.2 told)
