@@ -1,6 +1,7 @@
 -- The entries of additions, and of a fill.
-use Rattle.std.proofs.Common.{◌≡◌, ℕ, ◌+◌, Bool, false, List, [], ◌∷◌, Option, None, Result, Ok, Err, refl, ap, ◌∙◌, subst, arith}
-use Rattle.std.specs.Prelude.{min}
+use Rattle.std.proofs.Common.{◌≡◌, ℕ, ◌+◌, ◌^◌, ◌<◌, ◌≤◌, ◌==◌, Bool, false, List, [], ◌∷◌, length, Option, None, Result, Ok, Err, length-append, refl, sym, ap, ◌∙◌, subst, arith}
+use Rattle.std.specs.Prelude.{not, OnOk}
+use Rattle.std.proofs.lemmas.List.Filters.{length-filter_both}
 use Rattle.pool_journal.specs.declared.entry.Entry.{Entry}
 use Rattle.pool_journal.specs.declared.input.Input.{Input}
 use Rattle.pool_journal.specs.declared.input.Input.TheVariants.{Fill, Added, Destroyed}
@@ -12,7 +13,8 @@ use Rattle.pool_settings.specs.declared.settings.Settings.{Settings}
 use Rattle.pool_core.specs.declared.step_fault.StepFault.{StepFault}
 use Rattle.pool_core.specs.declared.step_fault.StepFault.TheVariants.{JournalFull}
 use Rattle.pool_core.specs.Legal.{entry_of}
-use Rattle.pool_history.specs.Standings.{Standing}
+use Rattle.pool_history.specs.Rule.{own}
+use Rattle.pool_history.specs.Standings.{Standing, Goes}
 use Rattle.pool_shared.specs.declared.faults.Addition.{Addition}
 use Rattle.pool_shared.specs.declared.faults.Addition.TheVariants as additions
 use Rattle.pool_shared.specs.declared.faults.AddFault.{AddFault}
@@ -22,7 +24,7 @@ use Rattle.pool_shared.specs.Walks.{walked, AllDue, EndsWithMade}
 use Rattle.pool_shared.specs.Adds as addition
 use Rattle.pool_shared.specs.Adds.{makes, ending, Leaves, IsStocked}
 use Rattle.pool_shared.specs.Fills as fills
-use Rattle.pool_shared.specs.Fills.{Stage, asks, adds, adding, through, failed, Goes_on, Finishes, FillRow, Turns}
+use Rattle.pool_shared.specs.Fills.{Stage, asks, adds, adding, through, failed, lost, Goes_on, Finishes, FillRow, Turns}
 use Rattle.pool_shared.proofs.Walking.{walk_none, walk_one, walk_on}
 
 stocked_leaves : {E : Type 0} (s : Settings) (input : Input) (r : Result Addition (AddFault E)) (me : Standing) → IsStocked r → EndsWithMade me → Leaves s input r me
@@ -97,19 +99,75 @@ module _ (s : Settings) (n : ℕ) where
   pub short_turn : {T E : Type 0} (f : StepFault T) (before after : Standing) → Refuses s Fill None f before after → Turns {E = E} s n (Err faults.OutOfMemory) before after
   short_turn f before after refuses = record { to = asks n; made = walk_none (fills.Due s) fills.next (asks n) before after refuses.same; ends = tt; leaves = tt }
 
+-- how many are parked at a stage
+reached : Stage → ℕ
+reached (asks n) = n
+reached (adds n stage) = n
+reached (through n) = n
+reached (failed o) = 0
+reached lost = 0
+
+reached_adding : (n : ℕ) (stage : addition.Stage) → reached (adding n stage) ≤ n + 1
+unfolding reached
+reached_adding n addition.parked = omega arith
+reached_adding n (addition.gone outcomes.Good) = omega arith
+reached_adding n (addition.gone _) = omega arith
+reached_adding n _ = omega arith
+
+reached_asking : (n : ℕ) (a : Answer) → reached (fills.after_asking n a) ≤ n + 1
+unfolding reached
+reached_asking n (answers.Make i) = omega arith
+reached_asking n answers.Enough = omega arith
+reached_asking n answers.NoPlace = omega arith
+reached_asking n _ = omega arith
+
+-- each entry parks one at most
+reached_next : (stage : Stage) (e : Entry) → reached (fills.next stage e) ≤ reached stage + 1
+unfolding reached
+reached_next (asks n) e = reached_asking n e.answer
+reached_next (adds n stage) e = reached_adding n (addition.next stage e)
+reached_next (through n) e = omega arith
+reached_next (failed o) e = omega arith
+reached_next lost e = omega arith
+
+reached_walked : (stage : Stage) (es : List Entry) → reached (walked fills.next stage es) ≤ reached stage + length es
+reached_walked stage [] = omega arith
+reached_walked stage (e ∷ es) = omega (arith, reached_next stage e, reached_walked (fills.next stage e) es)
+
+-- a fill has parked no more than it made entries
+pub few_parked : (s : Settings) (n : ℕ) (first now : Standing) → Goes_on s (asks 0) first now (asks n) → n ≤ length now.made
+unfolding reached
+few_parked s n first now w =
+    let parked : reached (walked fills.next (asks 0) w.es) ≡ n = ap reached w.comes in
+    omega (arith, parked, reached_walked (asks 0) w.es, ap length w.made, length-append first.made w.es)
+
+own_within : (n : ℕ) (J : List Entry) → length (own n J) ≤ length J
+own_within n J = omega (arith, length-filter_both (λ (e : Entry). e.caller == n) (λ e. not (e.caller == n)) (λ e. refl) J)
+
+-- one entry more than a caller has made is seen
+pub few_made : (s : Settings) (input : Input) (a : Answer) (before after : Standing) → Makes input a before after → Goes s before after → length after.seen < 2 ^ 64 → length before.made + 1 < 2 ^ 64
+few_made s input a before after made goes few =
+    let e = entry_of before.number made.0 input a in
+    let mine : length after.made ≤ length after.seen = subst (λ l. length l ≤ length after.seen) (sym goes.all) (own_within after.number after.seen) in
+    omega (arith, mine, few, ap length made.1.more, length-append before.made (e ∷ []))
+
+pub either_way : {A E : Type 0} (r : Result A E) (n : ℕ) → n + 1 < 2 ^ 64 → OnOk r (n + 1 < 2 ^ 64)
+either_way (Ok a) n few = few
+either_way (Err f) n few = tt
+
 -- what a fill keeps, which has parked so many: the number that it tells
 abbrev pub IsFilling : Settings → ℕ → Standing → Standing → Type 0
-IsFilling s told first now = (n : ℕ) × (told ≡ min n 18446744073709551615) × Goes_on s (asks 0) first now (asks n)
+IsFilling s told first now = (n : ℕ) × (told ≡ n) × Goes_on s (asks 0) first now (asks n)
 
 -- a fill after one more turn
-module _ (s : Settings) (n told : ℕ) (first now after : Standing) (telling : told ≡ min n 18446744073709551615) (w : Goes_on s (asks 0) first now (asks n)) where
+module _ (s : Settings) (n told : ℕ) (first now after : Standing) (telling : told ≡ n) (w : Goes_on s (asks 0) first now (asks n)) where
   further : (to : Stage) → Goes_on s (asks n) now after to → Goes_on s (asks 0) first after to
   further to more = walk_on (fills.Due s) fills.next (asks 0) (asks n) to first now after w more
 
   turned_to : (a b : Addition) → a ≡ b → Goes_on s (asks n) now after (fills.turned n a) → Goes_on s (asks 0) first after (fills.turned n b)
   turned_to a b is turn = further (fills.turned n b) (subst (λ x. Goes_on s (asks n) now after (fills.turned n x)) is turn)
 
-  pub one_parked : (a : Addition) (more : ℕ) → a ≡ additions.Idle → more ≡ min (told + 1) 18446744073709551615 → Goes_on s (asks n) now after (fills.turned n a) → IsFilling s more first after
+  pub one_parked : (a : Addition) (more : ℕ) → a ≡ additions.Idle → more ≡ told + 1 → Goes_on s (asks n) now after (fills.turned n a) → IsFilling s more first after
   one_parked a more is counted turn = (n + 1, omega (arith, counted, telling), turned_to a additions.Idle is turn)
 
   pub one_lost : (a : Addition) → a ≡ additions.Destroyed → Goes_on s (asks n) now after (fills.turned n a) → IsFilling s told first after

@@ -1,5 +1,5 @@
 -- The sections of a fill.
-use Rattle.std.specs.Prelude.{◌≡◌, ℕ, ◌+◌, Result, Ok, Err, min}
+use Rattle.std.specs.Prelude.{◌≡◌, ℕ, ◌+◌, Result, Ok, Err}
 use Rattle.pool_journal.specs.declared.entry.Entry.{Entry}
 use Rattle.pool_journal.specs.declared.input.Input.TheVariants.{Fill}
 use Rattle.pool_journal.specs.declared.input.Outcome.{Outcome}
@@ -64,9 +64,9 @@ IsFaultOf outcomes.CreateTestFailed faults.CreateTestFailed = Unit {0}
 IsFaultOf outcomes.PassivateFailed (faults.PassivateFailed f) = Unit {0}
 IsFaultOf _ _ = ⊥
 
--- what a fill answers that stands there, up to 2^64 - 1; where it asks, that section was refused
+-- what a fill answers that stands there; where it asks, that section was refused
 abbrev pub IsResult : {E : Type 0} → Stage → Result ℕ (AddFault E) → Type 0
-IsResult (through n) (Ok told) = told ≡ min n 18446744073709551615
+IsResult (through n) (Ok told) = told ≡ n
 IsResult (failed o) (Err f) = IsFaultOf o f
 IsResult (asks n) (Err f) = IsRoomFault f
 IsResult _ _ = ⊥

@@ -1,5 +1,5 @@
 // A fill of the stock of idle objects, in its sections.
-ghost use Rattle.std.specs.Prelude.{ℕ, IfErr};
+ghost use Rattle.std.specs.Prelude.{ℕ, ◌+◌, ◌<◌, ◌^◌, length, OnOk, IfErr};
 ghost use Rattle.pool_history.specs.Standings.{Goes};
 ghost use Rattle.pool_shared.specs.Adds.{IsAddFaultFrom};
 ghost use Rattle.pool_shared.specs.Fills.{Turns, FillRow};
@@ -23,6 +23,7 @@ impl<T: Drop, E: Drop, F: Factory<T, E> + Drop, C: Clock + Drop, B: Room> Shared
     fn add_missing<R: Wait>(&self, rt: &R, me: &mut Caller<B>) -> Result<Addition, AddFault<E>>
         ensures goes { Goes B.settings me.old me.new }
         ensures turn { (n : ℕ) → Turns B.settings n result me.old me.new }
+        ensures few { OnOk result (length me.old.made + 1 < 2 ^ 64) }
         ensures fault { IfErr result (IsAddFaultFrom F.from_make F.from_passivate) }
     {
         match self.ask(rt, me, Input::Fill, None) {
@@ -36,7 +37,7 @@ impl<T: Drop, E: Drop, F: Factory<T, E> + Drop, C: Clock + Drop, B: Room> Shared
     }
 
     /// Makes objects and parks them, until as many lie idle as the settings want or there is no free place. The number
-    /// is how many it parked, at most 2^64 - 1. On a closed pool it is 0.
+    /// is how many it parked. On a closed pool it is 0.
     ///
     /// # Errors
     ///
@@ -50,7 +51,7 @@ impl<T: Drop, E: Drop, F: Factory<T, E> + Drop, C: Clock + Drop, B: Room> Shared
         let mut parked = 0u64;
         for _ in rt.forever() {
             match self.add_missing(rt, me) {
-                Ok(Addition::Idle) => parked = parked.saturating_add(1),
+                Ok(Addition::Idle) => parked += 1,
                 Ok(Addition::Destroyed) => {}
                 Ok(Addition::NoPlace) => return Ok(parked),
                 Err(fault) => return Err(fault),
