@@ -58,7 +58,8 @@ impl<T: Drop, E: Drop, F: Factory<T, E> + Drop, C: Clock + Drop, B: Room> Shared
         began: u64,
     ) -> MutexGuard<'a, Desk<T, E, F, B>> {
         if self.settings.max_wait_millis < 0 {
-            self.changed.wait_while(rt, desk, |desk| desk.would_wait(began))
+            self.changed
+                .wait_while(rt, desk, |desk| desk.would_wait(began))
         } else {
             self.changed.wait(rt, desk)
         }
