@@ -10,6 +10,8 @@ mod failing;
 #[cfg(test)]
 mod faults;
 #[cfg(test)]
+mod full;
+#[cfg(test)]
 mod gates;
 #[cfg(test)]
 mod items;
@@ -23,5 +25,7 @@ mod turns;
 mod twins;
 #[cfg(test)]
 mod waiting;
+#[cfg(test)]
+mod waking;
 #[cfg(test)]
 mod watching;

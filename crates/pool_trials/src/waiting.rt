@@ -1,4 +1,4 @@
-// A borrow that waits is woken: by an object that comes back, and by the end of the pool.
+// A borrow that waits is woken: by an object that comes back, by a place that is free again, and by the end of the pool.
 ghost use Rattle.std.specs.Prelude.{◌≡◌};
 
 use crate::clocks::Still;
@@ -15,10 +15,20 @@ use std::test::Fail;
 use std::thread;
 use std::thread::Threads;
 
+/// One place. What is lent is abandoned at once.
+const SETTINGS: &str = "maxTotal = 1
+
+[abandoned]
+removeAbandonedOnMaintenance = true
+removeAbandonedTimeoutMillis = 0
+";
+
 /// How the wait is ended.
 #[derive(Clone, Copy, PartialEq, Eq)]
 enum Ending {
     GiveBack,
+    Invalidate,
+    Reclaim,
     Close,
 }
 
@@ -83,16 +93,19 @@ fn ends<B: Room, R: Wait + Abort>(
         Ending::GiveBack => {
             let back = pool.give_back(rt, &mut caller, lent);
             assert!(rt; matches!(&back, Ok(Returned::Parked)));
-            assert!(rt; turn_until_lent(rt, pool, &mut caller), "the turns ran out");
         }
-        Ending::Close => {
-            assert!(rt; matches!(&pool.close(rt, &mut caller), Ok(0)));
-            assert!(rt;
-                turn_until_steps(rt, pool, &mut caller, 5),
-                "the turns ran out"
-            );
+        Ending::Invalidate => {
+            let back = pool.invalidate(rt, &mut caller, lent);
+            assert!(rt; matches!(&back, Ok(Returned::Destroyed)));
         }
+        Ending::Reclaim => assert!(rt; matches!(&pool.reclaim(rt, &mut caller), Ok(1))),
+        Ending::Close => assert!(rt; matches!(&pool.close(rt, &mut caller), Ok(0))),
     }
+    let has_come = match ending {
+        Ending::Close => turn_until_steps(rt, pool, &mut caller, 5),
+        _ => turn_until_lent(rt, pool, &mut caller),
+    };
+    assert!(rt; has_come, "the turns ran out");
 }
 
 fn wakes<B: Room + Send + Sync, R: Threads + Wait + Abort + Sync>(
@@ -121,22 +134,42 @@ fn wakes<B: Room + Send + Sync, R: Threads + Wait + Abort + Sync>(
     Ok(came)
 }
 
+// One wait for the only place of a pool.
+fn tries<R: Threads + Wait + Abort + Sync>(
+    rt: &R,
+    alloc: Global,
+    ending: Ending,
+) -> Result<Came, Fail> {
+    let site = Site::new(alloc)?;
+    let settings = Settings::from_text(alloc, SETTINGS)?;
+    let record = Record::new(alloc, 8)?;
+    wakes::<Brand, R>(rt, alloc, site, settings, &record, ending)
+}
+
 #[test]
 fn what_comes_back_goes_to_who_waits(rt: HostRuntime) -> Result<(), Fail> {
-    let site = Site::new(rt.alloc())?;
-    let settings = Settings::from_text(rt.alloc(), "maxTotal = 1")?;
-    let record = Record::new(rt.alloc(), 8)?;
-    let came = wakes::<Brand, _>(&rt, rt.alloc(), site, settings, &record, Ending::GiveBack)?;
+    let came = tries(&rt, rt.alloc(), Ending::GiveBack)?;
     assert_eq!(rt; came, Came::Lent(0));
     Ok(())
 }
 
 #[test]
+fn the_place_of_a_broken_object_goes_to_who_waits(rt: HostRuntime) -> Result<(), Fail> {
+    let came = tries(&rt, rt.alloc(), Ending::Invalidate)?;
+    assert_eq!(rt; came, Came::Lent(1));
+    Ok(())
+}
+
+#[test]
+fn the_place_of_a_forgotten_object_goes_to_who_waits(rt: HostRuntime) -> Result<(), Fail> {
+    let came = tries(&rt, rt.alloc(), Ending::Reclaim)?;
+    assert_eq!(rt; came, Came::Lent(1));
+    Ok(())
+}
+
+#[test]
 fn who_waits_learns_of_the_end(rt: HostRuntime) -> Result<(), Fail> {
-    let site = Site::new(rt.alloc())?;
-    let settings = Settings::from_text(rt.alloc(), "maxTotal = 1")?;
-    let record = Record::new(rt.alloc(), 8)?;
-    let came = wakes::<Brand, _>(&rt, rt.alloc(), site, settings, &record, Ending::Close)?;
+    let came = tries(&rt, rt.alloc(), Ending::Close)?;
     assert_eq!(rt; came, Came::Closed);
     Ok(())
 }

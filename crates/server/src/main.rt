@@ -68,7 +68,8 @@ struct Evening {
     answered: u64,
 }
 
-// A day of the pool, with a caller for each server and one for the keeper.
+// A day of the pool, with a caller for each server and one for the keeper. `B` stands for this one pool: so the check knows
+// that the callers are its own.
 fn day<B: Room + Send + Sync, R: Threads + Wait + Sync>(
     rt: &R,
     alloc: Global,

@@ -11,7 +11,7 @@ use std::sync::Wait;
 pub type Pool<'a, B> = SharedPool<Thing, (), Fickle<'a>, Ticking, B>;
 
 /// How many calls each caller makes.
-const CALLS: u32 = 200;
+const CALLS: u32 = 500;
 
 /// What callers do in a pool that has nothing to lend.
 #[derive(Clone, Copy, PartialEq, Eq)]
@@ -35,7 +35,10 @@ pub struct Player<B: Room> {
 
 impl<B: Room> Player<B> {
     pub fn new(alloc: Global, me: Caller<B>, seed: u64, manner: Manner) -> Player<B> {
-        let dice = Dice::new(seed.wrapping_mul(1_000).wrapping_add(u64::from(me.number)));
+        let dice = Dice::new(
+            seed.wrapping_mul(1_000)
+                .wrapping_add(u64::from(me.number())),
+        );
         Player {
             me,
             marks: Vec::new(alloc),
@@ -199,9 +202,9 @@ impl<B: Room> Player<B> {
 
     // A call that is made seldom. A pool is closed now and then.
     fn call_seldom<R: Wait>(&mut self, rt: &R, pool: &Pool<B>) -> Result<(), Fault> {
-        match self.dice.roll(100) {
+        match self.dice.roll(300) {
             0 => self.close(rt, pool),
-            1..=19 => self.clear(rt, pool),
+            1..=50 => self.clear(rt, pool),
             _ => {
                 let _counts = pool.counts(rt, &mut self.me);
                 Ok(())
@@ -249,11 +252,14 @@ impl<B: Room> Player<B> {
         (me, marks)
     }
 
-    /// Makes all its calls, and gives back what it holds.
+    /// Makes all its calls, and gives back what it holds. By chance it closes the pool before.
     pub fn play<R: Wait>(self, rt: &R, alloc: Global, pool: &Pool<B>) -> Result<Player<B>, Fault> {
         let mut player = self;
         for _ in 0..CALLS {
             player.call(rt, pool)?;
+        }
+        if player.dice.roll(4) == 0 {
+            player.close(rt, pool)?;
         }
         player.give_all_back(rt, alloc, pool)?;
         Ok(player)

@@ -48,8 +48,8 @@ removeAbandonedTimeoutMillis = 200
 ";
 
 /// A pool in which they wait.
-const WAITING: &str = "maxTotal = 2
-minIdle = 2
+const WAITING: &str = "maxTotal = 1
+minIdle = 1
 lifo = false
 testOnBorrow = true
 testWhileIdle = true
@@ -100,7 +100,7 @@ fn play<B: Room + Send + Sync, R: Threads + Wait + Sync>(
         forgotten = forgotten.saturating_add(player.forgotten);
         let (me, marks) = player.leave();
         all.push(Played {
-            number: me.number,
+            number: me.number(),
             marks,
         })?;
         back.push(me)?;

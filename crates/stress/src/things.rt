@@ -4,6 +4,7 @@ ghost use Rattle.std.specs.Prelude.{◌≡◌, true, false};
 use crate::dice::Dice;
 use pool_shared::{Clock, Factory};
 use std::sync::atomic::{AtomicU64, Ordering};
+use std::thread;
 
 /// One call of the factory in so many fails.
 const FAILS_OF: u64 = 12;
@@ -46,7 +47,9 @@ pub struct Fickle<'a> {
 }
 
 impl Fickle<'_> {
+    // Whether a call fails. The others have their turn meanwhile.
     fn fails(&self) -> bool {
+        thread::yield_now();
         let call = self.tally.calls.fetch_add(1, Ordering::SeqCst);
         let mut dice = Dice::new(self.seed.wrapping_add(call));
         dice.roll(FAILS_OF) == 0

@@ -1,4 +1,4 @@
-use Rattle.pool_trials.proofs.waiting.who_waits_learns_of_the_end.Given as goal
+use Rattle.pool_trials.proofs.waiting.tries.Given as goal
 
 abbrev pub ghosts-wakes : goal.ghosts-wakes
 ghosts-wakes g a = record { table = a.site; settings = a.settings; callers = 2 }
