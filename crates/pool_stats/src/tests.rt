@@ -1,5 +1,5 @@
-use crate::Statistics;
-use pool_journal::{Entry, read_entry};
+use crate::{Ended, Statistics};
+use pool_journal::{Answer, Entry, Input, Outcome, read_entry};
 use std::alloc::{AllocError, Global};
 use std::process::Abort;
 use std::test::Fail;
@@ -109,4 +109,21 @@ fn statistics_of_journals(rt: HostRuntime) -> Result<(), Fail> {
         assert_eq!(rt; found, numbers(wanted), "at {text}");
     }
     Ok(())
+}
+
+#[test]
+fn ends_one_by_one(rt: HostRuntime) {
+    let outcome = Outcome::TestFailed;
+    let ended = Ended::none()
+        .after(Input::Tested { id: 0, outcome }, Answer::Destroy)
+        .after(Input::Destroyed { id: 0 }, Answer::Freed)
+        .after(Input::EvictNext, Answer::DestroyIdle(1))
+        .after(Input::ReclaimNext, Answer::Reclaimed(2))
+        .after(Input::EvictNext, Answer::KeptIdle(3));
+    let wanted = Ended {
+        destroyed: 1,
+        evicted: 2,
+        reclaimed: 1,
+    };
+    assert_eq!(rt; ended, wanted);
 }
