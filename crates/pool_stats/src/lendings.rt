@@ -5,7 +5,9 @@ ghost use Rattle.std.specs.Ordering.{nat_cmp};
 ghost use Rattle.pool_journal.specs.Journal.{is_of};
 ghost use Rattle.pool_stats.specs.Lendings.{begun_by, ended_by, time_since, times};
 ghost use Rattle.pool_stats.specs.Statistics.{greatest, bounded_sum};
+ghost use Rattle.pool_stats.specs.Tallied.{tally_of};
 
+use crate::tally::Tally;
 use pool_journal::{Answer, Entry, Input};
 use std::alloc::{AllocError, Global};
 use std::collections::BTreeMap;
@@ -76,19 +78,22 @@ fn note_begun(begun: &mut BTreeMap<u64, u64>, entry: &Entry) -> Result<(), Alloc
     Ok(())
 }
 
-/// Goes over the entries, and keeps for each object the moment at which it was lent last.
-pub(crate) fn lending_times(alloc: Global, entries: &[Entry]) -> Result<LendingTimes, AllocError>
-    ensures longest { IfOk result (λ found. found.longest ≡ greatest (times entries.now)) }
-    ensures total { IfOk result (λ found. found.total ≡ bounded_sum (times entries.now)) }
+/// Goes over the entries once: counts them, and keeps for each object the moment at which it was lent last.
+pub(crate) fn go_over(alloc: Global, entries: &[Entry]) -> Result<(Tally, LendingTimes), AllocError>
+    ensures tally { IfOk result (λ found. found.0 ≡ tally_of entries.now) }
+    ensures longest { IfOk result (λ found. found.1.longest ≡ greatest (times entries.now)) }
+    ensures total { IfOk result (λ found. found.1.total ≡ bounded_sum (times entries.now)) }
 {
     let mut begun = BTreeMap::new(alloc);
+    let mut tally = Tally::none();
     let mut longest = 0u64;
     let mut total = 0u64;
     for entry in entries {
+        tally = tally.after(entry.input, entry.answer);
         let time = time_ended(&begun, entry);
         longest = longest.max(time);
         total = total.saturating_add(time);
         note_begun(&mut begun, entry)?;
     }
-    Ok(LendingTimes { longest, total })
+    Ok((tally, LendingTimes { longest, total }))
 }

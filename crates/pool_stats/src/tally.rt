@@ -1,6 +1,6 @@
 use crate::counting::{is_checking, is_failing, is_lending, is_making};
 use crate::ended::Ended;
-use pool_journal::{Answer, Entry, Input};
+use pool_journal::{Answer, Input};
 
 /// How many entries there are of each kind that is counted.
 #[derive(Clone, Copy)]
@@ -20,9 +20,9 @@ impl Tally {
     ghost use Rattle.std.specs.Prelude.{◌≡◌, []};
     ghost use Rattle.pool_stats.specs.Tallied.{tally_of, tally_after, MayTally};
 
-    // None, before the first entry.
+    /// None, before the first entry.
     #[tactic(auto, unfolding(pool_journal::specs::Journal::drawn))]
-    fn none() -> Tally
+    pub(crate) fn none() -> Tally
         ensures { result ≡ tally_of [] }
     {
         Tally {
@@ -34,8 +34,8 @@ impl Tally {
         }
     }
 
-    // The numbers with one entry more, which gives this answer to this input.
-    fn after(self, input: Input, answer: Answer) -> Tally
+    /// The numbers with one entry more, which gives this answer to this input.
+    pub(crate) fn after(self, input: Input, answer: Answer) -> Tally
         requires { MayTally self }
         ensures { result ≡ tally_after answer input self }
     {
@@ -46,16 +46,5 @@ impl Tally {
             borrow_test_failed: self.borrow_test_failed + u64::from(is_failing(answer, input)),
             ended: self.ended.after(input, answer),
         }
-    }
-
-    /// Counts the entries, in one walk.
-    pub(crate) fn of(entries: &[Entry]) -> Tally
-        ensures { result ≡ tally_of entries.now }
-    {
-        let mut found = Tally::none();
-        for entry in entries {
-            found = found.after(entry.input, entry.answer);
-        }
-        found
     }
 }

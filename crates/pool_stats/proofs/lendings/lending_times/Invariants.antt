@@ -1,8 +1,0 @@
-use Rattle.std.proofs.Common.{take}
-use Rattle.std.specs.BTreeMap.{get}
-use Rattle.std.specs.Ordering.{nat_cmp}
-use Rattle.pool_stats.proofs.Times.{Walked}
-use Rattle.pool_stats.proofs.lendings.lending_times.Given as goal
-
-abbrev pub invariant-loop-entry : goal.invariant-loop-entry
-invariant-loop-entry l = Walked (take l.entry-index l.entries) (get nat_cmp l.begun) l.longest l.total
