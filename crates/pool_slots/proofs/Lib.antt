@@ -1,0 +1,5 @@
+pub mod Chains
+pub mod Items
+pub mod Keys
+pub mod Moves
+pub mod Queues

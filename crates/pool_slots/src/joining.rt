@@ -1,0 +1,71 @@
+ghost use Rattle.std.specs.Prelude.{◌≡◌, ℕ, Option, IfSome};
+ghost use Rattle.slab.specs.Slab.{ContainsKey};
+ghost use Rattle.pool_slots.specs.Links.{after_of, before_of, items_of, Leads};
+
+use crate::slot::Slot;
+use slab::Slab;
+
+// Lets `after` come after `before`, and nothing else. At `None` that is the first.
+fn set_after<T>(
+    slots: &mut Slab<Slot<T>>,
+    first: &mut Option<usize>,
+    before: Option<usize>,
+    after: Option<usize>,
+)
+    requires { IfSome before (λ key. ContainsKey slots.old key) }
+    ensures forward { Leads (after_of slots.old first.old) (after_of slots.new first.new) before after }
+    ensures backward { (last p : Option ℕ) →
+        before_of slots.new last p ≡ before_of slots.old last p }
+    ensures items { items_of slots.new ≡ items_of slots.old }
+    ensures capacity { slots.new.capacity ≡ slots.old.capacity }
+{
+    match before {
+        None => *first = after,
+        Some(key) => {
+            let slot = &mut slots[key];
+            slot.after = after;
+        }
+    }
+}
+
+// Lets `before` come before `after`, and nothing else. At `None` that is the last.
+fn set_before<T>(
+    slots: &mut Slab<Slot<T>>,
+    last: &mut Option<usize>,
+    after: Option<usize>,
+    before: Option<usize>,
+)
+    requires { IfSome after (λ key. ContainsKey slots.old key) }
+    ensures backward { Leads (before_of slots.old last.old) (before_of slots.new last.new) after before }
+    ensures forward { (first p : Option ℕ) →
+        after_of slots.new first p ≡ after_of slots.old first p }
+    ensures items { items_of slots.new ≡ items_of slots.old }
+    ensures capacity { slots.new.capacity ≡ slots.old.capacity }
+{
+    match after {
+        None => *last = before,
+        Some(key) => {
+            let slot = &mut slots[key];
+            slot.before = before;
+        }
+    }
+}
+
+/// Lets two keys follow one another in the queue. `None` stands before the first and after the last.
+pub(crate) fn join<T>(
+    slots: &mut Slab<Slot<T>>,
+    first: &mut Option<usize>,
+    last: &mut Option<usize>,
+    before: Option<usize>,
+    after: Option<usize>,
+)
+    requires before { IfSome before (λ key. ContainsKey slots.old key) }
+    requires after { IfSome after (λ key. ContainsKey slots.old key) }
+    ensures forward { Leads (after_of slots.old first.old) (after_of slots.new first.new) before after }
+    ensures backward { Leads (before_of slots.old last.old) (before_of slots.new last.new) after before }
+    ensures items { items_of slots.new ≡ items_of slots.old }
+    ensures capacity { slots.new.capacity ≡ slots.old.capacity }
+{
+    set_after(slots, first, before, after);
+    set_before(slots, last, after, before);
+}

@@ -1,0 +1,11 @@
+//! Objects under keys, some of them in a queue. No call walks through them.
+#![tactic(auto)]
+
+mod joining;
+mod slot;
+mod slots;
+
+pub use slots::Slots;
+
+#[cfg(test)]
+mod tests;

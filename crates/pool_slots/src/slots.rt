@@ -1,0 +1,235 @@
+ghost use Rattle.std.specs.Prelude.{◌≡◌, ◌≤◌, ◌+◌, ◌++◌, ◌∷◌, [], IsSome, IsSomeAnd, Some, None, true, false, OnOk, OnErr};
+ghost use Rattle.std.specs.Option.{option_map};
+ghost use Rattle.pool_journal.specs.Queue.{first_of, last_of};
+ghost use Rattle.pool_slots.specs.Rack.{is_in, without, item_at, known_at, value_at, item_count, new_item, with_known, with_value, Sets, IsRack, IsNextIn, IsPreviousIn};
+
+use crate::joining::join;
+use crate::slot::Slot;
+use pool_journal::Record;
+use slab::Slab;
+use std::alloc::{AllocError, Global};
+use std::marker::Model;
+
+/// Objects under keys, some of them in one queue.
+///
+/// Each call takes the same time, however many objects there are. A key is given out again only
+/// once its object is removed.
+#[derive(Drop)]
+pub struct Slots<T> {
+    slots: Slab<Slot<T>>,
+    // The two ends of the queue.
+    first: Option<usize>,
+    last: Option<usize>,
+}
+
+impl<T> Model for Slots<T> {
+    ghost use Rattle.pool_slots.specs.Rack.{Rack};
+
+    ghost Value = { Rack T };
+
+    ghost use Rattle.pool_slots.specs.Links.{rack_of, queue_of, IsQueue};
+
+    ghost view = { λ a. rack_of a.slots a.first };
+
+    ghost invariant = { λ a. IsQueue a.slots a.first a.last (queue_of a.slots a.first) };
+}
+
+impl<T> Slots<T> {
+    /// No objects.
+    pub fn new(alloc: Global) -> Self
+        ensures items { result.items ≡ [] }
+        ensures queue { result.queue ≡ [] }
+        ensures room { result.room ≡ 0 }
+    {
+        Slots {
+            slots: Slab::new(alloc),
+            first: None,
+            last: None,
+        }
+    }
+
+    /// How many objects there are.
+    pub fn len(&self) -> usize
+        ensures count { result ≡ item_count self.now }
+        ensures rack { IsRack self.now }
+    {
+        self.slots.len()
+    }
+
+    /// Makes sure that there is memory for one more object. Where there is none, nothing changes.
+    ///
+    /// # Errors
+    ///
+    /// There is no room, and no memory either.
+    pub fn reserve_one(&mut self) -> Result<(), AllocError>
+        ensures ok { OnOk result (1 ≤ self.new.room) }
+        ensures full { OnErr result (self.old.room ≡ 0) }
+        ensures room { self.old.room ≤ self.new.room }
+        ensures rest { self.new ≡ record self.old { room = self.new.room } }
+    {
+        self.slots.reserve(1)
+    }
+
+    /// Puts an object under a key that was free, in the memory that was reserved. It has no value,
+    /// and isn't in the queue.
+    pub fn insert(&mut self, known: Record) -> usize
+        requires { 1 ≤ self.old.room }
+        ensures vacant { item_at self.old result ≡ None }
+        ensures sets { Sets self.old self.new result (Some (new_item known)) }
+        ensures count { item_count self.new ≡ item_count self.old + 1 }
+        ensures out { is_in result self.new.queue ≡ false }
+        ensures queue { self.new.queue ≡ self.old.queue }
+        ensures room { self.new.room + 1 ≡ self.old.room }
+    {
+        self.slots.insert_reserved(Slot {
+            known,
+            value: None,
+            before: None,
+            after: None,
+        })
+    }
+
+    /// Takes an object out that keeps no value and isn't in the queue. Its key is free again.
+    pub fn remove(&mut self, key: usize)
+        requires empty { IsSomeAnd (item_at self.old key) (λ item. item.value ≡ None) }
+        requires out { is_in key self.old.queue ≡ false }
+        ensures sets { Sets self.old self.new key None }
+        ensures count { item_count self.new + 1 ≡ item_count self.old }
+        ensures queue { self.new.queue ≡ self.old.queue }
+        ensures room { self.new.room ≡ self.old.room + 1 }
+    {
+        let Slot {
+            known: _,
+            value,
+            before: _,
+            after: _,
+        } = self.slots.remove(key);
+        match value {
+            None => {}
+            Some(_) => unreachable!(),
+        }
+    }
+
+    /// What is known of an object.
+    pub fn known(&self, key: usize) -> Record
+        requires { IsSome (item_at self.now key) }
+        ensures { known_at self.now key ≡ Some result }
+    {
+        self.slots[key].known
+    }
+
+    /// Notes what is now known of an object.
+    pub fn set_known(&mut self, key: usize, known: Record)
+        requires { IsSome (item_at self.old key) }
+        ensures sets { Sets self.old self.new key
+            (option_map (with_known known) (item_at self.old key)) }
+        ensures count { item_count self.new ≡ item_count self.old }
+        ensures queue { self.new.queue ≡ self.old.queue }
+        ensures room { self.new.room ≡ self.old.room }
+    {
+        let slot = &mut self.slots[key];
+        slot.known = known;
+    }
+
+    /// Keeps a value for an object that has none.
+    pub fn put(&mut self, key: usize, value: T)
+        requires { IsSomeAnd (item_at self.old key) (λ item. item.value ≡ None) }
+        ensures sets { Sets self.old self.new key
+            (option_map (with_value (Some value)) (item_at self.old key)) }
+        ensures count { item_count self.new ≡ item_count self.old }
+        ensures queue { self.new.queue ≡ self.old.queue }
+        ensures room { self.new.room ≡ self.old.room }
+    {
+        let slot = &mut self.slots[key];
+        match slot.value.replace(value) {
+            None => {}
+            Some(_) => unreachable!(),
+        }
+    }
+
+    /// Takes the value that is kept for an object.
+    pub fn take(&mut self, key: usize) -> T
+        requires { IsSome (value_at self.old key) }
+        ensures value { value_at self.old key ≡ Some result }
+        ensures sets { Sets self.old self.new key
+            (option_map (with_value None) (item_at self.old key)) }
+        ensures count { item_count self.new ≡ item_count self.old }
+        ensures queue { self.new.queue ≡ self.old.queue }
+        ensures room { self.new.room ≡ self.old.room }
+    {
+        let slot = &mut self.slots[key];
+        slot.value.take().unwrap()
+    }
+
+    /// Puts an object at the end of the queue.
+    pub fn link_last(&mut self, key: usize)
+        requires present { IsSome (item_at self.old key) }
+        requires out { is_in key self.old.queue ≡ false }
+        ensures { self.new ≡ record self.old { queue = self.old.queue ++ key ∷ [] } }
+    {
+        let last = self.last;
+        join(
+            &mut self.slots,
+            &mut self.first,
+            &mut self.last,
+            last,
+            Some(key),
+        );
+        join(
+            &mut self.slots,
+            &mut self.first,
+            &mut self.last,
+            Some(key),
+            None,
+        );
+    }
+
+    /// Takes an object out of the queue, wherever it stands there.
+    pub fn unlink(&mut self, key: usize)
+        requires { is_in key self.old.queue ≡ true }
+        ensures { self.new ≡ record self.old { queue = without key self.old.queue } }
+    {
+        let slot = &self.slots[key];
+        let before = slot.before;
+        let after = slot.after;
+        join(
+            &mut self.slots,
+            &mut self.first,
+            &mut self.last,
+            before,
+            after,
+        );
+    }
+
+    /// The first key of the queue.
+    pub fn first(&self) -> Option<usize>
+        ensures first { result ≡ first_of self.now.queue }
+        ensures rack { IsRack self.now }
+    {
+        self.first
+    }
+
+    /// The last key of the queue.
+    pub fn last(&self) -> Option<usize>
+        ensures last { result ≡ last_of self.now.queue }
+        ensures rack { IsRack self.now }
+    {
+        self.last
+    }
+
+    /// The key after another one in the queue.
+    pub fn after(&self, key: usize) -> Option<usize>
+        requires { is_in key self.now.queue ≡ true }
+        ensures { IsNextIn self.now.queue key result }
+    {
+        self.slots[key].after
+    }
+
+    /// The key before another one in the queue.
+    pub fn before(&self, key: usize) -> Option<usize>
+        requires { is_in key self.now.queue ≡ true }
+        ensures { IsPreviousIn self.now.queue key result }
+    {
+        self.slots[key].before
+    }
+}
