@@ -3,3 +3,4 @@ pub mod Items
 pub mod Keys
 pub mod Moves
 pub mod Queues
+pub mod Sums

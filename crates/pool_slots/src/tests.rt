@@ -1,0 +1,75 @@
+ghost use Rattle.std.specs.Prelude.{◌≡◌, ◌++◌, ◌∷◌, [], IfOk};
+
+use crate::Slots;
+use pool_journal::{Phase, Record};
+use std::test::Fail;
+
+// A record that is told from others by its id.
+fn record(id: u64) -> Record {
+    Record {
+        id,
+        phase: Phase::Readying,
+        parked: 0,
+        since: 0,
+        lent: 0,
+        used: 0,
+        is_new: true,
+    }
+}
+
+// Each call once, on one object.
+#[test]
+fn one_object(rt: HostRuntime) -> Result<(), Fail> {
+    let mut slots = Slots::new(rt.alloc());
+    assert_eq!(rt; slots.len(), 0);
+    slots.reserve_one()?;
+    let key = slots.insert(record(5));
+    assert_eq!(rt; slots.len(), 1);
+    assert_eq!(rt; slots.known(key).id, 5);
+    slots.set_known(key, record(6));
+    assert_eq!(rt; slots.known(key).id, 6);
+    slots.put(key, 70u8);
+    slots.link_last(key);
+    assert_eq!(rt; (slots.first(), slots.last()), (Some(key), Some(key)));
+    assert_eq!(rt; (slots.before(key), slots.after(key)), (None, None));
+    slots.unlink(key);
+    assert_eq!(rt; (slots.first(), slots.last()), (None, None));
+    assert_eq!(rt; slots.take(key), 70);
+    slots.remove(key);
+    assert_eq!(rt; slots.len(), 0);
+    Ok(())
+}
+
+// Adds an object to the end of the queue.
+fn queued(slots: &mut Slots<u8>, id: u64) -> Result<usize, Fail>
+    ensures { IfOk result (λ key. slots.new.queue ≡ slots.old.queue ++ key ∷ []) }
+{
+    slots.reserve_one()?;
+    let key = slots.insert(record(id));
+    slots.link_last(key);
+    Ok(key)
+}
+
+// Three objects leave the queue: the middle one, the last and the first.
+#[test]
+fn three_objects(rt: HostRuntime) -> Result<(), Fail> {
+    let mut slots: Slots<u8> = Slots::new(rt.alloc());
+    let one = queued(&mut slots, 1)?;
+    let two = queued(&mut slots, 2)?;
+    let three = queued(&mut slots, 3)?;
+    assert_eq!(rt; (slots.first(), slots.last()), (Some(one), Some(three)));
+    assert_eq!(rt;
+        (slots.before(two), slots.after(two)),
+        (Some(one), Some(three))
+    );
+    slots.unlink(two);
+    assert_eq!(rt;
+        (slots.after(one), slots.before(three)),
+        (Some(three), Some(one))
+    );
+    slots.unlink(three);
+    assert_eq!(rt; (slots.first(), slots.last()), (Some(one), Some(one)));
+    slots.unlink(one);
+    assert_eq!(rt; (slots.first(), slots.last()), (None, None));
+    Ok(())
+}
