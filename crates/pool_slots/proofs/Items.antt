@@ -1,11 +1,11 @@
 -- The objects that a slab of entries holds.
-use Rattle.std.proofs.Common.{◌≡◌, ◌≢◌, ◌⊎◌, ℕ, ◌+◌, ◌-◌, ◌≤◌, Bool, true, false, cond, eqb, List, [], ◌∷◌, map, length, Option, Some, None, IsSome, is_some, count_by, refl, sym, ap, ◌∙◌, inl, inr, subst, arith}
-use Rattle.std.specs.Option.{option_map, option_and_then}
+use Rattle.std.proofs.Common.{◌≡◌, ℕ, cond, List, [], ◌∷◌, map, Option, Some, None, IsSome, is_some, count_by, refl, sym, ap, ◌∙◌, arith}
+use Rattle.std.specs.Option.{option_map}
 use Rattle.std.proofs.Math.ListN.{get_or-map}
 use Rattle.std.proofs.lemmas.List.Sums.{sum_by-cons}
 use Rattle.slab.specs.Slab.{Slab, get, slab_len, Updates}
 use Rattle.pool_slots.specs.declared.slot.Slot.{Slot}
-use Rattle.pool_slots.specs.Rack.{Item, Rack, item_at, item_count, Sets}
+use Rattle.pool_slots.specs.Rack.{item_at, item_count, Sets}
 use Rattle.pool_slots.specs.Links.{item_of, items_of, rack_of}
 
 module _ {T : Type 0} where

@@ -1,5 +1,5 @@
 -- What each call does to the objects and the queue.
-use Rattle.std.proofs.Common.{◌≡◌, ◌≢◌, ◌⊎◌, ℕ, ◌+◌, ◌-◌, ◌<◌, ◌≤◌, Bool, true, false, cond, eqb, List, [], ◌∷◌, ◌++◌, map, length, set, Option, Some, None, Result, Ok, Err, IsSome, is_some, IfSome, refl, sym, ap, ◌∙◌, inl, inr, subst, arith}
+use Rattle.std.proofs.Common.{◌≡◌, ℕ, ◌+◌, ◌-◌, ◌≤◌, true, false, cond, List, [], ◌∷◌, ◌++◌, Option, Some, None, Result, Ok, Err, IsSome, is_some, IfSome, refl, sym, ap, ◌∙◌, inl, inr, subst, arith}
 use Rattle.std.specs.Option.{option_map, option_and_then}
 use Rattle.std.proofs.lemmas.Bool.{cases_lt}
 use Rattle.std.specs.Result.{IsOk, OnErr}
@@ -9,11 +9,11 @@ use Rattle.slab.specs.Slab.{Slab, get, slab_len, with_value, Updates, HasRoomFor
 use Rattle.slab.proofs.SlabLemmas.{ContainsKey-within, Updates-with_value}
 use Rattle.pool_slots.specs.declared.slot.Slot.{Slot}
 use Rattle.pool_slots.specs.Rack.{Item, Rack, item_at, item_count, is_in, without, Sets}
-use Rattle.pool_slots.specs.Links.{IsChain, Leads, after_of, before_of, item_of, items_of, rack_of, queue_of, IsQueue}
+use Rattle.pool_slots.specs.Links.{Leads, after_of, before_of, item_of, items_of, rack_of, queue_of, IsQueue}
 use Rattle.pool_slots.proofs.Items.{item_is, is_some_item, item_found, sets, count_is, present_same}
 use Rattle.pool_slots.proofs.Keys.{in_push, in_without, distinct_push, distinct_without}
 use Rattle.pool_slots.proofs.Queues.{queue_is, as_queue, queue_written, queue_apart, vacant_out}
-use Rattle.pool_slots.proofs.Chains.{Around, Joined, Appended, around, end_is, chain_without, chain_push}
+use Rattle.pool_slots.proofs.Chains.{Around, Appended, around, end_is, chain_without, chain_push}
 
 module _ {T : Type 0} where
   -- a write of an entry that leaves what an object is

@@ -1,12 +1,12 @@
 -- The queue that the links make, and which changes leave it.
-use Rattle.std.proofs.Common.{◌≡◌, ◌≢◌, ◌⊎◌, ℕ, ◌+◌, ◌-◌, ◌≤◌, Bool, true, false, cond, eqb, List, [], ◌∷◌, map, length, Option, Some, None, IsSome, is_some, refl, sym, ap, ◌∙◌, inl, inr, subst, arith}
+use Rattle.std.proofs.Common.{◌≡◌, ◌≢◌, ℕ, true, false, List, length, Option, Some, None, IsSome, is_some, refl, sym, ap, ◌∙◌, inl, inr, subst}
 use Rattle.std.specs.Option.{option_and_then}
 use Rattle.std.proofs.lemmas.Bool.Decides.{eqb_tells}
 use Rattle.slab.specs.Slab.{Slab, get, Updates}
 use Rattle.slab.proofs.SlabLemmas.{ContainsKey-within}
 use Rattle.pool_slots.specs.declared.slot.Slot.{Slot}
-use Rattle.pool_slots.specs.Rack.{is_in, AreDistinct}
-use Rattle.pool_slots.specs.Links.{Linked, IsChain, after_of, before_of, queue_of, IsQueue}
+use Rattle.pool_slots.specs.Rack.{is_in}
+use Rattle.pool_slots.specs.Links.{after_of, before_of, queue_of, IsQueue}
 use Rattle.pool_slots.proofs.Keys.{few_distinct, true_or_false}
 use Rattle.pool_slots.proofs.Chains.{walk-chain, chain_same, chain_stays, none_apart}
 

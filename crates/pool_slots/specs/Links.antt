@@ -1,5 +1,5 @@
 -- How the entries of the queue lead to one another. No public clause cites this module.
-use Rattle.std.specs.Prelude.{◌≡◌, ◌≢◌, ℕ, zero, suc, ◌-◌, true, List, [], ◌∷◌, length, map, Option, Some, None, IsSome, is_some, count_by, slice_index_or}
+use Rattle.std.specs.Prelude.{◌≡◌, ◌≢◌, ℕ, zero, suc, ◌-◌, true, List, [], ◌∷◌, length, map, Option, Some, None, IsSome, is_some, count_by}
 use Rattle.std.specs.Option.{option_map, option_and_then}
 use Rattle.slab.specs.Slab.{Slab, get}
 use Rattle.pool_slots.specs.declared.slot.Slot.{Slot}

@@ -1,5 +1,5 @@
 -- What a caller sees: the objects under their keys, and the queue.
-use Rattle.std.specs.Prelude.{◌≡◌, ◌≢◌, ℕ, Bool, true, false, not, eqb, List, [], ◌∷◌, ◌++◌, filter, Option, Some, None, is_some, IsSome, count_by, slice_index_or, ⊤}
+use Rattle.std.specs.Prelude.{◌≡◌, ◌≢◌, ℕ, Bool, true, false, not, eqb, List, [], ◌∷◌, ◌++◌, filter, Option, None, is_some, IsSome, count_by, slice_index_or, ⊤}
 use Rattle.std.specs.List.{list_any}
 use Rattle.std.specs.Option.{option_map, option_and_then}
 use Rattle.pool_journal.specs.declared.record.Record.{Record}

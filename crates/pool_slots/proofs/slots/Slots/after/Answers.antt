@@ -1,4 +1,4 @@
-use Rattle.std.proofs.Common.{◌≡◌, ◌++◌, ◌∷◌, None, sym, ap, ◌∙◌, subst}
+use Rattle.std.proofs.Common.{None, sym, ap, ◌∙◌, subst}
 use Rattle.std.specs.Option.{option_and_then}
 use Rattle.pool_slots.specs.Links.{IsChain, after_of, before_of}
 use Rattle.pool_slots.proofs.Chains.{chain_after}

@@ -1,4 +1,4 @@
-use Rattle.std.proofs.Common.{Some, None, refl, ap, ◌∙◌, arith}
+use Rattle.std.proofs.Common.{ap, ◌∙◌}
 use Rattle.pool_slots.specs.Rack.{is_in}
 use Rattle.pool_slots.proofs.Moves.{apart, vacant_apart, room_taken}
 use Rattle.pool_slots.proofs.slots.Slots.insert.Goals as goal

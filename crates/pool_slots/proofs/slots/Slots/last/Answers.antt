@@ -1,4 +1,4 @@
-use Rattle.std.proofs.Common.{◌∙◌, sym, ap}
+use Rattle.std.proofs.Common.{◌∙◌, ap}
 use Rattle.pool_journal.specs.Queue.{last_of}
 use Rattle.pool_slots.proofs.Chains.{chain_last}
 use Rattle.pool_slots.proofs.slots.Slots.last.Goals as goal

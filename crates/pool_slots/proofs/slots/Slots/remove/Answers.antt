@@ -1,5 +1,4 @@
-use Rattle.std.proofs.Common.{Some, None, refl, arith}
-use Rattle.pool_slots.specs.Rack.{is_in}
+use Rattle.std.proofs.Common.{None}
 use Rattle.pool_slots.proofs.Moves.{apart, room_given}
 use Rattle.pool_slots.proofs.slots.Slots.remove.Goals as goal
 
