@@ -1,0 +1,44 @@
+-- The pairs that are there, among those that are stored.
+use Rattle.std.proofs.Common.{◌≡◌, ℕ, ◌+◌, ◌<◌, Bool, true, false, not, cond, List, [], ◌∷◌, ◌++◌, length, refl, ap, sym, ◌∙◌, arith}
+use Rattle.std.specs.Prelude.{count_by, filter}
+use Rattle.std.specs.List.{AllByRecursion}
+use Rattle.std.proofs.lemmas.List.{length-map, map-append}
+use Rattle.std.proofs.lemmas.List.Sums.{length-filter}
+use Rattle.std.proofs.lemmas.List.Filters.{length-filter_both}
+use Rattle.std.proofs.lemmas.List.Elements.{filter-append}
+use Rattle.rising_index.specs.declared.pair.Pair.{Pair}
+use Rattle.rising_index.specs.declared.stored.Stored.{Stored}
+use Rattle.rising_index.specs.Pairs.{IsRising}
+use Rattle.rising_index.specs.Marks.{all_in, pairs_in, is_there}
+
+pub all_there : (P : Pair → Type 0) (ss : List Stored) → AllByRecursion P (all_in ss) → AllByRecursion P (pairs_in ss)
+all_there P [] all = tt
+all_there P (s ∷ ss) all = by_test (is_there s) all.0 (all_there P ss all.1)
+  where
+    by_test : (b : Bool) → P s.pair → AllByRecursion P (pairs_in ss) → AllByRecursion P (all_in (cond b (s ∷ filter is_there ss) (filter is_there ss)))
+    by_test true here rest = (here, rest)
+    by_test false here rest = rest
+
+pub rising_there : (ss : List Stored) → IsRising (all_in ss) → IsRising (pairs_in ss)
+rising_there [] up = tt
+rising_there (s ∷ ss) up = by_test (is_there s) (all_there (λ q. s.pair.id < q.id) ss up.0) (rising_there ss up.1)
+  where
+    by_test : (b : Bool) → AllByRecursion (λ q. s.pair.id < q.id) (pairs_in ss) → IsRising (pairs_in ss) → IsRising (all_in (cond b (s ∷ filter is_there ss) (filter is_there ss)))
+    by_test true here rest = (here, rest)
+    by_test false here rest = rest
+
+pub length_there : (ss : List Stored) → length (pairs_in ss) + count_by (λ s. s.is_gone) ss ≡ length ss
+length_there ss =
+    omega (arith, length-map (filter is_there ss) (λ (s : Stored). s.pair), length-filter_both (λ (s : Stored). s.is_gone) is_there (λ s. refl) ss, length-filter (λ (s : Stored). s.is_gone) ss)
+
+pub pairs_in-append : (ss ts : List Stored) → pairs_in (ss ++ ts) ≡ pairs_in ss ++ pairs_in ts
+pairs_in-append ss ts = ap all_in (filter-append is_there ss ts) ∙ map-append (λ s. s.pair) (filter is_there ss) (filter is_there ts)
+
+-- what a mark counts
+pub weighs_one : (b : Bool) → b ≡ true → ◌≡◌ {A = ℕ} (cond b 1 0) 1
+weighs_one true is = refl
+weighs_one false is = absurd (cc is)
+
+pub weighs_none : (b : Bool) → b ≡ false → ◌≡◌ {A = ℕ} (cond b 1 0) 0
+weighs_none true is = absurd (cc is)
+weighs_none false is = refl

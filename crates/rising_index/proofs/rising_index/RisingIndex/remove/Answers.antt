@@ -1,0 +1,20 @@
+use Rattle.std.proofs.Common.{refl, subst, ◌∙◌}
+use Rattle.rising_index.specs.Marks.{IsThereAt}
+use Rattle.rising_index.proofs.Found.{key_there}
+use Rattle.rising_index.proofs.Marked.{mark_pairs, mark_counted}
+use Rattle.rising_index.proofs.rising_index.RisingIndex.remove.Goals as goal
+
+pub tidy-requires : goal.tidy-requires
+tidy-requires c =
+    let at = subst (λ xs. IsThereAt xs c.args.id c.in-Some.position) c.deref.ensures.value c.in-Some.ensures.there in
+    mark_counted c.args.id c.in-Some.position c.self.inside.gone _ c.index_mut-taken.result.now c.self.inside.stored.items c.self.invariant.counted at c.index_mut-taken.ensures.value refl refl
+
+pub returns-clause-value : goal.returns-clause-value
+returns-clause-value c =
+    let at = subst (λ xs. IsThereAt xs c.args.id c.in-Some.position) c.deref.ensures.value c.in-Some.ensures.there in
+    rw (← c.self.view_is) (key_there c.args.id c.in-Some.position c.index_mut-taken.result.now c.self.inside.stored.items c.self.invariant.counted.rising at c.index_mut-taken.ensures.value)
+
+pub returns-clause-pairs : goal.returns-clause-pairs
+returns-clause-pairs c =
+    let at = subst (λ xs. IsThereAt xs c.args.id c.in-Some.position) c.deref.ensures.value c.in-Some.ensures.there in
+    rw (← c.self.view_is) (c.tidy.ensures.pairs ∙ mark_pairs c.args.id c.in-Some.position _ c.index_mut-taken.result.now c.self.inside.stored.items c.self.invariant.counted.rising at refl)

@@ -1,0 +1,130 @@
+ghost use Rattle.std.specs.Prelude.{◌≡◌, ◌≢◌, ◌≤◌, ◌+◌, ◌++◌, ◌∷◌, ◌==◌, [], Some, OnOk, OnErr, IsSome, length};
+ghost use Rattle.rising_index.specs.Pairs.{key_of, without, IdsBelow, IsRising};
+
+use crate::marks::tidy;
+use crate::pair::Pair;
+use crate::positions::position_there;
+use crate::stored::Stored;
+use crate::walk::Walk;
+use std::alloc::{AllocError, Global};
+use std::marker::Model;
+
+/// Pairs of an id and a key, by rising id. An id is only ever added above all that are there.
+///
+/// A pair is found by a binary search. One that is taken out is marked at first, and the marked ones are
+/// swept out together once they are more than half of all that are stored. So `find` takes logarithmic
+/// time, each `push` and `remove` does too on average over all calls, and there are at most twice as many
+/// pairs stored as there are. Memory that was reserved is kept for later pairs.
+#[derive(Drop)]
+pub struct RisingIndex {
+    stored: Vec<Stored>,
+    gone: usize,
+}
+
+impl Model for RisingIndex {
+    ghost use Rattle.std.specs.Prelude.{◌-◌};
+    ghost use Rattle.std.specs.Vec.{vec_len, vec_capacity};
+    ghost use Rattle.rising_index.specs.Pairs.{Rising};
+    ghost use Rattle.rising_index.specs.Marks.{pairs_in, IsTidy};
+
+    ghost Value = { Rising };
+
+    ghost view = { λ a. record {
+      pairs = pairs_in a.stored.items;
+      spare = vec_capacity a.stored - vec_len a.stored;
+    } };
+
+    ghost invariant = { λ a. IsTidy a.stored.items a.gone };
+}
+
+impl RisingIndex {
+    /// No pairs.
+    pub fn new(alloc: Global) -> Self
+        ensures { result.pairs ≡ [] }
+    {
+        RisingIndex {
+            stored: Vec::new(alloc),
+            gone: 0,
+        }
+    }
+
+    /// How many pairs there are.
+    pub fn len(&self) -> usize
+        ensures value { result ≡ length self.now.pairs }
+        ensures rising { IsRising self.now.pairs }
+    {
+        self.stored.len() - self.gone
+    }
+
+    /// Whether there are no pairs.
+    pub fn is_empty(&self) -> bool
+        ensures { result ≡ (length self.now.pairs == 0) }
+    {
+        self.len() == 0
+    }
+
+    /// The key under an id, if there is one.
+    pub fn find(&self, id: u64) -> Option<usize>
+        ensures value { result ≡ key_of self.now.pairs id }
+        ensures rising { IsRising self.now.pairs }
+    {
+        let position = position_there(&self.stored, id)?;
+        Some(self.stored[position].pair.key)
+    }
+
+    /// The pairs, by rising id.
+    pub fn walk(&self) -> Walk<'_>
+        ensures pairs { result ≡ self.now.pairs }
+        ensures rising { IsRising self.now.pairs }
+    {
+        Walk::new(&self.stored)
+    }
+
+    /// Makes sure that there is memory for one more pair. Where there is none, nothing changes.
+    ///
+    /// # Errors
+    ///
+    /// There is no memory.
+    pub fn reserve_one(&mut self) -> Result<(), AllocError>
+        ensures pairs { self.new.pairs ≡ self.old.pairs }
+        ensures ok { OnOk result (1 ≤ self.new.spare) }
+        ensures full { OnErr result (self.old.spare ≡ 0) }
+        ensures unchanged { OnErr result (self.new ≡ self.old) }
+        ensures spare { self.old.spare ≤ self.new.spare }
+    {
+        self.stored.reserve(1)
+    }
+
+    /// Adds a key under an id that is above all that are there.
+    pub fn push(&mut self, id: u64, key: usize)
+        requires above { IdsBelow id self.old.pairs }
+        requires spare { 1 ≤ self.old.spare }
+        ensures pairs { self.new.pairs ≡ self.old.pairs ++ record { id = id; key = key } ∷ [] }
+        ensures spare { self.new.spare + 1 ≡ self.old.spare }
+    {
+        self.stored.push_reserved(Stored {
+            pair: Pair { id, key },
+            is_gone: false,
+        });
+    }
+
+    /// Takes the pair of an id out that is there, and gives its key.
+    pub fn remove(&mut self, id: u64) -> usize
+        requires { IsSome (key_of self.old.pairs id) }
+        ensures value { key_of self.old.pairs id ≡ Some result }
+        ensures pairs { self.new.pairs ≡ without id self.old.pairs }
+        ensures spare { self.old.spare ≤ self.new.spare }
+    {
+        match position_there(&self.stored, id) {
+            Some(position) => {
+                let taken = &mut self.stored[position];
+                taken.is_gone = true;
+                let key = taken.pair.key;
+                self.gone += 1;
+                tidy(&mut self.stored, &mut self.gone);
+                key
+            }
+            None => unreachable!(),
+        }
+    }
+}
