@@ -1,0 +1,114 @@
+ghost use Rattle.std.specs.Prelude.{◌+◌, ◌≤◌, OnOk, ℕ};
+ghost use Rattle.rising_index.specs.Pairs.{IdsBelow};
+
+use crate::{Pair, RisingIndex};
+use std::alloc::AllocError;
+use std::process::Abort;
+use std::test::Fail;
+
+// Adds a pair to an index and to a plain list.
+fn add(
+    index: &mut RisingIndex,
+    plain: &mut Vec<Pair>,
+    id: u64,
+    key: usize,
+) -> Result<(), AllocError>
+    requires { IdsBelow id index.old.pairs }
+    ensures { OnOk result (IdsBelow (id + 1) index.new.pairs) }
+{
+    index.reserve_one()?;
+    plain.push(Pair { id, key })?;
+    index.push(id, key);
+    Ok(())
+}
+
+// Takes a pair from both if it is there.
+fn take(rt: &impl Abort, index: &mut RisingIndex, plain: &mut Vec<Pair>, id: u64)
+    ensures { (n : ℕ) → IdsBelow n index.old.pairs → IdsBelow n index.new.pairs }
+{
+    let key = plain
+        .iter()
+        .find(|pair| pair.id == id)
+        .map(|pair| pair.key);
+    assert_eq!(rt; index.find(id), key);
+    if index.find(id).is_some() {
+        assert_eq!(rt; Some(index.remove(id)), key);
+        plain.retain(|pair| pair.id != id);
+    }
+    assert_eq!(rt; index.find(id), None);
+    assert_eq!(rt; index.len(), plain.len());
+}
+
+// The next of a row of numbers without an order.
+fn next_number(state: &mut u64) -> u64 {
+    *state = state
+        .wrapping_mul(6_364_136_223_846_793_005)
+        .wrapping_add(1_442_695_040_888_963_407);
+    *state >> 33
+}
+
+#[test]
+fn each_call_once(rt: HostRuntime) -> Result<(), Fail> {
+    let mut index = RisingIndex::new(rt.alloc());
+    assert!(rt; index.is_empty());
+    index.reserve_one()?;
+    index.push(3, 30);
+    index.reserve_one()?;
+    index.push(7, 70);
+    assert_eq!(rt; index.len(), 2);
+    assert_eq!(rt; index.find(3), Some(30));
+    assert_eq!(rt; index.find(5), None);
+    assert_eq!(rt; index.walk().last(), Some(Pair { id: 7, key: 70 }));
+    assert_eq!(rt; index.remove(3), 30);
+    assert_eq!(rt; index.walk().next(), Some(Pair { id: 7, key: 70 }));
+    assert!(rt; !index.is_empty());
+    Ok(())
+}
+
+// An id may come again once it and all above it are gone.
+#[test]
+fn an_id_twice(rt: HostRuntime) -> Result<(), Fail> {
+    let mut index = RisingIndex::new(rt.alloc());
+    index.reserve_one()?;
+    index.push(3, 30);
+    index.reserve_one()?;
+    index.push(7, 70);
+    assert_eq!(rt; index.remove(7), 70);
+    index.reserve_one()?;
+    index.push(7, 71);
+    assert_eq!(rt; index.find(7), Some(71));
+    Ok(())
+}
+
+#[test]
+fn as_a_plain_list(rt: HostRuntime) -> Result<(), Fail> {
+    let mut index = RisingIndex::new(rt.alloc());
+    let mut plain = Vec::new(rt.alloc());
+    let mut state = 1;
+    for id in 0..300 {
+        let key = next_number(&mut state) as usize;
+        add(&mut index, &mut plain, id, key)?;
+        take(&rt, &mut index, &mut plain, next_number(&mut state) % 300);
+        take(&rt, &mut index, &mut plain, next_number(&mut state) % (id + 1));
+    }
+    let pairs: Vec<Pair> = index.walk().collect(rt.alloc())?;
+    assert_eq!(rt; pairs.as_slice(), plain.as_slice());
+    Ok(())
+}
+
+#[test]
+fn emptied_from_the_middle(rt: HostRuntime) -> Result<(), Fail> {
+    let mut index = RisingIndex::new(rt.alloc());
+    let mut plain = Vec::new(rt.alloc());
+    for id in 0..200 {
+        add(&mut index, &mut plain, id, 1000)?;
+    }
+    for distance in 0..100 {
+        take(&rt, &mut index, &mut plain, 100 + distance);
+        take(&rt, &mut index, &mut plain, 99 - distance);
+        let pairs: Vec<Pair> = index.walk().collect(rt.alloc())?;
+        assert_eq!(rt; pairs.as_slice(), plain.as_slice());
+    }
+    assert!(rt; index.is_empty());
+    Ok(())
+}

@@ -1,12 +1,14 @@
-ghost use Rattle.std.specs.Prelude.{◌≡◌, ◌++◌, [], IfNone};
-ghost use Rattle.std.specs.Option.{option_to_list};
+ghost use Rattle.std.specs.Prelude.{◌≡◌};
+ghost use Rattle.std.specs.Iterator.{YieldsFirst, item_count};
 ghost use Rattle.rising_index.specs.Marks.{pairs_in};
 
 use crate::pair::Pair;
 use crate::stored::Stored;
 use std::marker::Model;
 
-/// A walk over the pairs of an index by rising id. A clause sees the pairs that are still to come.
+/// The pairs of an index by rising id, seen as the list of those that are still to come.
+///
+/// A whole walk takes time in proportion to the pairs that are stored.
 #[derive(Drop)]
 pub struct Walk<'a> {
     rest: &'a [Stored],
@@ -28,13 +30,16 @@ impl<'a> Walk<'a> {
     {
         Walk { rest: stored }
     }
+}
 
-    /// The next pair, or `None` at the end. All calls of a walk together take time in proportion to the
-    /// pairs that are stored.
-    pub fn next(&mut self) -> Option<Pair>
-        ensures value { self.old ≡ option_to_list result ++ self.new }
-        ensures end { IfNone result (self.old ≡ []) }
-    {
+impl<'a> Iterator for Walk<'a> {
+    type Item = Pair;
+
+    ghost next_gives = { YieldsFirst (λ rest. rest) };
+
+    ghost remaining = { item_count (λ rest. rest) };
+
+    fn next(&mut self) -> Option<Pair> {
         while let [first, rest @ ..] = self.rest {
             self.rest = rest;
             if !first.is_gone {
