@@ -10,9 +10,7 @@ fn position_stored(stored: &[Stored], id: u64) -> Option<usize>
     ensures found { IfSome result (IsStoredAt stored.now id) }
     ensures absent { IfNone result (IsNowhere stored.now id) }
 {
-    stored
-        .binary_search_by_key(&id, |kept| kept.pair.id)
-        .ok()
+    stored.binary_search_by_key(&id, |kept| kept.pair.id).ok()
 }
 
 /// Where an id is stored, if its pair is there.

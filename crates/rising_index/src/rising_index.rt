@@ -1,4 +1,4 @@
-ghost use Rattle.std.specs.Prelude.{◌≡◌, ◌≢◌, ◌≤◌, ◌+◌, ◌++◌, ◌∷◌, ◌==◌, [], Some, OnOk, OnErr, IsSome, length};
+ghost use Rattle.std.specs.Prelude.{◌≡◌, ◌≢◌, ◌≤◌, ◌+◌, ◌++◌, ◌∷◌, ◌==◌, ℕ, [], Some, None, OnOk, OnErr, IsSome, length};
 ghost use Rattle.rising_index.specs.Pairs.{key_of, without, IdsBelow, IsRising};
 
 use crate::marks::tidy;
@@ -100,6 +100,8 @@ impl RisingIndex {
         requires above { IdsBelow id self.old.pairs }
         requires spare { 1 ≤ self.old.spare }
         ensures pairs { self.new.pairs ≡ self.old.pairs ++ record { id = id; key = key } ∷ [] }
+        ensures found { key_of self.new.pairs id ≡ Some key }
+        ensures others { (j : ℕ) → j ≢ id → key_of self.new.pairs j ≡ key_of self.old.pairs j }
         ensures spare { self.new.spare + 1 ≡ self.old.spare }
     {
         self.stored.push_reserved(Stored {
@@ -113,6 +115,8 @@ impl RisingIndex {
         requires { IsSome (key_of self.old.pairs id) }
         ensures value { key_of self.old.pairs id ≡ Some result }
         ensures pairs { self.new.pairs ≡ without id self.old.pairs }
+        ensures gone { key_of self.new.pairs id ≡ None }
+        ensures others { (j : ℕ) → j ≢ id → key_of self.new.pairs j ≡ key_of self.old.pairs j }
         ensures spare { self.old.spare ≤ self.new.spare }
     {
         match position_there(&self.stored, id) {

@@ -26,10 +26,7 @@ fn add(
 fn take(rt: &impl Abort, index: &mut RisingIndex, plain: &mut Vec<Pair>, id: u64)
     ensures { (n : ℕ) → IdsBelow n index.old.pairs → IdsBelow n index.new.pairs }
 {
-    let key = plain
-        .iter()
-        .find(|pair| pair.id == id)
-        .map(|pair| pair.key);
+    let key = plain.iter().find(|pair| pair.id == id).map(|pair| pair.key);
     assert_eq!(rt; index.find(id), key);
     if index.find(id).is_some() {
         assert_eq!(rt; Some(index.remove(id)), key);
@@ -89,7 +86,12 @@ fn as_a_plain_list(rt: HostRuntime) -> Result<(), Fail> {
         let key = next_number(&mut state) as usize;
         add(&mut index, &mut plain, id, key)?;
         take(&rt, &mut index, &mut plain, next_number(&mut state) % 300);
-        take(&rt, &mut index, &mut plain, next_number(&mut state) % (id + 1));
+        take(
+            &rt,
+            &mut index,
+            &mut plain,
+            next_number(&mut state) % (id + 1),
+        );
     }
     let pairs: Vec<Pair> = index.walk().collect(rt.alloc())?;
     assert_eq!(rt; pairs.as_slice(), plain.as_slice());
