@@ -1,24 +1,28 @@
 -- The entries of an eviction run.
-use Rattle.std.proofs.Common.{◌≡◌, ℕ, suc, ◌+◌, ◌-◌, ◌<◌, ◌≤◌, Option, None, Some, Ok, Err, refl, sym, subst, arith}
+use Rattle.std.proofs.Common.{◌≡◌, false, true≢false, ℕ, suc, ◌+◌, ◌-◌, ◌<◌, ◌≤◌, Option, None, Some, Ok, Err, refl, sym, subst, arith}
 use Rattle.pool_journal.specs.declared.input.Input.{Input}
 use Rattle.pool_journal.specs.declared.input.Input.TheVariants.{EvictNext, Tested, Destroyed}
 use Rattle.pool_journal.specs.declared.input.Outcome.{Outcome}
 use Rattle.pool_journal.specs.declared.answer.Answer.{Answer}
 use Rattle.pool_journal.specs.declared.answer.Answer.TheVariants as answers
 use Rattle.pool_settings.specs.declared.settings.Settings.{Settings}
+use Rattle.pool_core.specs.declared.step_fault.StepFault.{StepFault}
+use Rattle.pool_core.specs.declared.step_fault.StepFault.TheVariants.{JournalFull}
+use Rattle.pool_core.specs.Finishing.{finishes}
 use Rattle.pool_core.specs.Legal.{entry_of}
+use Rattle.pool_core.specs.Reply.{reply}
 use Rattle.pool_history.specs.Standings.{Standing}
-use Rattle.pool_desk.specs.Sections.{Makes, CanTest}
+use Rattle.pool_desk.specs.Sections.{Makes, Refuses, CanTest}
 use Rattle.pool_shared.specs.declared.evicting.EvictRun.{EvictRun}
 use Rattle.pool_shared.specs.declared.evicting.Fate.{Fate}
 use Rattle.pool_shared.specs.declared.evicting.Fate.TheVariants as fates
 use Rattle.pool_shared.specs.declared.faults.PoolFault.{PoolFault}
-use Rattle.pool_shared.specs.Clears.{IsRoomFault}
+use Rattle.pool_shared.specs.declared.faults.PoolFault.TheVariants as faults
 use Rattle.pool_shared.specs.Walks.{EndsWithMade}
 use Rattle.pool_shared.specs.Evicts as evicts
-use Rattle.pool_shared.specs.Evicts.{Stage, begins, examines, tests, destroys, through, closed, none_yet, one_more, one_gone, fared, after_test, after_one, Goes_on, EvictEnds, EvictsFrom, EvictRow, IsFailedTest, IsUnfit}
+use Rattle.pool_shared.specs.Evicts.{Stage, begins, examines, tests, destroys, through, closed, none_yet, one_more, one_gone, fared, after_test, after_one, Goes_on, IsSpared, IsStopped, EvictEnds, EvictsFrom, EvictRow, IsFailedTest, IsUnfit}
 use Rattle.pool_shared.proofs.Walking.{walk_one, walk_on}
-use Rattle.pool_shared.proofs.Rowing.{row_at, row_stopped}
+use Rattle.pool_shared.proofs.Rowing.{row_at, row_stopped, full_for}
 
 -- one entry, whose answer is known
 step : (from to : Stage) (input : Input) (x a : Answer) (b c : Standing) → x ≡ a → Makes input x b c
@@ -67,8 +71,19 @@ one_examined count left run more fate o a b c is counted w one =
     let next : Goes_on (examines left run) b c (examines (left - 1) (fared (one_more run) fate)) = subst (λ x. Goes_on (examines left run) b c (after_one left run x)) is one in
     onward (examines count none_yet) (examines left run) (examines (left - 1) more) a b c w (subst (λ r. Goes_on (examines left run) b c (examines (left - 1) r)) (sym counted) next)
 
+spared : (a : Answer) → finishes a EvictNext ≡ false → IsSpared a
+spared (answers.DestroyIdle i) is = absurd (true≢false is)
+spared _ is = tt
+
+-- an EvictNext was refused
+pub stops_full : {T : Type 0} (s : Settings) (f : StepFault T) (out : Option T) (b c : Standing) → f ≡ JournalFull out → Refuses s EvictNext None f b c → IsStopped s faults.JournalFull c
+stops_full s f out b c is r = (full_for s EvictNext f out b c is r, (r.there.at, spared (reply s c.seen r.there.at EvictNext) r.there.unfinished))
+
+pub stops_short : {T : Type 0} (s : Settings) (f : StepFault T) (b c : Standing) → Refuses s EvictNext None f b c → IsStopped s faults.OutOfMemory c
+stops_short s f b c r = (tt, (r.there.at, spared (reply s c.seen r.there.at EvictNext) r.there.unfinished))
+
 -- a run that stopped at a fault
-pub stopped : (s : Settings) (count left : ℕ) (run : EvictRun) (f : PoolFault) (a b c : Standing) → 0 < left → Goes_on (examines count none_yet) a b (examines left run) → c.made ≡ b.made → IsRoomFault s EvictNext f c
+pub stopped : (s : Settings) (count left : ℕ) (run : EvictRun) (f : PoolFault) (a b c : Standing) → 0 < left → Goes_on (examines count none_yet) a b (examines left run) → c.made ≡ b.made → IsStopped s f c
     → EvictsFrom s (examines count none_yet) (Err f) a c
 stopped s count left run f a b c some w same room =
     let more : left ≡ suc (left - 1) = omega (arith, some) in

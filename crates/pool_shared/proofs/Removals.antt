@@ -1,17 +1,23 @@
 -- The entries of a removal of abandoned objects.
-use Rattle.std.proofs.Common.{◌≡◌, ℕ, suc, ◌+◌, ◌-◌, ◌<◌, Result, Ok, Err, refl, sym, subst, arith}
+use Rattle.std.proofs.Common.{◌≡◌, Bool, true, false, true≢false, Option, None, Some, ℕ, suc, ◌+◌, ◌-◌, ◌<◌, Result, Ok, Err, refl, sym, subst, arith}
 use Rattle.pool_journal.specs.declared.input.Input.TheVariants.{Reclaim, ReclaimNext}
 use Rattle.pool_journal.specs.declared.input.When.{When}
 use Rattle.pool_journal.specs.declared.answer.Answer.{Answer}
 use Rattle.pool_journal.specs.declared.answer.Answer.TheVariants as answers
+use Rattle.pool_journal.specs.Journal.{records}
+use Rattle.pool_journal.specs.Queue.{first_of}
+use Rattle.pool_journal.specs.declared.record.Record.{Record}
 use Rattle.pool_settings.specs.declared.settings.Settings.{Settings}
+use Rattle.pool_core.specs.declared.step_fault.StepFault.{StepFault}
+use Rattle.pool_core.specs.Finishing.{finishes}
+use Rattle.pool_core.specs.Reply.{forgotten, reclaim_next_reply}
 use Rattle.pool_history.specs.Standings.{Standing}
-use Rattle.pool_desk.specs.Sections.{Makes}
+use Rattle.pool_desk.specs.Sections.{Makes, IsRefused}
 use Rattle.pool_shared.specs.declared.faults.PoolFault.{PoolFault}
 use Rattle.pool_shared.specs.Clears.{IsRoomFault}
 use Rattle.pool_shared.specs.Walks.{EndsWithMade}
 use Rattle.pool_shared.specs.Reclaims as removals
-use Rattle.pool_shared.specs.Reclaims.{Stage, begins, reclaims, through, Goes_on, ReclaimEnds, ReclaimsFrom, ReclaimRow}
+use Rattle.pool_shared.specs.Reclaims.{Stage, begins, reclaims, through, Goes_on, NoneAbandoned, ReclaimEnds, ReclaimsFrom, ReclaimRow}
 use Rattle.pool_shared.proofs.Walking.{walk_one, walk_on}
 use Rattle.pool_shared.proofs.Rowing.{row_at, row_on, row_stopped}
 
@@ -38,13 +44,22 @@ pub all_taken : (s : Settings) (time : When) (count left taken : ℕ) (a b : Sta
 all_taken s time count left taken a b none all w ends =
     row_at (removals.Due time) removals.next (ReclaimEnds s time) (reclaims count 0) (reclaims 0 taken) (Ok count) a b (subst (λ k. Goes_on time (reclaims count 0) a b (reclaims k taken)) none w) (sym all, ends)
 
+takes_none : (b : Bool) (o : Option Record) → finishes (reclaim_next_reply b o) ReclaimNext ≡ false → reclaim_next_reply b o ≡ answers.Nothing
+takes_none true (Some r) is = absurd (true≢false is)
+takes_none true None is = refl
+takes_none false o is = refl
+
+-- a ReclaimNext that is refused would have taken nothing
+pub none_there : {T : Type 0} (s : Settings) (handed : Option T) (f : StepFault T) (me : Standing) → IsRefused s ReclaimNext handed f me → NoneAbandoned s me
+none_there s handed f me r = (r.at, takes_none s.abandoned (first_of (forgotten s r.at (records me.seen))) r.unfinished)
+
 -- a removal that stopped at a fault
-pub stopped : (s : Settings) (time : When) (count left taken : ℕ) (f : PoolFault) (a b c : Standing) → 0 < left → Goes_on time (reclaims count 0) a b (reclaims left taken) → c.made ≡ b.made → IsRoomFault s ReclaimNext f c
+pub stopped : (s : Settings) (time : When) (count left taken : ℕ) (f : PoolFault) (a b c : Standing) → 0 < left → Goes_on time (reclaims count 0) a b (reclaims left taken) → c.made ≡ b.made → IsRoomFault s ReclaimNext f c → NoneAbandoned s c
     → ReclaimsFrom s time (reclaims count 0) (Err f) a c
-stopped s time count left taken f a b c some w same room =
+stopped s time count left taken f a b c some w same room none =
     let more : left ≡ suc (left - 1) = omega (arith, some) in
     row_stopped (removals.Due time) removals.next (ReclaimEnds s time) (reclaims count 0) (reclaims (suc (left - 1)) taken) (Err f) a b c
-    (subst (λ k. Goes_on time (reclaims count 0) a b (reclaims k taken)) more w) same room
+    (subst (λ k. Goes_on time (reclaims count 0) a b (reclaims k taken)) more w) same (room, none)
 
 -- a whole removal
 pub removal : (s : Settings) (time : When) (n : ℕ) (r : Result ℕ PoolFault) (x : Answer) (a b c : Standing) → x ≡ answers.Count n → Makes (Reclaim time) x a b → ReclaimsFrom s time (reclaims n 0) r b c → ReclaimRow s time r a c

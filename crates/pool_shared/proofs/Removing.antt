@@ -78,7 +78,7 @@ module _ (s : Settings) (began : ℕ) where
   unfolding as_borrow
   full_there T E number removals.begins me ends = (tt, ends)
   full_there T E number (removals.reclaims zero taken) me ends = absurd ends
-  full_there T E number (removals.reclaims (suc left) taken) me ends = (tt, ends)
+  full_there T E number (removals.reclaims (suc left) taken) me ends = (tt, ends.0)
   full_there T E number _ me ends = absurd ends
 
   short_there : (T E : Type 0) (number : ℕ) (st : removals.Stage) (me : Standing) → ReclaimEnds s times.Borrow st (Err pool_faults.OutOfMemory) me

@@ -9,6 +9,7 @@ use Rattle.pool_journal.specs.declared.answer.Answer.{Answer}
 use Rattle.pool_journal.specs.declared.answer.Answer.TheVariants as answers
 use Rattle.pool_journal.specs.declared.answer.Cause.TheVariants as causes
 use Rattle.pool_settings.specs.declared.settings.Settings.{Settings}
+use Rattle.pool_core.specs.Reply.{reply}
 use Rattle.pool_history.specs.Standings.{Standing}
 use Rattle.pool_desk.specs.Sections.{CanTest}
 use Rattle.pool_shared.specs.declared.evicting.EvictRun.{EvictRun}
@@ -81,13 +82,22 @@ Due _ e = ⊥
 abbrev pub Goes_on : Stage → Standing → Standing → Stage → Type 0
 Goes_on from before after to = Walks Due next from before after to
 
+-- an EvictNext with this answer destroys nothing
+abbrev pub IsSpared : Answer → Type 0
+IsSpared (answers.DestroyIdle i) = ⊥
+IsSpared a = Unit {0}
+
+-- an EvictNext was refused, which would have destroyed nothing at this moment
+abbrev pub IsStopped : Settings → PoolFault → Standing → Type 0
+IsStopped s f me = IsRoomFault s EvictNext f me × ((at : ℕ) × IsSpared (reply s me.seen at EvictNext))
+
 -- what an eviction run answers that stands there, and what is seen then
 abbrev pub EvictEnds : Settings → Stage → Result EvictRun PoolFault → Standing → Type 0
 EvictEnds s closed (Err faults.Closed) me = EndsWithMade me
 EvictEnds s (through run) (Ok r) me = (r ≡ run) × EndsWithMade me
 EvictEnds s (examines zero run) (Ok r) me = (r ≡ run) × EndsWithMade me
 EvictEnds s begins (Err f) me = IsRoomFault s Evict f me
-EvictEnds s (examines (suc left) run) (Err f) me = IsRoomFault s EvictNext f me
+EvictEnds s (examines (suc left) run) (Err f) me = IsStopped s f me
 EvictEnds s _ _ me = ⊥
 
 -- what an eviction run made from one stage on, up to its result

@@ -6,6 +6,7 @@ use Rattle.pool_journal.specs.declared.input.When.{When}
 use Rattle.pool_journal.specs.declared.answer.Answer.{Answer}
 use Rattle.pool_journal.specs.declared.answer.Answer.TheVariants as answers
 use Rattle.pool_settings.specs.declared.settings.Settings.{Settings}
+use Rattle.pool_core.specs.Reply.{reply}
 use Rattle.pool_history.specs.Standings.{Standing}
 use Rattle.pool_shared.specs.declared.faults.PoolFault.{PoolFault}
 use Rattle.pool_shared.specs.Walks.{Walks, EndsWithMade}
@@ -42,12 +43,16 @@ Due time _ e = ⊥
 abbrev pub Goes_on : When → Stage → Standing → Standing → Stage → Type 0
 Goes_on time from before after to = Walks (Due time) next from before after to
 
--- what a removal answers that stands there, and what is seen then
+-- no object is abandoned at this moment
+abbrev pub NoneAbandoned : Settings → Standing → Type 0
+NoneAbandoned s me = (at : ℕ) × (reply s me.seen at ReclaimNext ≡ answers.Nothing)
+
+-- what a removal answers that stands there, and what is seen then; a ReclaimNext is refused only where it would take nothing
 abbrev pub ReclaimEnds : Settings → When → Stage → Result ℕ PoolFault → Standing → Type 0
 ReclaimEnds s time (through taken) (Ok n) me = (n ≡ taken) × EndsWithMade me
 ReclaimEnds s time (reclaims zero taken) (Ok n) me = (n ≡ taken) × EndsWithMade me
 ReclaimEnds s time begins (Err f) me = IsRoomFault s (Reclaim time) f me
-ReclaimEnds s time (reclaims (suc left) taken) (Err f) me = IsRoomFault s ReclaimNext f me
+ReclaimEnds s time (reclaims (suc left) taken) (Err f) me = IsRoomFault s ReclaimNext f me × NoneAbandoned s me
 ReclaimEnds s time _ _ me = ⊥
 
 -- what a removal made from one stage on, up to its result

@@ -1,14 +1,12 @@
 // An eviction run, in its sections.
 ghost use Rattle.std.specs.Prelude.{◌≡◌, ◌<◌, ℕ, IfOk, OnOk, IfErr, OnErr};
-ghost use Rattle.pool_journal.specs.declared.input.Input.TheVariants as inputs;
 ghost use Rattle.pool_journal.specs.declared.record.Phase.TheVariants as phases;
 ghost use Rattle.pool_history.specs.Standings.{Goes, Knows};
 ghost use Rattle.pool_desk.specs.Sections.{HasInHand};
 ghost use Rattle.pool_shared.specs.Walks.{EndsWithMade};
-ghost use Rattle.pool_shared.specs.Clears.{IsRoomFault};
 ghost use Rattle.pool_shared.specs.declared.evicting.EvictRun.{EvictRun};
 ghost use Rattle.pool_shared.specs.declared.evicting.Fate.TheVariants as fates;
-ghost use Rattle.pool_shared.specs.Evicts.{examines, tests, none_yet, one_more, fared, after_test, after_one, Goes_on, EvictsFrom, EvictRow, IsFailedTest, IsUnfit};
+ghost use Rattle.pool_shared.specs.Evicts.{examines, tests, none_yet, one_more, fared, after_test, after_one, Goes_on, IsStopped, EvictsFrom, EvictRow, IsFailedTest, IsUnfit};
 
 use crate::faults::PoolFault;
 use crate::pool::SharedPool;
@@ -150,7 +148,7 @@ impl<T: Drop, E: Drop, F: Factory<T, E> + Drop, C: Clock + Drop, B: Room> Shared
         ensures walk { IfOk result (λ fate. (left : ℕ) (run : EvictRun) → 0 < left → Goes_on (examines left run) me.old me.new (after_one left run fate)) }
         ensures ends { OnOk result (EndsWithMade me.new) }
         ensures same { OnErr result (me.new.made ≡ me.old.made) }
-        ensures refused { IfErr result (λ f. IsRoomFault B.settings inputs.EvictNext f me.new) }
+        ensures refused { IfErr result (λ f. IsStopped B.settings f me.new) }
     {
         match self.ask(rt, me, Input::EvictNext, None) {
             Ok((Answer::KeptIdle(_), _)) => Ok(Some(Fate::Kept)),

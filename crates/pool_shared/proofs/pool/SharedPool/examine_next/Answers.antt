@@ -1,6 +1,6 @@
 use Rattle.std.proofs.Common.{◌-◌}
 use Rattle.pool_shared.specs.Evicts.{one_more}
-use Rattle.pool_shared.proofs.Examining.{destroyed_idle, tested_idle}
+use Rattle.pool_shared.proofs.Examining.{destroyed_idle, tested_idle, stops_full, stops_short}
 use Rattle.pool_shared.proofs.pool.SharedPool.examine_next.Goals as goal
 
 pub returns-in-Ok-DestroyIdle-Some-clause-walk : goal.returns-in-Ok-DestroyIdle-Some-clause-walk
@@ -10,3 +10,9 @@ returns-in-Ok-DestroyIdle-Some-clause-walk g c left run some =
 pub returns-in-Ok-Test-Some-clause-walk : goal.returns-in-Ok-Test-Some-clause-walk
 returns-in-Ok-Test-Some-clause-walk g c left run some =
     tested_idle c.in-Ok-Test-Some.id left run _ _ _ _ _ some c.in-Ok-Test-Some.field-0-0-is c.in-Ok-Test-Some.ensures.made (c.test.ensures.walk (left - 1) (one_more run))
+
+pub returns-in-Err-JournalFull-clause-refused : goal.returns-in-Err-JournalFull-clause-refused
+returns-in-Err-JournalFull-clause-refused g c = stops_full g.B.Room.settings _ _ _ _ c.in-Err-JournalFull.field-0-is c.in-Err-JournalFull.ensures.refused
+
+pub returns-clause-refused : goal.returns-clause-refused
+returns-clause-refused g c = stops_short g.B.Room.settings _ _ _ c.in-Err-OutOfMemory.ensures.refused

@@ -5,7 +5,7 @@ use Rattle.pool_shared.specs.Reclaims.{reclaims}
 use Rattle.pool_shared.proofs.Walking.{walk_none, ends_of}
 use Rattle.pool_shared.proofs.Sweeping.{goes_self, goes_then}
 use Rattle.pool_shared.proofs.Rowing.{full_for}
-use Rattle.pool_shared.proofs.Removals.{took_away, none_abandoned, all_taken, stopped}
+use Rattle.pool_shared.proofs.Removals.{took_away, none_abandoned, all_taken, none_there, stopped}
 use Rattle.pool_shared.proofs.pool.SharedPool.reclaim_some.Goals as goal
 
 pub loop-taken-init : goal.loop-taken-init
@@ -55,9 +55,11 @@ returns-in-Err-JournalFull-clause-row g c time =
     let some : 0 < i.left = omega (arith, i.all, c.loop-taken-test.true) in
     let refused = c.in-Err-JournalFull.ensures.refused in
     stopped g.B.Room.settings time c.args.count i.left c.loop-taken.taken _ _ _ _ some (i.walk time) refused.same (full_for g.B.Room.settings ReclaimNext _ _ _ _ c.in-Err-JournalFull.field-0-is refused)
+    (none_there g.B.Room.settings _ _ _ refused.there)
 
 pub returns-in-Err-OutOfMemory-clause-row : goal.returns-in-Err-OutOfMemory-clause-row
 returns-in-Err-OutOfMemory-clause-row g c time =
     let i = c.loop-taken.invariant in
     let some : 0 < i.left = omega (arith, i.all, c.loop-taken-test.true) in
     stopped g.B.Room.settings time c.args.count i.left c.loop-taken.taken _ _ _ _ some (i.walk time) c.in-Err-OutOfMemory.ensures.refused.same tt
+    (none_there g.B.Room.settings _ _ _ c.in-Err-OutOfMemory.ensures.refused.there)
