@@ -11,7 +11,7 @@ use std::sync::Wait;
 pub type Pool<'a, B> = SharedPool<Thing, (), Fickle<'a>, Ticking, B>;
 
 /// How many calls each caller makes.
-const CALLS: u32 = 500;
+const CALLS: u32 = 300;
 
 /// What callers do in a pool that has nothing to lend.
 #[derive(Clone, Copy, PartialEq, Eq)]

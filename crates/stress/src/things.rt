@@ -9,6 +9,9 @@ use std::thread;
 /// One call of the factory in so many fails.
 const FAILS_OF: u64 = 12;
 
+/// Before one call in so many the thread lets others run.
+const YIELDS_OF: u64 = 50;
+
 /// An object.
 #[derive(Drop)]
 pub struct Thing {
@@ -47,11 +50,13 @@ pub struct Fickle<'a> {
 }
 
 impl Fickle<'_> {
-    // Whether a call fails. The others have their turn meanwhile.
+    // Whether a call fails. Now and then the others have their turn before.
     fn fails(&self) -> bool {
-        thread::yield_now();
         let call = self.tally.calls.fetch_add(1, Ordering::SeqCst);
         let mut dice = Dice::new(self.seed.wrapping_add(call));
+        if dice.roll(YIELDS_OF) == 0 {
+            thread::yield_now();
+        }
         dice.roll(FAILS_OF) == 0
     }
 }
