@@ -23,6 +23,3 @@ pub use lent::Lent;
 pub use pool::SharedPool;
 pub use pool_desk::{Clock, Factory};
 pub use pool_history::{Caller, Room, Site};
-
-#[cfg(test)]
-mod tests;

@@ -20,9 +20,13 @@ mod life;
 #[cfg(test)]
 mod openings;
 #[cfg(test)]
+mod stock;
+#[cfg(test)]
 mod turns;
 #[cfg(test)]
 mod twins;
+#[cfg(test)]
+mod upkeep;
 #[cfg(test)]
 mod waiting;
 #[cfg(test)]

@@ -39,6 +39,9 @@ fn offers<A: Room, B: Room, R: Wait + Abort>(
     let mut stranger = single(callers).ok_or("a caller")?;
 
     let lent = own.borrow(rt, &mut me).ok().ok_or("an object")?;
+    let Err((_, lent)) = other.invalidate(rt, &mut stranger, lent) else {
+        return Err("destroyed by another pool".into());
+    };
     let Err((fault, lent)) = other.give_back(rt, &mut stranger, lent) else {
         return Err("taken by another pool".into());
     };
