@@ -6,6 +6,7 @@ use std::cell::Cell;
 use std::process::Abort;
 use std::test::Fail;
 
+mod reports;
 mod settings_files;
 mod statistics;
 mod streams;
