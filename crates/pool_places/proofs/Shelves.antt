@@ -34,7 +34,7 @@ without_above i [] all = refl
 without_above i (p ∷ ps) all = rw (other_is i p.known.id (λ same. omega (arith, all.0))) (ap (λ qs. p ∷ qs) (without_above i ps all.1))
 
 -- the id at a later place is greater
-id_above : {T : Type 0} (n k : ℕ) (d : Place T) (ps : List (Place T)) → AllByRecursion (λ q. n < q.known.id) ps → k < length ps → n < (get_or ps k d).known.id
+pub id_above : {T : Type 0} (n k : ℕ) (d : Place T) (ps : List (Place T)) → AllByRecursion (λ q. n < q.known.id) ps → k < length ps → n < (get_or ps k d).known.id
 id_above n k d [] all lt = absurd (omega arith)
 id_above n zero d (p ∷ ps) all lt = all.0
 id_above n (suc k) d (p ∷ ps) all lt = id_above n k d ps all.1 (omega arith)

@@ -1,0 +1,37 @@
+-- What a binary search finds among objects whose ids rise.
+use Rattle.std.proofs.Common.{◌≡◌, ◌≢◌, ℕ, zero, suc, ◌<◌, ◌≤◌, List, [], ◌∷◌, length, get_or, Result, Ok, Err, IfSome, IfNone, sym, inl, inr, arith}
+use Rattle.std.specs.Prelude.{All}
+use Rattle.std.specs.List.Sorted.{IsSearchInRange, IsBinarySearchResult, IsNonDecreasingBy}
+use Rattle.std.specs.Ordering.{nat_cmp, ordering_index}
+use Rattle.std.specs.Result.{result_ok}
+use Rattle.std.proofs.lemmas.Cmp.{ranked}
+use Rattle.std.proofs.lemmas.Bool.{cases_lt}
+use Rattle.std.proofs.lemmas.Bool.Decides.{nat_tests}
+use Rattle.pool_places.specs.declared.place.Place.{Place}
+use Rattle.pool_places.specs.Shelf.{IsRising, IsAt}
+use Rattle.pool_places.proofs.Shelves.{id_above}
+
+ids_rise : {T : Type 0} (j k : ℕ) (d : Place T) (ps : List (Place T)) → IsRising ps → j ≤ k → k < length ps → (get_or ps j d).known.id ≤ (get_or ps k d).known.id
+ids_rise j k d [] up le lt = absurd (omega arith)
+ids_rise zero zero d (p ∷ ps) up le lt = omega arith
+ids_rise (suc j) zero d (p ∷ ps) up le lt = absurd (omega arith)
+ids_rise zero (suc k) d (p ∷ ps) up le lt = omega (arith, id_above p.known.id k d ps up.0 (omega arith))
+ids_rise (suc j) (suc k) d (p ∷ ps) up le lt = ids_rise j k d ps up.1 (omega arith) (omega arith)
+
+-- the comparisons with i rise along the list, as a binary search asks
+comparisons_rise : {T : Type 0} (i : ℕ) (ps : List (Place T)) → IsRising ps → IsNonDecreasingBy (λ p. ordering_index (nat_cmp p.known.id i)) ps
+comparisons_rise i ps up = λ j k d le lt. let ids = ids_rise j k d ps up le lt in grind (arith, nat_tests)
+
+pub found_place : {T : Type 0} (i : ℕ) (ps : List (Place T)) (r : Result ℕ ℕ) → IsSearchInRange r (length ps) → IsBinarySearchResult (λ p. nat_cmp p.known.id i) ps r → IfSome (result_ok r) (IsAt ps i)
+found_place i ps (Ok k) in_range equal = record { in_range = in_range; has_id = λ d. ranked _ i _ (sym (equal d)) }
+found_place i ps (Err k) in_range parted = tt
+
+apart : (j k a i : ℕ) → (j < k → a < i) → (k ≤ j → i < a) → a ≢ i
+apart j k a i before after same = elim (cases_lt j k) [ inl h ↦ omega (arith, before h, same) | inr h ↦ omega (arith, after h, same) ]
+
+pub found_nowhere : {T : Type 0} (i : ℕ) (ps : List (Place T)) (r : Result ℕ ℕ) → IsRising ps → IsBinarySearchResult (λ p. nat_cmp p.known.id i) ps r → IfNone (result_ok r) (All (λ p. p.known.id ≢ i) ps)
+found_nowhere i ps (Ok k) up equal = tt
+found_nowhere i ps (Err k) up parted = λ j d lt same.
+    let before : j < k → (get_or ps j d).known.id < i = λ below. ranked _ i _ (sym ((parted (comparisons_rise i ps up)).0 j d (omega arith) below)) in
+    let after : k ≤ j → i < (get_or ps j d).known.id = λ above. ranked _ i _ (sym ((parted (comparisons_rise i ps up)).1 j d above lt)) in
+    apart j k (get_or ps j d).known.id i before after same
