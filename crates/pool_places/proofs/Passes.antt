@@ -72,39 +72,3 @@ unfolding by_rising
 first_after-idle_queue k rs =
     fold_along (put_rising (λ r. r.parked)) (earlier_after k) (λ (ys : List Record) (b : Option Record). first_of (filter (is_after (Some k)) ys) ≡ b)
     (λ ys b x is. first_after-put (λ r. r.parked) k ys x ∙ ap (λ (o : Option Record). earlier_after k o x) is) [] None (filter (λ r. is_idle r.phase) rs) refl
-
--- a turn of a loop that adds up
-pub sum_by-records_more : {T : Type 0} (f : Record → ℕ) (ps : List (Place T)) (i : ℕ) (d : Place T) → i < length ps → sum_by f (records_in (take (i + 1) ps)) ≡ sum_by f (records_in (take i ps)) + f (get_or ps i d).known
-sum_by-records_more f ps i d lt =
-    ap (λ xs. sum_by f (records_in xs)) (take_more ps i d lt) ∙ ap (sum_by f) (map-append (λ q. q.known) (take i ps) (get_or ps i d ∷ []))
-    ∙ sum_by_push f (records_in (take i ps)) (get_or ps i d).known
-
--- a turn of a loop that counts the objects in some phases
-pub counted_more : {T : Type 0} (p : Phase → Bool) (ps : List (Place T)) (i : ℕ) (q : Place T) (n m : ℕ) (b : Bool) → i < length ps → q ≡ get_or ps i q → n ≡ count_by (λ r. p r.phase) (records_in (take i ps))
-    → m ≡ from_bool b → b ≡ p q.known.phase → n + m ≡ count_by (λ r. p r.phase) (records_in (take (i + 1) ps))
-counted_more p ps i q n m b lt read so_far more is =
-    omega (arith, so_far, more ∙ as_number b ∙ ap (λ (t : Bool). cond t 1 0) (is ∙ ap (λ x. p x.known.phase) read), sum_by-records_more (λ r. cond (p r.phase) 1 0) ps i q lt)
-  where
-    as_number : (t : Bool) → from_bool t ≡ cond t 1 0
-    as_number true = refl
-    as_number false = refl
-
-pub one_at_most : (n m i : ℕ) (b : Bool) → n ≤ i → m ≡ from_bool b → n + m ≤ i + 1
-one_at_most n m i b few more = omega (arith, more ∙ refl, at_most b)
-  where
-    at_most : (t : Bool) → from_bool t ≤ 1
-    at_most true = lit≤ tt
-    at_most false = lit≤ tt
-
--- a turn of the loop that adds up what is owed
-pub owed_more : {T : Type 0} (ps : List (Place T)) (i : ℕ) (q : Place T) (n m : ℕ) → i < length ps → q ≡ get_or ps i q → n ≡ owed_by (records_in (take i ps)) → m ≡ weight q.known.phase
-    → n + m ≡ owed_by (records_in (take (i + 1) ps))
-owed_more ps i q n m lt read so_far more =
-    omega (arith, so_far, more ∙ ap (λ x. weight x.known.phase) read, sum_by-records_more (λ r. weight r.phase) ps i q lt)
-
-weight_at_most : (p : Phase) → weight p ≤ 5
-weight_at_most phases.Readying = lit≤ tt
-weight_at_most _ = lit≤ tt
-
-pub five_at_most : (n m i : ℕ) (p : Phase) → n ≤ 5 * i → m ≡ weight p → n + m ≤ 5 * (i + 1)
-five_at_most n m i p little more = omega (arith, more, weight_at_most p)

@@ -1,6 +1,10 @@
 -- What is counted of the objects.
-use Rattle.std.specs.Prelude.{ℕ, Bool, true, false, List, Option, Some, None}
+use Rattle.std.specs.Prelude.{◌≡◌, ℕ, ◌+◌, ◌<◌, ◌≤◌, ◌^◌, Bool, true, false, List, length, count_by, Option, Some, None}
+use Rattle.std.specs.Int.{from_bool}
 use Rattle.std.specs.List.{sum_by}
+use Rattle.pool_journal.specs.Queue.{is_idle, is_queued, queue_length}
+use Rattle.pool_places.specs.Overdue.{is_lent}
+use Rattle.pool_places.specs.declared.place_counts.PlaceCounts.{PlaceCounts}
 use Rattle.pool_journal.specs.declared.record.Record.{Record}
 use Rattle.pool_journal.specs.declared.record.Phase.{Phase}
 use Rattle.pool_journal.specs.declared.record.Phase.TheVariants as phases
@@ -29,3 +33,39 @@ owed_by rs = sum_by (λ r. weight r.phase) rs
 abbrev pub weight_of : Option Record → ℕ
 weight_of None = 0
 weight_of (Some r) = weight r.phase
+
+-- the numbers of the objects that have these records
+pub record IsCounts (c : PlaceCounts) (rs : List Record) : Type 0 where
+  pub present : c.present ≡ length rs
+  pub queue : c.queue ≡ queue_length rs
+  pub idle : c.idle ≡ count_by (λ r. is_idle r.phase) rs
+  pub lent : c.lent ≡ count_by (λ r. is_lent r.phase) rs
+  pub adding : c.adding ≡ count_by (λ r. is_adding r.phase) rs
+  pub owed : c.owed ≡ owed_by rs
+
+-- b has one object more than a, in this phase
+pub record HasOneMore (a b : PlaceCounts) (phase : Phase) : Type 0 where
+  pub present : b.present ≡ a.present + 1
+  pub queue : b.queue ≡ a.queue + from_bool (is_queued phase)
+  pub idle : b.idle ≡ a.idle + from_bool (is_idle phase)
+  pub lent : b.lent ≡ a.lent + from_bool (is_lent phase)
+  pub adding : b.adding ≡ a.adding + from_bool (is_adding phase)
+  pub owed : b.owed ≡ a.owed + weight phase
+
+-- there is at least what one object in this phase adds
+pub record HasOne (c : PlaceCounts) (phase : Phase) : Type 0 where
+  pub present : 1 ≤ c.present
+  pub queue : from_bool (is_queued phase) ≤ c.queue
+  pub idle : from_bool (is_idle phase) ≤ c.idle
+  pub lent : from_bool (is_lent phase) ≤ c.lent
+  pub adding : from_bool (is_adding phase) ≤ c.adding
+  pub owed : weight phase ≤ c.owed
+
+-- each number is below half of the largest
+pub record IsSmall (c : PlaceCounts) : Type 0 where
+  pub present : c.present < 2 ^ 63
+  pub queue : c.queue < 2 ^ 63
+  pub idle : c.idle < 2 ^ 63
+  pub lent : c.lent < 2 ^ 63
+  pub adding : c.adding < 2 ^ 63
+  pub owed : c.owed < 2 ^ 63

@@ -1,13 +1,10 @@
-ghost use Rattle.std.specs.Prelude.{◌≡◌, ◌≤◌, ◌<◌, ◌^◌, count_by, length};
-ghost use Rattle.pool_journal.specs.Queue.{is_idle, queue_length};
-ghost use Rattle.pool_places.specs.Counts.{is_adding, owed_by};
-ghost use Rattle.pool_places.specs.Overdue.{is_lent};
-ghost use Rattle.pool_places.specs.Shelf.{records_in};
+ghost use Rattle.std.specs.Prelude.{[]};
+ghost use Rattle.pool_places.specs.Counts.{IsCounts, IsSmall, HasOne, HasOneMore};
 
 use crate::phase_tests::{
     is_adding_phase, is_idle_phase, is_lent_phase, is_queued_phase, weight_of_phase,
 };
-use crate::place::Place;
+use pool_journal::Phase;
 
 /// How many objects there are of each kind.
 #[derive(Clone, Copy, Debug, PartialEq, Eq)]
@@ -26,36 +23,44 @@ pub struct PlaceCounts {
     pub owed: u64,
 }
 
-/// Counts the objects.
-pub(crate) fn counts_of<T>(places: &[Place<T>]) -> PlaceCounts
-    requires { length places.now ≤ 2 ^ 60 }
-    ensures present { result.present ≡ length places.now }
-    ensures queue { result.queue ≡ queue_length (records_in places.now) }
-    ensures idle { result.idle ≡ count_by (λ r. is_idle r.phase) (records_in places.now) }
-    ensures lent { result.lent ≡ count_by (λ r. is_lent r.phase) (records_in places.now) }
-    ensures adding { result.adding ≡ count_by (λ r. is_adding r.phase) (records_in places.now) }
-    ensures owed { result.owed ≡ owed_by (records_in places.now) }
-    ensures small { result.owed < 2 ^ 63 }
-{
-    let mut queue = 0;
-    let mut idle = 0;
-    let mut lent = 0;
-    let mut adding = 0;
-    let mut owed = 0;
-    for place in places {
-        let phase = place.known.phase;
-        queue += u64::from(is_queued_phase(phase));
-        idle += u64::from(is_idle_phase(phase));
-        lent += u64::from(is_lent_phase(phase));
-        adding += u64::from(is_adding_phase(phase));
-        owed += weight_of_phase(phase);
+impl PlaceCounts {
+    /// No objects.
+    pub(crate) fn none() -> Self
+        ensures { IsCounts result [] }
+    {
+        PlaceCounts {
+            present: 0,
+            queue: 0,
+            idle: 0,
+            lent: 0,
+            adding: 0,
+            owed: 0,
+        }
     }
-    PlaceCounts {
-        present: places.len() as u64,
-        queue,
-        idle,
-        lent,
-        adding,
-        owed,
+
+    /// Counts one object more.
+    pub(crate) fn add(&mut self, phase: Phase)
+        requires { IsSmall self.old }
+        ensures { HasOneMore self.old self.new phase }
+    {
+        self.present += 1;
+        self.queue += u64::from(is_queued_phase(phase));
+        self.idle += u64::from(is_idle_phase(phase));
+        self.lent += u64::from(is_lent_phase(phase));
+        self.adding += u64::from(is_adding_phase(phase));
+        self.owed += weight_of_phase(phase);
+    }
+
+    /// Counts one object less.
+    pub(crate) fn remove(&mut self, phase: Phase)
+        requires { HasOne self.old phase }
+        ensures { HasOneMore self.new self.old phase }
+    {
+        self.present -= 1;
+        self.queue -= u64::from(is_queued_phase(phase));
+        self.idle -= u64::from(is_idle_phase(phase));
+        self.lent -= u64::from(is_lent_phase(phase));
+        self.adding -= u64::from(is_adding_phase(phase));
+        self.owed -= weight_of_phase(phase);
     }
 }

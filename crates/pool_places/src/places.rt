@@ -12,9 +12,9 @@ ghost use Rattle.pool_places.specs.Shelf.{records_in, value_in, changed, without
 
 use crate::overdue::{first_overdue, overdue_count};
 use crate::place::Place;
-use crate::place_counts::{PlaceCounts, counts_of};
+use crate::place_counts::PlaceCounts;
 use crate::positions::{index_of, position_of};
-use crate::queue::{count_queued, first_of_queue, last_of_queue, next_of_queue};
+use crate::queue::{first_of_queue, last_of_queue, next_of_queue};
 use pool_journal::{Phase, Record};
 use std::alloc::{AllocError, Global};
 use std::marker::Model;
@@ -26,12 +26,15 @@ const MOST_PLACES: usize = 1 << 60;
 #[derive(Drop)]
 pub struct Places<T> {
     places: Vec<Place<T>>,
+    // What the objects amount to.
+    counts: PlaceCounts,
 }
 
 impl<T> Model for Places<T> {
     ghost use Rattle.std.specs.Prelude.{◌-◌, ◌^◌, min};
     ghost use Rattle.std.specs.Vec.{vec_len, vec_capacity};
-    ghost use Rattle.pool_places.specs.Shelf.{Shelf, IsShelf};
+    ghost use Rattle.pool_places.specs.Shelf.{Shelf};
+    ghost use Rattle.pool_places.specs.Kept.{IsKept};
 
     ghost Value = { Shelf T };
 
@@ -40,7 +43,7 @@ impl<T> Model for Places<T> {
       spare = min (vec_capacity a.places) (2 ^ 60) - vec_len a.places;
     } };
 
-    ghost invariant = { λ a. IsShelf a.places.items };
+    ghost invariant = { λ a. IsKept a.places.items a.counts };
 }
 
 // Puts a value where there is none.
@@ -61,6 +64,7 @@ impl<T> Places<T> {
     {
         Places {
             places: Vec::new(alloc),
+            counts: PlaceCounts::none(),
         }
     }
 
@@ -75,7 +79,7 @@ impl<T> Places<T> {
     pub fn queued(&self) -> usize
         ensures { result ≡ queue_length (records_in self.now.kept) }
     {
-        count_queued(&self.places)
+        self.counts.queue as usize
     }
 
     /// What is known of an object, if it is present.
@@ -153,7 +157,7 @@ impl<T> Places<T> {
         ensures small { result.owed < 2 ^ 63 }
         ensures shelf { IsShelf self.now.kept }
     {
-        counts_of(&self.places)
+        self.counts
     }
 
     /// Makes sure that there is memory for one more object. Where there is none, nothing changes.
@@ -195,6 +199,7 @@ impl<T> Places<T> {
             },
             value: None,
         });
+        self.counts.add(phase);
     }
 
     /// Brings an object that isn't idle to `Returning` or `Destroying`.
@@ -213,6 +218,8 @@ impl<T> Places<T> {
     {
         let index = index_of(&self.places, id);
         let record = &mut self.places[index].known;
+        self.counts.remove(record.phase);
+        self.counts.add(phase);
         record.phase = phase;
         record.is_new = false;
     }
@@ -230,6 +237,8 @@ impl<T> Places<T> {
     {
         let index = index_of(&self.places, id);
         let record = &mut self.places[index].known;
+        self.counts.remove(record.phase);
+        self.counts.add(Phase::Lent);
         record.phase = Phase::Lent;
         record.lent = at;
         record.used = at;
@@ -269,6 +278,8 @@ impl<T> Places<T> {
     {
         let index = index_of(&self.places, id);
         let place = &mut self.places[index];
+        self.counts.remove(place.known.phase);
+        self.counts.add(Phase::Idle);
         place.known.phase = Phase::Idle;
         place.known.parked = parked;
         place.known.since = since;
@@ -294,6 +305,8 @@ impl<T> Places<T> {
     {
         let index = index_of(&self.places, id);
         let idle = &mut self.places[index];
+        self.counts.remove(idle.known.phase);
+        self.counts.add(phase);
         idle.known.phase = phase;
         idle.known.is_new = false;
         idle.value.take().unwrap()
@@ -315,6 +328,8 @@ impl<T> Places<T> {
     {
         let index = index_of(&self.places, id);
         let tested = &mut self.places[index];
+        self.counts.remove(tested.known.phase);
+        self.counts.add(Phase::Idle);
         tested.known.phase = Phase::Idle;
         tested.known.is_new = false;
         keep(&mut tested.value, value);
@@ -333,7 +348,8 @@ impl<T> Places<T> {
         ensures spare { self.old.spare ≤ self.new.spare }
     {
         let index = index_of(&self.places, id);
-        let Place { known: _, value } = self.places.remove(index);
+        let Place { known, value } = self.places.remove(index);
+        self.counts.remove(known.phase);
         match value {
             None => {}
             Some(_) => unreachable!(),

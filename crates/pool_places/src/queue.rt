@@ -1,9 +1,9 @@
 ghost use Rattle.std.specs.Prelude.{◌≡◌, Some, filter, if◌then◌else◌};
-ghost use Rattle.pool_journal.specs.Queue.{queue_length, idle_queue, first_of, last_of, earlier, later};
+ghost use Rattle.pool_journal.specs.Queue.{idle_queue, first_of, last_of, earlier, later};
 ghost use Rattle.pool_places.specs.After.{is_after};
 ghost use Rattle.pool_places.specs.Shelf.{records_in};
 
-use crate::phase_tests::{is_idle_phase, is_queued_phase};
+use crate::phase_tests::is_idle_phase;
 use crate::place::Place;
 use pool_journal::Record;
 
@@ -77,14 +77,4 @@ pub(crate) fn next_of_queue<T>(places: &[Place<T>], position: u64) -> Option<Rec
         }
     }
     best
-}
-
-/// How many objects are in the queue.
-pub(crate) fn count_queued<T>(places: &[Place<T>]) -> usize
-    ensures { result ≡ queue_length (records_in places.now) }
-{
-    places
-        .iter()
-        .filter(|place| is_queued_phase(place.known.phase))
-        .count()
 }

@@ -14,15 +14,15 @@ returns-in_err-index-clause-value g c =
 
 pub returns-clause-value : goal.returns-clause-value
 returns-clause-value g c =
-    let here = found_at c.self.invariant c.deref.ensures.value c.in_ok-index.ensures.found c.index.ensures in
+    let here = found_at c.self.invariant.shelf c.deref.ensures.value c.in_ok-index.ensures.found c.index.ensures in
     rw (← c.self.view_is) (sym (found_record here))
 
 pub returns-clause-owed_changed : goal.returns-clause-owed_changed
 returns-clause-owed_changed g c change =
-    let here = found_at c.self.invariant c.deref.ensures.value c.in_ok-index.ensures.found c.index.ensures in
+    let here = found_at c.self.invariant.shelf c.deref.ensures.value c.in_ok-index.ensures.found c.index.ensures in
     rw (← c.self.view_is) (owed_by-with_changed change here)
 
 pub returns-clause-owed_without : goal.returns-clause-owed_without
 returns-clause-owed_without g c =
-    let here = found_at c.self.invariant c.deref.ensures.value c.in_ok-index.ensures.found c.index.ensures in
+    let here = found_at c.self.invariant.shelf c.deref.ensures.value c.in_ok-index.ensures.found c.index.ensures in
     rw (← c.self.view_is) (owed_by-without_id here)

@@ -11,4 +11,4 @@ returns-clause-idle g c =
     let ps = c.deref.result.now in
     let id : c.map.result ≡ option_map (λ r. r.id) c.first_of_queue.result = search rules in
     rw (← c.self.view_is, ← c.deref.ensures.value)
-    (named_by_id _ _ (λ i. IsInPhase (records_in ps) i phases.Idle) id (λ r is. first_is_idle ps (rw c.deref.ensures.value c.self.invariant.rising) r (sym c.first_of_queue.ensures ∙ is)))
+    (named_by_id _ _ (λ i. IsInPhase (records_in ps) i phases.Idle) id (λ r is. first_is_idle ps (rw c.deref.ensures.value c.self.invariant.shelf.rising) r (sym c.first_of_queue.ensures ∙ is)))

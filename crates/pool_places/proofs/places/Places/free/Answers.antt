@@ -1,22 +1,28 @@
 use Rattle.std.proofs.Common.{arith}
 use Rattle.pool_places.proofs.Found.{found_at, found_known, found_empty, remove_shelf, remove_kept, remove_records, remove_values}
 use Rattle.pool_places.proofs.Owing.{remove_owed_of}
+use Rattle.pool_places.proofs.Numbers.{has_one, counted_remove}
 use Rattle.pool_places.proofs.places.Places.free.Goals as goal
+
+pub remove-requires : goal.remove-requires
+remove-requires g c =
+    let here = found_at c.self.invariant.shelf c.deref.ensures.value c.index_of-index.ensures c.remove-value.ensures.value in
+    has_one _ here c.self.invariant.counted
 
 pub unreachable-requires : goal.unreachable-requires
 unreachable-requires g c =
-    let here = found_at c.self.invariant c.deref.ensures.value c.index_of-index.ensures c.remove-value.ensures.value in
+    let here = found_at c.self.invariant.shelf c.deref.ensures.value c.index_of-index.ensures c.remove-value.ensures.value in
     let none = found_empty here (found_known _ here c.self.view_is c.requires.present) in
     cc (none, c.in-Some.is)
 
 pub invariant_of-self : goal.invariant_of-self
 invariant_of-self g c =
-    let here = found_at c.self.invariant c.deref.ensures.value c.index_of-index.ensures c.remove-value.ensures.value in
-    rw c.remove-value.ensures.items (remove_shelf here)
+    let here = found_at c.self.invariant.shelf c.deref.ensures.value c.index_of-index.ensures c.remove-value.ensures.value in
+    rw c.remove-value.ensures.items (record { shelf = remove_shelf here; counted = counted_remove _ _ here c.self.invariant.counted c.remove.ensures })
 
 pub returns : goal.returns
 returns g c =
-    let here = found_at c.self.invariant c.deref.ensures.value c.index_of-index.ensures c.remove-value.ensures.value in
+    let here = found_at c.self.invariant.shelf c.deref.ensures.value c.index_of-index.ensures c.remove-value.ensures.value in
     let none = found_empty here (found_known _ here c.self.view_is c.requires.present) in
     rw (← c.self.view_is, c.remove-value.ensures.items)
     record {

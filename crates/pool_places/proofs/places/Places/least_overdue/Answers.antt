@@ -21,7 +21,7 @@ returns-clause-least g c =
     let id : c.map.result ≡ option_map (λ r. r.id) c.first_overdue.result = search rules in
     rw (← c.self.view_is, ← c.deref.ensures.value)
     (named_by_id _ _ (λ i. AllByRecursion (λ r. i ≤ r.id) (overdue c.args.at c.args.timeout (records_in ps))) id
-    (λ r is. first_has_least_id test ps (rw c.deref.ensures.value c.self.invariant.rising) r (first_of-filter test (records_in ps) ∙ sym c.first_overdue.ensures ∙ is)))
+    (λ r is. first_has_least_id test ps (rw c.deref.ensures.value c.self.invariant.shelf.rising) r (first_of-filter test (records_in ps) ∙ sym c.first_overdue.ensures ∙ is)))
 
 pub returns-clause-lent : goal.returns-clause-lent
 returns-clause-lent g c =
@@ -30,4 +30,4 @@ returns-clause-lent g c =
     let id : c.map.result ≡ option_map (λ r. r.id) c.first_overdue.result = search rules in
     rw (← c.self.view_is, ← c.deref.ensures.value)
     (named_by_id _ _ (λ i. IsInPhase (records_in ps) i phases.Lent) id
-    (λ r is. overdue_is_lent c.args.at c.args.timeout ps (rw c.deref.ensures.value c.self.invariant.rising) r (first_of-filter test (records_in ps) ∙ sym c.first_overdue.ensures ∙ is)))
+    (λ r is. overdue_is_lent c.args.at c.args.timeout ps (rw c.deref.ensures.value c.self.invariant.shelf.rising) r (first_of-filter test (records_in ps) ∙ sym c.first_overdue.ensures ∙ is)))

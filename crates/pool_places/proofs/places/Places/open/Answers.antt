@@ -6,12 +6,16 @@ use Rattle.pool_places.proofs.Values.{value_push}
 use Rattle.pool_places.proofs.Found.{records_push}
 use Rattle.pool_places.proofs.NotIdle.{opened_not_idle}
 use Rattle.pool_places.proofs.Owing.{push_owed}
+use Rattle.pool_places.proofs.Numbers.{counted_push, small}
 use Rattle.pool_places.proofs.places.Places.open.Goals as goal
+
+pub add-requires : goal.add-requires
+add-requires g c = small _ _ c.self.invariant.shelf.few c.self.invariant.counted
 
 pub invariant_of-self : goal.invariant_of-self
 invariant_of-self g c =
     let above = subst (λ s. IdsBelow c.args.id (records_in s.kept)) (sym c.self.view_is) c.requires.above in
-    rw c.push_reserved.ensures.items (shelf_push c.self.inside.places.items _ c.self.invariant (all_places _ c.self.inside.places.items above) (sym (opened_not_idle c.args.phase c.requires.phase)) (omega (arith, ap (λ s. s.spare) c.self.view_is)))
+    rw c.push_reserved.ensures.items (record { shelf = shelf_push c.self.inside.places.items _ c.self.invariant.shelf (all_places _ c.self.inside.places.items above) (sym (opened_not_idle c.args.phase c.requires.phase)) (omega (arith, ap (λ s. s.spare) c.self.view_is)); counted = counted_push _ _ _ _ c.self.invariant.counted c.add.ensures })
 
 pub returns : goal.returns
 returns g c =

@@ -5,17 +5,18 @@ use Rattle.pool_places.specs.Shelf.{to_used}
 use Rattle.pool_places.proofs.Shelves.{empty_valued}
 use Rattle.pool_places.proofs.Found.{found_at, found_known, found_empty, set_shelf, set_kept, set_records, set_values}
 use Rattle.pool_places.proofs.Owing.{set_owed}
+use Rattle.pool_places.proofs.Numbers.{counted_same}
 use Rattle.pool_places.proofs.places.Places.set_used.Goals as goal
 
 pub invariant_of-self : goal.invariant_of-self
 invariant_of-self g c =
-    let here = found_at c.self.invariant c.deref.ensures.value c.index_of-index.ensures c.index_mut.ensures.value in
+    let here = found_at c.self.invariant.shelf c.deref.ensures.value c.index_of-index.ensures c.index_mut.ensures.value in
     let lent = ap is_idle (found_known _ here c.self.view_is c.requires.present) in
-    set_shelf _ here refl (empty_valued c.index_mut.result.now.value (found_empty here lent) lent)
+    record { shelf = set_shelf _ here refl (empty_valued c.index_mut.result.now.value (found_empty here lent) lent); counted = counted_same _ _ here refl c.self.invariant.counted }
 
 pub returns : goal.returns
 returns g c =
-    let here = found_at c.self.invariant c.deref.ensures.value c.index_of-index.ensures c.index_mut.ensures.value in
+    let here = found_at c.self.invariant.shelf c.deref.ensures.value c.index_of-index.ensures c.index_mut.ensures.value in
     let f = to_used c.args.at in
     rw (← c.self.view_is)
     record {

@@ -6,21 +6,30 @@ use Rattle.pool_places.proofs.Shelves.{empty_valued}
 use Rattle.pool_places.proofs.Found.{found_at, found_known, found_full, found_value, set_shelf, set_kept, set_records, set_value, set_others}
 use Rattle.pool_places.proofs.NotIdle.{taken_not_idle}
 use Rattle.pool_places.proofs.Owing.{set_owed_from}
+use Rattle.pool_places.proofs.Numbers.{has_one, counted_set, small, small_less}
 use Rattle.pool_places.proofs.places.Places.take_value.Goals as goal
 
 pub unwrap-requires : goal.unwrap-requires
 unwrap-requires g c =
-    let here = found_at c.self.invariant c.deref.ensures.value c.index_of-index.ensures c.index_mut-idle.ensures.value in
+    let here = found_at c.self.invariant.shelf c.deref.ensures.value c.index_of-index.ensures c.index_mut-idle.ensures.value in
     ap is_some c.take.ensures.value ∙ found_full here (found_known _ here c.self.view_is c.requires.present)
+
+pub remove-requires : goal.remove-requires
+remove-requires g c =
+    let here = found_at c.self.invariant.shelf c.deref.ensures.value c.index_of-index.ensures c.index_mut-idle.ensures.value in
+    has_one _ here c.self.invariant.counted
+
+pub add-requires : goal.add-requires
+add-requires g c = small_less _ _ _ (small _ _ c.self.invariant.shelf.few c.self.invariant.counted) c.remove.ensures
 
 pub invariant_of-self : goal.invariant_of-self
 invariant_of-self g c =
-    let here = found_at c.self.invariant c.deref.ensures.value c.index_of-index.ensures c.index_mut-idle.ensures.value in
-    set_shelf _ here refl (empty_valued c.take.new.self c.take.ensures.after (taken_not_idle c.args.phase c.requires.phase))
+    let here = found_at c.self.invariant.shelf c.deref.ensures.value c.index_of-index.ensures c.index_mut-idle.ensures.value in
+    record { shelf = set_shelf _ here refl (empty_valued c.take.new.self c.take.ensures.after (taken_not_idle c.args.phase c.requires.phase)); counted = counted_set _ _ _ _ here c.self.invariant.counted c.remove.ensures c.add.ensures }
 
 pub returns : goal.returns
 returns g c =
-    let here = found_at c.self.invariant c.deref.ensures.value c.index_of-index.ensures c.index_mut-idle.ensures.value in
+    let here = found_at c.self.invariant.shelf c.deref.ensures.value c.index_of-index.ensures c.index_mut-idle.ensures.value in
     let f = to_taken c.args.phase in
     rw (← c.self.view_is, c.take.ensures.after)
     record {
