@@ -36,7 +36,7 @@ pub each_is_found : {T : Type 0} (ps : List (Place T)) → IsRising ps → AllBy
 each_is_found [] up = tt
 each_is_found (p ∷ ps) up = (let same : (p.known.id == p.known.id) ≡ true = grind (arith, nat_tests) in rw same refl, above_absent p ps up.0 (each_is_found ps up.1))
 
-all_filtered : {A : Type 0} (P : A → Type 0) (p : A → Bool) (xs : List A) → AllByRecursion P xs → AllByRecursion (λ x. P x × (p x ≡ true)) (filter p xs)
+pub all_filtered : {A : Type 0} (P : A → Type 0) (p : A → Bool) (xs : List A) → AllByRecursion P xs → AllByRecursion (λ x. P x × (p x ≡ true)) (filter p xs)
 all_filtered P p [] all = tt
 all_filtered {A} P p (x ∷ xs) all = by_test (p x) refl (all_filtered P p xs all.1)
   where
@@ -44,7 +44,7 @@ all_filtered {A} P p (x ∷ xs) all = by_test (p x) refl (all_filtered P p xs al
     by_test true is later = ((all.0, is), later)
     by_test false is later = later
 
-for_one : {A : Type 0} (Q : A → Type 0) (x : A) → Q x → ForSome (Some x) Q
+pub for_one : {A : Type 0} (Q : A → Type 0) (x : A) → Q x → ForSome (Some x) Q
 for_one Q x here y is = let e : x ≡ y = cc is in subst Q e here
 
 pub later_keeps : {A : Type 0} (Q : A → Type 0) (key : A → ℕ) (o : Option A) (x : A) → ForSome o Q → Q x → ForSome (later key o x) Q

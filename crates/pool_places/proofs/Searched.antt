@@ -1,4 +1,4 @@
--- What a binary search finds among objects whose ids rise.
+-- What a binary search finds among objects whose ids rise, and in the queue.
 use Rattle.std.proofs.Common.{◌≡◌, ◌≢◌, ℕ, zero, suc, ◌<◌, ◌≤◌, List, [], ◌∷◌, length, get_or, Result, Ok, Err, IfSome, IfNone, sym, inl, inr, arith}
 use Rattle.std.specs.Prelude.{All}
 use Rattle.std.specs.List.Sorted.{IsSearchInRange, IsBinarySearchResult, IsNonDecreasingBy}
@@ -9,6 +9,9 @@ use Rattle.std.proofs.lemmas.Bool.{cases_lt}
 use Rattle.std.proofs.lemmas.Bool.Decides.{nat_tests}
 use Rattle.pool_places.specs.declared.place.Place.{Place}
 use Rattle.pool_places.specs.Shelf.{IsRising, IsAt}
+use Rattle.pool_places.specs.declared.queue.Parked.{Parked}
+use Rattle.pool_places.specs.Waiting.{Rises, IsParkedAt}
+use Rattle.pool_places.proofs.Entries.{later_at}
 use Rattle.pool_places.proofs.Shelves.{id_above}
 
 ids_rise : {T : Type 0} (j k : ℕ) (d : Place T) (ps : List (Place T)) → IsRising ps → j ≤ k → k < length ps → (get_or ps j d).known.id ≤ (get_or ps k d).known.id
@@ -35,3 +38,25 @@ found_nowhere i ps (Err k) up parted = λ j d lt same.
     let before : j < k → (get_or ps j d).known.id < i = λ below. ranked _ i _ (sym ((parted (comparisons_rise i ps up)).0 j d (omega arith) below)) in
     let after : k ≤ j → i < (get_or ps j d).known.id = λ above. ranked _ i _ (sym ((parted (comparisons_rise i ps up)).1 j d above lt)) in
     apart j k (get_or ps j d).known.id i before after same
+
+-- ---- the same of the queue
+positions_rise : (j k : ℕ) (d : Parked) (qs : List Parked) → Rises qs → j ≤ k → k < length qs → (get_or qs j d).parked ≤ (get_or qs k d).parked
+positions_rise j k d [] up le lt = absurd (omega arith)
+positions_rise zero zero d (q ∷ qs) up le lt = omega arith
+positions_rise (suc j) zero d (q ∷ qs) up le lt = absurd (omega arith)
+positions_rise zero (suc k) d (q ∷ qs) up le lt = omega (arith, later_at q.parked k d qs up.0 (omega arith))
+positions_rise (suc j) (suc k) d (q ∷ qs) up le lt = positions_rise j k d qs up.1 (omega arith) (omega arith)
+
+parked_rise : (i : ℕ) (qs : List Parked) → Rises qs → IsNonDecreasingBy (λ q. ordering_index (nat_cmp q.parked i)) qs
+parked_rise i qs up = λ j k d le lt. let both = positions_rise j k d qs up le lt in grind (arith, nat_tests)
+
+pub found_parked : (i : ℕ) (qs : List Parked) (r : Result ℕ ℕ) → IsSearchInRange r (length qs) → IsBinarySearchResult (λ q. nat_cmp q.parked i) qs r → IfSome (result_ok r) (IsParkedAt qs i)
+found_parked i qs (Ok k) in_range equal = record { in_range = in_range; position = λ d. ranked _ i _ (sym (equal d)) }
+found_parked i qs (Err k) in_range parted = tt
+
+pub parked_nowhere : (i : ℕ) (qs : List Parked) (r : Result ℕ ℕ) → Rises qs → IsBinarySearchResult (λ q. nat_cmp q.parked i) qs r → IfNone (result_ok r) (All (λ q. q.parked ≢ i) qs)
+parked_nowhere i qs (Ok k) up equal = tt
+parked_nowhere i qs (Err k) up parted = λ j d lt same.
+    let before : j < k → (get_or qs j d).parked < i = λ below. ranked _ i _ (sym ((parted (parked_rise i qs up)).0 j d (omega arith) below)) in
+    let after : k ≤ j → i < (get_or qs j d).parked = λ above. ranked _ i _ (sym ((parted (parked_rise i qs up)).1 j d above lt)) in
+    apart j k (get_or qs j d).parked i before after same

@@ -14,7 +14,7 @@ use crate::overdue::{first_overdue, overdue_count};
 use crate::place::Place;
 use crate::place_counts::PlaceCounts;
 use crate::positions::{index_of, position_of};
-use crate::queue::{first_of_queue, last_of_queue, next_of_queue};
+use crate::queue::{Parked, first_idle_of, last_idle_of, leave, mark, next_idle_of, take_from};
 use pool_journal::{Phase, Record};
 use std::alloc::{AllocError, Global};
 use std::marker::Model;
@@ -26,6 +26,8 @@ const MOST_PLACES: usize = 1 << 60;
 #[derive(Drop)]
 pub struct Places<T> {
     places: Vec<Place<T>>,
+    // Those of the queue, by rising position.
+    queue: Vec<Parked>,
     // What the objects amount to.
     counts: PlaceCounts,
 }
@@ -40,10 +42,10 @@ impl<T> Model for Places<T> {
 
     ghost view = { λ a. record {
       kept = a.places.items;
-      spare = min (vec_capacity a.places) (2 ^ 60) - vec_len a.places;
+      spare = min (min (vec_capacity a.places) (vec_capacity a.queue)) (2 ^ 60) - vec_len a.places;
     } };
 
-    ghost invariant = { λ a. IsKept a.places.items a.counts };
+    ghost invariant = { λ a. IsKept a.places.items a.queue.items a.counts (vec_capacity a.queue) };
 }
 
 // Puts a value where there is none.
@@ -64,6 +66,7 @@ impl<T> Places<T> {
     {
         Places {
             places: Vec::new(alloc),
+            queue: Vec::new(alloc),
             counts: PlaceCounts::none(),
         }
     }
@@ -105,7 +108,7 @@ impl<T> Places<T> {
             (first_of (idle_queue (records_in self.now.kept))) }
         ensures idle { IfSome result (λ i. IsInPhase (records_in self.now.kept) i phases.Idle) }
     {
-        first_of_queue(&self.places).map(|known| known.id)
+        first_idle_of(&self.queue).map(|entry| entry.id)
     }
 
     /// The idle object that was parked last.
@@ -114,7 +117,7 @@ impl<T> Places<T> {
             (last_of (idle_queue (records_in self.now.kept))) }
         ensures idle { IfSome result (λ i. IsInPhase (records_in self.now.kept) i phases.Idle) }
     {
-        last_of_queue(&self.places).map(|known| known.id)
+        last_idle_of(&self.queue).map(|entry| entry.id)
     }
 
     /// The idle object that was parked first, of those that were parked after a position.
@@ -123,7 +126,7 @@ impl<T> Places<T> {
             (first_of (filter (is_after (Some parked)) (idle_queue (records_in self.now.kept)))) }
         ensures idle { IfSome result (λ i. IsInPhase (records_in self.now.kept) i phases.Idle) }
     {
-        next_of_queue(&self.places, parked).map(|known| known.id)
+        next_idle_of(&self.queue, parked).map(|entry| entry.id)
     }
 
     /// The lent object with the least id, of those that at the moment `at` were not used for at least
@@ -170,7 +173,9 @@ impl<T> Places<T> {
         if self.present() >= MOST_PLACES {
             return Err(AllocError);
         }
-        self.places.reserve(1)
+        self.places.reserve(1)?;
+        let most = self.places.len() + 1;
+        self.queue.reserve(most.saturating_sub(self.queue.len()))
     }
 
     /// Adds an object that is just drawn, in the memory that was reserved. It begins as `Readying` or
@@ -218,6 +223,7 @@ impl<T> Places<T> {
     {
         let index = index_of(&self.places, id);
         let record = &mut self.places[index].known;
+        leave(&mut self.queue, *record);
         self.counts.remove(record.phase);
         self.counts.add(phase);
         record.phase = phase;
@@ -278,6 +284,11 @@ impl<T> Places<T> {
     {
         let index = index_of(&self.places, id);
         let place = &mut self.places[index];
+        self.queue.push_reserved(Parked {
+            parked,
+            id,
+            is_tested: false,
+        });
         self.counts.remove(place.known.phase);
         self.counts.add(Phase::Idle);
         place.known.phase = Phase::Idle;
@@ -305,6 +316,7 @@ impl<T> Places<T> {
     {
         let index = index_of(&self.places, id);
         let idle = &mut self.places[index];
+        take_from(&mut self.queue, idle.known, phase);
         self.counts.remove(idle.known.phase);
         self.counts.add(phase);
         idle.known.phase = phase;
@@ -328,6 +340,7 @@ impl<T> Places<T> {
     {
         let index = index_of(&self.places, id);
         let tested = &mut self.places[index];
+        mark(&mut self.queue, tested.known, false);
         self.counts.remove(tested.known.phase);
         self.counts.add(Phase::Idle);
         tested.known.phase = Phase::Idle;
@@ -349,6 +362,7 @@ impl<T> Places<T> {
     {
         let index = index_of(&self.places, id);
         let Place { known, value } = self.places.remove(index);
+        leave(&mut self.queue, known);
         self.counts.remove(known.phase);
         match value {
             None => {}
