@@ -1,7 +1,8 @@
 -- What a binary search finds among objects whose ids rise, and in the queue.
-use Rattle.std.proofs.Common.{◌≡◌, ◌≢◌, ℕ, zero, suc, ◌<◌, ◌≤◌, List, [], ◌∷◌, length, get_or, Result, Ok, Err, IfSome, IfNone, sym, inl, inr, arith}
-use Rattle.std.specs.Prelude.{All}
-use Rattle.std.specs.List.Sorted.{IsSearchInRange, IsBinarySearchResult, IsNonDecreasingBy}
+use Rattle.std.proofs.Common.{Bool, Err, IfNone, IfSome, List, Ok, Result, Some, [], arith, cond, drop, false, get_or, inl, inr, length, refl, suc, sym, true, zero, ℕ, ◌&&◌, ◌<◌, ◌∷◌, ◌≡◌, ◌≢◌, ◌≤◌}
+use Rattle.std.specs.Prelude.{All, find, nat_le, nat_lt}
+use Rattle.std.specs.List.{AllWithin}
+use Rattle.std.specs.List.Sorted.{IsSearchInRange, IsBinarySearchResult, IsNonDecreasingBy, IsPartitionPoint, IsPartitionedBy}
 use Rattle.std.specs.Ordering.{nat_cmp, ordering_index}
 use Rattle.std.specs.Result.{result_ok}
 use Rattle.std.proofs.lemmas.Cmp.{ranked}
@@ -10,7 +11,7 @@ use Rattle.std.proofs.lemmas.Bool.Decides.{nat_tests}
 use Rattle.pool_places.specs.declared.place.Place.{Place}
 use Rattle.pool_places.specs.Shelf.{IsRising, IsAt}
 use Rattle.pool_places.specs.declared.queue.Parked.{Parked}
-use Rattle.pool_places.specs.Waiting.{Rises, IsParkedAt}
+use Rattle.pool_places.specs.Waiting.{Rises, IsParkedAt, IsSplitAt}
 use Rattle.pool_places.proofs.Entries.{later_at}
 use Rattle.pool_places.proofs.Shelves.{id_above}
 
@@ -60,3 +61,36 @@ parked_nowhere i qs (Err k) up parted = λ j d lt same.
     let before : j < k → (get_or qs j d).parked < i = λ below. ranked _ i _ (sym ((parted (parked_rise i qs up)).0 j d (omega arith) below)) in
     let after : k ≤ j → i < (get_or qs j d).parked = λ above. ranked _ i _ (sym ((parted (parked_rise i qs up)).1 j d above lt)) in
     apart j k (get_or qs j d).parked i before after same
+
+-- what stands at a position or before it comes first
+pub parked_parted : (p : ℕ) (qs : List Parked) → Rises qs → IsPartitionedBy (λ q. nat_le q.parked p) qs
+parked_parted p qs up = λ i j d le lt passes. let both = positions_rise i j d qs up le lt in grind (arith, nat_tests)
+
+pub split_parked : (p : ℕ) (qs : List Parked) (k : ℕ) → k ≤ length qs → IsPartitionPoint (λ q. nat_le q.parked p ≡ true) (λ q. nat_le q.parked p ≡ false) qs k → IsSplitAt qs p k
+split_parked p qs k bound parted = record {
+  bound = bound;
+  before = λ j d from to. (let passes = parted.0 j d from to in grind (arith, nat_tests));
+  after = λ j d from to. (let fails = parted.1 j d from to in grind (arith, nat_tests));
+}
+
+all_after : (test : Parked → Bool) (p : ℕ) (qs : List Parked) → AllWithin (λ q. p < q.parked) qs 0 (length qs) → find (λ q. test q && nat_lt p q.parked) qs ≡ find test qs
+all_after test p [] after = refl
+all_after test p (q ∷ qs) after =
+    let here : nat_lt p q.parked ≡ true = (let lt = after 0 q (omega arith) (omega arith) in grind (arith, nat_tests)) in
+    rw here (both (test q) (all_after test p qs (λ j d from to. after (suc j) d (omega arith) (omega (arith, to)))))
+  where
+    both : (b : Bool) → find (λ x. test x && nat_lt p x.parked) qs ≡ find test qs → cond (b && true) (Some q) (find (λ x. test x && nat_lt p x.parked) qs) ≡ cond b (Some q) (find test qs)
+    both true later = refl
+    both false later = later
+
+-- what is found after a position is found among those after it
+pub find_from : (test : Parked → Bool) (p k : ℕ) (qs : List Parked) → IsSplitAt qs p k → find (λ q. test q && nat_lt p q.parked) qs ≡ find test (drop k qs)
+find_from test p zero qs at = all_after test p qs at.after
+find_from test p (suc k) [] at = refl
+find_from test p (suc k) (q ∷ qs) at =
+    let no : nat_lt p q.parked ≡ false = (let le = at.before 0 q (omega arith) (omega arith) in grind (arith, nat_tests)) in
+    rw no (neither (test q) (find_from test p k qs (record { bound = omega (arith, at.bound); before = λ j d from to. at.before (suc j) d (omega arith) (omega (arith, to)); after = λ j d from to. at.after (suc j) d (omega (arith, from)) (omega (arith, to)) })))
+  where
+    neither : (b : Bool) → find (λ x. test x && nat_lt p x.parked) qs ≡ find test (drop k qs) → cond (b && false) (Some q) (find (λ x. test x && nat_lt p x.parked) qs) ≡ find test (drop k qs)
+    neither true later = later
+    neither false later = later

@@ -1,6 +1,6 @@
 -- The queue as it is kept: an entry for each object of the queue, by rising position.
-use Rattle.std.specs.Prelude.{◌≡◌, ◌≢◌, ℕ, ◌<◌, Bool, true, false, not, List, [], ◌∷◌, length, Option, Some, IsSomeAnd, ⊤, ◌⊎◌}
-use Rattle.std.specs.List.{AllByRecursion, HoldsAt}
+use Rattle.std.specs.Prelude.{◌≡◌, ◌≢◌, ℕ, ◌<◌, ◌≤◌, Bool, true, false, not, List, [], ◌∷◌, length, Option, Some, IsSomeAnd, ⊤, ◌⊎◌}
+use Rattle.std.specs.List.{AllByRecursion, AllWithin, HoldsAt}
 use Rattle.std.specs.Option.{ForSome}
 use Rattle.pool_journal.specs.declared.record.Record.{Record}
 use Rattle.pool_journal.specs.Queue.{is_idle, is_queued}
@@ -33,6 +33,12 @@ pub record IsQueueOf (record_of : ℕ → Option Record) (qs : List Parked) : Ty
 pub record IsParkedAt (qs : List Parked) (p k : ℕ) : Type 0 where
   pub in_range : k < length qs
   pub position : HoldsAt (λ q. q.parked ≡ p) qs k
+
+-- k entries stand at p or before it
+pub record IsSplitAt (qs : List Parked) (p k : ℕ) : Type 0 where
+  pub bound : k ≤ length qs
+  pub before : AllWithin (λ q. q.parked ≤ p) qs 0 k
+  pub after : AllWithin (λ q. p < q.parked) qs k (length qs)
 
 -- the object has an entry, at its position
 pub record IsFoundIn (qs : List Parked) (r : Record) : Type 0 where

@@ -3,7 +3,7 @@ ghost use Rattle.std.specs.Int.{from_bool};
 ghost use Rattle.std.specs.Vec.{vec_capacity};
 ghost use Rattle.pool_journal.specs.Queue.{is_queued};
 ghost use Rattle.pool_places.specs.Changes.{takes_to};
-ghost use Rattle.pool_places.specs.Waiting.{Rises, IsParkedAt, IsFoundIn, Leaves, Marks, Takes};
+ghost use Rattle.pool_places.specs.Waiting.{Rises, IsParkedAt, IsSplitAt, IsFoundIn, Leaves, Marks, Takes};
 
 use crate::phase_tests::is_queued_phase;
 use pool_journal::{Phase, Record};
@@ -97,12 +97,20 @@ pub(crate) fn last_idle_of(queue: &[Parked]) -> Option<Parked>
     queue.iter().rev().copied().find(|entry| !entry.is_tested)
 }
 
+// How many entries stand at the position or before it, found by a binary search.
+fn start_after(queue: &[Parked], position: u64) -> usize
+    requires { Rises queue.now }
+    ensures { IsSplitAt queue.now position result }
+{
+    queue.partition_point(|entry| entry.parked <= position)
+}
+
 /// The idle object that was parked first after the position.
 pub(crate) fn next_idle_of(queue: &[Parked], position: u64) -> Option<Parked>
+    requires { Rises queue.now }
     ensures { result ≡ find (λ q. not q.is_tested && nat_lt position q.parked) queue.now }
 {
-    queue
-        .iter()
-        .copied()
-        .find(|entry| !entry.is_tested && entry.parked > position)
+    let start = start_after(queue, position);
+    let later = &queue[start..];
+    first_idle_of(later)
 }

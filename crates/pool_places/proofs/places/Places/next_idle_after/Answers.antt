@@ -1,13 +1,17 @@
-use Rattle.std.proofs.Common.{◌≡◌, not, ◌&&◌, nat_lt, List, reverse, sym, ap, ◌∙◌, rules}
+use Rattle.std.proofs.Common.{◌≡◌, not, ◌&&◌, nat_lt, List, reverse, sym, ap, ◌∙◌, rules, subst}
 use Rattle.std.specs.Prelude.{find}
 use Rattle.std.specs.Option.{option_map}
 use Rattle.pool_journal.specs.declared.record.Phase.TheVariants as phases
 use Rattle.pool_places.specs.declared.queue.Parked.{Parked}
 use Rattle.pool_places.specs.Changes.{IsInPhase}
 use Rattle.pool_places.specs.Shelf.{records_in}
+use Rattle.pool_places.specs.Waiting.{Rises}
 use Rattle.pool_places.proofs.Picked.{next_entry}
 use Rattle.pool_places.proofs.Picks.{named_by_id, each_is_found, next_is_idle}
 use Rattle.pool_places.proofs.places.Places.next_idle_after.Goals as goal
+
+pub next_idle_of-requires : goal.next_idle_of-requires
+next_idle_of-requires g c = subst Rises (sym c.deref.ensures.value) c.self.invariant.queue.rising
 
 pub returns-clause-value : goal.returns-clause-value
 returns-clause-value g c =
