@@ -1,12 +1,12 @@
 -- The entries of the queue after a change of one record.
-use Rattle.std.proofs.Common.{◌≡◌, ◌≢◌, ◌⊎◌, ℕ, zero, suc, ◌+◌, ◌<◌, ◌≤◌, eqb, Bool, true, false, not, List, [], ◌∷◌, ◌++◌, length, get_or, set, Option, Some, None, refl, sym, ap, ◌∙◌, inl, inr, arith, subst}
+use Rattle.std.proofs.Common.{◌≡◌, ◌≢◌, ℕ, zero, suc, ◌<◌, true, false, List, [], ◌∷◌, ◌++◌, length, get_or, set, Option, Some, None, refl, sym, ap, ◌∙◌, inl, inr, arith, subst}
 use Rattle.std.specs.Prelude.{remove, All, IsSomeAnd}
 use Rattle.std.specs.List.{AllByRecursion}
 use Rattle.std.specs.Option.{ForSome}
 use Rattle.std.proofs.lemmas.Bool.Decides.{eqb_tells}
 use Rattle.std.proofs.lemmas.List.Elements.{All-head, All-tail}
 use Rattle.pool_journal.specs.declared.record.Record.{Record}
-use Rattle.pool_journal.specs.Queue.{is_idle, is_queued}
+use Rattle.pool_journal.specs.Queue.{is_queued}
 use Rattle.pool_places.specs.declared.queue.Parked.{Parked}
 use Rattle.pool_places.specs.Waiting.{Rises, IsEntry, HasEntry, IsQueueOf, IsParkedAt, IsFoundIn, IsChange}
 

@@ -1,5 +1,5 @@
 -- What is picked from the entries of the queue is what its definition picks from the records.
-use Rattle.std.proofs.Common.{◌≡◌, ◌⊎◌, ℕ, ◌<◌, ◌≤◌, nat_lt, ltb, eqb, Bool, true, false, not, ◌&&◌, cond, if◌then◌else◌, List, [], ◌∷◌, ◌++◌, reverse, Option, Some, None, refl, ap, sym, ◌∙◌, inl, inr, arith, subst}
+use Rattle.std.proofs.Common.{◌≡◌, ◌⊎◌, ℕ, ◌<◌, ◌≤◌, nat_lt, eqb, Bool, true, false, not, ◌&&◌, cond, if◌then◌else◌, List, [], ◌∷◌, reverse, Option, Some, None, refl, ap, sym, ◌∙◌, inl, inr, arith, subst}
 use Rattle.std.specs.Prelude.{filter, find, fold, IsSomeAnd}
 use Rattle.std.specs.List.{AllByRecursion}
 use Rattle.std.specs.Option.{option_map, option_or, ForSome}

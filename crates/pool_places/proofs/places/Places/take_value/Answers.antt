@@ -1,4 +1,4 @@
-use Rattle.std.proofs.Common.{ap, arith, refl, sym, ◌∙◌, ◌≡◌}
+use Rattle.std.proofs.Common.{ap, arith, refl, sym, ◌∙◌}
 use Rattle.std.specs.Prelude.{is_some}
 use Rattle.pool_journal.specs.Queue.{is_queued}
 use Rattle.pool_places.specs.Changes.{phase_set}
