@@ -11,7 +11,7 @@ use std::sync::Wait;
 pub type Pool<'a, B> = SharedPool<Thing, (), Fickle<'a>, Ticking, B>;
 
 /// How many calls each caller makes.
-const CALLS: u32 = 300;
+const CALLS: u32 = 2_000;
 
 /// What callers do in a pool that has nothing to lend.
 #[derive(Clone, Copy, PartialEq, Eq)]
@@ -202,9 +202,9 @@ impl<B: Room> Player<B> {
 
     // A call that is made seldom. A pool is closed now and then.
     fn call_seldom<R: Wait>(&mut self, rt: &R, pool: &Pool<B>) -> Result<(), Fault> {
-        match self.dice.roll(300) {
+        match self.dice.roll(3_000) {
             0 => self.close(rt, pool),
-            1..=50 => self.clear(rt, pool),
+            1..=500 => self.clear(rt, pool),
             _ => {
                 let _counts = pool.counts(rt, &mut self.me);
                 Ok(())
