@@ -1,0 +1,41 @@
+#!/usr/bin/env python3
+"""Plays the examples that docs/settings.md names, and looks for the journal lines that it shows.
+
+play_examples.py PROGRAM  The last line is 'N passed, M failed'.
+"""
+
+import pathlib
+import re
+import subprocess
+import sys
+
+TOP = pathlib.Path(__file__).resolve().parent.parent
+
+
+def rows():
+    """Settings, script, and the lines to look for, by the table of the page."""
+    for line in (TOP / "docs/settings.md").read_text().splitlines():
+        named = re.findall(r"`([^`]+)`", line)
+        if line.startswith("| `examples/"):
+            yield named[0], named[1], [words for words in named[2:] if " = " in words]
+
+
+def main(program):
+    wrong, played = [], 0
+    named = set()
+    for settings, script, lines in rows():
+        played += 1
+        named |= {settings, script}
+        done = subprocess.run([program, "run", TOP / settings, TOP / script], capture_output=True, text=True)
+        found = done.stdout.splitlines()
+        if done.returncode or done.stderr or not lines or not set(lines) <= set(found):
+            wrong.append(f"{settings} on {script}: wanted {lines}, got {found}, {done.stderr!r}, status {done.returncode}")
+    unnamed = {f"examples/{path.name}" for path in (TOP / "examples").iterdir()} - named
+    wrong += [f"{name}: docs/settings.md doesn't tell what it shows" for name in sorted(unnamed)]
+    print(*wrong, sep="\n", end="\n" if wrong else "")
+    print(f"{max(played - len(wrong), 0)} passed, {len(wrong)} failed")
+    return 1 if wrong else 0
+
+
+if __name__ == "__main__":
+    sys.exit(main(sys.argv[1]))
