@@ -1,5 +1,5 @@
 -- What is picked from the entries of the queue is what its definition picks from the records.
-use Rattle.std.proofs.Common.{◌≡◌, ◌⊎◌, ℕ, ◌<◌, ◌≤◌, nat_lt, eqb, Bool, true, false, not, ◌&&◌, cond, if◌then◌else◌, List, [], ◌∷◌, reverse, Option, Some, None, refl, ap, sym, ◌∙◌, inl, inr, arith, subst}
+use Rattle.std.proofs.Common.{◌≡◌, ◌⊎◌, ℕ, ◌<◌, ◌≤◌, nat_lt, eqb, Bool, true, false, ◌&&◌, cond, if◌then◌else◌, List, [], ◌∷◌, reverse, Option, Some, None, refl, ap, sym, ◌∙◌, inl, inr, arith, subst}
 use Rattle.std.specs.Prelude.{filter, find, fold, IsSomeAnd}
 use Rattle.std.specs.List.{AllByRecursion}
 use Rattle.std.specs.Option.{option_map, option_or, ForSome}
@@ -13,7 +13,7 @@ use Rattle.pool_journal.specs.declared.record.Phase.TheVariants as phases
 use Rattle.pool_journal.specs.Queue.{record_in, is_idle, is_queued, idle_queue, first_of, last_of, earlier, later}
 use Rattle.pool_journal.proofs.Rising.{first_of-by_rising, last_of-by_rising}
 use Rattle.pool_places.specs.After.{is_after}
-use Rattle.pool_places.specs.declared.queue.Parked.{Parked}
+use Rattle.pool_places.specs.Waiting.{Parked}
 use Rattle.pool_places.specs.Waiting.{Rises, IsEntry, HasEntry, IsQueueOf}
 use Rattle.pool_places.proofs.Entries.{all_mapped}
 use Rattle.pool_places.proofs.Passes.{earlier_after, first_after-idle_queue}
@@ -232,7 +232,7 @@ idle_queued : (p : Phase) → is_idle p ≡ true → is_queued p ≡ true
 idle_queued phases.Idle is = refl
 idle_queued _ is = absurd (cc is)
 
-agrees_idle : Agrees (λ q. not q.is_tested) (λ r. is_idle r.phase)
+agrees_idle : Agrees (λ q. q.is_idle) (λ r. is_idle r.phase)
 agrees_idle = record { same = λ q r entry. sym entry.idle; idle = λ r passes. idle_queued r.phase passes }
 
 idle_passing : (rs : List Record) → AllByRecursion (λ r. record_in rs r.id ≡ Some r) rs → ArePassing rs (filter (λ r. is_idle r.phase) rs) (λ r. is_idle r.phase)
@@ -241,10 +241,10 @@ idle_passing rs found = record {
   all = λ r among passes. among_filter (λ x. is_idle x.phase) r rs passes among;
 }
 
-pub first_entry : (rs : List Record) (qs : List Parked) → AllByRecursion (λ r. record_in rs r.id ≡ Some r) rs → IsQueueOf (record_in rs) qs → option_map (λ q. q.id) (find (λ q. not q.is_tested) qs) ≡ option_map (λ r. r.id) (first_of (idle_queue rs))
+pub first_entry : (rs : List Record) (qs : List Parked) → AllByRecursion (λ r. record_in rs r.id ≡ Some r) rs → IsQueueOf (record_in rs) qs → option_map (λ q. q.id) (find (λ q. q.is_idle) qs) ≡ option_map (λ r. r.id) (first_of (idle_queue rs))
 first_entry rs qs found is = pick_first rs (filter (λ r. is_idle r.phase) rs) qs _ _ agrees_idle (idle_passing rs found) is ∙ ap (option_map (λ (r : Record). r.id)) (sym (first_of-by_rising (λ r. r.parked) (filter (λ r. is_idle r.phase) rs)))
 
-pub last_entry : (rs : List Record) (qs : List Parked) → AllByRecursion (λ r. record_in rs r.id ≡ Some r) rs → IsQueueOf (record_in rs) qs → option_map (λ q. q.id) (find (λ q. not q.is_tested) (reverse qs)) ≡ option_map (λ r. r.id) (last_of (idle_queue rs))
+pub last_entry : (rs : List Record) (qs : List Parked) → AllByRecursion (λ r. record_in rs r.id ≡ Some r) rs → IsQueueOf (record_in rs) qs → option_map (λ q. q.id) (find (λ q. q.is_idle) (reverse qs)) ≡ option_map (λ r. r.id) (last_of (idle_queue rs))
 last_entry rs qs found is = pick_last rs (filter (λ r. is_idle r.phase) rs) qs _ _ agrees_idle (idle_passing rs found) is ∙ ap (option_map (λ (r : Record). r.id)) (sym (last_of-by_rising (λ r. r.parked) (filter (λ r. is_idle r.phase) rs)))
 
 -- ---- the idle ones after a position
@@ -260,7 +260,7 @@ and_right : (a b : Bool) → (a && b) ≡ true → b ≡ true
 and_right true b is = is
 and_right false b is = absurd (cc is)
 
-agrees_after : (k : ℕ) → Agrees (λ q. not q.is_tested && nat_lt k q.parked) (λ r. is_idle r.phase && nat_lt k r.parked)
+agrees_after : (k : ℕ) → Agrees (λ q. q.is_idle && nat_lt k q.parked) (λ r. is_idle r.phase && nat_lt k r.parked)
 agrees_after k = record {
   same = λ q r entry. rw (entry.idle, entry.parked) refl;
   idle = λ r passes. idle_queued r.phase (and_left (is_idle r.phase) _ passes);
@@ -283,7 +283,7 @@ earlier_filtered k o (x ∷ xs) = by_test (nat_lt k x.parked) (earlier_filtered 
     by_test true stays comes = comes
     by_test false stays comes = stays
 
-pub next_entry : (k : ℕ) (rs : List Record) (qs : List Parked) → AllByRecursion (λ r. record_in rs r.id ≡ Some r) rs → IsQueueOf (record_in rs) qs → option_map (λ q. q.id) (find (λ q. not q.is_tested && nat_lt k q.parked) qs) ≡ option_map (λ r. r.id) (first_of (filter (is_after (Some k)) (idle_queue rs)))
+pub next_entry : (k : ℕ) (rs : List Record) (qs : List Parked) → AllByRecursion (λ r. record_in rs r.id ≡ Some r) rs → IsQueueOf (record_in rs) qs → option_map (λ q. q.id) (find (λ q. q.is_idle && nat_lt k q.parked) qs) ≡ option_map (λ r. r.id) (first_of (filter (is_after (Some k)) (idle_queue rs)))
 next_entry k rs qs found is =
     pick_first rs (filter (is_after (Some k)) (filter (λ r. is_idle r.phase) rs)) qs _ _ (agrees_after k) (after_passing k rs found) is
     ∙ ap (option_map (λ (r : Record). r.id)) (sym (earlier_filtered k None (filter (λ r. is_idle r.phase) rs)) ∙ sym (first_after-idle_queue k rs))

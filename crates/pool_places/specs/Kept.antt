@@ -1,17 +1,20 @@
 -- What is true of the objects, of the queue and of their numbers.
-use Rattle.std.specs.Prelude.{◌≡◌, ℕ, ◌≤◌, List, length}
-use Rattle.pool_journal.specs.Queue.{record_in}
-use Rattle.pool_places.specs.declared.place.Place.{Place}
+use Rattle.std.specs.Prelude.{◌≡◌, ℕ, true, List, Option, IfSome}
+use Rattle.pool_slots.specs.Rack.{Rack, is_in}
+use Rattle.rising_index.specs.declared.pair.Pair.{Pair}
 use Rattle.pool_places.specs.declared.place_counts.PlaceCounts.{PlaceCounts}
-use Rattle.pool_places.specs.declared.queue.Parked.{Parked}
 use Rattle.pool_places.specs.Counts.{IsCounts}
 use Rattle.pool_places.specs.Shelf.{records_in, IsShelf}
-use Rattle.pool_places.specs.Waiting.{IsQueueOf}
+use Rattle.pool_places.specs.Stored.{kept_of, IsTied, IsLine}
 
--- the objects are in order, these are their queue and their numbers, and the queue has room for all of them
-pub record IsKept {T : Type 0} (ps : List (Place T)) (qs : List Parked) (counts : PlaceCounts) (room : ℕ) : Type 0 where
-  pub shelf : IsShelf ps
-  pub counted : IsCounts counts (records_in ps)
-  pub queue : IsQueueOf (record_in (records_in ps)) qs
-  pub long : length qs ≡ counts.queue
-  pub roomy : length ps ≤ room
+-- the key stands in the queue, if there is one
+abbrev pub IsWithin : List ℕ → Option ℕ → Type 0
+IsWithin queue o = IfSome o (λ key. is_in key queue ≡ true)
+
+-- the objects are in order, these are their keys, their queue and their numbers, and what is remembered is in the queue
+pub record IsKept {T : Type 0} (rack : Rack T) (pairs : List Pair) (counts : PlaceCounts) (from : Option ℕ) : Type 0 where
+  pub shelf : IsShelf (kept_of rack pairs)
+  pub counted : IsCounts counts (records_in (kept_of rack pairs))
+  pub tied : IsTied rack pairs
+  pub line : IsLine rack
+  pub remembered : IsWithin rack.queue from

@@ -1,12 +1,12 @@
 //! The objects of a pool: what is known of each, and the values that the pool keeps.
 #![tactic(auto)]
 
+mod keys;
 mod overdue;
 mod phase_tests;
 mod place;
 mod place_counts;
 mod places;
-mod positions;
 mod queue;
 
 pub use phase_tests::weight_of_phase;

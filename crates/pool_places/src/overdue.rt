@@ -1,10 +1,13 @@
 ghost use Rattle.std.specs.Prelude.{◌≡◌, count_by, find};
+ghost use Rattle.std.specs.Option.{option_map};
 ghost use Rattle.pool_places.specs.Overdue.{is_overdue};
-ghost use Rattle.pool_places.specs.Shelf.{records_in};
+ghost use Rattle.pool_places.specs.Shelf.{records_in, IsShelf};
+ghost use Rattle.pool_places.specs.Stored.{kept_of, IsTied};
 
 use crate::phase_tests::is_lent_phase;
-use crate::place::Place;
 use pool_journal::Record;
+use pool_slots::Slots;
+use rising_index::RisingIndex;
 
 // Whether a lent object was not used for the timeout.
 fn is_overdue_record(known: Record, at: u64, timeout: u64) -> bool
@@ -14,21 +17,37 @@ fn is_overdue_record(known: Record, at: u64, timeout: u64) -> bool
 }
 
 /// The overdue object with the least id.
-pub(crate) fn first_overdue<T>(places: &[Place<T>], at: u64, timeout: u64) -> Option<Record>
-    ensures { result ≡ find (is_overdue at timeout) (records_in places.now) }
+pub(crate) fn first_overdue<T>(
+    slots: &Slots<T>,
+    index: &RisingIndex,
+    at: u64,
+    timeout: u64,
+) -> Option<u64>
+    requires { IsTied slots.now index.now.pairs }
+    ensures { result ≡ option_map (λ r. r.id)
+        (find (is_overdue at timeout) (records_in (kept_of slots.now index.now.pairs))) }
 {
-    places
-        .iter()
-        .map(|place| place.known)
-        .find(|known| is_overdue_record(*known, at, timeout))
+    for pair in index.walk() {
+        let known = slots.known(pair.key);
+        if is_overdue_record(known, at, timeout) {
+            return Some(known.id);
+        }
+    }
+    None
 }
 
 /// How many objects are overdue.
-pub(crate) fn overdue_count<T>(places: &[Place<T>], at: u64, timeout: u64) -> u64
-    ensures { result ≡ count_by (is_overdue at timeout) (records_in places.now) }
+pub(crate) fn overdue_count<T>(slots: &Slots<T>, index: &RisingIndex, at: u64, timeout: u64) -> u64
+    requires tied { IsTied slots.now index.now.pairs }
+    requires shelf { IsShelf (kept_of slots.now index.now.pairs) }
+    ensures { result ≡ count_by (is_overdue at timeout)
+        (records_in (kept_of slots.now index.now.pairs)) }
 {
-    places
-        .iter()
-        .filter(|place| is_overdue_record(place.known, at, timeout))
-        .count() as u64
+    let mut count = 0;
+    for pair in index.walk() {
+        if is_overdue_record(slots.known(pair.key), at, timeout) {
+            count += 1;
+        }
+    }
+    count
 }

@@ -10,12 +10,14 @@ ghost use Rattle.pool_places.specs.Counts.{is_adding, weight, weight_of, owed_by
 ghost use Rattle.pool_places.specs.Overdue.{is_lent, overdue};
 ghost use Rattle.pool_places.specs.Shelf.{records_in, value_in, changed, without, new_place, to_phase, to_lent, to_used, to_idle, to_kept, to_taken, IsShelf};
 
+use crate::keys::key_under;
 use crate::overdue::{first_overdue, overdue_count};
-use crate::place::Place;
+use crate::phase_tests::is_queued_phase;
 use crate::place_counts::PlaceCounts;
-use crate::positions::{index_of, position_of};
-use crate::queue::{Parked, first_idle_of, last_idle_of, leave, mark, next_idle_of, take_from};
+use crate::queue::{change, first_wanted, last_wanted, leave, start_after};
 use pool_journal::{Phase, Record};
+use pool_slots::Slots;
+use rising_index::RisingIndex;
 use std::alloc::{AllocError, Global};
 use std::marker::Model;
 
@@ -23,40 +25,39 @@ use std::marker::Model;
 const MOST_PLACES: usize = 1 << 60;
 
 /// The objects that are present, by rising id, and how many more there is memory for.
+///
+/// With n objects present, `find` and every change of one object take time logarithmic in n, on average
+/// over all calls; nothing is moved for an object that comes or goes. `present`, `queued` and `counts`
+/// take the same time however many there are. `first_idle` and `last_idle` step past the objects under
+/// test at their end of the queue. `next_idle_after` seeks from the object that `look_from` named last, or
+/// from the first one: over a run that goes round it takes the same time on average, also while objects
+/// leave. `count_overdue` and `least_overdue` walk over all objects.
 #[derive(Drop)]
 pub struct Places<T> {
-    places: Vec<Place<T>>,
-    // Those of the queue, by rising position.
-    queue: Vec<Parked>,
+    // The objects under keys, and the queue through them.
+    slots: Slots<T>,
+    // The key of each id.
+    index: RisingIndex,
     // What the objects amount to.
     counts: PlaceCounts,
+    // The object of the queue from which the next one is sought.
+    remembered: Option<usize>,
 }
 
 impl<T> Model for Places<T> {
-    ghost use Rattle.std.specs.Prelude.{◌-◌, ◌^◌, min};
-    ghost use Rattle.std.specs.Vec.{vec_len, vec_capacity};
+    ghost use Rattle.std.specs.Prelude.{◌-◌, ◌^◌, min, length};
     ghost use Rattle.pool_places.specs.Shelf.{Shelf};
     ghost use Rattle.pool_places.specs.Kept.{IsKept};
+    ghost use Rattle.pool_places.specs.Stored.{kept_of};
 
     ghost Value = { Shelf T };
 
     ghost view = { λ a. record {
-      kept = a.places.items;
-      spare = min (min (vec_capacity a.places) (vec_capacity a.queue)) (2 ^ 60) - vec_len a.places;
+      kept = kept_of a.slots a.index.pairs;
+      spare = min (min a.slots.room a.index.spare) (2 ^ 60 - length a.index.pairs);
     } };
 
-    ghost invariant = { λ a. IsKept a.places.items a.queue.items a.counts (vec_capacity a.queue) };
-}
-
-// Puts a value where there is none.
-fn keep<T>(value: &mut Option<T>, kept: T)
-    requires { value.old ≡ None }
-    ensures { value.new ≡ Some kept }
-{
-    match value.replace(kept) {
-        None => {}
-        Some(_) => unreachable!(),
-    }
+    ghost invariant = { λ a. IsKept a.slots a.index.pairs a.counts a.remembered };
 }
 
 impl<T> Places<T> {
@@ -65,9 +66,10 @@ impl<T> Places<T> {
         ensures { result.kept ≡ [] }
     {
         Places {
-            places: Vec::new(alloc),
-            queue: Vec::new(alloc),
+            slots: Slots::new(alloc),
+            index: RisingIndex::new(alloc),
             counts: PlaceCounts::none(),
+            remembered: None,
         }
     }
 
@@ -75,7 +77,7 @@ impl<T> Places<T> {
     pub fn present(&self) -> usize
         ensures { result ≡ length self.now.kept }
     {
-        self.places.len()
+        self.index.len()
     }
 
     /// How many objects are in the queue.
@@ -98,8 +100,8 @@ impl<T> Places<T> {
             owed_by (without_id id (records_in self.now.kept)) + weight r.phase
             ≡ owed_by (records_in self.now.kept)) }
     {
-        let index = position_of(&self.places, id)?;
-        Some(self.places[index].known)
+        let key = self.index.find(id)?;
+        Some(self.slots.known(key))
     }
 
     /// The idle object that was parked first.
@@ -108,7 +110,7 @@ impl<T> Places<T> {
             (first_of (idle_queue (records_in self.now.kept))) }
         ensures idle { IfSome result (λ i. IsInPhase (records_in self.now.kept) i phases.Idle) }
     {
-        first_idle_of(&self.queue).map(|entry| entry.id)
+        first_wanted(&self.slots, self.slots.first(), None)
     }
 
     /// The idle object that was parked last.
@@ -117,7 +119,7 @@ impl<T> Places<T> {
             (last_of (idle_queue (records_in self.now.kept))) }
         ensures idle { IfSome result (λ i. IsInPhase (records_in self.now.kept) i phases.Idle) }
     {
-        last_idle_of(&self.queue).map(|entry| entry.id)
+        last_wanted(&self.slots, self.slots.last())
     }
 
     /// The idle object that was parked first, of those that were parked after a position.
@@ -126,7 +128,22 @@ impl<T> Places<T> {
             (first_of (filter (is_after (Some parked)) (idle_queue (records_in self.now.kept)))) }
         ensures idle { IfSome result (λ i. IsInPhase (records_in self.now.kept) i phases.Idle) }
     {
-        next_idle_of(&self.queue, parked).map(|entry| entry.id)
+        let first = self.slots.first()?;
+        let from = self.remembered.unwrap_or(first);
+        let start = start_after(&self.slots, from, parked);
+        first_wanted(&self.slots, Some(start), Some(parked))
+    }
+
+    /// Lets the next idle object be sought from this one, where it is in the queue. Nothing changes that is
+    /// seen.
+    pub fn look_from(&mut self, id: u64)
+        ensures { self.new ≡ self.old }
+    {
+        if let Some(key) = self.index.find(id) {
+            if is_queued_phase(self.slots.known(key).phase) {
+                self.remembered = Some(key);
+            }
+        }
     }
 
     /// The lent object with the least id, of those that at the moment `at` were not used for at least
@@ -138,14 +155,14 @@ impl<T> Places<T> {
             AllByRecursion (λ r. i ≤ r.id) (overdue at timeout (records_in self.now.kept))) }
         ensures lent { IfSome result (λ i. IsInPhase (records_in self.now.kept) i phases.Lent) }
     {
-        first_overdue(&self.places, at, timeout).map(|known| known.id)
+        first_overdue(&self.slots, &self.index, at, timeout)
     }
 
     /// How many lent objects at the moment `at` were not used for at least `timeout` milliseconds.
     pub fn count_overdue(&self, at: u64, timeout: u64) -> u64
         ensures { result ≡ length (overdue at timeout (records_in self.now.kept)) }
     {
-        overdue_count(&self.places, at, timeout)
+        overdue_count(&self.slots, &self.index, at, timeout)
     }
 
     /// How many objects there are of each kind, and what they owe.
@@ -173,9 +190,8 @@ impl<T> Places<T> {
         if self.present() >= MOST_PLACES {
             return Err(AllocError);
         }
-        self.places.reserve(1)?;
-        let most = self.places.len() + 1;
-        self.queue.reserve(most.saturating_sub(self.queue.len()))
+        self.slots.reserve_one()?;
+        self.index.reserve_one()
     }
 
     /// Adds an object that is just drawn, in the memory that was reserved. It begins as `Readying` or
@@ -192,18 +208,16 @@ impl<T> Places<T> {
             ≡ owed_by (records_in self.old.kept) + weight phase }
         ensures spare { self.new.spare + 1 ≡ self.old.spare }
     {
-        self.places.push_reserved(Place {
-            known: Record {
-                id,
-                phase,
-                parked: 0,
-                since: 0,
-                lent: 0,
-                used: 0,
-                is_new: true,
-            },
-            value: None,
+        let key = self.slots.insert(Record {
+            id,
+            phase,
+            parked: 0,
+            since: 0,
+            lent: 0,
+            used: 0,
+            is_new: true,
         });
+        self.index.push(id, key);
         self.counts.add(phase);
     }
 
@@ -221,13 +235,16 @@ impl<T> Places<T> {
             ≡ owed_by (records_in self.old.kept) + weight phase }
         ensures spare { self.old.spare ≤ self.new.spare }
     {
-        let index = index_of(&self.places, id);
-        let record = &mut self.places[index].known;
-        leave(&mut self.queue, *record);
-        self.counts.remove(record.phase);
+        let key = key_under(&self.index, id);
+        let known = self.slots.known(key);
+        self.counts.remove(known.phase);
         self.counts.add(phase);
-        record.phase = phase;
-        record.is_new = false;
+        let moved = Record {
+            phase,
+            is_new: false,
+            ..known
+        };
+        change(&mut self.slots, &mut self.remembered, key, known, moved);
     }
 
     /// Hands an object out that was made ready, at a moment in milliseconds.
@@ -241,14 +258,18 @@ impl<T> Places<T> {
             ≡ owed_by (records_in self.old.kept) + weight phases.Lent }
         ensures spare { self.old.spare ≤ self.new.spare }
     {
-        let index = index_of(&self.places, id);
-        let record = &mut self.places[index].known;
-        self.counts.remove(record.phase);
+        let key = key_under(&self.index, id);
+        let known = self.slots.known(key);
+        self.counts.remove(known.phase);
         self.counts.add(Phase::Lent);
-        record.phase = Phase::Lent;
-        record.lent = at;
-        record.used = at;
-        record.is_new = false;
+        let lent = Record {
+            phase: Phase::Lent,
+            lent: at,
+            used: at,
+            is_new: false,
+            ..known
+        };
+        change(&mut self.slots, &mut self.remembered, key, known, lent);
     }
 
     /// Notes that a lent object is used, at a moment in milliseconds.
@@ -261,8 +282,10 @@ impl<T> Places<T> {
         ensures owed { owed_by (records_in self.new.kept) ≡ owed_by (records_in self.old.kept) }
         ensures spare { self.old.spare ≤ self.new.spare }
     {
-        let index = index_of(&self.places, id);
-        self.places[index].known.used = at;
+        let key = key_under(&self.index, id);
+        let known = self.slots.known(key);
+        let used = Record { used: at, ..known };
+        change(&mut self.slots, &mut self.remembered, key, known, used);
     }
 
     /// Puts an object at the end of the queue, with its value. The position `parked` is above all of
@@ -282,20 +305,22 @@ impl<T> Places<T> {
             ≡ owed_by (records_in self.old.kept) + weight phases.Idle }
         ensures spare { self.old.spare ≤ self.new.spare }
     {
-        let index = index_of(&self.places, id);
-        let place = &mut self.places[index];
-        self.queue.push_reserved(Parked {
-            parked,
-            id,
-            is_tested: false,
-        });
-        self.counts.remove(place.known.phase);
+        let key = key_under(&self.index, id);
+        let known = self.slots.known(key);
+        self.counts.remove(known.phase);
         self.counts.add(Phase::Idle);
-        place.known.phase = Phase::Idle;
-        place.known.parked = parked;
-        place.known.since = since;
-        place.known.is_new = false;
-        keep(&mut place.value, value);
+        self.slots.set_known(
+            key,
+            Record {
+                phase: Phase::Idle,
+                parked,
+                since,
+                is_new: false,
+                ..known
+            },
+        );
+        self.slots.put(key, value);
+        self.slots.link_last(key);
     }
 
     /// Takes the value of an idle object. As `Testing` it keeps its place in the queue, as `Readying`
@@ -314,14 +339,18 @@ impl<T> Places<T> {
             ≡ owed_by (records_in self.old.kept) + weight phase }
         ensures spare { self.old.spare ≤ self.new.spare }
     {
-        let index = index_of(&self.places, id);
-        let idle = &mut self.places[index];
-        take_from(&mut self.queue, idle.known, phase);
-        self.counts.remove(idle.known.phase);
+        let key = key_under(&self.index, id);
+        let known = self.slots.known(key);
+        let value = self.slots.take(key);
+        self.counts.remove(known.phase);
         self.counts.add(phase);
-        idle.known.phase = phase;
-        idle.known.is_new = false;
-        idle.value.take().unwrap()
+        let taken = Record {
+            phase,
+            is_new: false,
+            ..known
+        };
+        change(&mut self.slots, &mut self.remembered, key, known, taken);
+        value
     }
 
     /// Gives an object under an idle test its value back, so that it is idle again. It keeps its place
@@ -338,14 +367,17 @@ impl<T> Places<T> {
             ≡ owed_by (records_in self.old.kept) + weight phases.Idle }
         ensures spare { self.old.spare ≤ self.new.spare }
     {
-        let index = index_of(&self.places, id);
-        let tested = &mut self.places[index];
-        mark(&mut self.queue, tested.known, false);
-        self.counts.remove(tested.known.phase);
+        let key = key_under(&self.index, id);
+        let known = self.slots.known(key);
+        self.slots.put(key, value);
+        self.counts.remove(known.phase);
         self.counts.add(Phase::Idle);
-        tested.known.phase = Phase::Idle;
-        tested.known.is_new = false;
-        keep(&mut tested.value, value);
+        let kept = Record {
+            phase: Phase::Idle,
+            is_new: false,
+            ..known
+        };
+        change(&mut self.slots, &mut self.remembered, key, known, kept);
     }
 
     /// Gives up the place of an object that isn't idle.
@@ -360,13 +392,16 @@ impl<T> Places<T> {
             ≡ owed_by (records_in self.old.kept) }
         ensures spare { self.old.spare ≤ self.new.spare }
     {
-        let index = index_of(&self.places, id);
-        let Place { known, value } = self.places.remove(index);
-        leave(&mut self.queue, known);
-        self.counts.remove(known.phase);
-        match value {
-            None => {}
-            Some(_) => unreachable!(),
-        }
+        let key = self.index.remove(id);
+        let phase = self.slots.known(key).phase;
+        leave(
+            &mut self.slots,
+            &mut self.remembered,
+            key,
+            phase,
+            Phase::Gone,
+        );
+        self.slots.remove(key);
+        self.counts.remove(phase);
     }
 }

@@ -1,116 +1,138 @@
-ghost use Rattle.std.specs.Prelude.{◌≡◌, ◌≢◌, ◌+◌, ◌&&◌, All, IfSome, IfNone, IsTrue, true, not, nat_lt, length, reverse, find};
-ghost use Rattle.std.specs.Int.{from_bool};
-ghost use Rattle.std.specs.Vec.{vec_capacity};
+ghost use Rattle.std.specs.Prelude.{◌≡◌, if◌then◌else◌, Some, IfSome, true, map, find, reverse};
+ghost use Rattle.std.specs.Option.{option_map};
 ghost use Rattle.pool_journal.specs.Queue.{is_queued};
-ghost use Rattle.pool_places.specs.Changes.{takes_to};
-ghost use Rattle.pool_places.specs.Waiting.{Rises, IsParkedAt, IsSplitAt, IsFoundIn, Leaves, Marks, Takes};
+ghost use Rattle.pool_slots.specs.Rack.{is_in, without, known_at, value_at, Sets, IsRack};
+ghost use Rattle.pool_places.specs.Kept.{IsWithin};
+ghost use Rattle.pool_places.specs.Stored.{entry_at, entry_of, from_key, parked_of};
+ghost use Rattle.pool_places.specs.Waiting.{Rises, is_wanted};
 
-use crate::phase_tests::is_queued_phase;
+use crate::phase_tests::{is_idle_phase, is_queued_phase};
 use pool_journal::{Phase, Record};
+use pool_slots::Slots;
 
-/// An object of the queue.
-#[derive(Clone, Copy)]
-pub(crate) struct Parked {
-    /// Its position.
-    pub(crate) parked: u64,
-    pub(crate) id: u64,
-    /// Whether it is under an idle test.
-    pub(crate) is_tested: bool,
-}
-
-// Where the object stands that was parked at a position, found by a binary search.
-fn position_in(queue: &[Parked], parked: u64) -> Option<usize>
-    requires { Rises queue.now }
-    ensures found { IfSome result (IsParkedAt queue.now parked) }
-    ensures absent { IfNone result (All (λ q. q.parked ≢ parked) queue.now) }
+// Which key is remembered once an object leaves the queue: its own gives way to the one before it.
+fn passed_on<T>(slots: &Slots<T>, remembered: Option<usize>, key: usize) -> Option<usize>
+    requires queued { is_in key slots.now.queue ≡ true }
+    requires remembered { IsWithin slots.now.queue remembered }
+    ensures { IsWithin (without key slots.now.queue) result }
 {
-    queue
-        .binary_search_by_key(&parked, |entry| entry.parked)
-        .ok()
-}
-
-// Where an object of the queue stands.
-fn index_in(queue: &[Parked], known: Record) -> usize
-    requires { IsFoundIn queue.now known }
-    ensures { IsParkedAt queue.now known.parked result }
-{
-    match position_in(queue, known.parked) {
-        Some(index) => index,
-        None => unreachable!(),
-    }
-}
-
-/// Takes an object out of the queue, if it is there.
-pub(crate) fn leave(queue: &mut Vec<Parked>, known: Record)
-    requires { is_queued known.phase ≡ true → IsFoundIn queue.old.items known }
-    ensures left { Leaves queue.old.items queue.new.items known }
-    ensures length { length queue.new.items + from_bool (is_queued known.phase)
-        ≡ length queue.old.items }
-    ensures capacity { vec_capacity queue.new ≡ vec_capacity queue.old }
-{
-    if is_queued_phase(known.phase) {
-        let index = index_in(queue, known);
-        let _ = queue.remove(index);
-    }
-}
-
-/// Notes of an object of the queue whether it is under a test.
-pub(crate) fn mark(queue: &mut Vec<Parked>, known: Record, is_tested: bool)
-    requires { IsFoundIn queue.old.items known }
-    ensures marked { Marks queue.old.items queue.new.items known is_tested }
-    ensures length { length queue.new.items ≡ length queue.old.items }
-    ensures capacity { vec_capacity queue.new ≡ vec_capacity queue.old }
-{
-    let index = index_in(queue, known);
-    let entry = &mut queue[index];
-    entry.is_tested = is_tested;
-}
-
-/// Brings an object of the queue to a phase in which it isn't idle.
-pub(crate) fn take_from(queue: &mut Vec<Parked>, known: Record, phase: Phase)
-    requires found { IsFoundIn queue.old.items known }
-    requires queued { is_queued known.phase ≡ true }
-    requires phase { IsTrue (takes_to phase) }
-    ensures taken { Takes queue.old.items queue.new.items known phase }
-    ensures length { length queue.new.items + from_bool (is_queued known.phase)
-        ≡ length queue.old.items + from_bool (is_queued phase) }
-    ensures capacity { vec_capacity queue.new ≡ vec_capacity queue.old }
-{
-    if is_queued_phase(phase) {
-        mark(queue, known, true);
+    let kept = remembered?;
+    if kept == key {
+        slots.before(key)
     } else {
-        leave(queue, known);
+        Some(kept)
     }
 }
 
-/// The idle object that was parked first.
-pub(crate) fn first_idle_of(queue: &[Parked]) -> Option<Parked>
-    ensures { result ≡ find (λ q. not q.is_tested) queue.now }
+/// Takes an object out of the queue, where it is in it and its new phase isn't one of the queue.
+pub(crate) fn leave<T>(
+    slots: &mut Slots<T>,
+    remembered: &mut Option<usize>,
+    key: usize,
+    from: Phase,
+    to: Phase,
+)
+    requires follows { is_in key slots.old.queue ≡ is_queued from }
+    requires remembered { IsWithin slots.old.queue remembered.old }
+    ensures queue { slots.new ≡ record slots.old {
+      queue = if is_queued to then slots.old.queue else without key slots.old.queue;
+    } }
+    ensures remembered { IsWithin slots.new.queue remembered.new }
 {
-    queue.iter().copied().find(|entry| !entry.is_tested)
+    if is_queued_phase(from) && !is_queued_phase(to) {
+        *remembered = passed_on(slots, *remembered, key);
+        slots.unlink(key);
+    }
 }
 
-/// The idle object that was parked last.
-pub(crate) fn last_idle_of(queue: &[Parked]) -> Option<Parked>
-    ensures { result ≡ find (λ q. not q.is_tested) (reverse queue.now) }
+/// Notes what is now known of an object. It leaves the queue where its phase isn't one of the queue.
+pub(crate) fn change<T>(
+    slots: &mut Slots<T>,
+    remembered: &mut Option<usize>,
+    key: usize,
+    from: Record,
+    to: Record,
+)
+    requires known { known_at slots.old key ≡ Some from }
+    requires follows { is_in key slots.old.queue ≡ is_queued from.phase }
+    requires remembered { IsWithin slots.old.queue remembered.old }
+    ensures sets { Sets slots.old slots.new key
+        (Some (record { known = to; value = value_at slots.old key })) }
+    ensures queue { slots.new.queue
+        ≡ (if is_queued to.phase then slots.old.queue else without key slots.old.queue) }
+    ensures room { slots.new.room ≡ slots.old.room }
+    ensures remembered { IsWithin slots.new.queue remembered.new }
 {
-    queue.iter().rev().copied().find(|entry| !entry.is_tested)
+    leave(slots, remembered, key, from.phase, to.phase);
+    slots.set_known(key, to);
 }
 
-// How many entries stand at the position or before it, found by a binary search.
-fn start_after(queue: &[Parked], position: u64) -> usize
-    requires { Rises queue.now }
-    ensures { IsSplitAt queue.now position result }
+// Whether an object of the queue is idle, and was parked after the position if there is one.
+fn is_wanted_record(known: Record, after: Option<u64>) -> bool
+    ensures { result ≡ is_wanted after (entry_of known) }
 {
-    queue.partition_point(|entry| entry.parked <= position)
+    match after {
+        None => is_idle_phase(known.phase),
+        Some(position) => is_idle_phase(known.phase) && known.parked > position,
+    }
 }
 
-/// The idle object that was parked first after the position.
-pub(crate) fn next_idle_of(queue: &[Parked], position: u64) -> Option<Parked>
-    requires { Rises queue.now }
-    ensures { result ≡ find (λ q. not q.is_tested && nat_lt position q.parked) queue.now }
+/// The first object that is wanted, from one of the queue on.
+pub(crate) fn first_wanted<T>(
+    slots: &Slots<T>,
+    from: Option<usize>,
+    after: Option<u64>,
+) -> Option<u64>
+    requires rack { IsRack slots.now }
+    requires from { IsWithin slots.now.queue from }
+    ensures { result ≡ option_map (λ q. q.id)
+        (find (is_wanted after) (map (entry_at slots.now) (from_key from slots.now.queue))) }
 {
-    let start = start_after(queue, position);
-    let later = &queue[start..];
-    first_idle_of(later)
+    let mut next = from;
+    while let Some(key) = next {
+        let known = slots.known(key);
+        if is_wanted_record(known, after) {
+            return Some(known.id);
+        }
+        next = slots.after(key);
+    }
+    None
+}
+
+/// The last idle object, from one of the queue back.
+pub(crate) fn last_wanted<T>(slots: &Slots<T>, from: Option<usize>) -> Option<u64>
+    requires rack { IsRack slots.now }
+    requires from { IsWithin slots.now.queue from }
+    ensures { result ≡ option_map (λ q. q.id) (find (λ q. q.is_idle)
+        (map (entry_at slots.now) (from_key from (reverse slots.now.queue)))) }
+{
+    let mut next = from;
+    while let Some(key) = next {
+        let known = slots.known(key);
+        if is_idle_phase(known.phase) {
+            return Some(known.id);
+        }
+        next = slots.before(key);
+    }
+    None
+}
+
+/// An object of the queue before which none was parked after the position, sought from another one back.
+pub(crate) fn start_after<T>(slots: &Slots<T>, from: usize, position: u64) -> usize
+    requires rack { IsRack slots.now }
+    requires from { is_in from slots.now.queue ≡ true }
+    requires rises { Rises (parked_of slots.now) }
+    ensures queued { is_in result slots.now.queue ≡ true }
+    ensures start { find (is_wanted (Some position)) (parked_of slots.now)
+        ≡ find (is_wanted (Some position))
+        (map (entry_at slots.now) (from_key (Some result) slots.now.queue)) }
+{
+    let mut start = from;
+    while let Some(before) = slots.before(start) {
+        if slots.known(before).parked <= position {
+            return start;
+        }
+        start = before;
+    }
+    start
 }

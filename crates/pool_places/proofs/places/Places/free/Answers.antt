@@ -1,51 +1,77 @@
-use Rattle.std.proofs.Common.{◌≡◌, arith, false}
+use Rattle.std.proofs.Common.{◌≡◌, ap, arith, length, None, refl, subst, sym, ◌∙◌}
+use Rattle.std.proofs.lemmas.List.{length-map}
 use Rattle.std.proofs.lemmas.List.Edits.{length-remove}
-use Rattle.pool_journal.specs.Queue.{is_queued}
-use Rattle.pool_places.proofs.Found.{found_at, found_known, found_empty, remove_shelf, remove_kept, remove_records, remove_values}
+use Rattle.std.specs.Prelude.{IsSomeAnd}
+use Rattle.pool_slots.specs.Rack.{is_in, item_at}
+use Rattle.rising_index.specs.declared.pair.Pair.{Pair}
+use Rattle.rising_index.specs.Pairs.{IsRising}
+use Rattle.pool_places.specs.Counts.{IsCounts}
+use Rattle.pool_places.specs.Kept.{IsWithin}
+use Rattle.pool_places.specs.Shelf.{records_in, IsShelf}
+use Rattle.pool_places.specs.Stored.{kept_of, place_at}
+use Rattle.pool_places.proofs.Found.{found_known, found_empty, remove_shelf, remove_kept, remove_records, remove_values}
 use Rattle.pool_places.proofs.Owing.{remove_owed_of}
 use Rattle.pool_places.proofs.Numbers.{has_one, counted_remove}
-use Rattle.pool_places.proofs.Picks.{no_one}
-use Rattle.pool_places.proofs.Entries.{found_in}
-use Rattle.pool_places.proofs.Keeping.{own_record, own_removal}
+use Rattle.pool_places.proofs.Racks.{line_left}
+use Rattle.pool_places.proofs.Walks.{key_is_gone}
+use Rattle.pool_places.proofs.Turned.{Reads, here, key_seen, item_there, follows_known, no_value, sets_requeued, kept_freed, tied_freed, rising_without}
 use Rattle.pool_places.proofs.places.Places.free.Goals as goal
 
-pub leave-requires : goal.leave-requires
-leave-requires g c = λ queued.
-    let here = found_at c.self.invariant.shelf c.deref.ensures.value c.index_of-index.ensures c.remove-value.ensures.value in
-    found_in _ _ _ c.self.invariant.queue (own_record here) queued
+pub remove-key-requires : goal.remove-key-requires
+remove-key-requires g c = key_seen _ c.self.inside.slots c.self.inside.index.pairs c.args.id c.self.invariant.tied c.self.view_is c.requires.present
 
-pub remove-requires : goal.remove-requires
-remove-requires g c =
-    let here = found_at c.self.invariant.shelf c.deref.ensures.value c.index_of-index.ensures c.remove-value.ensures.value in
-    has_one _ here c.self.invariant.counted
+pub known-phase-requires : goal.known-phase-requires
+known-phase-requires g c = item_there c.self.inside.slots c.self.inside.index.pairs c.args.id c.remove-key.result c.self.invariant.tied c.remove-key.ensures.value
 
-pub unreachable-requires : goal.unreachable-requires
-unreachable-requires g c =
-    let here = found_at c.self.invariant.shelf c.deref.ensures.value c.index_of-index.ensures c.remove-value.ensures.value in
-    let none = found_empty here (found_known _ here c.self.view_is c.requires.present) in
-    cc (none, c.in-Some.is)
+pub leave-requires-clause-follows : goal.leave-requires-clause-follows
+leave-requires-clause-follows g c = follows_known c.self.inside.slots c.remove-key.result c.known-phase.result c.self.invariant.line c.known-phase.ensures
+
+pub remove-requires-clause-empty : goal.remove-requires-clause-empty
+remove-requires-clause-empty g c =
+    let reads : Reads c.self.inside.slots c.self.inside.index.pairs c.args.id c.remove-key.result c.known-phase.result = record { tied = c.self.invariant.tied; shelf = c.self.invariant.shelf; at = c.remove-key.ensures.value; known = c.known-phase.ensures } in
+    let found = here _ _ _ _ _ reads in
+    let empty = no_value c.self.inside.slots c.remove-key.result c.known-phase.result c.known-phase.ensures (found_empty found (found_known _ found c.self.view_is c.requires.present)) in
+    subst (λ rack. IsSomeAnd (item_at rack c.remove-key.result) (λ item. item.value ≡ None)) (sym c.leave.ensures.queue) empty
+
+pub remove-requires-clause-out : goal.remove-requires-clause-out
+remove-requires-clause-out g c = ap (λ rack. is_in c.remove-key.result rack.queue) c.leave.ensures.queue ∙ key_is_gone c.remove-key.result c.self.inside.slots.queue
+
+pub remove-requires-2 : goal.remove-requires-2
+remove-requires-2 g c =
+    let reads : Reads c.self.inside.slots c.self.inside.index.pairs c.args.id c.remove-key.result c.known-phase.result = record { tied = c.self.invariant.tied; shelf = c.self.invariant.shelf; at = c.remove-key.ensures.value; known = c.known-phase.ensures } in
+    let found = here _ _ _ _ _ reads in
+    has_one _ found c.self.invariant.counted
 
 pub invariant_of-self : goal.invariant_of-self
 invariant_of-self g c =
-    let here = found_at c.self.invariant.shelf c.deref.ensures.value c.index_of-index.ensures c.remove-value.ensures.value in
-    rw c.remove-value.ensures.items
+    let rack = c.self.inside.slots in
+    let pairs = c.self.inside.index.pairs in
+    let reads : Reads rack pairs c.args.id c.remove-key.result c.known-phase.result = record { tied = c.self.invariant.tied; shelf = c.self.invariant.shelf; at = c.remove-key.ensures.value; known = c.known-phase.ensures } in
+    let found = here _ _ _ _ _ reads in
+    let sets = sets_requeued c.remove.ensures.sets c.leave.ensures.queue in
+    let is = ap (kept_of c.remove.new.self) c.remove-key.ensures.pairs ∙ kept_freed rack c.remove.new.self pairs c.args.id c.remove-key.result _ reads sets ∙ sym (remove_kept found) in
     record {
-      shelf = remove_shelf here;
-      counted = counted_remove _ _ here c.self.invariant.counted c.remove.ensures;
-      queue = c.leave.ensures.left _ _ _ c.self.invariant.queue (own_removal here) (own_record here) (no_one (λ r. is_queued r.phase ≡ false));
-      long = omega (arith, c.leave.ensures.length, c.self.invariant.long, c.remove.ensures.queue);
-      roomy = omega (arith, length-remove c.self.inside.places.items c.index_of-index.result here.at.in_range, c.self.invariant.roomy, c.leave.ensures.capacity);
+      shelf = subst IsShelf (sym is) (remove_shelf found);
+      counted = subst (λ qs. IsCounts c.remove-2.new.self (records_in qs)) (sym is) (counted_remove _ _ found c.self.invariant.counted c.remove-2.ensures);
+      tied = tied_freed rack c.remove.new.self pairs c.remove-key.new.self.pairs c.args.id c.remove-key.result _ reads sets (subst IsRising (sym c.remove-key.ensures.pairs) (rising_without c.args.id pairs c.self.invariant.tied.rising)) c.remove-key.ensures.gone c.remove-key.ensures.others;
+      line = line_left rack c.remove.new.self c.remove-key.result None c.self.invariant.line sets (c.remove.ensures.queue ∙ ap (λ r. r.queue) c.leave.ensures.queue) refl;
+      remembered = subst (λ ks. IsWithin ks c.leave.new.remembered) (sym c.remove.ensures.queue) c.leave.ensures.remembered;
     }
 
 pub returns : goal.returns
 returns g c =
-    let here = found_at c.self.invariant.shelf c.deref.ensures.value c.index_of-index.ensures c.remove-value.ensures.value in
-    let none = found_empty here (found_known _ here c.self.view_is c.requires.present) in
-    rw (← c.self.view_is, c.remove-value.ensures.items)
+    let rack = c.self.inside.slots in
+    let pairs = c.self.inside.index.pairs in
+    let reads : Reads rack pairs c.args.id c.remove-key.result c.known-phase.result = record { tied = c.self.invariant.tied; shelf = c.self.invariant.shelf; at = c.remove-key.ensures.value; known = c.known-phase.ensures } in
+    let found = here _ _ _ _ _ reads in
+    let none = found_empty found (found_known _ found c.self.view_is c.requires.present) in
+    let sets = sets_requeued c.remove.ensures.sets c.leave.ensures.queue in
+    let is = ap (kept_of c.remove.new.self) c.remove-key.ensures.pairs ∙ kept_freed rack c.remove.new.self pairs c.args.id c.remove-key.result _ reads sets ∙ sym (remove_kept found) in
+    rw (← c.self.view_is, is)
     record {
-      kept = remove_kept here;
-      records = remove_records here;
-      values = remove_values here none;
-      owed = remove_owed_of here;
-      spare = omega (arith, c.leave.ensures.capacity);
+      kept = remove_kept found;
+      records = remove_records found;
+      values = remove_values found none;
+      owed = remove_owed_of found;
+      spare = omega (arith, ap length is, length-map c.remove-key.new.self.pairs (λ (x : Pair). place_at c.remove.new.self x.key), length-map pairs (λ (x : Pair). place_at rack x.key), length-remove (kept_of rack pairs) _ found.at.in_range, c.remove.ensures.room, ap (λ r. r.room) c.leave.ensures.queue, c.remove-key.ensures.spare);
     }

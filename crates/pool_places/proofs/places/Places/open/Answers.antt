@@ -1,45 +1,60 @@
-use Rattle.std.proofs.Common.{ap, arith, false, refl, subst, sym, ◌≡◌}
-use Rattle.std.specs.Int.{from_bool}
-use Rattle.std.proofs.lemmas.List.{length_push}
-use Rattle.pool_journal.specs.Queue.{is_queued}
-use Rattle.pool_places.specs.Changes.{IdsBelow, new_record}
-use Rattle.pool_places.specs.Shelf.{records_in, new_place}
+use Rattle.std.proofs.Common.{ap, arith, refl, subst, sym, ◌∙◌, length, List}
+use Rattle.std.proofs.lemmas.List.{length_push, length-map}
+use Rattle.pool_slots.specs.Rack.{is_in}
+use Rattle.rising_index.specs.declared.pair.Pair.{Pair}
+use Rattle.rising_index.specs.Pairs.{IsRising}
+use Rattle.pool_places.specs.Changes.{IdsBelow}
+use Rattle.pool_places.specs.Counts.{IsCounts}
+use Rattle.pool_places.specs.Kept.{IsWithin}
+use Rattle.pool_places.specs.Shelf.{records_in, new_place, IsShelf}
+use Rattle.pool_places.specs.Stored.{kept_of, place_at}
 use Rattle.pool_places.proofs.Shelves.{shelf_push, all_places}
 use Rattle.pool_places.proofs.Values.{value_push}
 use Rattle.pool_places.proofs.Found.{records_push}
 use Rattle.pool_places.proofs.NotIdle.{opened_not_idle}
 use Rattle.pool_places.proofs.Owing.{push_owed}
 use Rattle.pool_places.proofs.Numbers.{counted_push, small}
-use Rattle.pool_places.proofs.Picks.{for_one}
-use Rattle.pool_places.proofs.Entries.{queue_stays}
-use Rattle.pool_places.proofs.Keeping.{own_arrival, record_absent, opened_not_queued}
+use Rattle.pool_places.proofs.Keeping.{record_absent, opened_not_queued}
+use Rattle.pool_places.proofs.Racks.{line_apart}
+use Rattle.pool_places.proofs.Turned.{pairs_below, kept_opened, tied_opened, rising_push, key_absent}
 use Rattle.pool_places.proofs.places.Places.open.Goals as goal
+
+pub push-requires-clause-above : goal.push-requires-clause-above
+push-requires-clause-above g c = pairs_below _ _ _ c.self.invariant.tied (subst (λ s. IdsBelow c.args.id (records_in s.kept)) (sym c.self.view_is) c.requires.above)
 
 pub add-requires : goal.add-requires
 add-requires g c = small _ _ c.self.invariant.shelf.few c.self.invariant.counted
 
 pub invariant_of-self : goal.invariant_of-self
 invariant_of-self g c =
-    let ps = c.self.inside.places.items in
+    let rack = c.self.inside.slots in
+    let pairs = c.self.inside.index.pairs in
+    let ps = kept_of rack pairs in
+    let p : Pair = record { id = c.args.id; key = c.insert-key.result } in
     let above = subst (λ s. IdsBelow c.args.id (records_in s.kept)) (sym c.self.view_is) c.requires.above in
     let out = opened_not_queued c.args.phase c.requires.phase in
-    let zero : from_bool (is_queued c.args.phase) ≡ 0 = ap from_bool out in
-    rw c.push_reserved.ensures.items
+    let is = ap (kept_of c.insert-key.new.self) c.push.ensures.pairs ∙ kept_opened rack c.insert-key.new.self pairs p _ c.self.invariant.tied c.insert-key.ensures.vacant c.insert-key.ensures.sets in
+    let absent = key_absent rack pairs c.args.id c.self.invariant.tied (record_absent c.args.id (records_in ps) above) in
     record {
-      shelf = shelf_push c.self.inside.places.items _ c.self.invariant.shelf (all_places _ c.self.inside.places.items above) (sym (opened_not_idle c.args.phase c.requires.phase)) (omega (arith, ap (λ s. s.spare) c.self.view_is));
-      counted = counted_push _ _ _ _ c.self.invariant.counted c.add.ensures;
-      queue = queue_stays _ _ _ _ _ c.self.invariant.queue (own_arrival (records_in ps) _ (new_record c.args.id c.args.phase) (records_push ps (new_place c.args.id c.args.phase)) above) (λ r e. absurd (cc (record_absent c.args.id (records_in ps) above, e))) (for_one (λ r. is_queued r.phase ≡ false) _ out);
-      long = omega (arith, c.self.invariant.long, c.add.ensures.queue, zero);
-      roomy = omega (arith, length_push ps (new_place c.args.id c.args.phase), ap (λ s. s.spare) c.self.view_is, c.requires.reserved);
+      shelf = subst IsShelf (sym is) (shelf_push ps _ c.self.invariant.shelf (all_places _ ps above) (sym (opened_not_idle c.args.phase c.requires.phase)) (omega (arith, length-map pairs (λ (x : Pair). place_at rack x.key), ap (λ s. s.spare) c.self.view_is, c.requires.reserved)));
+      counted = subst (λ qs. IsCounts c.add.new.self (records_in qs)) (sym is) (counted_push ps _ _ (new_place c.args.id c.args.phase) c.self.invariant.counted c.add.ensures);
+      tied = tied_opened rack c.insert-key.new.self pairs c.push.new.self.pairs p _ c.self.invariant.tied c.insert-key.ensures.vacant c.insert-key.ensures.sets refl (subst IsRising (sym c.push.ensures.pairs) (rising_push pairs p c.self.invariant.tied.rising (pairs_below _ _ _ c.self.invariant.tied above))) absent c.push.ensures.found c.push.ensures.others;
+      line = line_apart rack c.insert-key.new.self c.insert-key.result _ c.self.invariant.line c.insert-key.ensures.sets c.insert-key.ensures.queue (sym (ap (is_in c.insert-key.result) c.insert-key.ensures.queue) ∙ c.insert-key.ensures.out) out;
+      remembered = subst (λ ks. IsWithin ks c.self.inside.remembered) (sym c.insert-key.ensures.queue) c.self.invariant.remembered;
     }
 
 pub returns : goal.returns
 returns g c =
-    rw (← c.self.view_is, c.push_reserved.ensures.items)
+    let rack = c.self.inside.slots in
+    let pairs = c.self.inside.index.pairs in
+    let ps = kept_of rack pairs in
+    let p : Pair = record { id = c.args.id; key = c.insert-key.result } in
+    let is = ap (kept_of c.insert-key.new.self) c.push.ensures.pairs ∙ kept_opened rack c.insert-key.new.self pairs p _ c.self.invariant.tied c.insert-key.ensures.vacant c.insert-key.ensures.sets in
+    rw (← c.self.view_is, is)
     record {
       kept = refl;
-      records = records_push c.self.inside.places.items (new_place c.args.id c.args.phase);
-      values = λ j. value_push c.self.inside.places.items (new_place c.args.id c.args.phase) j refl;
-      owed = push_owed c.self.inside.places.items (new_place c.args.id c.args.phase);
-      spare = omega (arith, ap (λ s. s.spare) c.self.view_is);
+      records = records_push ps (new_place c.args.id c.args.phase);
+      values = λ j. value_push ps (new_place c.args.id c.args.phase) j refl;
+      owed = push_owed ps (new_place c.args.id c.args.phase);
+      spare = omega (arith, ap (λ s. s.spare) c.self.view_is, c.requires.reserved, c.insert-key.ensures.room, c.push.ensures.spare, ap length c.push.ensures.pairs, length_push pairs p);
     }

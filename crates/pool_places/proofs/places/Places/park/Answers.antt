@@ -1,62 +1,82 @@
-use Rattle.std.proofs.Common.{ap, arith, false, refl, subst, sym, ◌≡◌}
-use Rattle.std.specs.Int.{from_bool}
-use Rattle.std.proofs.lemmas.List.{length_push}
-use Rattle.pool_journal.specs.Queue.{is_queued}
+use Rattle.std.proofs.Common.{◌≡◌, true, false, Some, None, refl, ap, sym, ◌∙◌, arith, subst}
+use Rattle.std.specs.Prelude.{is_some}
+use Rattle.pool_journal.specs.Queue.{is_idle, is_queued}
+use Rattle.pool_journal.specs.declared.record.Phase.TheVariants as phases
+use Rattle.pool_slots.specs.Rack.{value_at}
+use Rattle.pool_places.proofs.Racks.{item_known, line_joined, queue_kept}
+use Rattle.std.proofs.Common.{◌++◌, ◌∷◌, []}
+use Rattle.std.specs.Option.{option_map, option_and_then}
+use Rattle.pool_slots.specs.Rack.{Item, is_in, Sets}
 use Rattle.pool_places.specs.Changes.{parked_at, QueueBelow}
+use Rattle.pool_places.specs.Kept.{IsWithin}
 use Rattle.pool_places.specs.Shelf.{records_in, to_idle}
-use Rattle.pool_places.proofs.Found.{found_at, found_known, found_empty, set_shelf, set_kept, set_records, set_value, set_others}
+use Rattle.pool_places.proofs.Found.{found_known, found_empty, set_kept, set_records, set_value, set_others}
+use Rattle.pool_places.proofs.Keeping.{entries_below}
 use Rattle.pool_places.proofs.NotIdle.{not_queued}
-use Rattle.pool_places.proofs.Owing.{set_owed_of}
 use Rattle.pool_places.proofs.Numbers.{has_one, counted_set, small, small_less}
-use Rattle.pool_places.proofs.Entries.{queue_joined}
-use Rattle.pool_places.proofs.Keeping.{found_id, own_record, own_change, entries_below, room_for_one, roomy_set}
+use Rattle.pool_places.proofs.Owing.{set_owed_of}
+use Rattle.pool_places.proofs.Turned.{Reads, here, key_seen, item_there, follows_known, kept_is, kept_after, line_changed, known_set, value_set, sets_then, sets_queued, no_value}
+use Rattle.pool_places.proofs.Walks.{within_push}
 use Rattle.pool_places.proofs.places.Places.park.Goals as goal
 
-pub keep-requires : goal.keep-requires
-keep-requires g c =
-    let here = found_at c.self.invariant.shelf c.deref.ensures.value c.index_of-index.ensures c.index_mut-place.ensures.value in
-    let none = found_empty here (not_queued _ (found_known _ here c.self.view_is c.requires.present)) in
-    none
+pub key_under-key-requires : goal.key_under-key-requires
+key_under-key-requires g c = key_seen _ c.self.inside.slots c.self.inside.index.pairs c.args.id c.self.invariant.tied c.self.view_is c.requires.present
 
-pub push_reserved-requires : goal.push_reserved-requires
-push_reserved-requires g c =
-    let here = found_at c.self.invariant.shelf c.deref.ensures.value c.index_of-index.ensures c.index_mut-place.ensures.value in
-    let room = room_for_one _ here c.self.invariant.counted (found_known _ here c.self.view_is c.requires.present) in
-    omega (arith, room, c.self.invariant.long, c.self.invariant.roomy)
+pub known-known-requires : goal.known-known-requires
+known-known-requires g c = item_there c.self.inside.slots c.self.inside.index.pairs c.args.id c.key_under-key.result c.self.invariant.tied c.key_under-key.ensures
 
 pub remove-requires : goal.remove-requires
 remove-requires g c =
-    let here = found_at c.self.invariant.shelf c.deref.ensures.value c.index_of-index.ensures c.index_mut-place.ensures.value in
-    has_one _ here c.self.invariant.counted
+    let reads : Reads c.self.inside.slots c.self.inside.index.pairs c.args.id c.key_under-key.result c.known-known.result = record { tied = c.self.invariant.tied; shelf = c.self.invariant.shelf; at = c.key_under-key.ensures; known = c.known-known.ensures } in
+    let found = here _ _ _ _ _ reads in
+    has_one _ found c.self.invariant.counted
 
 pub add-requires : goal.add-requires
 add-requires g c = small_less _ _ _ (small _ _ c.self.invariant.shelf.few c.self.invariant.counted) c.remove.ensures
 
+pub put-requires : goal.put-requires
+put-requires g c =
+    let reads : Reads c.self.inside.slots c.self.inside.index.pairs c.args.id c.key_under-key.result c.known-known.result = record { tied = c.self.invariant.tied; shelf = c.self.invariant.shelf; at = c.key_under-key.ensures; known = c.known-known.ensures } in
+    let found = here _ _ _ _ _ reads in
+    let first = known_set c.self.inside.slots c.set_known.new.self c.key_under-key.result c.known-known.result _ c.known-known.ensures c.set_known.ensures.sets in
+    let empty = found_empty found (not_queued _ (found_known _ found c.self.view_is c.requires.present)) in
+    no_value c.set_known.new.self c.key_under-key.result _ (ap (option_map (λ (item : Item g.row.T.Denot). item.known)) first.changed) (ap (option_and_then (λ (item : Item g.row.T.Denot). item.value)) first.changed ∙ empty)
+
+pub link_last-requires-clause-out : goal.link_last-requires-clause-out
+link_last-requires-clause-out g c =
+    let reads : Reads c.self.inside.slots c.self.inside.index.pairs c.args.id c.key_under-key.result c.known-known.result = record { tied = c.self.invariant.tied; shelf = c.self.invariant.shelf; at = c.key_under-key.ensures; known = c.known-known.ensures } in
+    let found = here _ _ _ _ _ reads in
+    ap (is_in c.key_under-key.result) (c.put.ensures.queue ∙ c.set_known.ensures.queue) ∙ follows_known c.self.inside.slots c.key_under-key.result c.known-known.result c.self.invariant.line c.known-known.ensures ∙ (found_known _ found c.self.view_is c.requires.present)
+
 pub invariant_of-self : goal.invariant_of-self
 invariant_of-self g c =
-    let here = found_at c.self.invariant.shelf c.deref.ensures.value c.index_of-index.ensures c.index_mut-place.ensures.value in
-    let out = found_known _ here c.self.view_is c.requires.present in
-    let zero : from_bool (is_queued c.index_mut-place.result.now.known.phase) ≡ 0 = ap from_bool out in
+    let reads : Reads c.self.inside.slots c.self.inside.index.pairs c.args.id c.key_under-key.result c.known-known.result = record { tied = c.self.invariant.tied; shelf = c.self.invariant.shelf; at = c.key_under-key.ensures; known = c.known-known.ensures } in
+    let found = here _ _ _ _ _ reads in
+    let first = known_set c.self.inside.slots c.set_known.new.self c.key_under-key.result c.known-known.result _ c.known-known.ensures c.set_known.ensures.sets in
+    let valued = value_set c.set_known.new.self c.put.new.self c.key_under-key.result _ (Some c.args.value) (ap (option_map (λ (item : Item g.row.T.Denot). item.known)) first.changed) c.put.ensures.sets in
+    let both = sets_then _ _ _ _ _ _ first valued.sets in
+    let sets = sets_queued both c.link_last.ensures in
+    let queue = ap (λ r. r.queue) c.link_last.ensures ∙ ap (λ ks. ks ++ c.key_under-key.result ∷ []) (c.put.ensures.queue ∙ c.set_known.ensures.queue) in
     let above = subst (λ s. QueueBelow c.args.parked (records_in s.kept)) (sym c.self.view_is) c.requires.above in
-    rw (c.keep.ensures, c.push_reserved.ensures.items)
-    record {
-      shelf = set_shelf _ here refl refl;
-      counted = counted_set _ _ _ _ here c.self.invariant.counted c.remove.ensures c.add.ensures;
-      queue = queue_joined _ _ _ _ _ c.index_mut-place.result.now.known _ c.self.invariant.queue (own_change (to_idle c.args.parked c.args.since c.args.value) (λ p. refl) here) (own_record here) out (sym (found_id here)) (record { parked = refl; queued = refl; idle = refl }) (entries_below _ _ _ above c.self.invariant.queue);
-      long = omega (arith, length_push c.self.inside.queue.items (record { parked = c.args.parked; id = c.args.id; is_tested = false }), c.self.invariant.long, c.remove.ensures.queue, c.add.ensures.queue, zero);
-      roomy = roomy_set _ _ _ _ _ c.self.invariant.roomy c.push_reserved.ensures.capacity;
-    }
+    let below = entries_below _ _ _ above (queue_kept _ _ c.self.invariant.tied c.self.invariant.line) in
+    kept_after _ _ _ _ _ _ _ _ _ reads sets refl refl (counted_set _ _ _ _ found c.self.invariant.counted c.remove.ensures c.add.ensures) (line_joined _ _ _ _ _ c.self.invariant.line sets (item_known c.self.inside.slots c.key_under-key.result c.known-known.result c.known-known.ensures) queue (found_known _ found c.self.view_is c.requires.present) refl below) (subst (λ ks. IsWithin ks c.self.inside.remembered) (sym queue) (within_push _ c.self.inside.slots.queue c.self.inside.remembered c.self.invariant.remembered))
 
 pub returns : goal.returns
 returns g c =
-    let here = found_at c.self.invariant.shelf c.deref.ensures.value c.index_of-index.ensures c.index_mut-place.ensures.value in
+    let reads : Reads c.self.inside.slots c.self.inside.index.pairs c.args.id c.key_under-key.result c.known-known.result = record { tied = c.self.invariant.tied; shelf = c.self.invariant.shelf; at = c.key_under-key.ensures; known = c.known-known.ensures } in
+    let found = here _ _ _ _ _ reads in
+    let first = known_set c.self.inside.slots c.set_known.new.self c.key_under-key.result c.known-known.result _ c.known-known.ensures c.set_known.ensures.sets in
+    let valued = value_set c.set_known.new.self c.put.new.self c.key_under-key.result _ (Some c.args.value) (ap (option_map (λ (item : Item g.row.T.Denot). item.known)) first.changed) c.put.ensures.sets in
+    let both = sets_then _ _ _ _ _ _ first valued.sets in
+    let sets = sets_queued both c.link_last.ensures in
+    let is = kept_is _ _ _ _ _ _ _ reads sets refl in
     let f = to_idle c.args.parked c.args.since c.args.value in
-    rw (← c.self.view_is, c.keep.ensures)
+    rw (← c.self.view_is, is)
     record {
-      kept = set_kept f here;
-      records = set_records f (parked_at c.args.parked c.args.since) (λ p. refl) here;
-      value = set_value f (λ p. refl) here;
-      others = set_others f (λ p. refl) here;
-      owed = set_owed_of (f c.index_mut-place.result.now) here;
-      spare = omega (arith, c.push_reserved.ensures.capacity);
+      kept = set_kept f found;
+      records = set_records f (parked_at c.args.parked c.args.since) (λ p. refl) found;
+      value = set_value f (λ p. refl) found;
+      others = set_others f (λ p. refl) found;
+      owed = set_owed_of _ found;
+      spare = omega (arith, ap (λ r. r.room) c.link_last.ensures, c.put.ensures.room, c.set_known.ensures.room);
     }

@@ -1,59 +1,74 @@
-use Rattle.std.proofs.Common.{ap, arith, refl, ◌≡◌}
-use Rattle.std.specs.Int.{from_bool}
+use Rattle.std.proofs.Common.{◌≡◌, true, false, Some, None, refl, ap, sym, ◌∙◌, arith, subst}
+use Rattle.std.specs.Prelude.{is_some}
 use Rattle.pool_journal.specs.Queue.{is_idle, is_queued}
 use Rattle.pool_journal.specs.declared.record.Phase.TheVariants as phases
+use Rattle.pool_slots.specs.Rack.{value_at}
+use Rattle.pool_places.proofs.Racks.{item_known}
+use Rattle.pool_slots.specs.Rack.{is_in}
+use Rattle.pool_slots.specs.Rack.{without as without_key}
+use Rattle.std.proofs.Common.{if◌then◌else◌, List, ℕ}
+use Rattle.pool_places.specs.Kept.{IsWithin}
 use Rattle.pool_places.specs.Changes.{phase_set}
 use Rattle.pool_places.specs.Shelf.{to_kept}
-use Rattle.pool_places.proofs.Found.{found_at, found_known, found_empty, set_shelf, set_kept, set_records, set_value, set_others}
-use Rattle.pool_places.proofs.Owing.{set_owed_from}
+use Rattle.pool_places.proofs.Found.{found_known, found_empty, set_kept, set_records, set_value, set_others}
 use Rattle.pool_places.proofs.Numbers.{has_one, counted_set, small, small_less}
-use Rattle.pool_places.proofs.Entries.{found_in}
-use Rattle.pool_places.proofs.Keeping.{own_record, own_change, roomy_set}
+use Rattle.pool_places.proofs.Owing.{set_owed_from}
+use Rattle.pool_places.proofs.Turned.{Reads, here, key_seen, item_there, follows_known, kept_is, kept_after, line_changed, value_set, sets_after, no_value}
 use Rattle.pool_places.proofs.places.Places.put_value.Goals as goal
 
-pub keep-requires : goal.keep-requires
-keep-requires g c =
-    let here = found_at c.self.invariant.shelf c.deref.ensures.value c.index_of-index.ensures c.index_mut-tested.ensures.value in
-    let none = found_empty here (ap is_idle (found_known _ here c.self.view_is c.requires.present)) in
-    none
+pub key_under-key-requires : goal.key_under-key-requires
+key_under-key-requires g c = key_seen _ c.self.inside.slots c.self.inside.index.pairs c.args.id c.self.invariant.tied c.self.view_is c.requires.present
 
-pub mark-requires : goal.mark-requires
-mark-requires g c =
-    let here = found_at c.self.invariant.shelf c.deref.ensures.value c.index_of-index.ensures c.index_mut-tested.ensures.value in
-    found_in _ _ _ c.self.invariant.queue (own_record here) (ap is_queued (found_known _ here c.self.view_is c.requires.present))
+pub known-known-requires : goal.known-known-requires
+known-known-requires g c = item_there c.self.inside.slots c.self.inside.index.pairs c.args.id c.key_under-key.result c.self.invariant.tied c.key_under-key.ensures
+
+pub put-requires : goal.put-requires
+put-requires g c =
+    let reads : Reads c.self.inside.slots c.self.inside.index.pairs c.args.id c.key_under-key.result c.known-known.result = record { tied = c.self.invariant.tied; shelf = c.self.invariant.shelf; at = c.key_under-key.ensures; known = c.known-known.ensures } in
+    let found = here _ _ _ _ _ reads in
+    no_value c.self.inside.slots c.key_under-key.result c.known-known.result c.known-known.ensures (found_empty found (ap is_idle (found_known _ found c.self.view_is c.requires.present)))
 
 pub remove-requires : goal.remove-requires
 remove-requires g c =
-    let here = found_at c.self.invariant.shelf c.deref.ensures.value c.index_of-index.ensures c.index_mut-tested.ensures.value in
-    has_one _ here c.self.invariant.counted
+    let reads : Reads c.self.inside.slots c.self.inside.index.pairs c.args.id c.key_under-key.result c.known-known.result = record { tied = c.self.invariant.tied; shelf = c.self.invariant.shelf; at = c.key_under-key.ensures; known = c.known-known.ensures } in
+    let found = here _ _ _ _ _ reads in
+    has_one _ found c.self.invariant.counted
 
 pub add-requires : goal.add-requires
 add-requires g c = small_less _ _ _ (small _ _ c.self.invariant.shelf.few c.self.invariant.counted) c.remove.ensures
 
+pub change-requires : goal.change-requires
+change-requires g c =
+    let valued = value_set c.self.inside.slots c.put.new.self c.key_under-key.result c.known-known.result (Some c.args.value) c.known-known.ensures c.put.ensures.sets in
+    record {
+      known = valued.known;
+      follows = ap (is_in c.key_under-key.result) c.put.ensures.queue ∙ follows_known c.self.inside.slots c.key_under-key.result c.known-known.result c.self.invariant.line c.known-known.ensures;
+      remembered = subst (λ queue. IsWithin queue c.self.inside.remembered) (sym c.put.ensures.queue) c.self.invariant.remembered;
+    }
+
 pub invariant_of-self : goal.invariant_of-self
 invariant_of-self g c =
-    let here = found_at c.self.invariant.shelf c.deref.ensures.value c.index_of-index.ensures c.index_mut-tested.ensures.value in
-    let is = found_known _ here c.self.view_is c.requires.present in
-    let one : from_bool (is_queued c.index_mut-tested.result.now.known.phase) ≡ 1 = ap (λ p. from_bool (is_queued p)) is in
-    rw c.keep.ensures
-    record {
-      shelf = set_shelf _ here refl refl;
-      counted = counted_set _ _ _ _ here c.self.invariant.counted c.remove.ensures c.add.ensures;
-      queue = c.mark.ensures.marked _ _ _ c.self.invariant.queue (own_change (to_kept c.args.value) (λ p. refl) here) (own_record here) (ap is_queued is) refl refl refl;
-      long = omega (arith, c.mark.ensures.length, c.self.invariant.long, c.remove.ensures.queue, c.add.ensures.queue, one);
-      roomy = roomy_set _ _ _ _ _ c.self.invariant.roomy c.mark.ensures.capacity;
-    }
+    let reads : Reads c.self.inside.slots c.self.inside.index.pairs c.args.id c.key_under-key.result c.known-known.result = record { tied = c.self.invariant.tied; shelf = c.self.invariant.shelf; at = c.key_under-key.ensures; known = c.known-known.ensures } in
+    let found = here _ _ _ _ _ reads in
+    let valued = value_set c.self.inside.slots c.put.new.self c.key_under-key.result c.known-known.result (Some c.args.value) c.known-known.ensures c.put.ensures.sets in
+    let sets = sets_after _ _ _ _ _ _ _ valued c.change.ensures.sets in
+    let queue = c.change.ensures.queue ∙ ap (λ (ks : List ℕ). if is_queued phases.Idle then ks else without_key c.key_under-key.result ks) c.put.ensures.queue in
+    kept_after _ _ _ _ _ _ _ _ _ reads sets refl refl (counted_set _ _ _ _ found c.self.invariant.counted c.remove.ensures c.add.ensures) (line_changed _ _ _ _ _ c.self.invariant.line sets (item_known c.self.inside.slots c.key_under-key.result c.known-known.result c.known-known.ensures) queue (λ yes. (ap is_queued (found_known _ found c.self.view_is c.requires.present), refl))) c.change.ensures.remembered
 
 pub returns : goal.returns
 returns g c =
-    let here = found_at c.self.invariant.shelf c.deref.ensures.value c.index_of-index.ensures c.index_mut-tested.ensures.value in
+    let reads : Reads c.self.inside.slots c.self.inside.index.pairs c.args.id c.key_under-key.result c.known-known.result = record { tied = c.self.invariant.tied; shelf = c.self.invariant.shelf; at = c.key_under-key.ensures; known = c.known-known.ensures } in
+    let found = here _ _ _ _ _ reads in
+    let valued = value_set c.self.inside.slots c.put.new.self c.key_under-key.result c.known-known.result (Some c.args.value) c.known-known.ensures c.put.ensures.sets in
+    let sets = sets_after _ _ _ _ _ _ _ valued c.change.ensures.sets in
+    let is = kept_is _ _ _ _ _ _ _ reads sets refl in
     let f = to_kept c.args.value in
-    rw (← c.self.view_is, c.keep.ensures)
+    rw (← c.self.view_is, is)
     record {
-      kept = set_kept f here;
-      records = set_records f (phase_set phases.Idle) (λ p. refl) here;
-      value = set_value f (λ p. refl) here;
-      others = set_others f (λ p. refl) here;
-      owed = set_owed_from (f c.index_mut-tested.result.now) here (found_known _ here c.self.view_is c.requires.present);
-      spare = omega (arith, c.mark.ensures.capacity);
+      kept = set_kept f found;
+      records = set_records f (phase_set phases.Idle) (λ p. refl) found;
+      value = set_value f (λ p. refl) found;
+      others = set_others f (λ p. refl) found;
+      owed = set_owed_from _ found (found_known _ found c.self.view_is c.requires.present);
+      spare = omega (arith, c.change.ensures.room, c.put.ensures.room);
     }

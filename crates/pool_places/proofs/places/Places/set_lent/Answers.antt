@@ -1,48 +1,53 @@
-use Rattle.std.proofs.Common.{ap, arith, false, refl, ◌≡◌}
-use Rattle.std.specs.Int.{from_bool}
+use Rattle.std.proofs.Common.{◌≡◌, true, false, Some, None, refl, ap, sym, ◌∙◌, arith, subst}
+use Rattle.std.specs.Prelude.{is_some}
 use Rattle.pool_journal.specs.Queue.{is_idle, is_queued}
+use Rattle.pool_journal.specs.declared.record.Phase.TheVariants as phases
+use Rattle.pool_slots.specs.Rack.{value_at}
+use Rattle.pool_places.proofs.Racks.{item_known}
 use Rattle.pool_places.specs.Changes.{lent_at}
 use Rattle.pool_places.specs.Shelf.{to_lent}
 use Rattle.pool_places.proofs.Shelves.{empty_valued}
-use Rattle.pool_places.proofs.Found.{found_at, found_known, found_empty, set_shelf, set_kept, set_records, set_values}
-use Rattle.pool_places.proofs.Owing.{set_owed_from}
+use Rattle.pool_places.proofs.Found.{found_known, found_empty, set_kept, set_records, set_values}
 use Rattle.pool_places.proofs.Numbers.{has_one, counted_set, small, small_less}
-use Rattle.pool_places.proofs.Picks.{for_one}
-use Rattle.pool_places.proofs.Entries.{queue_stays, out_of}
-use Rattle.pool_places.proofs.Keeping.{own_record, own_change, roomy_set}
+use Rattle.pool_places.proofs.Owing.{set_owed_from}
+use Rattle.pool_places.proofs.Turned.{Reads, here, key_seen, item_there, follows_known, kept_is, kept_after, line_changed}
 use Rattle.pool_places.proofs.places.Places.set_lent.Goals as goal
+
+pub key_under-key-requires : goal.key_under-key-requires
+key_under-key-requires g c = key_seen _ c.self.inside.slots c.self.inside.index.pairs c.args.id c.self.invariant.tied c.self.view_is c.requires.present
+
+pub known-known-requires : goal.known-known-requires
+known-known-requires g c = item_there c.self.inside.slots c.self.inside.index.pairs c.args.id c.key_under-key.result c.self.invariant.tied c.key_under-key.ensures
 
 pub remove-requires : goal.remove-requires
 remove-requires g c =
-    let here = found_at c.self.invariant.shelf c.deref.ensures.value c.index_of-index.ensures c.index_mut.ensures.value in
-    has_one _ here c.self.invariant.counted
+    let reads : Reads c.self.inside.slots c.self.inside.index.pairs c.args.id c.key_under-key.result c.known-known.result = record { tied = c.self.invariant.tied; shelf = c.self.invariant.shelf; at = c.key_under-key.ensures; known = c.known-known.ensures } in
+    let found = here _ _ _ _ _ reads in
+    has_one _ found c.self.invariant.counted
 
 pub add-requires : goal.add-requires
 add-requires g c = small_less _ _ _ (small _ _ c.self.invariant.shelf.few c.self.invariant.counted) c.remove.ensures
 
+pub change-requires-clause-follows : goal.change-requires-clause-follows
+change-requires-clause-follows g c = follows_known c.self.inside.slots c.key_under-key.result c.known-known.result c.self.invariant.line c.known-known.ensures
+
 pub invariant_of-self : goal.invariant_of-self
 invariant_of-self g c =
-    let here = found_at c.self.invariant.shelf c.deref.ensures.value c.index_of-index.ensures c.index_mut.ensures.value in
-    let is = found_known _ here c.self.view_is c.requires.present in
-    let none = found_empty here (ap is_idle is) in
-    let zero : from_bool (is_queued c.index_mut.result.now.known.phase) ≡ 0 = ap (λ p. from_bool (is_queued p)) is in
-    record {
-      shelf = set_shelf _ here refl (empty_valued c.index_mut.result.now.value none refl);
-      counted = counted_set _ _ _ _ here c.self.invariant.counted c.remove.ensures c.add.ensures;
-      queue = queue_stays _ _ _ _ _ c.self.invariant.queue (own_change (to_lent c.args.at) (λ p. refl) here) (out_of _ _ (own_record here) (ap is_queued is)) (for_one (λ r. is_queued r.phase ≡ false) _ refl);
-      long = omega (arith, c.self.invariant.long, c.remove.ensures.queue, c.add.ensures.queue, zero);
-      roomy = roomy_set _ _ _ _ _ c.self.invariant.roomy refl;
-    }
+    let reads : Reads c.self.inside.slots c.self.inside.index.pairs c.args.id c.key_under-key.result c.known-known.result = record { tied = c.self.invariant.tied; shelf = c.self.invariant.shelf; at = c.key_under-key.ensures; known = c.known-known.ensures } in
+    let found = here _ _ _ _ _ reads in
+    kept_after _ _ _ _ _ _ _ _ _ reads c.change.ensures.sets refl (empty_valued (value_at c.self.inside.slots c.key_under-key.result) (found_empty found (ap is_idle (found_known _ found c.self.view_is c.requires.present))) refl) (counted_set _ _ _ _ found c.self.invariant.counted c.remove.ensures c.add.ensures) (line_changed _ _ _ _ _ c.self.invariant.line c.change.ensures.sets (item_known c.self.inside.slots c.key_under-key.result c.known-known.result c.known-known.ensures) c.change.ensures.queue (λ yes. absurd (cc yes))) c.change.ensures.remembered
 
 pub returns : goal.returns
 returns g c =
-    let here = found_at c.self.invariant.shelf c.deref.ensures.value c.index_of-index.ensures c.index_mut.ensures.value in
+    let reads : Reads c.self.inside.slots c.self.inside.index.pairs c.args.id c.key_under-key.result c.known-known.result = record { tied = c.self.invariant.tied; shelf = c.self.invariant.shelf; at = c.key_under-key.ensures; known = c.known-known.ensures } in
+    let found = here _ _ _ _ _ reads in
+    let is = kept_is _ _ _ _ _ _ _ reads c.change.ensures.sets refl in
     let f = to_lent c.args.at in
-    rw (← c.self.view_is)
+    rw (← c.self.view_is, is)
     record {
-      kept = set_kept f here;
-      records = set_records f (lent_at c.args.at) (λ p. refl) here;
-      values = set_values f (λ p. refl) (λ p. refl) here;
-      owed = set_owed_from (f c.index_mut.result.now) here (found_known _ here c.self.view_is c.requires.present);
-      spare = omega arith;
+      kept = set_kept f found;
+      records = set_records f (lent_at c.args.at) (λ p. refl) found;
+      values = set_values f (λ p. refl) (λ p. refl) found;
+      owed = set_owed_from _ found (found_known _ found c.self.view_is c.requires.present);
+      spare = omega (arith, c.change.ensures.room);
     }

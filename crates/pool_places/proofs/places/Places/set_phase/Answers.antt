@@ -1,54 +1,55 @@
-use Rattle.std.proofs.Common.{ap, arith, false, refl, ◌≡◌}
-use Rattle.std.specs.Int.{from_bool}
-use Rattle.pool_journal.specs.Queue.{is_queued}
+use Rattle.std.proofs.Common.{◌≡◌, true, false, Some, None, refl, ap, sym, ◌∙◌, arith, subst}
+use Rattle.std.specs.Prelude.{is_some}
+use Rattle.pool_journal.specs.Queue.{is_idle, is_queued}
+use Rattle.pool_journal.specs.declared.record.Phase.TheVariants as phases
+use Rattle.pool_slots.specs.Rack.{value_at}
+use Rattle.pool_places.proofs.Racks.{item_known}
 use Rattle.pool_places.specs.Changes.{phase_set}
 use Rattle.pool_places.specs.Shelf.{to_phase}
 use Rattle.pool_places.proofs.Shelves.{empty_valued}
-use Rattle.pool_places.proofs.Found.{found_at, found_known, found_empty, set_shelf, set_kept, set_records, set_values}
+use Rattle.pool_places.proofs.Found.{found_known, found_empty, set_kept, set_records, set_values}
+use Rattle.pool_places.proofs.Keeping.{set_not_queued}
 use Rattle.pool_places.proofs.NotIdle.{set_not_idle}
-use Rattle.pool_places.proofs.Owing.{set_owed_of}
 use Rattle.pool_places.proofs.Numbers.{has_one, counted_set, small, small_less}
-use Rattle.pool_places.proofs.Picks.{for_one}
-use Rattle.pool_places.proofs.Entries.{found_in}
-use Rattle.pool_places.proofs.Keeping.{own_record, own_change, set_not_queued, roomy_set}
+use Rattle.pool_places.proofs.Owing.{set_owed_of}
+use Rattle.pool_places.proofs.Turned.{Reads, here, key_seen, item_there, follows_known, kept_is, kept_after, line_changed}
 use Rattle.pool_places.proofs.places.Places.set_phase.Goals as goal
 
-pub leave-requires : goal.leave-requires
-leave-requires g c = λ queued.
-    let here = found_at c.self.invariant.shelf c.deref.ensures.value c.index_of-index.ensures c.index_mut.ensures.value in
-    found_in _ _ _ c.self.invariant.queue (own_record here) queued
+pub key_under-key-requires : goal.key_under-key-requires
+key_under-key-requires g c = key_seen _ c.self.inside.slots c.self.inside.index.pairs c.args.id c.self.invariant.tied c.self.view_is c.requires.present
+
+pub known-known-requires : goal.known-known-requires
+known-known-requires g c = item_there c.self.inside.slots c.self.inside.index.pairs c.args.id c.key_under-key.result c.self.invariant.tied c.key_under-key.ensures
 
 pub remove-requires : goal.remove-requires
 remove-requires g c =
-    let here = found_at c.self.invariant.shelf c.deref.ensures.value c.index_of-index.ensures c.index_mut.ensures.value in
-    has_one _ here c.self.invariant.counted
+    let reads : Reads c.self.inside.slots c.self.inside.index.pairs c.args.id c.key_under-key.result c.known-known.result = record { tied = c.self.invariant.tied; shelf = c.self.invariant.shelf; at = c.key_under-key.ensures; known = c.known-known.ensures } in
+    let found = here _ _ _ _ _ reads in
+    has_one _ found c.self.invariant.counted
 
 pub add-requires : goal.add-requires
 add-requires g c = small_less _ _ _ (small _ _ c.self.invariant.shelf.few c.self.invariant.counted) c.remove.ensures
 
+pub change-requires-clause-follows : goal.change-requires-clause-follows
+change-requires-clause-follows g c = follows_known c.self.inside.slots c.key_under-key.result c.known-known.result c.self.invariant.line c.known-known.ensures
+
 pub invariant_of-self : goal.invariant_of-self
 invariant_of-self g c =
-    let here = found_at c.self.invariant.shelf c.deref.ensures.value c.index_of-index.ensures c.index_mut.ensures.value in
-    let none = found_empty here (found_known _ here c.self.view_is c.requires.present) in
-    let out = set_not_queued c.args.phase c.requires.phase in
-    let zero : from_bool (is_queued c.args.phase) ≡ 0 = ap from_bool out in
-    record {
-      shelf = set_shelf _ here refl (empty_valued c.index_mut.result.now.value none (set_not_idle c.args.phase c.requires.phase));
-      counted = counted_set _ _ _ _ here c.self.invariant.counted c.remove.ensures c.add.ensures;
-      queue = c.leave.ensures.left _ _ _ c.self.invariant.queue (own_change (to_phase c.args.phase) (λ p. refl) here) (own_record here) (for_one (λ r. is_queued r.phase ≡ false) _ out);
-      long = omega (arith, c.leave.ensures.length, c.self.invariant.long, c.remove.ensures.queue, c.add.ensures.queue, zero);
-      roomy = roomy_set _ _ _ _ _ c.self.invariant.roomy c.leave.ensures.capacity;
-    }
+    let reads : Reads c.self.inside.slots c.self.inside.index.pairs c.args.id c.key_under-key.result c.known-known.result = record { tied = c.self.invariant.tied; shelf = c.self.invariant.shelf; at = c.key_under-key.ensures; known = c.known-known.ensures } in
+    let found = here _ _ _ _ _ reads in
+    kept_after _ _ _ _ _ _ _ _ _ reads c.change.ensures.sets refl (empty_valued (value_at c.self.inside.slots c.key_under-key.result) (found_empty found (found_known _ found c.self.view_is c.requires.present)) (set_not_idle c.args.phase c.requires.phase)) (counted_set _ _ _ _ found c.self.invariant.counted c.remove.ensures c.add.ensures) (line_changed _ _ _ _ _ c.self.invariant.line c.change.ensures.sets (item_known c.self.inside.slots c.key_under-key.result c.known-known.result c.known-known.ensures) c.change.ensures.queue (λ yes. absurd (cc (yes, set_not_queued c.args.phase c.requires.phase)))) c.change.ensures.remembered
 
 pub returns : goal.returns
 returns g c =
-    let here = found_at c.self.invariant.shelf c.deref.ensures.value c.index_of-index.ensures c.index_mut.ensures.value in
+    let reads : Reads c.self.inside.slots c.self.inside.index.pairs c.args.id c.key_under-key.result c.known-known.result = record { tied = c.self.invariant.tied; shelf = c.self.invariant.shelf; at = c.key_under-key.ensures; known = c.known-known.ensures } in
+    let found = here _ _ _ _ _ reads in
+    let is = kept_is _ _ _ _ _ _ _ reads c.change.ensures.sets refl in
     let f = to_phase c.args.phase in
-    rw (← c.self.view_is)
+    rw (← c.self.view_is, is)
     record {
-      kept = set_kept f here;
-      records = set_records f (phase_set c.args.phase) (λ p. refl) here;
-      values = set_values f (λ p. refl) (λ p. refl) here;
-      owed = set_owed_of (f c.index_mut.result.now) here;
-      spare = omega (arith, c.leave.ensures.capacity);
+      kept = set_kept f found;
+      records = set_records f (phase_set c.args.phase) (λ p. refl) found;
+      values = set_values f (λ p. refl) (λ p. refl) found;
+      owed = set_owed_of _ found;
+      spare = omega (arith, c.change.ensures.room);
     }

@@ -1,0 +1,19 @@
+use Rattle.std.proofs.Common.{List, sym, ap, ◌∙◌, subst}
+use Rattle.std.specs.Prelude.{find}
+use Rattle.std.specs.List.{AllByRecursion}
+use Rattle.rising_index.specs.declared.pair.Pair.{Pair}
+use Rattle.pool_places.specs.Overdue.{is_overdue}
+use Rattle.pool_places.specs.Shelf.{records_in}
+use Rattle.pool_places.specs.Stored.{kept_of}
+use Rattle.pool_places.proofs.Racks.{Good, each_good}
+use Rattle.pool_places.proofs.overdue.first_overdue.Goals as goal
+
+pub loop-pair-init : goal.loop-pair-init
+loop-pair-init g c =
+    let all = c.into_iter-pair-iterator.ensures.into_iter_gives ∙ c.walk-pair-items.ensures.pairs in
+    record {
+      can_next = tt;
+      is_finite = tt;
+      good = subst (AllByRecursion (Good c.args.slots.now c.args.index.now.pairs)) (sym all) (each_good c.args.slots.now c.args.index.now.pairs c.requires);
+      later = ap (λ (ps : List Pair). find (is_overdue c.args.at c.args.timeout) (records_in (kept_of c.args.slots.now ps))) all;
+    }
