@@ -1,10 +1,11 @@
 -- An engine on its way through a stream.
-use Rattle.std.proofs.Common.{◌≡◌, ℕ, true, false, List, [], ◌++◌, take, drop, Option, Some, None, Result, Ok, Err, IfSome, unwrap_or, refl, sym, ap, ◌∙◌, subst, append_assoc, append-nil, take-append-drop}
-use Rattle.std.specs.Io.KnownBytes.{Appends, Consumes, IsAtEnd}
-use Rattle.std.proofs.KnownBytes.{Appends-trans, Consumes-trans, Consumes-nil, Appends-nil}
+use Rattle.std.proofs.Common.{◌≡◌, ℕ, ◌≤◌, true, false, List, [], ◌++◌, length, take, drop, length-drop, arith, Option, Some, None, Result, Ok, Err, IfSome, unwrap_or, refl, sym, ap, ◌∙◌, subst, append_assoc, append-nil, take-append-drop}
+use Rattle.std.specs.Io.KnownBytes.{Appends, Consumes, IsAtEnd, Keeps}
+use Rattle.std.proofs.KnownBytes.{Appends-trans, Consumes-trans, Consumes-kept, Consumes-nil, Appends-nil}
 use Rattle.std.proofs.lemmas.Bool.{false≢true}
 use Rattle.pool_settings.specs.declared.settings.Settings.{Settings}
 use Rattle.pool_load.specs.Handing.{AppendsFront, is_write_failure}
+use Rattle.pool_load.specs.Leaving.{read_ahead}
 use Rattle.pool_load.specs.Engine.{Tells, Gives, Passes}
 use Rattle.pool_load.specs.declared.engine_fault.EngineFault.{EngineFault}
 use Rattle.pool_load.specs.declared.engine_fault.EngineFault.TheVariants.{Line, Full, OutOfMemory, Read, Write}
@@ -45,6 +46,7 @@ module _ {E : Type 0} (settings : E → Settings) (taken told : E → List ℕ) 
     pub standing : stands engine
     pub same : settings engine ≡ settings begun
     pub took : Consumes known now (taken engine ++ pending)
+    pub ahead : length pending ≤ read_ahead
     pub gave : Gave (told engine) held written waiting
 
   Gives-gave : (result : Result (Unit {0}) EngineFault) (engine : E) (written : Option (List ℕ)) (waiting : List ℕ) → Gave (told engine) held written waiting → Gives settings taken told stands is_partial ends result engine held written waiting
@@ -58,28 +60,30 @@ module _ {E : Type 0} (settings : E → Settings) (taken told : E → List ℕ) 
   -- the engine ends before what is pending
   pub Passes-ended : (result : Result (Unit {0}) EngineFault) (old new : E) (now written : Option (List ℕ)) (pending before after shown : List ℕ) → Going old now written pending before → shown ≡ pending
       → taken new ≡ taken old → Tells settings taken told stands is_partial ends old new before after → ((more : List ℕ) → ends new (shown ++ more) result)
-      → Passes settings taken told stands is_partial ends result begun new known held written after
+      → Passes settings taken told stands is_partial ends result begun new known now held written after
   Passes-ended result old new now written pending before after shown going all same (words, grown, is, stay) ended = record {
     rest = pending ++ left now;
     same = stay ∙ going.same;
     stream = IfSome-consumed known now (taken new) pending (subst (λ l. Consumes known now (l ++ pending)) (sym same) going.took);
+    leaves = (pending, subst (λ l. Consumes known now (l ++ pending)) (sym same) going.took, going.ahead);
     ended = subst (λ l. ends new (l ++ left now) result) all (ended (left now));
     gave = Gives-gave result new written after (Gave-more (told old) (told new) held written before after words going.gave grown is);
   }
 
   -- the engine is stopped
   pub Passes-stopped : (result : Result (Unit {0}) EngineFault) (engine : E) (now written : Option (List ℕ)) (pending waiting : List ℕ) → Going engine now written pending waiting
-      → ((rest : List ℕ) → ends engine rest result) → Passes settings taken told stands is_partial ends result begun engine known held written waiting
+      → ((rest : List ℕ) → ends engine rest result) → Passes settings taken told stands is_partial ends result begun engine known now held written waiting
   Passes-stopped result engine now written pending waiting going ended =
       Passes-ended result engine engine now written pending waiting waiting pending going refl refl ([], sym (append-nil waiting), sym (append-nil (told engine)), refl) (λ more. ended (pending ++ more))
 
   -- the writer fails
   pub Passes-failed : (engine : E) (now mid written : Option (List ℕ)) (pending before after : List ℕ) → Going engine now mid pending before → AppendsFront mid written before
-      → ((rest : List ℕ) → ends engine rest (Err Write)) → Passes settings taken told stands is_partial ends (Err Write) begun engine known held written after
+      → ((rest : List ℕ) → ends engine rest (Err Write)) → Passes settings taken told stands is_partial ends (Err Write) begun engine known now held written after
   Passes-failed engine now mid written pending before after going failed ended = record {
     rest = pending ++ left now;
     same = going.same;
     stream = IfSome-consumed known now (taken engine) pending going.took;
+    leaves = (pending, going.took, going.ahead);
     ended = ended (pending ++ left now);
     gave = Gave-failed (told engine) held mid written before going.gave failed;
   }
@@ -91,6 +95,7 @@ module _ {E : Type 0} (settings : E → Settings) (taken told : E → List ℕ) 
     standing = standing;
     same = stay ∙ going.same;
     took = subst (Consumes known now) (ap (λ l. taken old ++ l) (sym (take-append-drop count pending)) ∙ sym (append_assoc (taken old) (take count pending) (drop count pending)) ∙ ap (λ l. l ++ drop count pending) (sym (is ∙ ap (λ l. taken old ++ take count l) all))) going.took;
+    ahead = omega (arith, length-drop count pending, going.ahead);
     gave = Gave-more (told old) (told new) held written before after words going.gave grown told_is;
   }
 
@@ -101,6 +106,7 @@ module _ {E : Type 0} (settings : E → Settings) (taken told : E → List ℕ) 
     standing = going.standing;
     same = going.same;
     took = going.took;
+    ahead = going.ahead;
     gave = Gave-sent (told engine) held mid written before after sent going.gave parts given;
   }
 
@@ -111,23 +117,36 @@ module _ {E : Type 0} (settings : E → Settings) (taken told : E → List ℕ) 
       Going-sent engine now mid written pending before after before going (sym (ap (λ l. before ++ l) empty ∙ append-nil before)) given
 
   -- more has come
-  pub Going-filled : (engine : E) (old now written : Option (List ℕ)) (before after more waiting : List ℕ) → Going engine old written before waiting → after ≡ before ++ more → Consumes old now more
+  pub Going-filled : (engine : E) (old now written : Option (List ℕ)) (before after more waiting : List ℕ) → Going engine old written before waiting → after ≡ before ++ more → length after ≤ read_ahead → Consumes old now more
       → Going engine now written after waiting
-  Going-filled engine old now written before after more waiting going grown came = record {
+  Going-filled engine old now written before after more waiting going grown within came = record {
     standing = going.standing;
     same = going.same;
     took = subst (Consumes known now) (append_assoc (taken engine) before more ∙ ap (λ l. taken engine ++ l) (sym grown)) (Consumes-trans known old now (taken engine ++ before) more going.took came);
+    ahead = within;
+    gave = going.gave;
+  }
+
+  -- the reader stays where it is
+  pub Going-kept : (engine : E) (old now written : Option (List ℕ)) (pending waiting : List ℕ) → Going engine old written pending waiting → Keeps old now
+      → Going engine now written pending waiting
+  Going-kept engine old now written pending waiting going kept = record {
+    standing = going.standing;
+    same = going.same;
+    took = Consumes-kept known old now (taken engine ++ pending) going.took kept;
+    ahead = going.ahead;
     gave = going.gave;
   }
 
   -- the stream is at its end
   pub Passes-finished : (result : Result (Unit {0}) EngineFault) (old new : E) (now written : Option (List ℕ)) (pending before after shown : List ℕ) → Going old now written pending before → shown ≡ pending → IsAtEnd now
       → taken new ≡ taken old → Tells settings taken told stands is_partial ends old new before after → ends new shown result
-      → Passes settings taken told stands is_partial ends result begun new known held written after
+      → Passes settings taken told stands is_partial ends result begun new known now held written after
   Passes-finished result old new now written pending before after shown going all at_end same (words, grown, is, stay) ended = record {
     rest = pending ++ left now;
     same = stay ∙ going.same;
     stream = IfSome-consumed known now (taken new) pending (subst (λ l. Consumes known now (l ++ pending)) (sym same) going.took);
+    leaves = (pending, subst (λ l. Consumes known now (l ++ pending)) (sym same) going.took, going.ahead);
     ended = subst (λ l. ends new l result) (sym (ap (λ l. pending ++ l) (left-at_end now at_end) ∙ append-nil pending ∙ sym all)) ended;
     gave = Gives-gave result new written after (Gave-more (told old) (told new) held written before after words going.gave grown is);
   }
@@ -143,6 +162,7 @@ module _ {E : Type 0} (settings : E → Settings) (taken told : E → List ℕ) 
     standing = standing;
     same = refl;
     took = subst (Consumes known known) (sym (append-nil (taken begun) ∙ none_taken)) (Consumes-nil known);
+    ahead = omega arith;
     gave = ([], none_told, Appends-nil held);
   }
 
@@ -164,21 +184,21 @@ module _ {E : Type 0} (settings : E → Settings) (taken told : E → List ℕ) 
   Gave-from (Err Write) engine written waiting works h = absurd (false≢true (sym works))
 
   -- what waits at the end is given
-  pub Passes-handed : (result : Result (Unit {0}) EngineFault) (engine : E) (mid written : Option (List ℕ)) (waiting : List ℕ) → is_write_failure result ≡ false → Passes settings taken told stands is_partial ends result begun engine known held mid waiting → Appends mid written waiting
-      → Passes settings taken told stands is_partial ends result begun engine known held written []
-  Passes-handed result engine mid written waiting works p given = record { rest = p.rest; same = p.same; stream = p.stream; ended = p.ended; gave = Gives-handed result engine mid written waiting works p.gave given }
+  pub Passes-handed : (result : Result (Unit {0}) EngineFault) (engine : E) (now mid written : Option (List ℕ)) (waiting : List ℕ) → is_write_failure result ≡ false → Passes settings taken told stands is_partial ends result begun engine known now held mid waiting → Appends mid written waiting
+      → Passes settings taken told stands is_partial ends result begun engine known now held written []
+  Passes-handed result engine now mid written waiting works p given = record { rest = p.rest; same = p.same; stream = p.stream; leaves = p.leaves; ended = p.ended; gave = Gives-handed result engine mid written waiting works p.gave given }
 
   -- the writer fails at the end
-  pub Passes-unhanded : (result : Result (Unit {0}) EngineFault) (engine : E) (mid written : Option (List ℕ)) (waiting : List ℕ) → is_write_failure result ≡ false → Passes settings taken told stands is_partial ends result begun engine known held mid waiting → AppendsFront mid written waiting
-      → ((rest : List ℕ) → ends engine rest result → ends engine rest (Err Write)) → Passes settings taken told stands is_partial ends (Err Write) begun engine known held written []
-  Passes-unhanded result engine mid written waiting works p failed fails = record { rest = p.rest; same = p.same; stream = p.stream; ended = fails p.rest p.ended; gave = Gave-failed (told engine) held mid written waiting (Gave-from result engine mid waiting works p.gave) failed }
+  pub Passes-unhanded : (result : Result (Unit {0}) EngineFault) (engine : E) (now mid written : Option (List ℕ)) (waiting : List ℕ) → is_write_failure result ≡ false → Passes settings taken told stands is_partial ends result begun engine known now held mid waiting → AppendsFront mid written waiting
+      → ((rest : List ℕ) → ends engine rest result → ends engine rest (Err Write)) → Passes settings taken told stands is_partial ends (Err Write) begun engine known now held written []
+  Passes-unhanded result engine now mid written waiting works p failed fails = record { rest = p.rest; same = p.same; stream = p.stream; leaves = p.leaves; ended = fails p.rest p.ended; gave = Gave-failed (told engine) held mid written waiting (Gave-from result engine mid waiting works p.gave) failed }
 
   -- the writer had failed before
-  pub Passes-broken : (result : Result (Unit {0}) EngineFault) (engine : E) (written : Option (List ℕ)) (waiting : List ℕ) → is_write_failure result ≡ true → Passes settings taken told stands is_partial ends result begun engine known held written waiting
-      → Passes settings taken told stands is_partial ends result begun engine known held written []
-  Passes-broken (Ok u) engine written waiting broken p = absurd (false≢true broken)
-  Passes-broken (Err (Line n f)) engine written waiting broken p = absurd (false≢true broken)
-  Passes-broken (Err (Full n)) engine written waiting broken p = absurd (false≢true broken)
-  Passes-broken (Err OutOfMemory) engine written waiting broken p = absurd (false≢true broken)
-  Passes-broken (Err Read) engine written waiting broken p = absurd (false≢true broken)
-  Passes-broken (Err Write) engine written waiting broken p = record { rest = p.rest; same = p.same; stream = p.stream; ended = p.ended; gave = p.gave }
+  pub Passes-broken : (result : Result (Unit {0}) EngineFault) (engine : E) (now written : Option (List ℕ)) (waiting : List ℕ) → is_write_failure result ≡ true → Passes settings taken told stands is_partial ends result begun engine known now held written waiting
+      → Passes settings taken told stands is_partial ends result begun engine known now held written []
+  Passes-broken (Ok u) engine now written waiting broken p = absurd (false≢true broken)
+  Passes-broken (Err (Line n f)) engine now written waiting broken p = absurd (false≢true broken)
+  Passes-broken (Err (Full n)) engine now written waiting broken p = absurd (false≢true broken)
+  Passes-broken (Err OutOfMemory) engine now written waiting broken p = absurd (false≢true broken)
+  Passes-broken (Err Read) engine now written waiting broken p = absurd (false≢true broken)
+  Passes-broken (Err Write) engine now written waiting broken p = record { rest = p.rest; same = p.same; stream = p.stream; leaves = p.leaves; ended = p.ended; gave = p.gave }

@@ -3,6 +3,7 @@ use Rattle.std.specs.Prelude.{◌≡◌, ⊤, ℕ, ◌<◌, ◌≤◌, List, ◌
 use Rattle.std.specs.Io.KnownBytes.{Appends}
 use Rattle.pool_settings.specs.declared.settings.Settings.{Settings}
 use Rattle.pool_load.specs.Handing.{AppendsFront}
+use Rattle.pool_load.specs.Leaving.{IsLeftAfter}
 use Rattle.pool_load.specs.declared.engine_fault.EngineFault.{EngineFault}
 use Rattle.pool_load.specs.declared.engine_fault.EngineFault.TheVariants.{Line, Full, OutOfMemory, Read, Write}
 use Rattle.pool_load.specs.declared.turn.Turn.{Turn}
@@ -40,9 +41,10 @@ module _ {E : Type 0} (settings : E → Settings) (taken told : E → List ℕ) 
   Gives _ engine held written waiting = (sent : List ℕ) × (told engine ≡ sent ++ waiting) × Appends held written sent
 
   -- the engine is through with a stream
-  pub record Passes (result : Result (Unit {0}) EngineFault) (begun engine : E) (known held written : Option (List ℕ)) (waiting : List ℕ) : Type 0 where
+  pub record Passes (result : Result (Unit {0}) EngineFault) (begun engine : E) (known left held written : Option (List ℕ)) (waiting : List ℕ) : Type 0 where
     pub rest : List ℕ
     pub same : settings engine ≡ settings begun
     pub stream : IfSome known (λ bytes. bytes ≡ taken engine ++ rest)
+    pub leaves : IsLeftAfter known left (taken engine)
     pub ended : ends engine rest result
     pub gave : Gives result engine held written waiting

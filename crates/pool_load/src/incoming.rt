@@ -1,5 +1,6 @@
 ghost use Rattle.std.specs.Prelude.{◌≡◌, ℕ, ◌+◌, ◌-◌, ◌<◌, ◌≤◌, List, [], ◌++◌, length, take, drop, slice_range, IfOk, IfErr, OnOk, OnErr};
 ghost use Rattle.std.specs.Io.KnownBytes.{Consumes, IsAtEnd, Keeps};
+ghost use Rattle.pool_load.specs.Leaving.{read_ahead};
 
 use crate::engine_fault::EngineFault;
 use std::alloc::{AllocError, Global};
@@ -61,6 +62,7 @@ impl Incoming {
         ensures end { result ≡ Ok 0 → IsAtEnd (R.remaining reader.new) }
         ensures err { OnErr result ((self.new ≡ self.old) × Keeps (R.remaining reader.old) (R.remaining reader.new)) }
         ensures fault { IfErr result (λ fault. fault ≡ EngineFault.Read) }
+        ensures ahead { length self.new ≤ read_ahead }
     {
         let kept = self.end - self.start;
         self.buffer.copy_within(self.start..self.end, 0);

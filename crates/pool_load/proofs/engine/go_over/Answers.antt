@@ -19,7 +19,7 @@ returns-in_err-hand_on g c =
     let p = err_from_is_err_and c.from_residual.result c.from_residual.ensures.1 in
     let engine = c.take_turns-end.new.engine in
     let works : is_write_failure c.take_turns-end.result ≡ false = sym c.is_write_failure.ensures ∙ c.if-not-is_write_failure.true in
-    rw (p.1, p.2, c.in_err-hand_on.ensures.fault) (Passes-unhanded e.settings e.taken e.told e.stands e.is_partial e.ends c.args.engine.now _ _ c.take_turns-end.result engine _ _ _ works c.take_turns-end.ensures c.in_err-hand_on.ensures.err (λ rest. g.met.E.Engine.fails_after engine rest c.take_turns-end.result))
+    rw (p.1, p.2, c.in_err-hand_on.ensures.fault) (Passes-unhanded e.settings e.taken e.told e.stands e.is_partial e.ends c.args.engine.now _ _ c.take_turns-end.result engine _ _ _ _ works c.take_turns-end.ensures c.in_err-hand_on.ensures.err (λ rest. g.met.E.Engine.fails_after engine rest c.take_turns-end.result))
 
 pub returns : goal.returns
 returns g c =
@@ -28,8 +28,8 @@ returns g c =
     elim c.if-not-is_write_failure.branch [
       | then-not-is_write_failure+in_ok-hand_on w ↦
           let works : is_write_failure c.take_turns-end.result ≡ false = sym c.is_write_failure.ensures ∙ w.if-not-is_write_failure.true in
-          rw w.writer-is (Passes-handed e.settings e.taken e.told e.stands e.is_partial e.ends c.args.engine.now _ _ c.take_turns-end.result engine _ _ _ works c.take_turns-end.ensures w.in_ok-hand_on.ensures.ok.1)
+          rw w.writer-is (Passes-handed e.settings e.taken e.told e.stands e.is_partial e.ends c.args.engine.now _ _ c.take_turns-end.result engine _ _ _ _ works c.take_turns-end.ensures w.in_ok-hand_on.ensures.ok.1)
       | else-not-is_write_failure w ↦
           let broken : is_write_failure c.take_turns-end.result ≡ true = sym c.is_write_failure.ensures ∙ w.if-not-is_write_failure.false in
-          rw w.writer-is (Passes-broken e.settings e.taken e.told e.stands e.is_partial e.ends c.args.engine.now _ _ c.take_turns-end.result engine _ _ broken c.take_turns-end.ensures)
+          rw w.writer-is (Passes-broken e.settings e.taken e.told e.stands e.is_partial e.ends c.args.engine.now _ _ c.take_turns-end.result engine _ _ _ broken c.take_turns-end.ensures)
     ]

@@ -1,6 +1,6 @@
 use Rattle.std.proofs.Common.{Ok, ap}
 use Rattle.std.proofs.lemmas.Result.{err_from_is_err_and}
-use Rattle.pool_load.proofs.Going.{Passes-ended, Passes-stopped, Passes-failed, Passes-finished, Going-took, Going-sent, Going-emptied, Going-filled, Going-same}
+use Rattle.pool_load.proofs.Going.{Passes-ended, Passes-stopped, Passes-failed, Passes-finished, Going-took, Going-sent, Going-emptied, Going-filled, Going-kept, Going-same}
 use Rattle.pool_load.specs.declared.engine_fault.EngineFault.TheVariants as faults
 use Rattle.pool_load.proofs.engine.take_turns.Goals as goal
 use Rattle.pool_load.proofs.engine.take_turns.Goals.{in-Took+in_ok-make_room-in-Took, in-Unfinished+in_ok-hand_on-in-Unfinished+in_ok-fill-in-Unfinished+else-branch-eq0}
@@ -42,7 +42,8 @@ returns-in_err-fill-in-Unfinished g c =
     let going = Going-same e.settings e.taken e.told e.stands e.is_partial e.ends c.args.engine.now _ _ c.loop.engine c.turn.new.self _ _ _ _ _ c.loop.invariant h.0 h.1 in
     let ok = c.in_ok-hand_on-in-Unfinished.ensures.ok in
     let given = Going-emptied e.settings e.taken e.told e.stands e.is_partial e.ends c.args.engine.now _ _ c.turn.new.self _ _ _ _ _ _ going ok.0 ok.1 in
-    rw (p.1, p.2, c.in_err-fill-in-Unfinished.ensures.fault) (Passes-stopped e.settings e.taken e.told e.stands e.is_partial e.ends c.args.engine.now _ _ _ c.turn.new.self _ _ _ _ given (λ rest. g.met.E.Engine.stops_anywhere c.turn.new.self rest faults.Read going.standing tt))
+    let kept = Going-kept e.settings e.taken e.told e.stands e.is_partial e.ends c.args.engine.now _ _ c.turn.new.self _ _ _ _ _ given c.in_err-fill-in-Unfinished.ensures.err.1 in
+    rw (p.1, p.2, c.in_err-fill-in-Unfinished.ensures.fault) (Passes-stopped e.settings e.taken e.told e.stands e.is_partial e.ends c.args.engine.now _ _ _ c.turn.new.self _ _ _ _ kept (λ rest. g.met.E.Engine.stops_anywhere c.turn.new.self rest faults.Read going.standing tt))
 
 pub returns-then-branch-eq0 : goal.returns-then-branch-eq0
 returns-then-branch-eq0 g c =
@@ -52,7 +53,7 @@ returns-then-branch-eq0 g c =
     let ok = c.in_ok-hand_on-in-Unfinished.ensures.ok in
     let given = Going-emptied e.settings e.taken e.told e.stands e.is_partial e.ends c.args.engine.now _ _ c.turn.new.self _ _ _ _ _ _ going ok.0 ok.1 in
     let (more, count, grown, came) = c.in_ok-fill-in-Unfinished.ensures.more in
-    let filled = Going-filled e.settings e.taken e.told e.stands e.is_partial e.ends c.args.engine.now _ _ c.turn.new.self _ _ _ _ _ more _ given grown came in
+    let filled = Going-filled e.settings e.taken e.told e.stands e.is_partial e.ends c.args.engine.now _ _ c.turn.new.self _ _ _ _ _ more _ given grown c.in_ok-fill-in-Unfinished.ensures.ahead came in
     let at_end = c.in_ok-fill-in-Unfinished.ensures.end (ap Ok c.if-branch-eq0.true) in
     let f = c.finish.ensures in
     Passes-finished e.settings e.taken e.told e.stands e.is_partial e.ends c.args.engine.now _ _ c.finish.result c.turn.new.self c.finish.new.self _ _ _ _ _ c.bytes-then-branch-eq0.result.now filled c.bytes-then-branch-eq0.ensures at_end f.0 f.1 f.2
@@ -72,7 +73,7 @@ loop-preserved g c =
           let ok = w.in_ok-hand_on-in-Unfinished.ensures.ok in
           let emptied = Going-emptied e.settings e.taken e.told e.stands e.is_partial e.ends c.args.engine.now _ _ c.turn.new.self _ _ _ _ _ _ going ok.0 ok.1 in
           let (more, count, grown, came) = w.in_ok-fill-in-Unfinished.ensures.more in
-          rw (w.incoming-is, w.waiting-is, w.reader-is, w.writer-is) (Going-filled e.settings e.taken e.told e.stands e.is_partial e.ends c.args.engine.now _ _ c.turn.new.self _ _ _ _ _ more _ emptied grown came)
+          rw (w.incoming-is, w.waiting-is, w.reader-is, w.writer-is) (Going-filled e.settings e.taken e.told e.stands e.is_partial e.ends c.args.engine.now _ _ c.turn.new.self _ _ _ _ _ more _ emptied grown w.in_ok-fill-in-Unfinished.ensures.ahead came)
     ]
 
 pub returns : goal.returns
