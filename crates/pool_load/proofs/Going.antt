@@ -4,7 +4,8 @@ use Rattle.std.specs.Io.KnownBytes.{Appends, Consumes, IsAtEnd, Keeps}
 use Rattle.std.proofs.KnownBytes.{Appends-trans, Consumes-trans, Consumes-kept, Consumes-nil, Appends-nil}
 use Rattle.std.proofs.lemmas.Bool.{false≢true}
 use Rattle.pool_settings.specs.declared.settings.Settings.{Settings}
-use Rattle.pool_load.specs.Handing.{AppendsFront, is_write_failure}
+use Rattle.pool_load.specs.Handing.{AppendsFront}
+use Rattle.pool_load.specs.Faults.{is_write_failure}
 use Rattle.pool_load.specs.Leaving.{read_ahead}
 use Rattle.pool_load.specs.Engine.{Tells, Gives, Passes}
 use Rattle.pool_load.specs.declared.engine_fault.EngineFault.{EngineFault}

@@ -1,5 +1,6 @@
 pub mod Windows
 pub mod Going
+pub mod Telling
 pub mod Journals
 pub mod Running
 pub mod Checking

@@ -17,6 +17,21 @@ IsFromOutside OutOfMemory = ⊤
 IsFromOutside Read = ⊤
 IsFromOutside Write = ⊤
 
+-- a fault that neither the reader nor the writer is the cause of
+abbrev pub IsOwnFault : EngineFault → Type 0
+IsOwnFault (Line number fault) = ⊤
+IsOwnFault (Full number) = ⊤
+IsOwnFault OutOfMemory = ⊤
+IsOwnFault Read = ⊥
+IsOwnFault Write = ⊥
+
+-- a line that is taken leaves fewer to be taken
+abbrev pub TakesOne : {E : Type 0} → (E → ℕ) → Result Turn EngineFault → E → E → Type 0
+TakesOne lines_left (Ok (Took count)) old new = lines_left new < lines_left old
+TakesOne lines_left (Ok Unfinished) old new = ⊤
+TakesOne lines_left (Ok Done) old new = ⊤
+TakesOne lines_left (Err fault) old new = ⊤
+
 -- Words on an engine of the type E: its settings, the bytes of the lines that it took, what it told of them, when it can go on,
 -- which bytes are no whole line, and what is so where it ends before the rest of a stream.
 module _ {E : Type 0} (settings : E → Settings) (taken told : E → List ℕ) (stands : E → Type 0) (is_partial : List ℕ → Type 0) (ends : E → List ℕ → Result (Unit {0}) EngineFault → Type 0) where

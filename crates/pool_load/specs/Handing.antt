@@ -1,5 +1,5 @@
 -- What a writer got of the bytes that it was to get.
-use Rattle.std.specs.Prelude.{◌≡◌, ℕ, Bool, true, false, List, ◌++◌, Option, Result, Ok, Err}
+use Rattle.std.specs.Prelude.{◌≡◌, ℕ, List, ◌++◌, Option, Result, Ok, Err}
 use Rattle.std.specs.Io.KnownBytes.{Appends}
 use Rattle.pool_load.specs.declared.engine_fault.EngineFault.{EngineFault}
 use Rattle.pool_load.specs.declared.engine_fault.EngineFault.TheVariants.{Line, Full, OutOfMemory, Read, Write}
@@ -16,12 +16,3 @@ Writes (Err (Full number)) held written bytes = Appends held written bytes
 Writes (Err OutOfMemory) held written bytes = Appends held written bytes
 Writes (Err Read) held written bytes = Appends held written bytes
 Writes (Err Write) held written bytes = AppendsFront held written bytes
-
--- did the writer fail?
-abbrev pub is_write_failure : {A : Type 0} → Result A EngineFault → Bool
-is_write_failure (Ok x) = false
-is_write_failure (Err (Line number fault)) = false
-is_write_failure (Err (Full number)) = false
-is_write_failure (Err OutOfMemory) = false
-is_write_failure (Err Read) = false
-is_write_failure (Err Write) = true

@@ -1,4 +1,5 @@
 pub mod Handing
+pub mod Faults
 pub mod Leaving
 pub mod Engine
 pub mod Made

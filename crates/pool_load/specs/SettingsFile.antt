@@ -1,5 +1,5 @@
 -- What a settings file is answered.
-use Rattle.std.specs.Prelude.{⊤, ℕ, ◌<◌, ◌≤◌, List, length, Option, Result, Ok, Err, IsUtf8}
+use Rattle.std.specs.Prelude.{⊤, ℕ, Bool, true, false, ◌<◌, ◌≤◌, List, length, Option, Result, Ok, Err, IsUtf8}
 use Rattle.std.specs.Io.KnownBytes.{Consumes}
 use Rattle.pool_settings.specs.Answer.{IsAnswer}
 use Rattle.pool_settings.specs.declared.settings.Settings.{Settings}
@@ -9,6 +9,15 @@ use Rattle.pool_load.specs.declared.file_fault.FileFault.TheVariants.{Read, OutO
 -- known bytes lose at most so many, from their front
 abbrev pub TakesAtMost : ℕ → Option (List ℕ) → Option (List ℕ) → Type 0
 TakesAtMost most known left = (front : List ℕ) × Consumes known left front × (length front ≤ most)
+
+-- is the answer that the file couldn't be read?
+abbrev pub is_unread : Result Settings FileFault → Bool
+is_unread (Ok settings) = false
+is_unread (Err Read) = true
+is_unread (Err OutOfMemory) = false
+is_unread (Err TooLong) = false
+is_unread (Err NotUtf8) = false
+is_unread (Err (Text fault)) = false
 
 -- the bytes are a text, and no longer than a settings file may be
 abbrev pub IsText : List ℕ → Type 0

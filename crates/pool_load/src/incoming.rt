@@ -1,17 +1,15 @@
-ghost use Rattle.std.specs.Prelude.{◌≡◌, ℕ, ◌+◌, ◌-◌, ◌<◌, ◌≤◌, List, [], ◌++◌, length, take, drop, slice_range, IfOk, IfErr, OnOk, OnErr};
+ghost use Rattle.std.specs.Prelude.{◌≡◌, ℕ, ◌+◌, ◌-◌, ◌<◌, ◌≤◌, List, [], ◌++◌, length, take, drop, slice_range, is_err, IfOk, IfErr, OnOk, OnErr};
 ghost use Rattle.std.specs.Io.KnownBytes.{Consumes, IsAtEnd, Keeps};
 ghost use Rattle.pool_load.specs.Leaving.{read_ahead};
+ghost use Rattle.pool_load.specs.Faults.{IsTold};
 
 use crate::engine_fault::EngineFault;
+use crate::source::Source;
 use std::alloc::{AllocError, Global};
-use std::io::{ErrorKind, Read};
 use std::marker::Model;
 
 /// How many bytes are kept at most.
 const CAPACITY: usize = 65_536;
-
-/// How often a read is tried that a signal interrupts.
-const TRIES: usize = 100;
 
 /// The bytes of a stream that have come and aren't handled yet.
 #[derive(Drop)]
@@ -55,13 +53,14 @@ impl Incoming {
     }
 
     /// Reads more bytes behind those that are there, and tells how many: none only at the end of the stream.
-    pub(crate) fn fill<R: Read>(&mut self, reader: &mut R) -> Result<usize, EngineFault>
+    pub(crate) fn fill<R: Source>(&mut self, reader: &mut R) -> Result<usize, EngineFault>
         requires { length self.old < 256 }
         ensures more { IfOk result (λ count. (more : List ℕ) × (length more ≡ count) × (self.new ≡ self.old ++ more)
             × Consumes (R.remaining reader.old) (R.remaining reader.new) more) }
         ensures end { result ≡ Ok 0 → IsAtEnd (R.remaining reader.new) }
         ensures err { OnErr result ((self.new ≡ self.old) × Keeps (R.remaining reader.old) (R.remaining reader.new)) }
         ensures fault { IfErr result (λ fault. fault ≡ EngineFault.Read) }
+        ensures told { IsTold (is_err result) (R.may_have_failed reader.old) (R.may_have_failed reader.new) }
         ensures ahead { length self.new ≤ read_ahead }
     {
         let kept = self.end - self.start;
@@ -75,7 +74,7 @@ impl Incoming {
 }
 
 /// Reads into the buffer from a place on.
-pub(crate) fn read_behind<R: Read>(
+pub(crate) fn read_behind<R: Source>(
     buffer: &mut [u8],
     from: usize,
     reader: &mut R,
@@ -87,16 +86,10 @@ pub(crate) fn read_behind<R: Read>(
     ensures end { result ≡ Ok 0 → IsAtEnd (R.remaining reader.new) }
     ensures err { OnErr result (Keeps (R.remaining reader.old) (R.remaining reader.new)) }
     ensures fault { IfErr result (λ fault. fault ≡ EngineFault.Read) }
+    ensures told { IsTold (is_err result) (R.may_have_failed reader.old) (R.may_have_failed reader.new) }
 {
-    for _ in 0..TRIES {
-        match reader.read(&mut buffer[from..]) {
-            Ok(count) => return Ok(count),
-            Err(fault) => {
-                if fault.kind() != ErrorKind::Interrupted {
-                    return Err(EngineFault::Read);
-                }
-            }
-        }
+    match reader.read_some(&mut buffer[from..]) {
+        Ok(count) => Ok(count),
+        Err(_) => Err(EngineFault::Read),
     }
-    Err(EngineFault::Read)
 }

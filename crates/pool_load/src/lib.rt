@@ -11,6 +11,8 @@ mod outgoing;
 mod report_lines;
 mod runner;
 mod settings_file;
+mod sink;
+mod source;
 mod statistics_lines;
 mod step;
 mod tallier;
@@ -25,6 +27,8 @@ pub use pool_work::{Gate, LoadFault, LoadReport, load};
 pub use report_lines::write_report;
 pub use runner::run;
 pub use settings_file::read_settings;
+pub use sink::{Sink, flush_past_signals, write_past_signals};
+pub use source::{Source, read_past_signals};
 pub use tallier::stats;
 
 #[cfg(test)]

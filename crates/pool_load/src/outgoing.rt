@@ -1,23 +1,22 @@
-ghost use Rattle.std.specs.Prelude.{◌≡◌, ℕ, ◌+◌, ◌<◌, ◌≤◌, List, [], ◌++◌, length, take, IfOk, IfErr, OnOk, OnErr};
+ghost use Rattle.std.specs.Prelude.{◌≡◌, ℕ, ◌+◌, ◌<◌, ◌≤◌, List, [], ◌++◌, length, take, is_err, IsOk, IfOk, IfErr, OnOk, OnErr};
 ghost use Rattle.std.specs.Io.KnownBytes.{Appends, Keeps};
 ghost use Rattle.pool_load.specs.Handing.{AppendsFront};
+ghost use Rattle.pool_load.specs.Faults.{IsTold};
 
 use crate::engine_fault::EngineFault;
-use std::io::{ErrorKind, Write};
+use crate::sink::Sink;
 
 /// How many bytes wait at most after a line.
 const FULL: usize = 65_536 - 256;
 
-/// How often a write is tried that a signal interrupts.
-const TRIES: usize = 100;
-
 /// Hands on what waits where there is little room left behind it.
-pub(crate) fn make_room<W: Write>(waiting: &mut Vec<u8>, writer: &mut W) -> Result<(), EngineFault>
+pub(crate) fn make_room<W: Sink>(waiting: &mut Vec<u8>, writer: &mut W) -> Result<(), EngineFault>
     ensures ok { OnOk result ((sent : List ℕ) × (waiting.old.items ≡ sent ++ waiting.new.items)
         × Appends (W.contents writer.old) (W.contents writer.new) sent) }
     ensures err { OnErr result
         (AppendsFront (W.contents writer.old) (W.contents writer.new) waiting.old.items) }
     ensures fault { IfErr result (λ fault. fault ≡ EngineFault.Write) }
+    ensures told { IsTold (is_err result) (W.may_have_failed writer.old) (W.may_have_failed writer.new) }
 {
     if waiting.len() > FULL {
         hand_on(waiting, writer)
@@ -27,53 +26,42 @@ pub(crate) fn make_room<W: Write>(waiting: &mut Vec<u8>, writer: &mut W) -> Resu
 }
 
 /// Gives what waits to the writer, and leaves nothing waiting. On an error the writer got a front of it.
-pub(crate) fn hand_on<W: Write>(waiting: &mut Vec<u8>, writer: &mut W) -> Result<(), EngineFault>
+/// Where nothing waits, nothing is asked of the writer.
+pub(crate) fn hand_on<W: Sink>(waiting: &mut Vec<u8>, writer: &mut W) -> Result<(), EngineFault>
     ensures ok { OnOk result ((waiting.new.items ≡ [])
         × Appends (W.contents writer.old) (W.contents writer.new) waiting.old.items) }
     ensures err { OnErr result
         (AppendsFront (W.contents writer.old) (W.contents writer.new) waiting.old.items) }
     ensures fault { IfErr result (λ fault. fault ≡ EngineFault.Write) }
+    ensures told { IsTold (is_err result) (W.may_have_failed writer.old) (W.may_have_failed writer.new) }
+    ensures idle { waiting.old.items ≡ [] → IsOk result }
 {
+    if waiting.is_empty() {
+        return Ok(());
+    }
     write_whole(writer, waiting)?;
     waiting.clear();
-    match writer.flush() {
+    match writer.flush_all() {
         Ok(()) => Ok(()),
         Err(_) => Err(EngineFault::Write),
     }
 }
 
 /// Writes all the bytes. On an error a front of them is written.
-fn write_whole<W: Write>(writer: &mut W, bytes: &[u8]) -> Result<(), EngineFault>
+fn write_whole<W: Sink>(writer: &mut W, bytes: &[u8]) -> Result<(), EngineFault>
     ensures ok { OnOk result (Appends (W.contents writer.old) (W.contents writer.new) bytes.now) }
     ensures err { OnErr result
         (AppendsFront (W.contents writer.old) (W.contents writer.new) bytes.now) }
     ensures fault { IfErr result (λ fault. fault ≡ EngineFault.Write) }
+    ensures told { IsTold (is_err result) (W.may_have_failed writer.old) (W.may_have_failed writer.new) }
 {
     let mut rest = bytes;
     while !rest.is_empty() {
-        let count = write_some(writer, rest)?;
+        let count = match writer.write_some(rest) {
+            Ok(count) => count,
+            Err(_) => return Err(EngineFault::Write),
+        };
         rest = &rest[count..];
     }
     Ok(())
-}
-
-/// Writes some of the bytes, at least one, and tells how many.
-fn write_some<W: Write>(writer: &mut W, bytes: &[u8]) -> Result<usize, EngineFault>
-    ensures some { IfOk result (λ count. (0 < count) × (count ≤ length bytes.now)
-        × Appends (W.contents writer.old) (W.contents writer.new) (take count bytes.now)) }
-    ensures err { OnErr result (Keeps (W.contents writer.old) (W.contents writer.new)) }
-    ensures fault { IfErr result (λ fault. fault ≡ EngineFault.Write) }
-{
-    for _ in 0..TRIES {
-        match writer.write(bytes) {
-            Ok(0) => return Err(EngineFault::Write),
-            Ok(count) => return Ok(count),
-            Err(fault) => {
-                if fault.kind() != ErrorKind::Interrupted {
-                    return Err(EngineFault::Write);
-                }
-            }
-        }
-    }
-    Err(EngineFault::Write)
 }

@@ -1,13 +1,14 @@
 ghost use Rattle.std.specs.Prelude.{◌≡◌, ◌++◌, OnOk};
 ghost use Rattle.pool_journal.specs.Appending.{Extends};
+ghost use Rattle.pool_load.specs.Faults.{IsTold, is_write_failure};
 ghost use Rattle.pool_load.specs.ReportLines.{report_text, HandsReport};
 
 use crate::engine_fault::EngineFault;
 use crate::outgoing::hand_on;
+use crate::sink::Sink;
 use crate::statistics_lines::{push_line, push_statistics};
 use pool_work::LoadReport;
 use std::alloc::{AllocError, Global};
-use std::io::Write;
 
 /// Writes what a load found: lines of the number of its workers, of the rounds of each, and of the
 /// borrows that were refused, and then those of its statistics.
@@ -15,15 +16,16 @@ use std::io::Write;
 /// # Errors
 ///
 /// `OutOfMemory`: nothing is then written. `Write`: a front of the lines may be.
-pub fn write_report<W: Write>(
+pub fn write_report<W: Sink>(
     alloc: Global,
     workers: u32,
     rounds: u64,
     report: &LoadReport,
     writer: &mut W,
 ) -> Result<(), EngineFault>
-    ensures { HandsReport (report_text workers rounds report.now)
+    ensures handed { HandsReport (report_text workers rounds report.now)
         (W.contents writer.old) (W.contents writer.new) result }
+    ensures told { IsTold (is_write_failure result) (W.may_have_failed writer.old) (W.may_have_failed writer.new) }
 {
     let mut lines = Vec::new(alloc);
     match push_report(&mut lines, workers, rounds, report) {

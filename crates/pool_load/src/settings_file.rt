@@ -1,13 +1,14 @@
-ghost use Rattle.std.specs.Prelude.{◌≡◌, ℕ, ◌<◌, ◌≤◌, List, length, take, Err, IfOk, IfErr, IfSome};
+ghost use Rattle.std.specs.Prelude.{◌≡◌, ℕ, ◌<◌, ◌≤◌, List, length, take, is_err, Err, IfOk, IfErr, IfSome};
 ghost use Rattle.std.specs.Io.KnownBytes.{Consumes, IsAtEnd, Keeps};
 ghost use Rattle.pool_settings.specs.Ranges.{IsInRange};
-ghost use Rattle.pool_load.specs.SettingsFile.{TakesAtMost, IsAnswered, IsJudged};
+ghost use Rattle.pool_load.specs.SettingsFile.{TakesAtMost, IsAnswered, IsJudged, is_unread};
+ghost use Rattle.pool_load.specs.Faults.{IsTold};
 
 use crate::file_fault::FileFault;
 use crate::incoming::read_behind;
+use crate::source::Source;
 use pool_settings::Settings;
 use std::alloc::{AllocError, Global};
-use std::io::Read;
 use std::str;
 
 /// How many bytes a settings file has at most.
@@ -20,12 +21,13 @@ const LIMIT: usize = 1_048_576;
 /// `OutOfMemory` before anything is read, and `Read` where the reader fails. Then `TooLong` for more
 /// than 1,048,576 bytes, `NotUtf8` for bytes that aren't text, and `Text` for what
 /// [`Settings::from_text`] refuses, want of memory included.
-pub fn read_settings<R: Read>(alloc: Global, reader: &mut R) -> Result<Settings, FileFault>
+pub fn read_settings<R: Source>(alloc: Global, reader: &mut R) -> Result<Settings, FileFault>
     ensures read { TakesAtMost 1048577 (R.remaining reader.old) (R.remaining reader.new) }
     ensures answer { IfSome (R.remaining reader.old) (λ bytes. IsAnswered bytes result) }
     ensures in_range { IfOk result IsInRange }
     ensures unread { result ≡ Err FileFault.OutOfMemory
         → Keeps (R.remaining reader.old) (R.remaining reader.new) }
+    ensures told { IsTold (is_unread result) (R.may_have_failed reader.old) (R.may_have_failed reader.new) }
 {
     let mut buffer = match buffer(alloc) {
         Ok(buffer) => buffer,
@@ -43,13 +45,14 @@ fn buffer(alloc: Global) -> Result<Vec<u8>, AllocError>
 }
 
 /// Reads into the buffer until it is full or the reader at its end, and tells how many bytes came.
-fn fill<R: Read>(buffer: &mut [u8], reader: &mut R) -> Result<usize, FileFault>
+fn fill<R: Source>(buffer: &mut [u8], reader: &mut R) -> Result<usize, FileFault>
     ensures length { length buffer.new ≡ length buffer.old }
     ensures ok { IfOk result (λ count. (count ≤ length buffer.new)
         × Consumes (R.remaining reader.old) (R.remaining reader.new) (take count buffer.new)
         × (count < length buffer.new → IsAtEnd (R.remaining reader.new))) }
     ensures err { IfErr result (λ fault. (fault ≡ FileFault.Read)
         × TakesAtMost (length buffer.old) (R.remaining reader.old) (R.remaining reader.new)) }
+    ensures told { IsTold (is_err result) (R.may_have_failed reader.old) (R.may_have_failed reader.new) }
 {
     let mut count = 0;
     while count < buffer.len() {

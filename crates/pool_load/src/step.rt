@@ -1,8 +1,10 @@
-ghost use Rattle.std.specs.Prelude.{◌≡◌, ◌+◌, [], ◌∷◌, ◌++◌, length, is_some, IfOk, OnErr, MatchResult};
+ghost use Rattle.std.specs.Prelude.{◌≡◌, ◌+◌, [], ◌∷◌, ◌++◌, ◌≤◌, length, is_some, IfOk, IfErr, OnOk, OnErr, MatchResult};
 ghost use Rattle.pool_journal.specs.Text.{IsRequest};
 ghost use Rattle.pool_journal.specs.Carrying.{carries};
 ghost use Rattle.pool_load.specs.Made.{IsMade};
 ghost use Rattle.pool_load.specs.Step.{Steps, Refuses};
+ghost use Rattle.pool_load.specs.Engine.{IsOwnFault};
+ghost use Rattle.pool_core.specs.Fits.{entry_limit};
 
 use crate::engine_fault::EngineFault;
 use pool_core::{Core, StepFault};
@@ -38,6 +40,8 @@ pub(crate) fn step(core: &mut Core<u64>, request: &Request) -> Result<Entry, Eng
         (Steps core.old core.new request.now)
         (Refuses core.old request.now) }
     ensures err { OnErr result (core.new ≡ core.old) }
+    ensures within { OnOk result (length core.new.journal ≤ entry_limit core.new.settings) }
+    ensures own { IfErr result IsOwnFault }
 {
     let Request { caller, at, input } = *request;
     match core.step(caller, at, input, value_of(&input)) {

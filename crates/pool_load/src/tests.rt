@@ -6,6 +6,9 @@ use std::cell::Cell;
 use std::process::Abort;
 use std::test::Fail;
 
+mod calls;
+mod counted;
+mod damaged;
 mod reports;
 mod settings_files;
 mod statistics;

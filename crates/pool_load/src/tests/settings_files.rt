@@ -1,17 +1,16 @@
 // What settings files answer.
 use super::streams::{Failing, Pieces};
-use crate::{FileFault, read_settings};
+use crate::{FileFault, Source, read_settings};
 use pool_settings::Settings;
 use std::alloc::{AllocError, Global};
 use std::cell::Cell;
-use std::io::Read;
 use std::process::Abort;
 use std::test::Fail;
 
 const MOST: usize = 1_048_576;
 
 /// What is told of a file that gives no settings, and `read` of one that does.
-fn told<R: Read>(alloc: Global, reader: &mut R) -> Result<String, AllocError> {
+fn told<R: Source>(alloc: Global, reader: &mut R) -> Result<String, AllocError> {
     match read_settings(alloc, reader) {
         Ok(_) => String::from_str(alloc, "read"),
         Err(fault) => format!(in alloc; "{fault}"),

@@ -10,7 +10,10 @@ front_more all front rest n e =
 
 pub loop-rest-preserved : goal.loop-rest-preserved
 loop-rest-preserved g c =
-    let (front, parts, written) = c.loop-rest.invariant in
+    let (front, parts, written) = c.loop-rest.invariant.got in
     let rest = c.loop-rest.rest.now in
-    let n = c.in_ok-count.count in
-    (front ++ take n rest, front_more _ front rest n parts, Appends-trans _ _ _ _ _ written c.in_ok-count.ensures.some.2)
+    let n = c.in-Ok.count in
+    record {
+      got = (front ++ take n rest, front_more _ front rest n parts, Appends-trans _ _ _ _ _ written c.in-Ok.ensures.bytes);
+      works = c.in-Ok.ensures.told ∙ c.loop-rest.invariant.works;
+    }
