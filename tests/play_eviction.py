@@ -8,22 +8,16 @@ run going on where the last one stopped, and none twice in a round. Prints each 
 'N passed, M failed'.
 """
 
-import subprocess
+import itertools
 import sys
-import tempfile
+
+from playing import play_journals, stocking
 
 OBJECTS = 1_000
 LEAST = 2_500
 
 # Of -n the n-th part of the objects is examined in a run, rounded up; of n that many, but no more than there are.
 TESTS_OF_A_RUN = {1: 1, 7: 7, -1: 1_000, -3: 334, 2_147_483_647: 1_000, -2_147_483_648: 1}
-
-
-def stocking():
-    """The entries that park the objects."""
-    for i in range(OBJECTS):
-        yield f"0 0 add = make {i}"
-        yield f"0 0 added {i} good = parked"
 
 
 def runs(tests):
@@ -36,34 +30,11 @@ def runs(tests):
             examined += 1
 
 
-def text(lines):
-    return "".join(line + "\n" for line in lines)
-
-
-def play(pool, number, tests):
-    """What the program writes where this number of tests is set, and what it should write."""
-    journal = [*stocking(), *runs(tests)]
-    with tempfile.NamedTemporaryFile("w", suffix=".toml") as settings:
-        settings.write(f"maxTotal = -1\nnumTestsPerEvictionRun = {number}\n")
-        settings.flush()
-        script = text(line.partition(" = ")[0] for line in journal)
-        done = subprocess.run([pool, "run", settings.name, "/dev/stdin"], input=script, capture_output=True, text=True, timeout=60)
-    return (done.stdout, done.stderr, done.returncode), (text(journal), "", 0)
-
-
-def main(pool):
-    passed, failed = 0, 0
+def cases():
     for number, tests in TESTS_OF_A_RUN.items():
-        got, wanted = play(pool, number, tests)
-        if got == wanted:
-            passed += 1
-            continue
-        failed += 1
-        differ = next((pair for pair in zip(got[0].splitlines(), wanted[0].splitlines()) if pair[0] != pair[1]), got[1:])
-        print(f"numTestsPerEvictionRun = {number}: {differ}")
-    print(f"{passed} passed, {failed} failed")
-    return 1 if failed else 0
+        setting = f"numTestsPerEvictionRun = {number}\n"
+        yield setting.strip(), "maxTotal = -1\n" + setting, itertools.chain(stocking(OBJECTS), runs(tests))
 
 
 if __name__ == "__main__":
-    sys.exit(main(sys.argv[1]))
+    sys.exit(play_journals(sys.argv[1], cases()))

@@ -1,8 +1,11 @@
-"""What the scripts that play folders of cases share."""
+"""What the scripts that play cases share."""
 
 import concurrent.futures
+import itertools
 import os
 import pathlib
+import subprocess
+import tempfile
 
 KINDS = ("output", "standard error", "status")
 
@@ -28,3 +31,39 @@ def play_folders(folders, cases, differences):
             passed, failed = passed + len(found) - bad, failed + bad + (not found)
     print(f"{passed} passed, {failed} failed")
     return 1 if failed else 0
+
+
+def stocking(objects):
+    """The entries that park so many objects."""
+    for i in range(objects):
+        yield f"0 0 add = make {i}"
+        yield f"0 0 added {i} good = parked"
+
+
+def first_difference(pool, settings, journal):
+    """Plays the script of a journal on the program, with these settings: the first line that differs from the journal's, or
+    how the run ended where it isn't with status 0; None where the journal is written as it is."""
+    with tempfile.NamedTemporaryFile("w", suffix=".toml") as file:
+        file.write(settings)
+        file.flush()
+        script = "".join(entry.partition(" = ")[0] + "\n" for entry in journal)
+        done = subprocess.run([pool, "run", file.name, "/dev/stdin"], input=script, capture_output=True, text=True, timeout=60)
+    pairs = itertools.zip_longest(journal, done.stdout.splitlines())
+    differing = next((f"wanted {want!r}, got {have!r}" for want, have in pairs if want != have), None)
+    ended = None if (done.stderr, done.returncode) == ("", 0) else f"status {done.returncode}, {done.stderr!r}"
+    return differing or ended
+
+
+def play_journals(pool, cases):
+    """Plays named cases of settings and a journal, prints what differs and how many passed and failed, and gives the status to
+    end with."""
+    passed, failed = 0, 0
+    for name, settings, journal in cases:
+        different = first_difference(pool, settings, list(journal))
+        if different is None:
+            passed += 1
+        else:
+            failed += 1
+            print(f"{name}: {different}")
+    print(f"{passed} passed, {failed} failed")
+    return 1 if failed or not passed else 0
