@@ -1,12 +1,10 @@
 #!/usr/bin/env python3
-"""Writes a script that keeps a pool busy: make_script.py LINES SEED [OBJECTS]
+"""Writes a script that keeps a pool busy: make_script.py LINES SEED
 
 Callers borrow, use and give back; some activations and tests fail. At most 8 objects are present, as the default
-settings have it. With OBJECTS so many are lent first, and then each caller gives one back and borrows one, over and over;
-the pool must allow for them. The same arguments give the same script.
+settings have it. The same arguments give the same script.
 """
 
-import itertools
 import random
 import sys
 
@@ -62,32 +60,11 @@ class Busy:
         return self.random.choice(may)(at)
 
 
-def lend_many(objects):
-    """Lends so many objects, one after the other."""
-    for i in range(objects):
-        yield f"borrow {i}"
-        yield f"ready {i} good"
-
-
-def exchange(rng, objects):
-    """Gives any of the lent objects back, and borrows it again, without end."""
-    while True:
-        i = rng.randrange(objects)
-        yield from (f"return {i}", f"park {i} good", "borrow 0", f"ready {i} good")
-
-
-def many(lines, seed, objects):
-    inputs = itertools.chain(lend_many(objects), exchange(random.Random(seed), objects))
-    for at, line in enumerate(itertools.islice(inputs, lines)):
-        sys.stdout.write(f"{at % 4} {at} {line}\n")
-
-
-def few(lines, seed):
+def write_script(lines, seed):
     busy = Busy(seed)
     for at in range(lines):
         sys.stdout.write(f"{busy.random.randrange(4)} {at} {busy.line(at)}\n")
 
 
 if __name__ == "__main__":
-    numbers = [int(word) for word in sys.argv[1:]]
-    few(*numbers) if len(numbers) == 2 else many(*numbers)
+    write_script(*map(int, sys.argv[1:]))

@@ -1,0 +1,67 @@
+"""How long programs take. Those that are compared run in turn, one after the other, and of some runs of each the shortest
+counts: so a busy machine slows all of them, and the least of them little."""
+
+import contextlib
+import os
+import subprocess
+import tempfile
+import time
+
+
+def in_memory(contents=b""):
+    """A file that is kept in memory, with these contents."""
+    file = os.fdopen(os.memfd_create("bench"), "w+b")
+    file.write(contents)
+    file.flush()
+    return file
+
+
+def whole(file):
+    file.seek(0)
+    return file.read()
+
+
+def elapsed(command, **streams):
+    """How long a run takes, in seconds."""
+    start = time.perf_counter()
+    subprocess.run(command, check=True, **streams)
+    return time.perf_counter() - start
+
+
+def spent(command, **streams):
+    """How long processors work for a run, in seconds."""
+    child = subprocess.Popen(command, **streams)
+    _, status, usage = os.wait4(child.pid, 0)
+    child.returncode = os.waitstatus_to_exitcode(status)
+    if child.returncode != 0:
+        raise subprocess.CalledProcessError(child.returncode, command)
+    return usage.ru_utime + usage.ru_stime
+
+
+def least_spent(runs, most, seconds):
+    """The least processor time of some runs of each pair of a command and its standard input, in seconds, and what each
+    wrote. Each is run so often at most, and no longer than so many seconds are over."""
+    shortest = [float("inf")] * len(runs)
+    with contextlib.ExitStack() as files:
+        sources = [files.enter_context(in_memory(text)) for _, text in runs]
+        sinks = [files.enter_context(in_memory()) for _ in runs]
+        end = time.monotonic() + seconds
+        for _ in range(most):
+            for place, (command, _) in enumerate(runs):
+                source, sink = sources[place], sinks[place]
+                source.seek(0), sink.seek(0), sink.truncate()
+                shortest[place] = min(shortest[place], spent(command, stdin=source, stdout=sink))
+            if time.monotonic() > end:
+                break
+        return shortest, [whole(sink) for sink in sinks]
+
+
+def least_elapsed(commands, most):
+    """The shortest of so many runs of each in seconds, and what each wrote last on its two streams."""
+    shortest, written = [float("inf")] * len(commands), [None] * len(commands)
+    for _ in range(most):
+        for place, command in enumerate(commands):
+            with tempfile.TemporaryFile() as sink, tempfile.TemporaryFile() as notes:
+                shortest[place] = min(shortest[place], elapsed(command, stdout=sink, stderr=notes))
+                written[place] = whole(sink), whole(notes).decode().strip()
+    return shortest, written
