@@ -38,21 +38,21 @@ def spent(command, **streams):
     return usage.ru_utime + usage.ru_stime
 
 
-def least_spent(runs, most, seconds):
+def least_spent(runs, least, most, seconds):
     """The least processor time of some runs of each pair of a command and its standard input, in seconds, and what each
-    wrote. Each is run so often at most, and no longer than so many seconds are over."""
+    wrote. Each is run so often at least and at most, between the two until so many seconds are over."""
     shortest = [float("inf")] * len(runs)
     with contextlib.ExitStack() as files:
         sources = [files.enter_context(in_memory(text)) for _, text in runs]
         sinks = [files.enter_context(in_memory()) for _ in runs]
         end = time.monotonic() + seconds
-        for _ in range(most):
+        for done in range(most):
+            if done >= least and time.monotonic() > end:
+                break
             for place, (command, _) in enumerate(runs):
                 source, sink = sources[place], sinks[place]
                 source.seek(0), sink.seek(0), sink.truncate()
                 shortest[place] = min(shortest[place], spent(command, stdin=source, stdout=sink))
-            if time.monotonic() > end:
-                break
         return shortest, [whole(sink) for sink in sinks]
 
 
