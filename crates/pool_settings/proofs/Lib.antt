@@ -1,3 +1,4 @@
 pub mod Blank
 pub mod ByteOrder
+pub mod Escapes
 pub mod Ranges

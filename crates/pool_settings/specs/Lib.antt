@@ -2,7 +2,9 @@ pub mod Answer
 pub mod ByteOrder
 pub mod Defaults
 pub mod EffectiveMinIdle
+pub mod Escaped
 pub mod Faults
 pub mod Keys
+pub mod Messages
 pub mod Ranges
 pub mod Values

@@ -1,22 +1,48 @@
+use crate::escaped::Escaped;
 use crate::key_name::KeyName;
-use thiserror::Error;
+use std::fmt;
+use std::fmt::{Formatter, Write};
 
 /// Why a text gives no settings. A key of the table `abandoned` is told as `abandoned.<key>`.
-#[derive(Debug, Drop, Error)]
+#[derive(Debug, Drop)]
 pub enum SettingsFault {
     /// The text is no TOML document.
-    #[error("settings: not TOML")]
     NotToml,
     /// No setting has this key.
-    #[error("settings: unknown key {0}")]
     UnknownKey(KeyName),
     /// The key's value isn't of its type.
-    #[error("settings: wrong type {0}")]
     WrongType(&'static str),
     /// The key's number isn't in its range.
-    #[error("settings: out of range {0}")]
     OutOfRange(&'static str),
     /// Memory was refused.
-    #[error("out of memory")]
     OutOfMemory,
 }
+
+/// The fault on one line.
+impl fmt::Display for SettingsFault {
+    ghost use Rattle.std.specs.Prelude.{Some};
+    ghost use Rattle.pool_settings.specs.Faults.{fault_of};
+    ghost use Rattle.pool_settings.specs.Messages.{text_of};
+
+    ghost output = { λ fault. Some (text_of (fault_of fault)) };
+
+    fn fmt<W: Write>(&self, f: &mut Formatter<W>) -> fmt::Result {
+        match self {
+            SettingsFault::NotToml => f.write_str("settings: not TOML"),
+            SettingsFault::UnknownKey(key) => write!(f, "settings: unknown key {key}"),
+            SettingsFault::WrongType(key) => write!(
+                f,
+                "settings: wrong type {}",
+                Escaped::new(key)
+            ),
+            SettingsFault::OutOfRange(key) => write!(
+                f,
+                "settings: out of range {}",
+                Escaped::new(key)
+            ),
+            SettingsFault::OutOfMemory => f.write_str("out of memory"),
+        }
+    }
+}
+
+impl std::error::Error for SettingsFault {}

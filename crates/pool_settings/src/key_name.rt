@@ -1,5 +1,6 @@
 ghost use Rattle.std.specs.Prelude.{◌≡◌, ℕ, List, ◌++◌, IfOk, string_bytes};
 
+use crate::escaped::Escaped;
 use std::alloc::{AllocError, Global};
 use std::fmt;
 use std::fmt::Formatter;
@@ -35,8 +36,14 @@ impl KeyName {
     }
 }
 
+/// The name on one line.
 impl fmt::Display for KeyName {
+    ghost use Rattle.std.specs.Prelude.{Some};
+    ghost use Rattle.pool_settings.specs.Escaped.{escaped};
+
+    ghost output = { λ name. Some (escaped name) };
+
     fn fmt<W: fmt::Write>(&self, f: &mut Formatter<W>) -> fmt::Result {
-        f.write_str(self.as_str())
+        Escaped::new(self.as_str()).fmt(f)
     }
 }

@@ -332,6 +332,31 @@ fn least_idle_under_the_greatest(rt: HostRuntime) -> Result<(), Fail> {
     Ok(())
 }
 
+// Escapes are those of a basic string of TOML.
+#[test]
+fn keys_on_one_line(rt: HostRuntime) -> Result<(), Fail> {
+    all_told(
+        &rt,
+        &[
+            ("\"a\\nb\" = 1", "settings: unknown key a\\nb"),
+            ("\"\\u001B[2J\" = 1", "settings: unknown key \\u001B[2J"),
+            ("\"\\u007F\" = 1", "settings: unknown key \\u007F"),
+            (
+                "\"\\b\\t\\f\\r\\u0000\\u001f\" = 1",
+                "settings: unknown key \\b\\t\\f\\r\\u0000\\u001F",
+            ),
+            ("'a\\b' = 1", "settings: unknown key a\\b"),
+            ("\"a\\\\b\\n\" = 1", "settings: unknown key a\\\\b\\n"),
+            ("'\"' = 1", "settings: unknown key \""),
+            ("\"\\u0085\" = 1", "settings: unknown key \u{85}"),
+            (
+                "[abandoned]\n\"é\\n~\" = 1",
+                "settings: unknown key abandoned.é\\n~",
+            ),
+        ],
+    )
+}
+
 #[test]
 fn names_of_unknown_keys(rt: HostRuntime) -> Result<(), Fail> {
     match Settings::from_text(rt.alloc(), "[abandoned]\nfoo = 1") {
