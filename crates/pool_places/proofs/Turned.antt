@@ -18,6 +18,7 @@ use Rattle.pool_places.specs.declared.place_counts.PlaceCounts.{PlaceCounts}
 use Rattle.pool_places.specs.Changes.{IdsBelow as RecordsBelow}
 use Rattle.pool_places.specs.Counts.{IsCounts}
 use Rattle.pool_places.specs.Kept.{IsKept, IsWithin}
+use Rattle.pool_places.specs.Overdue.{IsBound}
 use Rattle.pool_places.specs.Shelf.{Shelf, records_in, without, IsShelf}
 use Rattle.pool_places.specs.Stored.{place_of, place_at, kept_of, IsTied, IsLine}
 use Rattle.pool_places.proofs.Found.{Found, set_kept, set_shelf}
@@ -111,9 +112,9 @@ module _ {T : Type 0} where
   pub kept_is : (rack rack2 : Rack T) (pairs : List Pair) (i key : ℕ) (r : Record) (p : Item T) → Reads rack pairs i key r → Sets rack rack2 key (Some p) → p.known.id ≡ r.id → kept_of rack2 pairs ≡ set (kept_of rack pairs) (spot i (kept_of rack pairs)) (place_of p)
   kept_is rack rack2 pairs i key r p reads sets same = kept_turned rack rack2 pairs i key _ p reads.tied (turns rack rack2 pairs i key r p reads sets same) ∙ sym (set_kept (λ x. place_of p) (here rack pairs i key r reads))
 
-  pub kept_after : (rack rack2 : Rack T) (pairs : List Pair) (i key : ℕ) (r : Record) (p : Item T) (counts : PlaceCounts) (from : Option ℕ) → Reads rack pairs i key r → Sets rack rack2 key (Some p) → p.known.id ≡ r.id → is_some p.value ≡ is_idle p.known.phase
-      → IsCounts counts (records_in (set (kept_of rack pairs) (spot i (kept_of rack pairs)) (place_of p))) → IsLine rack2 → IsWithin rack2.queue from → IsKept rack2 pairs counts from
-  kept_after rack rack2 pairs i key r p counts from reads sets same valued counted line within =
+  pub kept_after : (rack rack2 : Rack T) (pairs : List Pair) (i key : ℕ) (r : Record) (p : Item T) (counts : PlaceCounts) (from : Option ℕ) (least : ℕ) → Reads rack pairs i key r → Sets rack rack2 key (Some p) → p.known.id ≡ r.id → is_some p.value ≡ is_idle p.known.phase
+      → IsCounts counts (records_in (set (kept_of rack pairs) (spot i (kept_of rack pairs)) (place_of p))) → IsLine rack2 → IsWithin rack2.queue from → IsBound least (records_in (set (kept_of rack pairs) (spot i (kept_of rack pairs)) (place_of p))) → IsKept rack2 pairs counts from least
+  kept_after rack rack2 pairs i key r p counts from least reads sets same valued counted line within bound =
       let is = kept_is rack rack2 pairs i key r p reads sets same in
       record {
         shelf = subst IsShelf (sym is) (set_shelf (place_of p) (here rack pairs i key r reads) same valued);
@@ -121,6 +122,7 @@ module _ {T : Type 0} where
         tied = tied_turned rack rack2 pairs i key _ p reads.tied (turns rack rack2 pairs i key r p reads sets same);
         line = line;
         remembered = within;
+        bound = subst (λ ps. IsBound least (records_in ps)) (sym is) bound;
       }
 
   -- ---- an object comes
@@ -220,13 +222,14 @@ module _ {T : Type 0} where
   follows_known rack key r line known = line.follows key _ (item_known rack key r known)
 
   -- more room changes nothing
-  pub kept_reserved : (rack : Rack T) (pairs : List Pair) (counts : PlaceCounts) (from : Option ℕ) (n : ℕ) → IsKept rack pairs counts from → IsKept (record rack { room = n }) pairs counts from
-  kept_reserved rack pairs counts from n kept = record {
+  pub kept_reserved : (rack : Rack T) (pairs : List Pair) (counts : PlaceCounts) (from : Option ℕ) (least n : ℕ) → IsKept rack pairs counts from least → IsKept (record rack { room = n }) pairs counts from least
+  kept_reserved rack pairs counts from least n kept = record {
     shelf = kept.shelf;
     counted = kept.counted;
     tied = record { rising = kept.tied.rising; there = kept.tied.there; back = kept.tied.back };
     line = record { present = kept.line.present; follows = kept.line.follows; rises = kept.line.rises };
     remembered = kept.remembered;
+    bound = kept.bound;
   }
 
   -- a rack whose queue alone may have changed

@@ -1,5 +1,6 @@
 -- Which lent objects were not used for too long.
-use Rattle.std.specs.Prelude.{ℕ, ◌-◌, Bool, true, false, ◌&&◌, nat_le, List, filter}
+use Rattle.std.specs.Prelude.{◌≡◌, ℕ, ◌-◌, ◌≤◌, Bool, true, false, ◌&&◌, nat_le, List, filter}
+use Rattle.std.specs.List.{AllByRecursion}
 use Rattle.pool_journal.specs.declared.record.Record.{Record}
 use Rattle.pool_journal.specs.declared.record.Phase.{Phase}
 use Rattle.pool_journal.specs.declared.record.Phase.TheVariants as phases
@@ -15,3 +16,7 @@ is_overdue at timeout r = is_lent r.phase && nat_le timeout (at - r.used)
 -- the records of the overdue objects, by rising id
 abbrev pub overdue : ℕ → ℕ → List Record → List Record
 overdue at timeout rs = filter (is_overdue at timeout) rs
+
+-- no lent object was last used before the moment
+abbrev pub IsBound : ℕ → List Record → Type 0
+IsBound n rs = AllByRecursion (λ r. is_lent r.phase ≡ true → n ≤ r.used) rs

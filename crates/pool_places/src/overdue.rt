@@ -1,6 +1,6 @@
-ghost use Rattle.std.specs.Prelude.{◌≡◌, count_by, find};
+ghost use Rattle.std.specs.Prelude.{◌≡◌, ◌≤◌, true, count_by, find};
 ghost use Rattle.std.specs.Option.{option_map};
-ghost use Rattle.pool_places.specs.Overdue.{is_overdue};
+ghost use Rattle.pool_places.specs.Overdue.{is_overdue, is_lent, IsBound};
 ghost use Rattle.pool_places.specs.Shelf.{records_in, IsShelf};
 ghost use Rattle.pool_places.specs.Stored.{kept_of, IsTied};
 
@@ -50,4 +50,36 @@ pub(crate) fn overdue_count<T>(slots: &Slots<T>, index: &RisingIndex, at: u64, t
         }
     }
     count
+}
+
+/// The earlier of two moments.
+pub(crate) fn earlier(one: u64, other: u64) -> u64
+    ensures one { result ≤ one }
+    ensures other { result ≤ other }
+{
+    one.min(other)
+}
+
+// When an object was last used, where it is lent.
+fn last_use(known: Record) -> u64
+    ensures { is_lent known.phase ≡ true → result ≡ known.used }
+{
+    if is_lent_phase(known.phase) {
+        known.used
+    } else {
+        u64::MAX
+    }
+}
+
+/// When a lent object was last used at the earliest.
+pub(crate) fn least_use<T>(slots: &Slots<T>, index: &RisingIndex) -> u64
+    requires { IsTied slots.now index.now.pairs }
+    ensures { IsBound result (records_in (kept_of slots.now index.now.pairs)) }
+{
+    let mut least = u64::MAX;
+    for pair in index.walk() {
+        let used = last_use(slots.known(pair.key));
+        least = earlier(least, used);
+    }
+    least
 }

@@ -11,7 +11,7 @@ ghost use Rattle.pool_places.specs.Overdue.{is_lent, overdue};
 ghost use Rattle.pool_places.specs.Shelf.{records_in, value_in, changed, without, new_place, to_phase, to_lent, to_used, to_idle, to_kept, to_taken, IsShelf};
 
 use crate::keys::key_under;
-use crate::overdue::{first_overdue, overdue_count};
+use crate::overdue::{earlier, first_overdue, least_use, overdue_count};
 use crate::phase_tests::is_queued_phase;
 use crate::place_counts::PlaceCounts;
 use crate::queue::{change, first_wanted, last_wanted, leave, start_after};
@@ -31,7 +31,9 @@ const MOST_PLACES: usize = 1 << 60;
 /// take the same time however many there are. `first_idle` and `last_idle` step past the objects under
 /// test at their end of the queue. `next_idle_after` seeks from the object that `look_from` named last, or
 /// from the first one: over a run that goes round it takes the same time on average, also while objects
-/// leave. `count_overdue` and `least_overdue` walk over all objects.
+/// leave. `count_overdue` and `least_overdue` walk over all objects, but take the same time where even a
+/// moment before which no lent object was last used is not overdue. `look_for_overdue` walks where that
+/// moment is overdue, and makes it the exact one.
 #[derive(Drop)]
 pub struct Places<T> {
     // The objects under keys, and the queue through them.
@@ -42,6 +44,8 @@ pub struct Places<T> {
     counts: PlaceCounts,
     // The object of the queue from which the next one is sought.
     remembered: Option<usize>,
+    // No lent object was last used before this moment, in milliseconds.
+    least_used: u64,
 }
 
 impl<T> Model for Places<T> {
@@ -57,7 +61,7 @@ impl<T> Model for Places<T> {
       spare = min (min a.slots.room a.index.spare) (2 ^ 60 - length a.index.pairs);
     } };
 
-    ghost invariant = { λ a. IsKept a.slots a.index.pairs a.counts a.remembered };
+    ghost invariant = { λ a. IsKept a.slots a.index.pairs a.counts a.remembered a.least_used };
 }
 
 impl<T> Places<T> {
@@ -70,6 +74,7 @@ impl<T> Places<T> {
             index: RisingIndex::new(alloc),
             counts: PlaceCounts::none(),
             remembered: None,
+            least_used: u64::MAX,
         }
     }
 
@@ -155,6 +160,9 @@ impl<T> Places<T> {
             AllByRecursion (λ r. i ≤ r.id) (overdue at timeout (records_in self.now.kept))) }
         ensures lent { IfSome result (λ i. IsInPhase (records_in self.now.kept) i phases.Lent) }
     {
+        if at.saturating_sub(self.least_used) < timeout {
+            return None;
+        }
         first_overdue(&self.slots, &self.index, at, timeout)
     }
 
@@ -162,7 +170,20 @@ impl<T> Places<T> {
     pub fn count_overdue(&self, at: u64, timeout: u64) -> u64
         ensures { result ≡ length (overdue at timeout (records_in self.now.kept)) }
     {
+        if at.saturating_sub(self.least_used) < timeout {
+            return 0;
+        }
         overdue_count(&self.slots, &self.index, at, timeout)
+    }
+
+    /// Finds out when a lent object was last used at the earliest, where one may be overdue. Nothing changes
+    /// that is seen.
+    pub fn look_for_overdue(&mut self, at: u64, timeout: u64)
+        ensures { self.new ≡ self.old }
+    {
+        if at.saturating_sub(self.least_used) >= timeout {
+            self.least_used = least_use(&self.slots, &self.index);
+        }
     }
 
     /// How many objects there are of each kind, and what they owe.
@@ -262,6 +283,7 @@ impl<T> Places<T> {
         let known = self.slots.known(key);
         self.counts.remove(known.phase);
         self.counts.add(Phase::Lent);
+        self.least_used = earlier(self.least_used, at);
         let lent = Record {
             phase: Phase::Lent,
             lent: at,
@@ -284,6 +306,7 @@ impl<T> Places<T> {
     {
         let key = key_under(&self.index, id);
         let known = self.slots.known(key);
+        self.least_used = earlier(at, self.least_used);
         let used = Record { used: at, ..known };
         change(&mut self.slots, &mut self.remembered, key, known, used);
     }

@@ -1,4 +1,6 @@
-use Rattle.std.proofs.Common.{sym, ◌∙◌}
+use Rattle.std.proofs.Common.{◌<◌, ◌-◌, List, length, ap, arith, sym, ◌∙◌}
+use Rattle.pool_journal.specs.declared.record.Record.{Record}
+use Rattle.pool_places.proofs.Bounds.{none_overdue}
 use Rattle.std.proofs.lemmas.List.Sums.{length-filter}
 use Rattle.pool_places.specs.Overdue.{is_overdue}
 use Rattle.pool_places.specs.Shelf.{records_in}
@@ -7,3 +9,8 @@ use Rattle.pool_places.proofs.places.Places.count_overdue.Goals as goal
 
 pub returns : goal.returns
 returns g c = rw (← c.self.view_is) (c.overdue_count.ensures ∙ sym (length-filter (is_overdue c.args.at c.args.timeout) (records_in (kept_of c.self.inside.slots c.self.inside.index.pairs))))
+
+pub returns-then-saturating_sub-timeout : goal.returns-then-saturating_sub-timeout
+returns-then-saturating_sub-timeout g c =
+    let early : c.args.at - c.self.inside.least_used < c.args.timeout = omega (arith, c.saturating_sub.ensures, c.if-saturating_sub-timeout.true) in
+    rw (← c.self.view_is) (sym (ap (λ (rs : List Record). length rs) (none_overdue c.args.at c.args.timeout c.self.inside.least_used _ c.self.invariant.bound early)))

@@ -1,4 +1,6 @@
-use Rattle.std.proofs.Common.{◌≡◌, ◌≤◌, sym, ap, ◌∙◌}
+use Rattle.std.proofs.Common.{◌≡◌, ◌≤◌, ◌<◌, ◌-◌, List, arith, sym, ap, ◌∙◌}
+use Rattle.pool_journal.specs.Queue.{first_of}
+use Rattle.pool_places.proofs.Bounds.{none_overdue}
 use Rattle.std.specs.List.{AllByRecursion}
 use Rattle.std.specs.Option.{option_map}
 use Rattle.pool_journal.specs.declared.record.Record.{Record}
@@ -30,3 +32,8 @@ returns-clause-lent g c =
     let named = c.first_overdue.ensures ∙ ap (option_map (λ (r : Record). r.id)) (sym (first_of-filter test (records_in ps))) in
     rw (← c.self.view_is)
     (named_by_id _ _ (λ i. IsInPhase (records_in ps) i phases.Lent) named (λ r is. overdue_is_lent c.args.at c.args.timeout ps c.self.invariant.shelf.rising r is))
+
+pub returns-then-saturating_sub-timeout-clause-value : goal.returns-then-saturating_sub-timeout-clause-value
+returns-then-saturating_sub-timeout-clause-value g c =
+    let early : c.args.at - c.self.inside.least_used < c.args.timeout = omega (arith, c.saturating_sub.ensures, c.if-saturating_sub-timeout.true) in
+    rw (← c.self.view_is) (sym (ap (λ (rs : List Record). option_map (λ (r : Record). r.id) (first_of rs)) (none_overdue c.args.at c.args.timeout c.self.inside.least_used _ c.self.invariant.bound early)))

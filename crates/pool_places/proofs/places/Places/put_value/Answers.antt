@@ -13,6 +13,7 @@ use Rattle.pool_places.specs.Shelf.{to_kept}
 use Rattle.pool_places.proofs.Found.{found_known, found_empty, set_kept, set_records, set_value, set_others}
 use Rattle.pool_places.proofs.Numbers.{has_one, counted_set, small, small_less}
 use Rattle.pool_places.proofs.Owing.{set_owed_from}
+use Rattle.pool_places.proofs.Bounds.{bound_set}
 use Rattle.pool_places.proofs.Turned.{Reads, here, key_seen, item_there, follows_known, kept_is, kept_after, line_changed, value_set, sets_after, no_value}
 use Rattle.pool_places.proofs.places.Places.put_value.Goals as goal
 
@@ -53,7 +54,7 @@ invariant_of-self g c =
     let valued = value_set c.self.inside.slots c.put.new.self c.key_under-key.result c.known-known.result (Some c.args.value) c.known-known.ensures c.put.ensures.sets in
     let sets = sets_after _ _ _ _ _ _ _ valued c.change.ensures.sets in
     let queue = c.change.ensures.queue ∙ ap (λ (ks : List ℕ). if is_queued phases.Idle then ks else without_key c.key_under-key.result ks) c.put.ensures.queue in
-    kept_after _ _ _ _ _ _ _ _ _ reads sets refl refl (counted_set _ _ _ _ found c.self.invariant.counted c.remove.ensures c.add.ensures) (line_changed _ _ _ _ _ c.self.invariant.line sets (item_known c.self.inside.slots c.key_under-key.result c.known-known.result c.known-known.ensures) queue (λ yes. (ap is_queued (found_known _ found c.self.view_is c.requires.present), refl))) c.change.ensures.remembered
+    kept_after _ _ _ _ _ _ _ _ _ _ reads sets refl refl (counted_set _ _ _ _ found c.self.invariant.counted c.remove.ensures c.add.ensures) (line_changed _ _ _ _ _ c.self.invariant.line sets (item_known c.self.inside.slots c.key_under-key.result c.known-known.result c.known-known.ensures) queue (λ yes. (ap is_queued (found_known _ found c.self.view_is c.requires.present), refl))) c.change.ensures.remembered (bound_set _ _ _ _ (λ yes. absurd (cc yes)) c.self.invariant.bound)
 
 pub returns : goal.returns
 returns g c =

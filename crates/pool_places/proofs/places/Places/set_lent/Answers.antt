@@ -10,6 +10,7 @@ use Rattle.pool_places.proofs.Shelves.{empty_valued}
 use Rattle.pool_places.proofs.Found.{found_known, found_empty, set_kept, set_records, set_values}
 use Rattle.pool_places.proofs.Numbers.{has_one, counted_set, small, small_less}
 use Rattle.pool_places.proofs.Owing.{set_owed_from}
+use Rattle.pool_places.proofs.Bounds.{bound_set, bound_earlier}
 use Rattle.pool_places.proofs.Turned.{Reads, here, key_seen, item_there, follows_known, kept_is, kept_after, line_changed}
 use Rattle.pool_places.proofs.places.Places.set_lent.Goals as goal
 
@@ -35,7 +36,7 @@ pub invariant_of-self : goal.invariant_of-self
 invariant_of-self g c =
     let reads : Reads c.self.inside.slots c.self.inside.index.pairs c.args.id c.key_under-key.result c.known-known.result = record { tied = c.self.invariant.tied; shelf = c.self.invariant.shelf; at = c.key_under-key.ensures; known = c.known-known.ensures } in
     let found = here _ _ _ _ _ reads in
-    kept_after _ _ _ _ _ _ _ _ _ reads c.change.ensures.sets refl (empty_valued (value_at c.self.inside.slots c.key_under-key.result) (found_empty found (ap is_idle (found_known _ found c.self.view_is c.requires.present))) refl) (counted_set _ _ _ _ found c.self.invariant.counted c.remove.ensures c.add.ensures) (line_changed _ _ _ _ _ c.self.invariant.line c.change.ensures.sets (item_known c.self.inside.slots c.key_under-key.result c.known-known.result c.known-known.ensures) c.change.ensures.queue (λ yes. absurd (cc yes))) c.change.ensures.remembered
+    kept_after _ _ _ _ _ _ _ _ _ _ reads c.change.ensures.sets refl (empty_valued (value_at c.self.inside.slots c.key_under-key.result) (found_empty found (ap is_idle (found_known _ found c.self.view_is c.requires.present))) refl) (counted_set _ _ _ _ found c.self.invariant.counted c.remove.ensures c.add.ensures) (line_changed _ _ _ _ _ c.self.invariant.line c.change.ensures.sets (item_known c.self.inside.slots c.key_under-key.result c.known-known.result c.known-known.ensures) c.change.ensures.queue (λ yes. absurd (cc yes))) c.change.ensures.remembered (bound_set _ _ _ _ (λ yes. c.earlier-self-inside.ensures.other) (bound_earlier _ _ _ c.earlier-self-inside.ensures.one c.self.invariant.bound))
 
 pub returns : goal.returns
 returns g c =

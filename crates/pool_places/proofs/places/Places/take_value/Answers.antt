@@ -14,6 +14,7 @@ use Rattle.pool_places.proofs.Found.{found_known, found_full, found_value, set_k
 use Rattle.pool_places.proofs.NotIdle.{taken_not_idle}
 use Rattle.pool_places.proofs.Numbers.{has_one, counted_set, small, small_less}
 use Rattle.pool_places.proofs.Owing.{set_owed_from}
+use Rattle.pool_places.proofs.Bounds.{bound_set, taken_not_lent}
 use Rattle.pool_places.proofs.Turned.{Reads, here, key_seen, item_there, follows_known, kept_is, kept_after, line_changed, value_set, sets_after}
 use Rattle.pool_places.proofs.places.Places.take_value.Goals as goal
 
@@ -54,7 +55,7 @@ invariant_of-self g c =
     let valued = value_set c.self.inside.slots c.take-value.new.self c.key_under-key.result c.known-known.result None c.known-known.ensures c.take-value.ensures.sets in
     let sets = sets_after _ _ _ _ _ _ _ valued c.change.ensures.sets in
     let queue = c.change.ensures.queue ∙ ap (λ (ks : List ℕ). if is_queued c.args.phase then ks else without_key c.key_under-key.result ks) c.take-value.ensures.queue in
-    kept_after _ _ _ _ _ _ _ _ _ reads sets refl (sym (taken_not_idle c.args.phase c.requires.phase)) (counted_set _ _ _ _ found c.self.invariant.counted c.remove.ensures c.add.ensures) (line_changed _ _ _ _ _ c.self.invariant.line sets (item_known c.self.inside.slots c.key_under-key.result c.known-known.result c.known-known.ensures) queue (λ yes. (ap is_queued (found_known _ found c.self.view_is c.requires.present), refl))) c.change.ensures.remembered
+    kept_after _ _ _ _ _ _ _ _ _ _ reads sets refl (sym (taken_not_idle c.args.phase c.requires.phase)) (counted_set _ _ _ _ found c.self.invariant.counted c.remove.ensures c.add.ensures) (line_changed _ _ _ _ _ c.self.invariant.line sets (item_known c.self.inside.slots c.key_under-key.result c.known-known.result c.known-known.ensures) queue (λ yes. (ap is_queued (found_known _ found c.self.view_is c.requires.present), refl))) c.change.ensures.remembered (bound_set _ _ _ _ (λ yes. absurd (cc (yes, taken_not_lent c.args.phase c.requires.phase))) c.self.invariant.bound)
 
 pub returns : goal.returns
 returns g c =

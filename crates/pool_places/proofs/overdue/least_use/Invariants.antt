@@ -1,0 +1,15 @@
+use Rattle.std.proofs.Common.{ℕ, ◌≤◌}
+use Rattle.std.specs.List.{AllByRecursion}
+use Rattle.pool_places.specs.Overdue.{IsBound}
+use Rattle.pool_places.specs.Shelf.{records_in}
+use Rattle.pool_places.specs.Stored.{kept_of}
+use Rattle.pool_places.proofs.Racks.{Good}
+use Rattle.pool_places.proofs.overdue.least_use.Given as goal
+
+abbrev pub invariant-loop-pair : goal.invariant-loop-pair
+invariant-loop-pair g l = record {
+  can_next : (goal.iterator-loop-pair g).can_next l.pair-iterator;
+  is_finite : (goal.iterator-loop-pair g).is_finite l.pair-iterator;
+  good : AllByRecursion (Good l.slots l.index.pairs) l.pair-iterator;
+  whole : (n : ℕ) → n ≤ l.least → IsBound n (records_in (kept_of l.slots l.pair-iterator)) → IsBound n (records_in (kept_of l.slots l.index.pairs));
+}
