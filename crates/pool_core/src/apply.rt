@@ -138,6 +138,31 @@ impl<T> State<T> {
         }
     }
 
+    // Finds out when a lent object was last used at the earliest, where abandoned ones are removed.
+    fn look_for_abandoned(&mut self, at: u64)
+        ensures { self.new ≡ self.old }
+    {
+        let timeout = self.settings.remove_abandoned_timeout_millis;
+        if self.settings.abandoned && timeout >= 0 {
+            self.places.look_for_overdue(at, timeout as u64);
+        }
+    }
+
+    // Lets the next step of an eviction run, or of a removal that found nothing, be found soon.
+    fn remember(&mut self, at: u64, input: Input, answer: Answer)
+        ensures { self.new ≡ self.old }
+    {
+        match (input, answer) {
+            (Input::EvictNext, Answer::KeptIdle(id) | Answer::Test(id) | Answer::DestroyIdle(id)) =>
+                self.places.look_from(id),
+            (Input::Reclaim { on }, Answer::Count(0)) if self.removes(on) => {
+                self.look_for_abandoned(at)
+            }
+            (Input::ReclaimNext, Answer::Nothing) => self.look_for_abandoned(at),
+            _ => {}
+        }
+    }
+
     /// Does what the answer says, for which a place is reserved where an object is made. The value
     /// is the one that was handed in; what comes out is handed out.
     pub fn apply(
@@ -157,6 +182,7 @@ impl<T> State<T> {
         ensures step { TakesStep now input self.old self.new answer }
         ensures values { Hands answer input self.old.places.kept self.new.places.kept value result }
     {
+        self.remember(now.at, input, answer);
         let cursor = self.cursor_after(input, answer);
         let out = self.move_object(now, input, answer, value);
         self.next = next_after(self.next, answer);

@@ -102,8 +102,8 @@ impl<T> State<T> {
         counts.queue < 2 && is_near_limit(self.settings.max_total, counts.present - counts.queue)
     }
 
-    // Whether a removal of abandoned objects takes any.
-    fn removes(&self, on: When) -> bool
+    /// Whether a removal of abandoned objects takes any.
+    pub fn removes(&self, on: When) -> bool
         ensures { result
             ≡ reclaims self.now.settings self.now.closed (records_in self.now.places.kept) on }
     {

@@ -5,5 +5,6 @@ use Rattle.pool_core.proofs.state.State.apply.Goals as goal
 pub move_object-out-requires-clause-finds : goal.move_object-out-requires-clause-finds
 move_object-out-requires-clause-finds g c =
     let s = c.args.self.now in
-    finds_of s.settings (records_in s.places.kept) s.next s.closed s.cursor c.args.now.at c.args.input c.args.answer
-    c.requires.before.found c.requires.due
+    rw c.remember.ensures
+    (finds_of s.settings (records_in s.places.kept) s.next s.closed s.cursor c.args.now.at c.args.input c.args.answer
+    c.requires.before.found c.requires.due)
