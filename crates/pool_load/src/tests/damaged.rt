@@ -12,6 +12,11 @@ fn lines_in(bytes: &[u8]) -> usize {
     bytes.iter().filter(|byte| **byte == b'\n').count()
 }
 
+/// The number of the line that comes behind the bytes, from 1.
+fn line_behind(bytes: &[u8]) -> u64 {
+    (lines_in(bytes) as u64).saturating_add(1)
+}
+
 /// The first lines of a text.
 fn first_lines(alloc: Global, text: &str, count: usize) -> Result<String, AllocError> {
     let mut lines = String::new(alloc);
@@ -36,7 +41,7 @@ fn cut_journals(rt: HostRuntime) -> Result<(), Fail> {
             assert_eq!(rt; found, Ok(true), "at {count}");
             assert_eq!(rt; told.as_slice(), legal.as_bytes());
         } else {
-            let fault = EngineFault::Line(lines as u64 + 1, LineFault::Truncated);
+            let fault = EngineFault::Line(line_behind(&journal[..count]), LineFault::Truncated);
             assert_eq!(rt; found, Err(fault), "at {count}");
             assert_eq!(rt; told.len(), 0);
         }
@@ -49,7 +54,7 @@ fn journals_with_a_wrong_byte(rt: HostRuntime) -> Result<(), Fail> {
     for place in 0..PLAIN_LIFE.len() {
         let mut journal = Vec::new(rt.alloc());
         journal.extend_from_slice(PLAIN_LIFE.as_bytes())?;
-        let line = lines_in(&journal[..place]) as u64 + 1;
+        let line = line_behind(&journal[..place]);
         journal[place] = b'x';
         let mut told = Vec::new(rt.alloc());
         let found = check(
