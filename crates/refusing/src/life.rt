@@ -1,0 +1,256 @@
+// One caller's calls on a pool. A call that wants memory is made again, once it was seen what it left.
+use crate::TRIES;
+use crate::fault::Fault;
+use crate::parts::{Notes, Part};
+use crate::replay::replay;
+use crate::things::{Hands, Thing, Things};
+use pool_journal::Entry;
+use pool_settings::Settings;
+use pool_shared::{
+    AddFault, BorrowFault, Caller, Lent, PoolFault, ReturnFault, Returned, Room, SharedPool,
+};
+use std::alloc::Global;
+use std::fmt;
+use std::fmt::Display;
+use std::sync::Wait;
+
+pub type Pool<'a, B> = SharedPool<Thing, (), Things, Hands<'a>, B>;
+
+/// How many entries the journal of a pool has memory or room for when the call of a life is made.
+pub const FULL: u64 = 16;
+
+/// What a call came to.
+#[derive(Clone, Copy, Debug)]
+enum Told {
+    Done,
+    WantsMemory,
+    WantsRoom,
+    Wrong,
+}
+
+/// What a call came to in the end.
+#[derive(Clone, Copy, Debug, PartialEq, Eq)]
+pub enum End {
+    Done,
+    /// There was no room for it.
+    Refused,
+}
+
+impl Display for End {
+    fn fmt<W: fmt::Write>(&self, f: &mut fmt::Formatter<W>) -> fmt::Result {
+        f.write_str(match self {
+            End::Done => "done",
+            End::Refused => "refused",
+        })
+    }
+}
+
+fn told_of_addition<A: Drop>(told: Result<A, AddFault<()>>) -> Told {
+    match told {
+        Ok(_) => Told::Done,
+        Err(AddFault::OutOfMemory) => Told::WantsMemory,
+        Err(AddFault::JournalFull) => Told::WantsRoom,
+        Err(_) => Told::Wrong,
+    }
+}
+
+fn told_of_return(fault: ReturnFault) -> Told {
+    match fault {
+        ReturnFault::OutOfMemory => Told::WantsMemory,
+        ReturnFault::JournalFull => Told::WantsRoom,
+        _ => Told::Wrong,
+    }
+}
+
+fn told_of_run<A: Drop>(told: Result<A, PoolFault>) -> Told {
+    match told {
+        Ok(_) => Told::Done,
+        Err(PoolFault::OutOfMemory) => Told::WantsMemory,
+        Err(PoolFault::JournalFull) => Told::WantsRoom,
+        Err(PoolFault::Closed) => Told::Wrong,
+    }
+}
+
+/// A caller with what it holds.
+#[derive(Drop)]
+pub struct Life<B: Room> {
+    pub me: Caller<B>,
+    held: Option<Lent<Thing>>,
+    /// How many objects it was lent and has not given back, those that were reclaimed since among them.
+    loans: u64,
+}
+
+impl<B: Room> Life<B> {
+    pub fn new(me: Caller<B>) -> Life<B> {
+        Life {
+            me,
+            held: None,
+            loans: 0,
+        }
+    }
+
+    fn borrow<R: Wait>(&mut self, rt: &R, pool: &Pool<B>) -> Told {
+        match pool.borrow(rt, &mut self.me) {
+            Ok(lent) => {
+                self.held = Some(lent);
+                self.loans = self.loans.saturating_add(1);
+                Told::Done
+            }
+            Err(BorrowFault::OutOfMemory) => Told::WantsMemory,
+            Err(BorrowFault::JournalFull) => Told::WantsRoom,
+            Err(_) => Told::Wrong,
+        }
+    }
+
+    // What came of a return or an invalidation. One that was refused leaves the object with its holder.
+    fn ended(&mut self, ended: Result<Returned, (ReturnFault, Lent<Thing>)>) -> Told {
+        match ended {
+            Ok(Returned::Gone) => Told::Done,
+            Ok(_) => {
+                self.loans = self.loans.saturating_sub(1);
+                Told::Done
+            }
+            Err((fault, lent)) => {
+                self.held = Some(lent);
+                told_of_return(fault)
+            }
+        }
+    }
+
+    fn give_back<R: Wait>(&mut self, rt: &R, pool: &Pool<B>) -> Told {
+        match self.held.take() {
+            Some(lent) => {
+                let ended = pool.give_back(rt, &mut self.me, lent);
+                self.ended(ended)
+            }
+            None => Told::Done,
+        }
+    }
+
+    fn invalidate<R: Wait>(&mut self, rt: &R, pool: &Pool<B>) -> Told {
+        match self.held.take() {
+            Some(lent) => {
+                let ended = pool.invalidate(rt, &mut self.me, lent);
+                self.ended(ended)
+            }
+            None => Told::Done,
+        }
+    }
+
+    fn touch<R: Wait>(&mut self, rt: &R, pool: &Pool<B>) -> Told {
+        match &self.held {
+            Some(lent) => match pool.touch(rt, &mut self.me, lent) {
+                Ok(_) => Told::Done,
+                Err(fault) => told_of_return(fault),
+            },
+            None => Told::Wrong,
+        }
+    }
+
+    // Makes a call once.
+    fn ask<R: Wait>(&mut self, rt: &R, alloc: Global, pool: &Pool<B>, part: Part) -> Told {
+        let me = &mut self.me;
+        match part {
+            Part::Borrow => self.borrow(rt, pool),
+            Part::GiveBack => self.give_back(rt, pool),
+            Part::Invalidate => self.invalidate(rt, pool),
+            Part::Touch => self.touch(rt, pool),
+            Part::Add => told_of_addition(pool.add(rt, me)),
+            Part::Fill => told_of_addition(pool.fill(rt, me)),
+            Part::Evict => told_of_run(pool.evict(rt, me)),
+            Part::Reclaim => told_of_run(pool.reclaim(rt, me)),
+            Part::Maintain => told_of_addition(pool.maintain(rt, me)),
+            Part::Clear => told_of_run(pool.clear(rt, me)),
+            Part::Close => told_of_run(pool.close(rt, me)),
+            Part::JournalCopy => match pool.journal_copy(rt, alloc, me) {
+                Ok(_) => Told::Done,
+                Err(_) => Told::WantsMemory,
+            },
+            _ => Told::Wrong,
+        }
+    }
+
+    // The stored entries.
+    fn journal<R: Wait>(
+        &mut self,
+        rt: &R,
+        alloc: Global,
+        pool: &Pool<B>,
+        notes: &mut Notes,
+    ) -> Result<Vec<Entry>, Fault> {
+        for _ in 0..TRIES {
+            match pool.journal_copy(rt, alloc, &mut self.me) {
+                Ok(journal) => return Ok(journal),
+                Err(_) => notes.note(Part::JournalCopy),
+            }
+        }
+        Err(Fault::OutOfMemory)
+    }
+
+    // What a refused call left: nothing is in its hands, what was lent is lent or was reclaimed, and the journal is legal.
+    fn look<R: Wait>(
+        &mut self,
+        rt: &R,
+        alloc: Global,
+        pool: &Pool<B>,
+        settings: Settings,
+        notes: &mut Notes,
+    ) -> Result<(), Fault> {
+        let counts = pool.counts(rt, &mut self.me);
+        if counts.reserved != 0 {
+            return Err(Fault::LeftBehind);
+        }
+        if counts.lent.saturating_add(counts.reclaimed) != self.loans {
+            return Err(Fault::TakenAway);
+        }
+        let journal = self.journal(rt, alloc, pool, notes)?;
+        replay(alloc, settings, &journal, notes)
+    }
+
+    /// Makes a call, again where it wants memory. In the end it is done, or there is no room for it.
+    pub fn call<R: Wait>(
+        &mut self,
+        rt: &R,
+        alloc: Global,
+        pool: &Pool<B>,
+        settings: Settings,
+        part: Part,
+        notes: &mut Notes,
+    ) -> Result<End, Fault> {
+        for _ in 0..TRIES {
+            let told = self.ask(rt, alloc, pool, part);
+            self.look(rt, alloc, pool, settings, notes)?;
+            match told {
+                Told::Done => return Ok(End::Done),
+                Told::WantsMemory => notes.note(part),
+                Told::WantsRoom => return Ok(End::Refused),
+                Told::Wrong => return Err(Fault::WrongAnswer),
+            }
+        }
+        Err(Fault::OutOfMemory)
+    }
+
+    /// Makes entries until the journal, with all that is owed, can take only so many more.
+    pub fn warm<R: Wait>(
+        &mut self,
+        rt: &R,
+        alloc: Global,
+        pool: &Pool<B>,
+        settings: Settings,
+        is_closed: bool,
+        spare: u64,
+        notes: &mut Notes,
+    ) -> Result<(), Fault> {
+        for _ in 0..FULL {
+            let counts = pool.counts(rt, &mut self.me);
+            let owed = u64::from(!is_closed)
+                .saturating_add(counts.lent.saturating_mul(4))
+                .saturating_add(counts.idle.saturating_mul(2));
+            if counts.steps.saturating_add(owed).saturating_add(spare) >= FULL {
+                return Ok(());
+            }
+            self.call(rt, alloc, pool, settings, Part::Reclaim, notes)?;
+        }
+        Ok(())
+    }
+}

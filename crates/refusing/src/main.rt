@@ -1,0 +1,234 @@
+//! A test program: one caller's calls on a shared pool, each made when the journal has memory or room for few entries more.
+//!
+//! After each call it is seen that nothing is left in its hands, that what was lent is lent or was reclaimed, and that a new
+//! core gives the answers of the journal. A call that is answered that there is no memory is then made again: so what is
+//! printed is the same whatever allocation is refused. Which call it was is told on standard error.
+#![tactic(auto)]
+
+ghost use Rattle.std.specs.Prelude.{◌≡◌};
+
+mod fault;
+mod life;
+mod parts;
+mod replay;
+mod things;
+
+use fault::Fault;
+use life::{End, FULL, Life, Pool};
+use parts::{Notes, Part};
+use pool_core::Core;
+use pool_settings::Settings;
+use pool_shared::{OpenFault, Room, Site};
+use replay::{count, replay};
+use std::alloc::Global;
+use std::fmt::Display;
+use std::marker::Brand;
+use std::sync::Wait;
+use std::sync::atomic::{AtomicU64, Ordering};
+use std::{fmt, io};
+use things::{Hands, Thing, Things};
+
+/// How often a call is made that wants memory.
+const TRIES: u32 = 3;
+
+/// The calls, each in the midst of a life.
+const CALLS: [Part; 12] = [
+    Part::Borrow,
+    Part::GiveBack,
+    Part::Invalidate,
+    Part::Touch,
+    Part::Add,
+    Part::Fill,
+    Part::Evict,
+    Part::Reclaim,
+    Part::Maintain,
+    Part::Clear,
+    Part::Close,
+    Part::JournalCopy,
+];
+
+/// For how many entries more there is memory or room, at most.
+const MOST_SPARE: u64 = 4;
+
+/// A moment at which an object that was lent at 0 is abandoned.
+const LATE: u64 = 1_000;
+
+/// The number that tells this pool from others.
+const NUMBER: u64 = 1;
+
+/// What a call can lack.
+#[derive(Clone, Copy, Debug, PartialEq, Eq)]
+enum Lack {
+    Memory,
+    Room,
+}
+
+impl Display for Lack {
+    fn fmt<W: fmt::Write>(&self, f: &mut fmt::Formatter<W>) -> fmt::Result {
+        f.write_str(match self {
+            Lack::Memory => "memory",
+            Lack::Room => "room",
+        })
+    }
+}
+
+fn settings_of(lack: Lack) -> Settings {
+    Settings {
+        journal_limit: match lack {
+            Lack::Memory => 1_000,
+            Lack::Room => FULL,
+        },
+        max_total: 2,
+        min_idle: 2,
+        abandoned: true,
+        remove_abandoned_on_borrow: true,
+        remove_abandoned_on_maintenance: true,
+        remove_abandoned_timeout_millis: 10,
+        ..Settings::default()
+    }
+}
+
+// The calls before the one that is tried. It is made where the clock tells the moment.
+fn prepare<B: Room, R: Wait>(
+    rt: &R,
+    alloc: Global,
+    pool: &Pool<B>,
+    settings: Settings,
+    life: &mut Life<B>,
+    part: Part,
+    spare: u64,
+    moment: &AtomicU64,
+    notes: &mut Notes,
+) -> Result<(), Fault> {
+    match part {
+        Part::Borrow | Part::Reclaim | Part::Maintain | Part::Touch | Part::JournalCopy => {
+            life.call(rt, alloc, pool, settings, Part::Borrow, notes)?;
+        }
+        Part::GiveBack | Part::Invalidate => {
+            life.call(rt, alloc, pool, settings, Part::Borrow, notes)?;
+            moment.store(LATE, Ordering::SeqCst);
+            life.call(rt, alloc, pool, settings, Part::Reclaim, notes)?;
+        }
+        Part::Evict | Part::Clear => {
+            life.call(rt, alloc, pool, settings, Part::Fill, notes)?;
+        }
+        Part::Close => {
+            life.call(rt, alloc, pool, settings, Part::Close, notes)?;
+        }
+        _ => {}
+    }
+    life.warm(rt, alloc, pool, settings, part == Part::Close, spare, notes)?;
+    if part != Part::Touch {
+        moment.store(LATE, Ordering::SeqCst);
+    }
+    Ok(())
+}
+
+// A pool in which no object is left, and whose journal has its answers and its statistics.
+fn judge(
+    alloc: Global,
+    settings: Settings,
+    core: &Core<Thing>,
+    notes: &mut Notes,
+) -> Result<(), Fault> {
+    replay(alloc, settings, core.journal(), notes)?;
+    let statistics = count(alloc, core.journal(), notes)?;
+    let counts = core.counts();
+    let ended = counts.destroyed.saturating_add(counts.reclaimed);
+    if ended == counts.created && statistics.created == counts.created {
+        Ok(())
+    } else {
+        Err(Fault::LeftBehind)
+    }
+}
+
+// One life of a pool: a call, where there is memory for so many entries more, and the end.
+fn live<B: Room, R: Wait>(
+    rt: &R,
+    alloc: Global,
+    site: Site,
+    settings: Settings,
+    part: Part,
+    spare: u64,
+    notes: &mut Notes,
+) -> Result<Result<End, Fault>, OpenFault>
+    requires { (site ≡ B.table) × (settings ≡ B.settings) × (1 ≡ B.callers) }
+{
+    let moment = AtomicU64::new(0);
+    let hands = Hands { moment: &moment };
+    let (pool, callers) = Pool::<B>::open(rt, alloc, site, settings, NUMBER, 1, Things, hands)?;
+    let mut callers = callers;
+    let Some(me) = callers.pop() else {
+        return Ok(Err(Fault::CallerMissing));
+    };
+    let mut life = Life::new(me);
+    let end = make_calls(
+        rt, alloc, &pool, settings, &mut life, part, spare, &moment, notes,
+    );
+    if callers.push(life.me).is_err() {
+        return Ok(Err(Fault::OutOfMemory));
+    }
+    Ok(match pool.finish(rt, callers) {
+        Ok(core) => judge(alloc, settings, &core, notes).and(end),
+        Err(_) => Err(Fault::CallerMissing),
+    })
+}
+
+fn make_calls<B: Room, R: Wait>(
+    rt: &R,
+    alloc: Global,
+    pool: &Pool<B>,
+    settings: Settings,
+    life: &mut Life<B>,
+    part: Part,
+    spare: u64,
+    moment: &AtomicU64,
+    notes: &mut Notes,
+) -> Result<End, Fault> {
+    prepare(rt, alloc, pool, settings, life, part, spare, moment, notes)?;
+    let end = life.call(rt, alloc, pool, settings, part, notes)?;
+    life.call(rt, alloc, pool, settings, Part::GiveBack, notes)?;
+    life.call(rt, alloc, pool, settings, Part::Close, notes)?;
+    Ok(end)
+}
+
+// So, on a new site. A pool that finds no memory is opened again.
+fn try_life<R: Wait>(
+    rt: &R,
+    alloc: Global,
+    settings: Settings,
+    part: Part,
+    spare: u64,
+    notes: &mut Notes,
+) -> Result<End, Fault> {
+    for _ in 0..TRIES {
+        let Ok(site) = Site::new(alloc) else {
+            notes.note(Part::Site);
+            continue;
+        };
+        match live::<Brand, R>(rt, alloc, site, settings, part, spare, notes) {
+            Ok(ended) => return ended,
+            Err(OpenFault::CallerCount) => return Err(Fault::WrongAnswer),
+            Err(OpenFault::OutOfMemory) => notes.note(Part::Open),
+        }
+    }
+    Err(Fault::OutOfMemory)
+}
+
+fn main(rt: HostRuntime) -> io::Result<()> {
+    for lack in [Lack::Memory, Lack::Room] {
+        for part in CALLS {
+            for spare in 0..=MOST_SPARE {
+                let mut notes = Notes { refused: None };
+                match try_life(&rt, rt.alloc(), settings_of(lack), part, spare, &mut notes) {
+                    Ok(end) => println!(rt; "{part}, {lack} for {spare} more: {end}")?,
+                    Err(fault) => println!(rt; "{part}, {lack} for {spare} more: {fault}")?,
+                }
+                if let Some(refused) = notes.refused {
+                    eprintln!(rt; "{refused}")?;
+                }
+            }
+        }
+    }
+    Ok(())
+}

@@ -1,0 +1,61 @@
+// What can be answered that there is no memory.
+use std::fmt;
+use std::fmt::Display;
+
+/// A call of the libraries that can be answered so.
+#[derive(Clone, Copy, Debug, PartialEq, Eq)]
+pub enum Part {
+    Site,
+    Open,
+    Borrow,
+    GiveBack,
+    Invalidate,
+    Touch,
+    Add,
+    Fill,
+    Evict,
+    Reclaim,
+    Maintain,
+    Clear,
+    Close,
+    JournalCopy,
+    CoreOpen,
+    CoreStep,
+    Statistics,
+}
+
+impl Display for Part {
+    fn fmt<W: fmt::Write>(&self, f: &mut fmt::Formatter<W>) -> fmt::Result {
+        f.write_str(match self {
+            Part::Site => "Site::new",
+            Part::Open => "SharedPool::open",
+            Part::Borrow => "borrow",
+            Part::GiveBack => "give_back",
+            Part::Invalidate => "invalidate",
+            Part::Touch => "touch",
+            Part::Add => "add",
+            Part::Fill => "fill",
+            Part::Evict => "evict",
+            Part::Reclaim => "reclaim",
+            Part::Maintain => "maintain",
+            Part::Clear => "clear",
+            Part::Close => "close",
+            Part::JournalCopy => "journal_copy",
+            Part::CoreOpen => "Core::open",
+            Part::CoreStep => "Core::step",
+            Part::Statistics => "Statistics::of",
+        })
+    }
+}
+
+/// What was answered so last.
+#[derive(Drop)]
+pub struct Notes {
+    pub refused: Option<Part>,
+}
+
+impl Notes {
+    pub fn note(&mut self, part: Part) {
+        self.refused = Some(part);
+    }
+}
