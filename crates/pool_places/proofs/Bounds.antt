@@ -1,14 +1,13 @@
 -- A moment before which no lent object was last used.
-use Rattle.std.proofs.Common.{◌≡◌, ℕ, zero, suc, ◌-◌, ◌<◌, ◌≤◌, nat_le, Bool, true, false, ◌&&◌, cond, List, [], ◌∷◌, ◌++◌, set, refl, ap, ◌∙◌, arith}
-use Rattle.std.specs.Prelude.{remove, filter, IsTrue}
-use Rattle.std.specs.List.{AllByRecursion}
+use Rattle.std.proofs.Common.{◌≡◌, ℕ, zero, suc, ◌-◌, ◌<◌, ◌≤◌, nat_le, Bool, true, false, ◌&&◌, cond, List, [], ◌∷◌, ◌++◌, set, refl, arith}
+use Rattle.std.specs.Prelude.{remove, IsTrue}
 use Rattle.std.proofs.lemmas.Bool.Decides.{nat_tests}
 use Rattle.pool_journal.specs.declared.record.Record.{Record}
 use Rattle.pool_journal.specs.declared.record.Phase.{Phase}
 use Rattle.pool_journal.specs.declared.record.Phase.TheVariants as phases
 use Rattle.pool_places.specs.declared.place.Place.{Place}
 use Rattle.pool_places.specs.Changes.{opens_as, sets_to, takes_to}
-use Rattle.pool_places.specs.Overdue.{is_lent, is_overdue, overdue, IsBound}
+use Rattle.pool_places.specs.Overdue.{is_lent, overdue, IsBound}
 use Rattle.pool_places.specs.Shelf.{records_in}
 use Rattle.pool_places.proofs.Entries.{all_mapped}
 

@@ -1,24 +1,22 @@
 -- What is stored, as the list of objects and the list of entries.
-use Rattle.std.proofs.Common.{◌≡◌, ◌≢◌, ℕ, suc, zero, ◌<◌, ◌==◌, eqb, Bool, true, false, not, cond, if◌then◌else◌, List, [], ◌∷◌, ◌++◌, map, length, get_or, set, Option, Some, None, unwrap_or, refl, ap, sym, ◌∙◌, inl, inr, arith, subst}
+use Rattle.std.proofs.Common.{◌≡◌, ◌≢◌, ℕ, suc, ◌<◌, ◌==◌, eqb, Bool, true, false, not, cond, if◌then◌else◌, List, [], ◌∷◌, ◌++◌, map, length, get_or, Option, Some, None, unwrap_or, refl, ap, sym, ◌∙◌, inl, inr, arith, subst}
 use Rattle.std.specs.Prelude.{IsSome, is_some, IsSomeAnd, find}
 use Rattle.std.specs.List.{AllByRecursion}
 use Rattle.std.specs.Option.{option_map}
 use Rattle.std.proofs.lemmas.Bool.Decides.{eqb_tells, nat_tests}
-use Rattle.std.proofs.lemmas.List.{map-append, length-map}
 use Rattle.pool_journal.specs.declared.record.Record.{Record}
 use Rattle.pool_journal.specs.declared.record.Phase.TheVariants as phases
 use Rattle.pool_journal.specs.Queue.{record_in, is_queued}
 use Rattle.pool_slots.specs.Rack.{Item, Rack, item_at, known_at, value_at, is_in, Sets}
 use Rattle.pool_slots.specs.Rack.{without as without_key}
 use Rattle.rising_index.specs.declared.pair.Pair.{Pair}
-use Rattle.rising_index.specs.Pairs.{key_of, IdsBelow, IsRising}
-use Rattle.rising_index.specs.Pairs.{without as without_pair}
+use Rattle.rising_index.specs.Pairs.{key_of, IsRising}
 use Rattle.pool_places.specs.declared.place.Place.{Place}
-use Rattle.pool_places.specs.Shelf.{records_in, place_in, changed, without, new_place, IsShelf, IsAt}
-use Rattle.pool_places.specs.Stored.{place_of, place_at, kept_of, entry_of, entry_at, parked_of, IsTied, IsLine}
+use Rattle.pool_places.specs.Shelf.{records_in, place_in, changed, new_place, IsShelf}
+use Rattle.pool_places.specs.Stored.{place_of, place_at, kept_of, entry_at, parked_of, IsTied, IsLine}
 use Rattle.pool_places.specs.Waiting.{Parked, Rises, IsEntry, HasEntry, IsQueueOf}
 use Rattle.pool_places.proofs.Entries.{all_mapped}
-use Rattle.pool_places.proofs.Found.{Found, set_kept}
+use Rattle.pool_places.proofs.Found.{Found}
 use Rattle.pool_places.proofs.Shelves.{record_in-records_in}
 use Rattle.pool_slots.proofs.Keys.{is_in_first, is_in_later}
 use Rattle.pool_places.proofs.Walks.{other_stays, key_is_gone, in_pushed, in_push_other}

@@ -1,6 +1,6 @@
 -- What is true of the objects stays true when one of them is changed, comes or goes.
-use Rattle.std.proofs.Common.{◌≡◌, ◌≢◌, ℕ, ◌<◌, ◌==◌, Bool, true, false, not, cond, if◌then◌else◌, List, [], ◌∷◌, ◌++◌, map, length, set, Option, Some, None, refl, ap, sym, ◌∙◌, inl, inr, arith, subst}
-use Rattle.std.specs.Prelude.{IsSome, is_some, IsSomeAnd, remove}
+use Rattle.std.proofs.Common.{◌≡◌, ◌≢◌, ℕ, ◌<◌, ◌==◌, Bool, true, false, not, cond, if◌then◌else◌, List, [], ◌∷◌, ◌++◌, set, Option, Some, None, refl, ap, sym, ◌∙◌, inl, inr, arith, subst}
+use Rattle.std.specs.Prelude.{IsSome, is_some, IsSomeAnd}
 use Rattle.std.specs.List.{AllByRecursion}
 use Rattle.std.specs.Option.{option_map, option_and_then}
 use Rattle.std.proofs.lemmas.Bool.Decides.{eqb_tells}
@@ -13,7 +13,6 @@ use Rattle.pool_slots.specs.Rack.{without as without_key}
 use Rattle.rising_index.specs.declared.pair.Pair.{Pair}
 use Rattle.rising_index.specs.Pairs.{key_of, IdsBelow, IsRising}
 use Rattle.rising_index.specs.Pairs.{without as without_pair}
-use Rattle.pool_places.specs.declared.place.Place.{Place}
 use Rattle.pool_places.specs.declared.place_counts.PlaceCounts.{PlaceCounts}
 use Rattle.pool_places.specs.Changes.{IdsBelow as RecordsBelow}
 use Rattle.pool_places.specs.Counts.{IsCounts}

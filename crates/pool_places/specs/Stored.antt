@@ -1,5 +1,5 @@
 -- The objects and the queue as they are stored: a rack of objects under keys, and the key of each id.
-use Rattle.std.specs.Prelude.{◌≡◌, ℕ, Bool, true, List, [], ◌∷◌, map, if◌then◌else◌, eqb, Option, Some, None, unwrap_or, IsSome, IsSomeAnd}
+use Rattle.std.specs.Prelude.{◌≡◌, ℕ, true, List, [], ◌∷◌, map, if◌then◌else◌, eqb, Option, Some, None, unwrap_or, IsSome, IsSomeAnd}
 use Rattle.std.specs.Option.{option_map}
 use Rattle.pool_journal.specs.declared.record.Record.{Record}
 use Rattle.pool_journal.specs.declared.record.Phase.TheVariants as phases

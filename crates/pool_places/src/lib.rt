@@ -16,3 +16,5 @@ pub use places::Places;
 
 #[cfg(test)]
 mod tests;
+#[cfg(test)]
+mod trials;

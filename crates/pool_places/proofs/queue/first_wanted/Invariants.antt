@@ -1,4 +1,4 @@
-use Rattle.std.proofs.Common.{◌≡◌, map, reverse, length}
+use Rattle.std.proofs.Common.{◌≡◌, map, length}
 use Rattle.std.specs.Prelude.{find}
 use Rattle.pool_places.specs.Kept.{IsWithin}
 use Rattle.pool_places.specs.Stored.{entry_at, from_key}

@@ -2,7 +2,6 @@ use Rattle.std.proofs.Common.{◌≡◌, map, reverse, length}
 use Rattle.std.specs.Prelude.{find}
 use Rattle.pool_places.specs.Kept.{IsWithin}
 use Rattle.pool_places.specs.Stored.{entry_at, from_key}
-use Rattle.pool_places.specs.Waiting.{is_wanted}
 use Rattle.pool_places.proofs.queue.last_wanted.Given as goal
 
 abbrev pub invariant-loop-next : goal.invariant-loop-next

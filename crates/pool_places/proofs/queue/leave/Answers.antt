@@ -1,4 +1,4 @@
-use Rattle.std.proofs.Common.{◌≡◌, false, ◌∙◌, sym}
+use Rattle.std.proofs.Common.{◌∙◌, sym}
 use Rattle.pool_journal.specs.Queue.{is_queued}
 use Rattle.pool_places.proofs.Turned.{stays_if}
 use Rattle.pool_places.proofs.queue.leave.Goals as goal

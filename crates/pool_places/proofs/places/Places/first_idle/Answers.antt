@@ -1,4 +1,4 @@
-use Rattle.std.proofs.Common.{◌≡◌, map, reverse, List, None, Some, ap, sym, ◌∙◌}
+use Rattle.std.proofs.Common.{map, None, ap, ◌∙◌}
 use Rattle.std.specs.Prelude.{find}
 use Rattle.std.specs.Option.{option_map}
 use Rattle.pool_journal.specs.declared.record.Phase.TheVariants as phases

@@ -1,4 +1,4 @@
-use Rattle.std.proofs.Common.{◌≡◌, ◌≤◌, ◌<◌, ◌-◌, List, arith, sym, ap, ◌∙◌}
+use Rattle.std.proofs.Common.{◌≤◌, ◌<◌, ◌-◌, List, arith, sym, ap, ◌∙◌}
 use Rattle.pool_journal.specs.Queue.{first_of}
 use Rattle.pool_places.proofs.Bounds.{none_overdue}
 use Rattle.std.specs.List.{AllByRecursion}

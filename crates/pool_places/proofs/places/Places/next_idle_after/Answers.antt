@@ -1,10 +1,10 @@
-use Rattle.std.proofs.Common.{◌≡◌, map, reverse, List, None, Some, ap, sym, ◌∙◌}
+use Rattle.std.proofs.Common.{map, Some, ap, sym, ◌∙◌}
 use Rattle.std.specs.Prelude.{find}
 use Rattle.std.specs.Option.{option_map}
 use Rattle.pool_journal.specs.declared.record.Phase.TheVariants as phases
 use Rattle.pool_places.specs.Changes.{IsInPhase}
 use Rattle.pool_places.specs.Shelf.{records_in}
-use Rattle.pool_places.specs.Stored.{kept_of, entry_at, from_key, parked_of}
+use Rattle.pool_places.specs.Stored.{kept_of, entry_at, parked_of}
 use Rattle.pool_places.specs.Waiting.{Parked, is_wanted}
 use Rattle.pool_places.proofs.Picked.{next_entry}
 use Rattle.pool_places.proofs.Picks.{named_by_id, each_is_found, next_is_idle}

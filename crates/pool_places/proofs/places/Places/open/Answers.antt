@@ -1,4 +1,4 @@
-use Rattle.std.proofs.Common.{ap, arith, refl, subst, sym, ◌∙◌, length, List}
+use Rattle.std.proofs.Common.{ap, arith, refl, subst, sym, ◌∙◌, length}
 use Rattle.std.proofs.lemmas.List.{length_push, length-map}
 use Rattle.pool_slots.specs.Rack.{is_in}
 use Rattle.rising_index.specs.declared.pair.Pair.{Pair}

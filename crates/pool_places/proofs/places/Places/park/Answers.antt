@@ -1,12 +1,8 @@
-use Rattle.std.proofs.Common.{◌≡◌, true, false, Some, None, refl, ap, sym, ◌∙◌, arith, subst}
-use Rattle.std.specs.Prelude.{is_some}
-use Rattle.pool_journal.specs.Queue.{is_idle, is_queued}
-use Rattle.pool_journal.specs.declared.record.Phase.TheVariants as phases
-use Rattle.pool_slots.specs.Rack.{value_at}
+use Rattle.std.proofs.Common.{Some, refl, ap, sym, ◌∙◌, arith, subst}
 use Rattle.pool_places.proofs.Racks.{item_known, line_joined, queue_kept}
 use Rattle.std.proofs.Common.{◌++◌, ◌∷◌, []}
 use Rattle.std.specs.Option.{option_map, option_and_then}
-use Rattle.pool_slots.specs.Rack.{Item, is_in, Sets}
+use Rattle.pool_slots.specs.Rack.{Item, is_in}
 use Rattle.pool_places.specs.Changes.{parked_at, QueueBelow}
 use Rattle.pool_places.specs.Kept.{IsWithin}
 use Rattle.pool_places.specs.Shelf.{records_in, to_idle}
@@ -16,7 +12,7 @@ use Rattle.pool_places.proofs.NotIdle.{not_queued}
 use Rattle.pool_places.proofs.Numbers.{has_one, counted_set, small, small_less}
 use Rattle.pool_places.proofs.Owing.{set_owed_of}
 use Rattle.pool_places.proofs.Bounds.{bound_set}
-use Rattle.pool_places.proofs.Turned.{Reads, here, key_seen, item_there, follows_known, kept_is, kept_after, line_changed, known_set, value_set, sets_then, sets_queued, no_value}
+use Rattle.pool_places.proofs.Turned.{Reads, here, key_seen, item_there, follows_known, kept_is, kept_after, known_set, value_set, sets_then, sets_queued, no_value}
 use Rattle.pool_places.proofs.Walks.{within_push}
 use Rattle.pool_places.proofs.places.Places.park.Goals as goal
 

@@ -1,7 +1,4 @@
-use Rattle.std.proofs.Common.{◌≡◌, true, false, Some, None, refl, ap, sym, ◌∙◌, arith, subst}
-use Rattle.std.specs.Prelude.{is_some}
-use Rattle.pool_journal.specs.Queue.{is_idle, is_queued}
-use Rattle.pool_journal.specs.declared.record.Phase.TheVariants as phases
+use Rattle.std.proofs.Common.{refl, arith}
 use Rattle.pool_slots.specs.Rack.{value_at}
 use Rattle.pool_places.proofs.Racks.{item_known}
 use Rattle.pool_places.specs.Changes.{phase_set}

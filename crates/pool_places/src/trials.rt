@@ -1,0 +1,327 @@
+ghost use Rattle.std.specs.Prelude.{◌≡◌, ◌+◌, ◌<◌, ◌≤◌, Some, OnOk, IsTrue};
+ghost use Rattle.pool_journal.specs.Queue.{record_in};
+ghost use Rattle.pool_places.specs.Changes.{opens_as};
+ghost use Rattle.pool_places.specs.Shelf.{records_in};
+ghost use Rattle.pool_places.specs.Before.{AllBefore};
+
+use crate::{Place, PlaceCounts, Places, weight_of_phase};
+use pool_journal::{Phase, Record};
+use std::alloc::Global;
+use std::process::Abort;
+use std::test::Fail;
+
+// The next of a row of numbers without an order.
+fn next_number(state: &mut u64) -> u64 {
+    *state = state
+        .wrapping_mul(6_364_136_223_846_793_005)
+        .wrapping_add(1_442_695_040_888_963_407);
+    *state >> 33
+}
+
+// An object that comes to the pool, in a plain list.
+fn come(plain: &mut Vec<Place<u64>>, id: u64, phase: Phase) -> Result<(), Fail> {
+    let known = Record {
+        id,
+        phase,
+        parked: 0,
+        since: 0,
+        lent: 0,
+        used: 0,
+        is_new: true,
+    };
+    plain.push(Place { known, value: None })?;
+    Ok(())
+}
+
+// What an object in a plain list becomes, as it is chosen, at a moment that is also a place in the queue.
+fn turn(place: &mut Place<u64>, choice: u64, moment: u64) {
+    let old = place.known.phase;
+    let phase = match old {
+        Phase::Readying if choice == 0 => Phase::Destroying,
+        Phase::Readying => Phase::Lent,
+        Phase::Lent if choice < 2 => Phase::Lent,
+        Phase::Lent => Phase::Returning,
+        Phase::Returning | Phase::Adding => Phase::Idle,
+        Phase::Idle if choice == 0 => Phase::Destroying,
+        Phase::Idle if choice == 1 => Phase::Readying,
+        Phase::Idle => Phase::Testing,
+        Phase::Testing if choice == 0 => Phase::Destroying,
+        Phase::Testing => Phase::Idle,
+        Phase::Destroying | Phase::Absent | Phase::Gone => Phase::Gone,
+    };
+    if phase == Phase::Lent {
+        place.known.used = moment;
+        if old == Phase::Readying {
+            place.known.lent = moment;
+        }
+    }
+    if phase == Phase::Idle && old != Phase::Testing {
+        place.known.parked = moment;
+        place.known.since = moment;
+    }
+    place.value = if phase == Phase::Idle {
+        Some(moment)
+    } else {
+        None
+    };
+    place.known.phase = phase;
+    place.known.is_new = false;
+}
+
+// The same of an object that keeps no value.
+fn move_on(places: &mut Places<u64>, id: u64, known: Record, choice: u64, moment: u64)
+    requires known { record_in (records_in places.old.kept) id ≡ Some known }
+    requires before { AllBefore moment (records_in places.old.kept) }
+    ensures { AllBefore (moment + 1) (records_in places.new.kept) }
+{
+    match known.phase {
+        Phase::Readying if choice == 0 => places.set_phase(id, Phase::Destroying),
+        Phase::Readying => places.set_lent(id, moment),
+        Phase::Lent if choice < 2 => places.set_used(id, moment),
+        Phase::Lent => places.set_phase(id, Phase::Returning),
+        Phase::Returning | Phase::Adding => places.park(id, moment, moment, moment),
+        Phase::Testing if choice == 0 => places.set_phase(id, Phase::Destroying),
+        Phase::Testing => places.put_value(id, moment),
+        Phase::Destroying => places.free(id),
+        Phase::Idle | Phase::Absent | Phase::Gone => {}
+    }
+}
+
+// The same of an idle object, whose value comes out.
+fn take(places: &mut Places<u64>, id: u64, known: Record, choice: u64, moment: u64) -> Option<u64>
+    requires known { record_in (records_in places.old.kept) id ≡ Some known }
+    requires before { AllBefore moment (records_in places.old.kept) }
+    ensures { AllBefore (moment + 1) (records_in places.new.kept) }
+{
+    match known.phase {
+        Phase::Idle if choice == 0 => Some(places.take_value(id, Phase::Destroying)),
+        Phase::Idle if choice == 1 => Some(places.take_value(id, Phase::Readying)),
+        Phase::Idle => Some(places.take_value(id, Phase::Testing)),
+        _ => {
+            move_on(places, id, known, choice, moment);
+            None
+        }
+    }
+}
+
+// Opens an object.
+fn open(places: &mut Places<u64>, id: u64, phase: Phase) -> Result<(), Fail>
+    requires before { AllBefore id (records_in places.old.kept) }
+    requires phase { IsTrue (opens_as phase) }
+    ensures { OnOk result (AllBefore (id + 1) (records_in places.new.kept)) }
+{
+    places.reserve_one()?;
+    places.open(id, phase);
+    Ok(())
+}
+
+// Turns one object of a plain list. Gives its id, and the value that it kept.
+fn turn_one(plain: &mut Vec<Place<u64>>, number: u64, moment: u64) -> Option<(u64, Option<u64>)> {
+    let index = (number >> 8) as usize % plain.len().max(1);
+    let place = plain.get_mut(index)?;
+    let id = place.known.id;
+    let value = place.value;
+    turn(place, number % 8, moment);
+    if place.known.phase == Phase::Gone {
+        let _ = plain.remove(index);
+    }
+    Some((id, value))
+}
+
+// Turns the object in the places, and compares the value that comes out.
+fn go_on(
+    rt: &impl Abort,
+    places: &mut Places<u64>,
+    id: u64,
+    value: Option<u64>,
+    choice: u64,
+    moment: u64,
+)
+    requires { AllBefore moment (records_in places.old.kept) }
+    ensures { AllBefore (moment + 1) (records_in places.new.kept) }
+{
+    match places.find(id) {
+        None => panic!(rt; "an object is missing"),
+        Some(known) => {
+            let out = take(places, id, known, choice, moment);
+            assert_eq!(rt; out, value);
+        }
+    }
+}
+
+// One call, by chance.
+fn call(
+    rt: &impl Abort,
+    places: &mut Places<u64>,
+    plain: &mut Vec<Place<u64>>,
+    most: usize,
+    number: u64,
+    moment: u64,
+) -> Result<(), Fail>
+    requires { AllBefore moment (records_in places.old.kept) }
+    ensures { OnOk result (AllBefore (moment + 1) (records_in places.new.kept)) }
+{
+    if plain.len() < most && number % 3 == 0 {
+        come(plain, moment, Phase::Adding)?;
+        return open(places, moment, Phase::Adding);
+    }
+    if plain.len() < most && number % 11 == 1 {
+        come(plain, moment, Phase::Readying)?;
+        return open(places, moment, Phase::Readying);
+    }
+    match turn_one(plain, number, moment) {
+        None => {}
+        Some((id, value)) => go_on(rt, places, id, value, number % 8, moment),
+    }
+    Ok(())
+}
+
+// Nothing that is seen changes.
+fn look(places: &mut Places<u64>, number: u64, moment: u64)
+    ensures { places.new ≡ places.old }
+{
+    places.look_from(moment.saturating_sub(number % 64));
+    places.look_for_overdue(moment, number % 32);
+}
+
+fn is_queued(place: &Place<u64>) -> bool {
+    matches!(place.known.phase, Phase::Idle | Phase::Testing)
+}
+
+fn is_overdue(place: &Place<u64>, at: u64, timeout: u64) -> bool {
+    place.known.phase == Phase::Lent && at.saturating_sub(place.known.used) >= timeout
+}
+
+// The idle object that was parked first from a position on.
+fn first_from(plain: &[Place<u64>], position: u64) -> Option<u64> {
+    let mut first: Option<Record> = None;
+    for place in plain {
+        let known = place.known;
+        if known.phase == Phase::Idle && known.parked >= position {
+            let is_first = match first {
+                None => true,
+                Some(best) => known.parked < best.parked,
+            };
+            if is_first {
+                first = Some(known);
+            }
+        }
+    }
+    first.map(|known| known.id)
+}
+
+// The idle object that was parked last.
+fn last_of(plain: &[Place<u64>]) -> Option<u64> {
+    let mut last: Option<Record> = None;
+    for place in plain {
+        let known = place.known;
+        if known.phase == Phase::Idle {
+            let is_last = match last {
+                None => true,
+                Some(best) => known.parked > best.parked,
+            };
+            if is_last {
+                last = Some(known);
+            }
+        }
+    }
+    last.map(|known| known.id)
+}
+
+fn count_phase(plain: &[Place<u64>], phase: Phase) -> u64 {
+    plain
+        .iter()
+        .filter(|place| place.known.phase == phase)
+        .count() as u64
+}
+
+fn counts_of(plain: &[Place<u64>]) -> PlaceCounts {
+    let mut owed = 0u64;
+    for place in plain {
+        owed = owed.wrapping_add(weight_of_phase(place.known.phase));
+    }
+    PlaceCounts {
+        present: plain.len() as u64,
+        queue: plain.iter().filter(|place| is_queued(place)).count() as u64,
+        idle: count_phase(plain, Phase::Idle),
+        lent: count_phase(plain, Phase::Lent),
+        adding: count_phase(plain, Phase::Adding),
+        owed,
+    }
+}
+
+// Questions about the queue.
+fn ask_queue(rt: &impl Abort, places: &Places<u64>, plain: &[Place<u64>], position: u64) {
+    assert_eq!(rt; places.first_idle(), first_from(plain, 0));
+    assert_eq!(rt; places.last_idle(), last_of(plain));
+    assert_eq!(rt;
+        places.next_idle_after(position),
+        first_from(plain, position.saturating_add(1))
+    );
+}
+
+// Questions about lent objects.
+fn ask_overdue(rt: &impl Abort, places: &Places<u64>, plain: &[Place<u64>], at: u64, timeout: u64) {
+    let overdue = plain
+        .iter()
+        .filter(|place| is_overdue(place, at, timeout))
+        .count() as u64;
+    assert_eq!(rt; places.count_overdue(at, timeout), overdue);
+    let least = plain
+        .iter()
+        .find(|place| is_overdue(place, at, timeout))
+        .map(|place| place.known.id);
+    assert_eq!(rt; places.least_overdue(at, timeout), least);
+}
+
+// Questions about one object and about all.
+fn ask_known(rt: &impl Abort, places: &Places<u64>, plain: &[Place<u64>], id: u64) {
+    let known = plain
+        .iter()
+        .find(|place| place.known.id == id)
+        .map(|place| place.known);
+    assert_eq!(rt; places.find(id), known);
+    assert_eq!(rt; places.present(), plain.len());
+    let counts = counts_of(plain);
+    assert_eq!(rt; places.counts(), counts);
+    assert_eq!(rt; places.queued() as u64, counts.queue);
+}
+
+// Calls by chance, with so many objects at most, and every question after each call.
+fn many_calls(
+    rt: &impl Abort,
+    alloc: Global,
+    calls: u64,
+    most: usize,
+    seed: u64,
+) -> Result<(), Fail> {
+    let mut places = Places::new(alloc);
+    let mut plain = Vec::new(alloc);
+    let mut state = seed;
+    for moment in 1..calls {
+        let number = next_number(&mut state);
+        call(rt, &mut places, &mut plain, most, number, moment)?;
+        look(&mut places, number >> 5, moment);
+        let other = next_number(&mut state);
+        let back = moment.saturating_sub(other % 128);
+        ask_queue(rt, &places, &plain, back);
+        ask_overdue(rt, &places, &plain, moment, (other >> 7) % 64);
+        ask_known(rt, &places, &plain, back);
+    }
+    Ok(())
+}
+
+#[test]
+fn few_objects(rt: HostRuntime) -> Result<(), Fail> {
+    many_calls(&rt, rt.alloc(), 40_000, 3, 1)
+}
+
+#[test]
+fn some_objects(rt: HostRuntime) -> Result<(), Fail> {
+    many_calls(&rt, rt.alloc(), 40_000, 9, 2)
+}
+
+#[test]
+fn more_objects(rt: HostRuntime) -> Result<(), Fail> {
+    many_calls(&rt, rt.alloc(), 20_000, 40, 3)
+}
