@@ -7,7 +7,8 @@
 The file OUTPUT has what PROGRAM writes with ARGUMENTS where all allocations are granted. It is run once for each of its
 allocations, which is refused then (tests/refuse.c, built with the C compiler that CC names, or cc).
 
-- One that `ends` must end with status 3 and the line 'pool: out of memory', or 'pool: no thread' where it starts threads, after
+- One that `ends` must end with status 3 and the line 'pool: out of memory', or 'pool: no thread' where it starts threads, or
+  'pool: cannot open ..' for one of its files, after
   some whole lines from the front of OUTPUT; or write the whole of it, where it can do without what was refused. The first
   allocation it can't do without.
 - One that `goes-on` must write the whole of OUTPUT.
@@ -54,7 +55,8 @@ class Program:
 
     def is_refused(self, output, error, status):
         whole_lines = output == b"" or output.endswith(b"\n")
-        return status == 3 and error.rstrip(b"\n") in FAULTS and whole_lines and self.wanted.startswith(output)
+        unopened = {b"pool: cannot open " + os.fsencode(word) for word in self.command[2:]}
+        return status == 3 and error.rstrip(b"\n") in FAULTS | unopened and whole_lines and self.wanted.startswith(output)
 
 
 def runs(program, may_end):

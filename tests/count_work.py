@@ -1,0 +1,192 @@
+#!/usr/bin/env python3
+"""Counts what the program asks of the system, and compares it with what the data need.
+
+    count_work.py POOL
+
+POOL is the program. Its allocations, the bytes that it holds, its reads and its writes are counted by a preloaded library
+(tests/count.c, built with the C compiler that CC names, or cc). Allocations and bytes must be within a quarter of what is said
+below of lists and their elements; reads and writes within bounds that follow from the size of the buffers.
+
+Prints each number that is out of its bounds, and in the end the line 'N passed, M failed'.
+"""
+
+import dataclasses
+import os
+import pathlib
+import subprocess
+import sys
+import tempfile
+
+SOURCE = pathlib.Path(__file__).resolve().parent / "count.c"
+
+# The buffer for what comes, that for what waits to be written, and the longest line. At most so many bytes less are read at once.
+BUFFER = 65_536
+
+LINE = 256
+
+# The longest settings file with one byte more, for which there is room while it is read.
+SETTINGS = 1_048_577
+
+# An entry: the caller and the moment, an input (its kind, a number, an outcome) and an answer (its kind, a number), in words of
+# 8 bytes.
+ENTRY = 7 * 8
+
+# An object: the seven numbers and marks of its record, and its value with the mark whether there is one; and its place in the
+# queue: its position, its id, and a mark.
+OBJECT = 9 * 8 + 3 * 8
+
+# A list has room for so many at first, and for twice as many each time that it is full.
+FIRST = 4
+
+# What an idle object still needs of the journal: it is taken away, and its place is freed.
+OWED = 2
+
+NAMES = "borrowed returned created destroyed evicted borrowtestfailed reclaimed longest total".split()
+
+
+def room(count):
+    """For how many elements a list with so many has room, and how often it has grown."""
+    held, growths = FIRST, 0
+    while held < count:
+        held, growths = 2 * held, growths + 1
+    return (held, growths) if count else (0, -1)
+
+
+@dataclasses.dataclass
+class Script:
+    """A script with its journal, of so many entries; in the end so many objects are idle."""
+
+    name: str
+    entries: list
+    idle: int = 0
+
+    def needs(self, command):
+        """The allocations of a command on it, and the most bytes that are held."""
+        count = len(self.entries)
+        words = {"run": 4, "check": 4, "stats": 3}[command]
+        # Each word and the look for one more, the list of the words, and once more.
+        allocations = words + 3
+        if command == "stats":
+            held, growths = room(count)
+            return allocations + 2 + 1 + growths, ENTRY * held + 2 * BUFFER
+        # The settings' bytes, the document and its three keys; two buffers; the lists of entries, of objects and of the queue. In
+        # that of the entries there is room for what is owed too.
+        held, growths = room(max(FIRST, count + OWED * self.idle + 1))
+        objects, more = room(self.idle)
+        allocations += 1 + 5 + 2 + (1 + growths) + 2 * (1 + more)
+        return allocations, max(ENTRY * held + OBJECT * objects + 2 * BUFFER, SETTINGS)
+
+
+def scripts():
+    life = ["0 10 borrow 10 = make 0", "0 11 ready 0 good = lent", "0 15 return 0 = check", "0 16 park 0 good = parked"]
+    yield Script("a short life", life, 1)
+    yield Script("1,200,000 uses", [f"7 {i} use {i} = refused notlent" for i in range(1_200_000)])
+    objects = [line for i in range(100_000) for line in (f"0 0 add = make {i}", f"0 1 added {i} good = parked")]
+    yield Script("100,000 objects", objects, 100_000)
+
+
+class Counter:
+    def __init__(self, pool, folder):
+        self.pool, self.folder = pool, folder
+        self.library, self.file = folder / "count.so", folder / "counted"
+        self.passed = self.failed = 0
+        compiler = os.environ.get("CC", "cc")
+        subprocess.run([compiler, "-O1", "-shared", "-fPIC", "-o", self.library, SOURCE, "-ldl"], check=True)
+        self.environment = {"LD_PRELOAD": str(self.library), "COUNTED": str(self.file)}
+        (folder / "settings.toml").write_text("journalLimit = 4294967296\nmaxTotal = -1\nmaxIdle = -1\n")
+
+    def expect(self, name, number, least, most):
+        if least <= number <= most:
+            self.passed += 1
+        else:
+            self.failed += 1
+            print(f"{name}: {number} is not from {least} to {most}")
+
+    def counted(self):
+        """The numbers of the last run, by their names."""
+        lines = self.file.read_text().splitlines()
+        self.file.unlink()
+        return {name: int(number) for name, number in (line.split() for line in lines)}
+
+    def count(self, arguments):
+        """Runs the program to its end: what is counted."""
+        subprocess.run([self.pool, *arguments], cwd=self.folder, env=self.environment, stdout=subprocess.DEVNULL, timeout=60, check=True)
+        return self.counted()
+
+    def play(self, script, command):
+        journal = "".join(entry + "\n" for entry in script.entries)
+        text = "".join(entry.partition(" = ")[0] + "\n" for entry in script.entries) if command == "run" else journal
+        (self.folder / "text").write_text(text)
+        counted = self.count([command, *(["settings.toml"] if command != "stats" else []), "text"])
+        name = f"{command} of {script.name}"
+        allocations, most = script.needs(command)
+        self.expect(f"{name}: allocations", counted["allocations"], allocations * 3 // 4, allocations * 5 // 4)
+        self.expect(f"{name}: bytes held", counted["most"], most * 3 // 4, most * 5 // 4)
+        self.streams(name, command, counted, len(text), len(journal))
+
+    def streams(self, name, command, counted, text, journal):
+        """Reads and writes: the settings are read once, and to their end; then the text, by whole buffers but for a piece of a line."""
+        settings = 0 if command == "stats" else 2
+        self.expect(f"{name}: reads", counted["reads"] - settings, text // BUFFER + 1, text // (BUFFER - LINE) + 2)
+        self.expect(f"{name}: least room for a read", counted["room"], BUFFER - LINE, SETTINGS)
+        self.expect(f"{name}: reads at the end", counted["ends"], 1 + settings // 2, 1 + settings // 2)
+        if command == "run":
+            # What waits is written where it fills the buffer, and before each read.
+            reads = counted["reads"] - settings
+            self.expect(f"{name}: written", counted["written"], journal, journal)
+            self.expect(f"{name}: writes", counted["writes"], -(-journal // BUFFER), journal // (BUFFER - LINE) + reads)
+            self.expect(f"{name}: reads after the last write", counted["late"], 0, 1)
+        else:
+            self.expect(f"{name}: writes", counted["writes"], 1, 1)
+            self.expect(f"{name}: reads after the verdict", counted["late"], 0, 0)
+
+    def endless(self, name, arguments, front, line, wanted):
+        """Gives the program a text without an end: it must answer, and leave, with what it had read."""
+        (self.folder / "small.toml").write_text("maxTotal = 1\njournalLimit = 1000\n")
+        options = {"stdin": subprocess.PIPE, "stdout": subprocess.PIPE, "stderr": subprocess.PIPE}
+        run = subprocess.Popen([self.pool, *arguments], cwd=self.folder, env=self.environment, **options)
+        given = 0
+        try:
+            run.stdin.write(front)
+            while given < 1 << 24:
+                given += run.stdin.write(line * 1000)
+                run.stdin.flush()
+        except BrokenPipeError:
+            pass
+        try:
+            run.stdin.close()
+        except BrokenPipeError:
+            pass
+        answer = run.stdout.read(), run.stderr.read(), run.wait(60)
+        self.expect(f"{name}: right answers {answer}", int(answer == wanted), 1, 1)
+        self.expect(f"{name}: the program left the text", int(given < 1 << 24), 1, 1)
+        # Pipes give less than is asked for.
+        self.expect(f"{name}: bytes read", self.counted()["read"], len(front) + 1, len(front) + len(line) + 1000 * LINE + 2 * BUFFER)
+
+
+def play_endless(counter):
+    legal, wait = b"0 0 borrow 0 = make 0\n", b"0 0 borrow 0 = wait\n"
+    illegal = (b"illegal 1 wait\n", b"", 1)
+    counter.endless("an illegal journal", ["check", "small.toml", "/dev/stdin"], legal + b"0 0 borrow 0 = exhausted\n", wait, illegal)
+    counter.endless("no journal", ["check", "small.toml", "/dev/stdin"], legal, b"nonsense\n", (b"", b"pool: line 2: not a line\n", 3))
+    counter.endless("no line", ["stats", "/dev/stdin"], legal, b"0 0 add lent\n", (b"", b"pool: line 2: not a line\n", 3))
+    counter.endless("one long line", ["stats", "/dev/stdin"], legal, b"a" * 256, (b"", b"pool: line 2: line too long\n", 3))
+    counter.endless("no script", ["run", "small.toml", "/dev/stdin"], b"0 0 borrow 0\n", b"x\n", (legal, b"pool: line 2: not a line\n", 3))
+    # An object that is made for a borrower owes five entries until its place is free, and the open pool the one that closes it.
+    full = legal + wait * (1000 - 6 - 1), b"pool: line 995: journal full\n", 3
+    counter.endless("a full journal", ["run", "small.toml", "/dev/stdin"], b"", b"0 0 borrow 0\n", full)
+
+
+def main(pool):
+    with tempfile.TemporaryDirectory() as made:
+        counter = Counter(str(pathlib.Path(pool).resolve()), pathlib.Path(made))
+        for script in scripts():
+            for command in ("run", "check", "stats"):
+                counter.play(script, command)
+        play_endless(counter)
+    print(f"{counter.passed} passed, {counter.failed} failed")
+    return 1 if counter.failed else 0
+
+
+if __name__ == "__main__":
+    sys.exit(main(sys.argv[1]))

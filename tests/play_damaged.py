@@ -1,0 +1,169 @@
+#!/usr/bin/env python3
+"""Damages a journal of 10,000 lines in each of 10,000 ways, and compares the program's verdict with that of tests/pool_model.py.
+
+    play_damaged.py POOL [WAYS]
+
+POOL is the program. In each way one byte is changed, dropped or doubled, two lines next to each other or further apart are
+exchanged, or a line is lost; the ways go over all lines and are the same in each run. With WAYS only so many are tried, spread
+over all. The model is tried first on the journals of tests/cases.
+
+Prints each verdict that differs, and in the end the line 'N passed, M failed'.
+"""
+
+import concurrent.futures
+import os
+import pathlib
+import subprocess
+import sys
+import tempfile
+
+from pool_model import Journal, Pool, settings_of, words_of
+
+CASES = pathlib.Path(__file__).resolve().parent / "cases"
+
+LENGTH = 10_000
+
+WAYS = 10_000
+
+# All kinds of inputs have something to do: objects are evicted, tested, forgotten, and the pool closes near the end.
+SETTINGS = """maxTotal = 6
+maxIdle = 4
+minIdle = 2
+maxWaitMillis = 30
+minEvictableIdleMillis = 40
+numTestsPerEvictionRun = -2
+testWhileIdle = true
+[abandoned]
+removeAbandonedOnBorrow = true
+removeAbandonedOnMaintenance = true
+removeAbandonedTimeoutMillis = 60
+"""
+
+
+class Chance:
+    """Numbers that look like chance, and are the same in each run (splitmix64)."""
+
+    def __init__(self, seed):
+        self.state = seed
+
+    def below(self, limit):
+        self.state = (self.state + 0x9E3779B97F4A7C15) % 2**64
+        mixed = (self.state ^ self.state >> 30) * 0xBF58476D1CE4E5B9 % 2**64
+        mixed = (mixed ^ mixed >> 27) * 0x94D049BB133111EB % 2**64
+        return (mixed ^ mixed >> 31) % limit
+
+    def one_of(self, choices):
+        return choices[self.below(len(choices))]
+
+
+def next_input(pool, at, chance):
+    """An input that has something to do, mostly: what goes on with an object, or one that begins something."""
+    goes_on = {"readying": b"ready", "returning": b"park", "adding": b"added", "testing": b"tested"}
+    ids = sorted(pool.objects)
+    if ids and chance.below(4):
+        id = chance.one_of(ids)
+        phase = pool.phase(id)
+        if phase in goes_on:
+            bad = chance.one_of([b"makefail", b"activatefail", b"testfail", b"passivatefail"])
+            return goes_on[phase], id, bad if chance.below(6) == 0 else b"good"
+        if phase == "destroying":
+            return b"destroyed", id
+        if phase == "lent":
+            return chance.one_of([b"return", b"return", b"use", b"invalidate"]), id
+    begins = [b"borrow", b"borrow", b"add", b"fill", b"evict", b"evictnext", b"evictnext", b"reclaim", b"reclaimnext", b"clearnext"]
+    name = chance.one_of(begins)
+    given = {b"borrow": (at - chance.below(40),), b"reclaim": (chance.one_of([b"borrow", b"maintain"]),)}
+    return name, *given.get(name, ())
+
+
+def journal_by_chance(settings, length):
+    pool, chance, at, lines = Pool(settings), Chance(1), 1000, []
+    for position in range(length):
+        at += chance.below(12)
+        asked = (b"close",) if position == length - 100 else next_input(pool, at, chance)
+        answer = pool.reply(at, asked)
+        lines.append(b"%d %d %s = %s\n" % (chance.below(20), at, words_of(asked), words_of(answer)))
+        pool.step(at, asked, answer)
+    return b"".join(lines)
+
+
+def damaged(journal, way, chance):
+    """The text of the journal damaged in this way, and the first and the last line that may be others."""
+    count = len(journal.lines)
+    first = way * 7919 % count
+    start = journal.starts[first]
+    at = start + chance.below(len(journal.lines[first]))
+    text = journal.text
+    kind = way % 5
+    if kind == 0:
+        byte = bytes([chance.one_of(b"0123456789 =\nabcdefghijklmnopqrstuvwxyz\x00\x7f\xff")])
+        return text[:at] + byte + text[at + 1 :], first, first
+    if kind == 1:
+        return text[:at] + text[at + 1 :], first, first
+    if kind == 2:
+        return text[: at + 1] + text[at:], first, first
+    if kind == 3:
+        second = min(count - 1, first + chance.one_of([1, 1, 2, 10, 100]))
+        lines = journal.lines[first : second + 1]
+        changed = [lines[-1], *lines[1:-1], lines[0]] if second > first else lines
+        return text[:start] + b"".join(changed) + text[start + sum(map(len, lines)) :], first, second
+    return text[:start] + text[start + len(journal.lines[first]) :], first, first
+
+
+def answered(verdict):
+    """What the program must write, to standard output and to standard error, and its status."""
+    if verdict.startswith(b"pool: "):
+        return b"", verdict, 3
+    return verdict, b"", 0 if verdict.startswith(b"legal") else 1
+
+
+def differs(pool, settings, journal, way):
+    text, first, last = damaged(journal, way, Chance(way))
+    wanted = answered(journal.verdict(text, first, last))
+    done = subprocess.run([pool, "check", settings, "/dev/stdin"], input=text, capture_output=True, timeout=60)
+    got = done.stdout, done.stderr, done.returncode
+    return None if got == wanted else f"way {way}: wanted {wanted}, got {got}"
+
+
+def misjudged():
+    """The journals of the cases that the model takes for illegal."""
+    for path in sorted(CASES.glob("*/*.journal")):
+        settings = path.with_suffix(".toml")
+        if settings.exists():
+            try:
+                Journal(settings_of(settings.read_text()), path.read_bytes())
+            except ValueError as fault:
+                yield f"the model, on {path}: {fault}"
+
+
+_STATE = {}
+
+
+def begin(pool, path, text):
+    _STATE["given"] = pool, path, Journal(settings_of(SETTINGS), text)
+
+
+def difference(way):
+    return differs(*_STATE["given"], way)
+
+
+def main(pool, ways=WAYS):
+    found = list(misjudged())
+    passed = 1 - bool(found)
+    text = journal_by_chance(settings_of(SETTINGS), LENGTH)
+    with tempfile.NamedTemporaryFile("w", suffix=".toml") as file:
+        file.write(SETTINGS)
+        file.flush()
+        tried = range(0, WAYS, max(1, WAYS // int(ways)))
+        with concurrent.futures.ProcessPoolExecutor(os.cpu_count(), initializer=begin, initargs=(pool, file.name, text)) as workers:
+            for told in workers.map(difference, tried, chunksize=50):
+                passed += told is None
+                found += [told] if told else []
+    for told in found:
+        print(told)
+    print(f"{passed} passed, {len(found)} failed")
+    return 1 if found else 0
+
+
+if __name__ == "__main__":
+    sys.exit(main(*sys.argv[1:]))

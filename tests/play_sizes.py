@@ -1,0 +1,127 @@
+#!/usr/bin/env python3
+"""Plays the program on journals, pools, settings texts and keys of all sizes, and sees that it gives up on none.
+
+    play_sizes.py POOL
+
+POOL is the program. Sizes are spread from 1 to the limit, or to 1,200,000 lines and 100,000 objects; around each power of 2
+that is 65,536 or less they are tried one by one. What must be answered is known for each size without playing.
+
+Prints each case that differs, and in the end the line 'N passed, M failed'.
+"""
+
+import pathlib
+import subprocess
+import sys
+import tempfile
+
+LONGEST_TEXT = 1_048_576
+
+LINES = [1, 2, 10, 100, 1_000, 4_096, 10_000, 65_535, 65_536, 65_537, 100_001, 300_000, 1_048_575, 1_048_577, 1_200_000]
+
+OBJECTS = [1, 2, 9, 100, 1_023, 1_025, 2_001, 4_097, 10_000, 32_769, 65_537, 100_000]
+
+NO_LIMITS = "journalLimit = 4294967296\nmaxTotal = -1\nmaxIdle = -1\n"
+
+
+def lengths(limit):
+    """Lengths from 1 to the limit: about the powers of 2, and between them."""
+    found = {1, 2, 3, limit - 1, limit}
+    for power in range(2, limit.bit_length()):
+        found |= {2**power - 1, 2**power, 2**power + 1, 2**power * 5 // 4, 2**power * 3 // 2}
+    found |= {200, 201, 255, 257, 2_049, 65_535, 100_000, 1_000_000}
+    return sorted(length for length in found if 0 < length <= limit)
+
+
+class Play:
+    def __init__(self, pool, folder):
+        self.pool, self.folder = pool, folder
+        self.passed = self.failed = 0
+
+    def expect(self, name, arguments, wanted):
+        """A run must write this to standard output and standard error, and end with this status."""
+        done = subprocess.run([self.pool, *arguments], cwd=self.folder, capture_output=True, timeout=60)
+        if (done.stdout, done.stderr, done.returncode) == wanted:
+            self.passed += 1
+        else:
+            self.failed += 1
+            print(f"{name}: status {done.returncode}, wrote {done.stdout[:100]!r} .. and {done.stderr[:100]!r}")
+
+    def put(self, name, text):
+        (self.folder / name).write_bytes(text)
+
+    def journal(self, name, entries, limit):
+        """Runs the script of these entries, and checks and counts the journal: with room for it, and with room for one line less
+        than it owes to its end."""
+        text = "".join(entry + "\n" for entry in entries).encode()
+        count = len(entries)
+        self.put("journal", text)
+        self.put("script", "".join(entry.partition(" = ")[0] + "\n" for entry in entries).encode())
+        self.put("limits.toml", (NO_LIMITS if limit is None else NO_LIMITS.replace("4294967296", str(limit))).encode())
+        self.expect(f"run: {name}", ["run", "limits.toml", "script"], (text, b"", 0))
+        self.expect(f"check: {name}", ["check", "limits.toml", "journal"], (b"legal %d\n" % count, b"", 0))
+
+
+def play_lines(play):
+    for count in LINES:
+        # An open pool owes the entry that closes it.
+        play.journal(f"{count} lines", [f"7 {i} use {i} = refused notlent" for i in range(count)], count + 1)
+        told = b"borrowed 0\nreturned 0\ncreated 0\ndestroyed 0\nevicted 0\nborrowtestfailed 0\nreclaimed 0\nlongest 0\ntotal 0\n"
+        play.expect(f"stats: {count} lines", ["stats", "journal"], (told, b"", 0))
+        play.put("limits.toml", NO_LIMITS.replace("4294967296", str(count)).encode())
+        full = b"pool: line %d: journal full\n" % count
+        play.expect(f"full: {count} lines", ["check", "limits.toml", "journal"], (b"", full, 3))
+
+
+def play_objects(play):
+    for count in OBJECTS:
+        entries = [line for i in range(count) for line in (f"0 0 add = make {i}", f"0 1 added {i} good = parked")]
+        entries += [f"0 2 borrow 2 = take {count - 1}", f"0 3 ready {count - 1} good = lent"]
+        play.journal(f"{count} objects", entries, None)
+        lent = b"borrowed 1\nreturned 0\ncreated %d\ndestroyed 0\nevicted 0\nborrowtestfailed 0\nreclaimed 0\nlongest 0\ntotal 0\n"
+        play.expect(f"stats: {count} objects", ["stats", "journal"], (lent % count, b"", 0))
+
+
+def play_settings(play):
+    play.put("empty", b"")
+    known, unknown = b"lifo = false\n", b"life = false\n"
+    fault = b"pool: settings: unknown key life\n"
+    for length in lengths(LONGEST_TEXT):
+        comment = b"#".ljust(length, b"c")
+        play.put("a.toml", comment)
+        play.expect(f"a comment of {length} bytes", ["run", "a.toml", "empty"], (b"", b"", 0))
+        if length > len(known):
+            play.put("a.toml", b"#".ljust(length - len(known) - 1, b"c") + b"\n" + known)
+            play.expect(f"a setting at the end of {length} bytes", ["run", "a.toml", "empty"], (b"", b"", 0))
+            play.put("a.toml", unknown + b"#".ljust(length - len(unknown), b"c"))
+            play.expect(f"an unknown key before {length} bytes", ["check", "a.toml", "empty"], (b"", fault, 3))
+    play.put("a.toml", b"#".ljust(LONGEST_TEXT + 1, b"c"))
+    play.expect("a comment that is too long", ["run", "a.toml", "empty"], (b"", b"pool: settings: too long\n", 3))
+
+
+def play_keys(play):
+    for length in lengths(LONGEST_TEXT - len(b" = 1")):
+        play.put("a.toml", b"k" * length + b" = 1")
+        fault = b"pool: settings: unknown key " + b"k" * length + b"\n"
+        play.expect(f"a key of {length} bytes", ["run", "a.toml", "empty"], (b"", fault, 3))
+    for length in lengths(LONGEST_TEXT // 2 - 4):
+        play.put("a.toml", b'"' + b"\\n" * length + b'"=1')
+        fault = b"pool: settings: unknown key " + b"\\n" * length + b"\n"
+        play.expect(f"a key of {length} line feeds", ["run", "a.toml", "empty"], (b"", fault, 3))
+        play.put("a.toml", b"[abandoned]\n" + b"k" * length + b"=1")
+        fault = b"pool: settings: unknown key abandoned." + b"k" * length + b"\n"
+        play.expect(f"a key of {length} bytes in the table", ["check", "a.toml", "empty"], (b"", fault, 3))
+
+
+def main(pool):
+    with tempfile.TemporaryDirectory() as made:
+        play = Play(str(pathlib.Path(pool).resolve()), pathlib.Path(made))
+        play_lines(play)
+        play_objects(play)
+        play_settings(play)
+        play_keys(play)
+    print(f"{play.passed} passed, {play.failed} failed")
+    return 1 if play.failed else 0
+
+
+if __name__ == "__main__":
+    sys.exit(main(sys.argv[1]))

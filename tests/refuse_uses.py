@@ -1,0 +1,175 @@
+#!/usr/bin/env python3
+"""Refuses the program its allocations, each in turn, in all that it is used for, and sees that it tells no wrong thing.
+
+    refuse_uses.py POOL
+
+POOL is the program. It is used with files and with standard input, with wrong arguments and with files that have faults, and on
+every EACH-th script of tests/cases. Each use is run once for each of its allocations, which is refused then (tests/refuse.c, built
+with the C compiler that CC names, or cc). It must then answer what it answers else; or end with status 3, after some whole lines
+from the front of that answer, and the line 'pool: out of memory', 'pool: no thread' where it starts threads, or 'pool: cannot open
+..' for one of its files.
+
+Prints each run that is wrong, and in the end the line 'N passed, M failed'.
+"""
+
+import concurrent.futures
+import dataclasses
+import itertools
+import os
+import pathlib
+import subprocess
+import sys
+import tempfile
+
+from refuse_memory import SOURCE
+
+CASES = pathlib.Path(__file__).resolve().parent / "cases"
+
+EACH = 4
+
+# Longer scripts take the same allocations, and more time.
+LONGEST = 20_000
+
+JOURNAL = b"""0 10 borrow 10 = make 0
+0 11 ready 0 good = lent
+0 15 return 0 = check
+0 16 park 0 good = parked
+"""
+
+SCRIPT = b"".join(line.split(b" = ")[0] + b"\n" for line in JOURNAL.splitlines())
+
+STATISTICS = b"borrowed 1\nreturned 1\ncreated 1\ndestroyed 0\nevicted 0\nborrowtestfailed 0\nreclaimed 0\nlongest 4\ntotal 4\n"
+
+LOAD = b"workers 1\nrounds 1\nrefused 0\nborrowed 1\nreturned 1\ncreated 1\ndestroyed 1\nevicted 0\nborrowtestfailed 0\nreclaimed 0\nlongest 1\ntotal 1\n"
+
+FILES = {
+    "a.toml": b"maxTotal = 4\n", "all.toml": b"lifo = true\nmaxIdle = 3\nminIdle = 1\n[abandoned]\nremoveAbandonedOnBorrow = true\n",
+    "key.toml": b"'a long key that no setting has' = 1\n", "table.toml": b"[abandoned]\nnone = 1\n", "type.toml": b"lifo = 1\n",
+    "range.toml": b"minIdle = -1\n", "not.toml": b"maxTotal =", "bytes.toml": b"\xff", "long.toml": b"#".ljust(1_048_577, b"c"),
+    "two.toml": b"journalLimit = 2\n", "seven.toml": b"journalLimit = 7\n", "script": SCRIPT, "journal": JOURNAL,
+    "illegal": JOURNAL.replace(b"check", b"gone"), "bad": b"0 1 borrow 01\n", "empty": b"",
+}
+
+
+@dataclasses.dataclass
+class Use:
+    """Arguments of the program, what is on its standard input, and its answer: output, error, status."""
+
+    arguments: list
+    answer: tuple
+    given: bytes = b""
+
+
+def fault(told):
+    return b"", b"pool: " + told + b"\n", 3
+
+
+def uses():
+    """Uses over the files above."""
+    good = [
+        ([], JOURNAL, SCRIPT), (["run", "a.toml", "script"], JOURNAL, b""), (["run", "all.toml", "/dev/stdin"], JOURNAL, SCRIPT),
+        (["run", "/dev/stdin", "script"], JOURNAL, FILES["all.toml"]), (["run", "--", "a.toml", "script"], JOURNAL, b""),
+        (["check", "a.toml", "journal"], b"legal 4\n", b""), (["check", "all.toml", "/dev/stdin"], b"legal 4\n", JOURNAL),
+        (["check", "/dev/stdin", "journal"], b"legal 4\n", FILES["a.toml"]), (["run", "a.toml", "empty"], b"", b""),
+        (["stats", "journal"], STATISTICS, b""), (["stats", "/dev/stdin"], STATISTICS, JOURNAL),
+        (["load", "a.toml", "1", "1"], LOAD, b""), (["load", "/dev/stdin", "1", "1"], LOAD, FILES["all.toml"]),
+    ]
+    for arguments, output, given in good:
+        yield Use(arguments, (output, b"", 0), given)
+    yield Use(["check", "a.toml", "illegal"], (b"illegal 2 check\n", b"", 1))
+    for words in ["nonsense", "run", "run a.toml", "run a.toml script more", "stats", "load a.toml 0 1", "load a.toml 1 x", "--help"]:
+        yield Use(words.split(), (b"", b"pool: wrong arguments\n", 2))
+    told = {
+        "key.toml": b"unknown key a long key that no setting has", "table.toml": b"unknown key abandoned.none", "type.toml": b"wrong type lifo",
+        "range.toml": b"out of range minIdle", "not.toml": b"not TOML", "bytes.toml": b"not TOML", "long.toml": b"too long",
+    }
+    for name, line in told.items():
+        for arguments in (["run", name, "script"], ["check", name, "journal"], ["load", name, "1", "1"]):
+            yield Use(arguments, fault(b"settings: " + line))
+    for command in (["run", "a.toml"], ["check", "a.toml"], ["stats"]):
+        yield Use([*command, "missing"], fault(b"cannot open missing"))
+        yield Use([*command, "."], fault(b"read failed"))
+    yield Use(["run", "a.toml", "bad"], fault(b"line 1: bad number"))
+    yield Use(["check", "a.toml", "script"], fault(b"line 1: not a line"))
+    yield Use(["stats", "script"], fault(b"line 1: not a line"))
+    yield Use(["run", "two.toml", "script"], fault(b"line 1: journal full"))
+    yield Use(["load", "seven.toml", "1", "2"], fault(b"journal full"))
+
+
+def uses_of_cases():
+    """Runs and checks of every EACH-th script, and the statistics of every journal that has them."""
+    scripts = [path for path in sorted(CASES.glob("*/*.script")) if path.stat().st_size < LONGEST]
+    for script in scripts[::EACH]:
+        settings, journal, error = (script.with_suffix(suffix) for suffix in (".toml", ".journal", ".err"))
+        if error.exists():
+            output = journal.read_bytes() if journal.exists() else b""
+            yield Use(["run", str(settings), str(script)], (output, error.read_bytes(), 3))
+            continue
+        text = journal.read_bytes()
+        yield Use(["run", str(settings), str(script)], (text, b"", 0))
+        yield Use(["check", str(settings), str(journal)], (b"legal %d\n" % text.count(b"\n"), b"", 0))
+    for statistics in sorted(CASES.glob("*/*.stats"))[::EACH]:
+        yield Use(["stats", str(statistics.with_suffix(".journal"))], (statistics.read_bytes(), b"", 0))
+
+
+def is_refused(use, answer):
+    """Whether the answer says that memory ran out, and nothing else."""
+    output, error, status = answer
+    told = {b"pool: out of memory\n"} | {b"pool: cannot open %s\n" % path.encode() for path in use.arguments[1:]}
+    if use.arguments[:1] == ["load"]:
+        told.add(b"pool: no thread\n")
+    return status == 3 and error in told and output[-1:] in (b"", b"\n") and use.answer[0].startswith(output)
+
+
+class Refuser:
+    """A program, and the library that refuses it allocations. Files of uses are in the folder."""
+
+    def __init__(self, pool, folder):
+        self.pool, self.folder, self.library = pool, folder, folder / "refuse.so"
+        self.marks = itertools.count()
+        compiler = os.environ.get("CC", "cc")
+        subprocess.run([compiler, "-O1", "-shared", "-fPIC", "-o", self.library, SOURCE, "-ldl"], check=True)
+
+    def answer(self, use, number, mark):
+        """What is answered where this allocation is refused, or none where the number is 0."""
+        settings = {"LD_PRELOAD": str(self.library), "REFUSE": str(number), "REFUSED": str(mark)}
+        run = subprocess.run([self.pool, *use.arguments], input=use.given, cwd=self.folder, env=settings, capture_output=True, timeout=60)
+        return run.stdout, run.stderr, run.returncode
+
+    def runs(self, use):
+        """How many runs of the use were right, and what is told of the others. In some run memory must have run out."""
+        mark = self.folder / f"refused{next(self.marks)}"
+        right, refused, wrong = 0, 0, []
+        for number in itertools.count():
+            mark.unlink(missing_ok=True)
+            answer = self.answer(use, number, mark)
+            if number and not mark.exists():
+                break
+            ran_out = number > 0 and is_refused(use, answer)
+            refused += ran_out
+            if ran_out or answer == use.answer:
+                right += 1
+            else:
+                wrong.append(f"{use.arguments}: allocation {number}: {answer}")
+        if not refused:
+            wrong.append(f"{use.arguments}: no allocation was missed")
+        return right, wrong
+
+
+def main(pool):
+    passed, failed = 0, 0
+    with tempfile.TemporaryDirectory() as made:
+        refuser = Refuser(str(pathlib.Path(pool).resolve()), pathlib.Path(made))
+        for name, text in FILES.items():
+            (refuser.folder / name).write_bytes(text)
+        with concurrent.futures.ThreadPoolExecutor(os.cpu_count()) as workers:
+            for right, wrong in workers.map(refuser.runs, [*uses(), *uses_of_cases()]):
+                passed, failed = passed + right, failed + len(wrong)
+                for told in wrong:
+                    print(told)
+    print(f"{passed} passed, {failed} failed")
+    return 1 if failed else 0
+
+
+if __name__ == "__main__":
+    sys.exit(main(sys.argv[1]))
