@@ -18,9 +18,6 @@ pub record Found {T : Type 0} (ps : List (Place T)) (i k : ℕ) (q : Place T) : 
   pub at : IsAt ps i k
   pub read : q ≡ get_or ps k q
 
-pub found_at : {T : Type 0} {ps qs : List (Place T)} {i k : ℕ} {q : Place T} → IsShelf ps → qs ≡ ps → IsAt qs i k → q ≡ get_or ps k q → Found ps i k q
-found_at {ps} {qs} {i} {k} {q} shelf same at read = record { shelf = shelf; at = subst (λ xs. IsAt xs i k) same at; read = read }
-
 -- what was known of the object before is known of what was read
 pub found_known : {T : Type 0} {ps : List (Place T)} {i k n : ℕ} {q : Place T} {s : Shelf T} (P : Record → Type 0) → Found ps i k q → (let seen : Shelf T = record { kept = ps; spare = n } in seen ≡ s)
     → IsSomeAnd (record_in (records_in s.kept) i) P → P q.known

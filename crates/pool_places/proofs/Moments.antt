@@ -1,7 +1,7 @@
 -- What the trials keep of the records.
-use Rattle.std.proofs.Common.{◌≡◌, ℕ, ◌+◌, ◌<◌, ◌==◌, Bool, true, false, not, cond, if◌then◌else◌, List, [], ◌∷◌, ◌++◌, arith}
+use Rattle.std.proofs.Common.{◌≡◌, ℕ, ◌+◌, ◌<◌, ◌==◌, Bool, true, false, not, cond, if◌then◌else◌, List, [], ◌∷◌, arith}
 use Rattle.pool_journal.specs.declared.record.Record.{Record}
-use Rattle.pool_places.specs.Changes.{with_changed, without_id, IdsBelow, QueueBelow}
+use Rattle.pool_places.specs.Changes.{with_changed, without_id}
 use Rattle.pool_places.specs.Before.{AllBefore}
 
 pub before_later : (n : ℕ) (rs : List Record) → AllBefore n rs → AllBefore (n + 1) rs
@@ -23,15 +23,3 @@ before_without n i (r ∷ rs) all = by_test (not (i == r.id)) (before_without n 
     by_test : (b : Bool) → AllBefore (n + 1) (without_id i rs) → AllBefore (n + 1) (cond b (r ∷ without_id i rs) (without_id i rs))
     by_test true later = ((omega (arith, all.0.0), omega (arith, all.0.1)), later)
     by_test false later = later
-
-pub before_push : (n : ℕ) (rs : List Record) (r : Record) → r.id < n + 1 → r.parked < n + 1 → AllBefore n rs → AllBefore (n + 1) (rs ++ r ∷ [])
-before_push n [] r id parked all = ((id, parked), tt)
-before_push n (x ∷ rs) r id parked all = ((omega (arith, all.0.0), omega (arith, all.0.1)), before_push n rs r id parked all.1)
-
-pub ids_before : (n : ℕ) (rs : List Record) → AllBefore n rs → IdsBelow n rs
-ids_before n [] all = tt
-ids_before n (r ∷ rs) all = (all.0.0, ids_before n rs all.1)
-
-pub queue_before : (n : ℕ) (rs : List Record) → AllBefore n rs → QueueBelow n rs
-queue_before n [] all = tt
-queue_before n (r ∷ rs) all = (λ queued. all.0.1, queue_before n rs all.1)

@@ -9,7 +9,7 @@ use Rattle.std.proofs.lemmas.List.Sums.{sum_by-set, sum_by-remove, sum_by_push, 
 use Rattle.pool_journal.specs.declared.record.Record.{Record}
 use Rattle.pool_journal.specs.declared.record.Phase.{Phase}
 use Rattle.pool_journal.specs.declared.record.Phase.TheVariants as phases
-use Rattle.pool_journal.specs.Queue.{is_idle, is_queued, queue_length}
+use Rattle.pool_journal.specs.Queue.{is_idle, is_queued}
 use Rattle.pool_places.specs.declared.place.Place.{Place}
 use Rattle.pool_places.specs.declared.place_counts.PlaceCounts.{PlaceCounts}
 use Rattle.pool_places.specs.Counts.{is_adding, weight, IsCounts, IsSmall, HasOne, HasOneMore}
@@ -141,6 +141,3 @@ small_less rest old phase is less = record {
   adding = omega (arith, is.adding, less.adding);
   owed = omega (arith, is.owed, less.owed);
 }
-
-pub queue_remove : {T : Type 0} {ps : List (Place T)} {i k : ℕ} {q : Place T} → Found ps i k q → queue_length (records_in (remove ps k)) + from_bool (is_queued q.known.phase) ≡ queue_length (records_in ps)
-queue_remove {ps} {k} {q} here = omega (arith, one_is is_queued q.known.phase, total_remove (one is_queued) here)

@@ -1,13 +1,13 @@
 -- What is found among objects whose ids rise, and what a change of one does.
 use Rattle.std.proofs.Common.{◌≡◌, ◌≢◌, ℕ, zero, suc, ◌<◌, ◌^◌, ◌==◌, eqb, Bool, true, false, not, cond, List, [], ◌∷◌, ◌++◌, length, get_or, set, Option, Some, None, refl, ap, sym, ◌∙◌, arith, subst}
-use Rattle.std.specs.Prelude.{All, remove, is_some, IsSomeAnd}
+use Rattle.std.specs.Prelude.{remove, is_some, IsSomeAnd}
 use Rattle.std.specs.List.{AllByRecursion}
 use Rattle.std.specs.Option.{option_map}
 use Rattle.std.proofs.lemmas.Bool.Decides.{nat_tests}
 use Rattle.std.proofs.Math.ListN.{length-set}
 use Rattle.std.proofs.lemmas.List.{length_push}
 use Rattle.std.proofs.lemmas.List.Sums.{length-filter, count_by-le-length}
-use Rattle.std.proofs.lemmas.List.Elements.{All-head, All-tail, All-set, All-filter, All-push}
+use Rattle.std.proofs.lemmas.List.Elements.{All-set, All-filter, All-push}
 use Rattle.pool_journal.specs.Queue.{record_in}
 use Rattle.pool_journal.specs.declared.record.Record.{Record}
 use Rattle.pool_places.specs.declared.place.Place.{Place}
@@ -68,11 +68,6 @@ place_at i zero d (p ∷ ps) up at = rw (same_is i p.known.id (sym at.has_id)) r
 place_at i (suc k) d (p ∷ ps) up at =
     let below = id_above p.known.id k d ps up.0 (omega (arith, at.in_range)) in
     rw (other_is i p.known.id (λ same. omega (arith, below, at.has_id))) (place_at i k d ps up.1 (record { in_range = omega (arith, at.in_range); has_id = at.has_id }))
-
-pub place_nowhere : {T : Type 0} (i : ℕ) (ps : List (Place T)) → All (λ p. p.known.id ≢ i) ps → place_in ps i ≡ None
-place_nowhere i [] none = refl
-place_nowhere i (p ∷ ps) none =
-    rw (other_is i p.known.id (λ same. All-head (λ (q : Place _). q.known.id ≢ i) p ps none (sym same))) (place_nowhere i ps (All-tail (λ (q : Place _). q.known.id ≢ i) p ps none))
 
 -- a record is that of the object
 pub record_in-records_in : {T : Type 0} (i : ℕ) (ps : List (Place T)) → record_in (records_in ps) i ≡ option_map (λ p. p.known) (place_in ps i)
