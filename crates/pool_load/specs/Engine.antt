@@ -9,11 +9,11 @@ use Rattle.pool_load.specs.declared.engine_fault.EngineFault.TheVariants.{Line, 
 use Rattle.pool_load.specs.declared.turn.Turn.{Turn}
 use Rattle.pool_load.specs.declared.turn.Turn.TheVariants.{Took, Unfinished, Done}
 
--- a fault that no line is the cause of
+-- a fault of the reader or the writer
 abbrev pub IsFromOutside : EngineFault → Type 0
 IsFromOutside (Line number fault) = ⊥
 IsFromOutside (Full number) = ⊥
-IsFromOutside OutOfMemory = ⊤
+IsFromOutside OutOfMemory = ⊥
 IsFromOutside Read = ⊤
 IsFromOutside Write = ⊤
 

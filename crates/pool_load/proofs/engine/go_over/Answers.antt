@@ -4,7 +4,6 @@ use Rattle.std.proofs.lemmas.Result.{err_from_is_err_and}
 use Rattle.pool_load.proofs.Telling.{not_read, stays, untold}
 use Rattle.pool_load.proofs.Going.{Going-begun, Passes-stopped, Passes-handed, Passes-unhanded, Passes-broken}
 use Rattle.pool_load.specs.Faults.{is_write_failure}
-use Rattle.pool_load.specs.declared.engine_fault.EngineFault.TheVariants as faults
 use Rattle.pool_load.proofs.engine.go_over.Goals as goal
 use Rattle.pool_load.proofs.engine.go_over.Goals.{then-not-is_write_failure+in_ok-hand_on, else-not-is_write_failure}
 
@@ -13,7 +12,7 @@ returns-in-Err-clause-passed g c =
     let e = g.E.Engine in
     let r = c.requires in
     let begun = Going-begun e.settings e.taken e.told e.stands e.is_partial e.ends c.args.engine.now (g.R.Read.remaining c.args.reader.now) (g.W.Write.contents c.args.writer.now) r.stands r.none_taken r.none_told in
-    Passes-stopped e.settings e.taken e.told e.stands e.is_partial e.ends c.args.engine.now _ _ _ c.args.engine.now _ _ _ _ begun (λ rest. g.met.E.Engine.stops_anywhere c.args.engine.now rest faults.OutOfMemory r.stands tt)
+    Passes-stopped e.settings e.taken e.told e.stands e.is_partial e.ends c.args.engine.now _ _ _ c.args.engine.now _ _ _ _ begun (λ rest. g.met.E.Engine.stops_at_first c.args.engine.now rest r.stands r.is_new)
 
 pub returns-in_err-hand_on-clause-passed : goal.returns-in_err-hand_on-clause-passed
 returns-in_err-hand_on-clause-passed g c =
