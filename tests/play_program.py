@@ -11,6 +11,7 @@ Prints each case that differs, and in the end the line 'N passed, M failed'.
 import os
 import pathlib
 import resource
+import shutil
 import subprocess
 import sys
 import tempfile
@@ -41,6 +42,9 @@ FILES = {
     "first_fault.toml": b"maxIdle = true\nlifo = 1\n",
     "out_of_range.toml": b"minIdle = -1",
     "-hyphen.toml": b"",
+    " spaced.toml ": b"maxTotal = 1\n",
+    "two\nlines.toml": b"maxTotal = 1\n",
+    "key_of_two_lines.toml": b'"a\\nb\\u001B\\\\" = 1',
     "sp\u00e4t und leer.toml": b"",
     "empty": b"",
     "plain.script": b"".join(line.split(b" = ")[0] + b"\n" for line in PLAIN_LIFE.splitlines()),
@@ -57,8 +61,29 @@ NAMES = ["borrowed", "returned", "created", "destroyed", "evicted", "borrowtestf
 
 TWO_BORROWS = b"0 0 borrow 0 = make 0\n1 5 borrow 5 = wait\n"
 
+# What the default settings answer: 8 objects, the last one parked first, an eviction of those idle for half an hour.
+DEFAULT_ANSWERS = b"".join(
+    [
+        *(b"0 0 borrow 0 = make %d\n0 0 ready %d good = lent\n" % (i, i) for i in range(8)),
+        b"0 9007199254740993 borrow 0 = wait\n0 0 add = noplace\n0 0 fill = enough\n0 9 reclaim maintain = count 0\n",
+        b"0 9007199254740993 reclaimnext = nothing\n0 1 return 9 = refused notlent\n",
+        *(b"0 1 return %d = check\n0 1 park %d good = parked\n" % (i, i) for i in range(8)),
+        b"0 1800001 evict = count 3\n0 1800001 evictnext = keptidle 0\n0 1800002 evictnext = destroyidle 1\n",
+        b"0 1800002 borrow 0 = take 7\n",
+    ]
+)
+
+# Paths and what is told of those that can't be opened.
+TOLD_PATHS = {
+    " defaults.toml": " defaults.toml", "defaults.toml ": "defaults.toml ", "": "", " ": " ", "no\nsuch file": "no\\nsuch file",
+    "\x1b[2J": "\\u001B[2J", "a\\b": "a\\b", "a\\b\n": "a\\\\b\\n", "\t\r\x08\x0c\x01\x1f\x7f": "\\t\\r\\b\\f\\u0001\\u001F\\u007F",
+    "pool: out of memory\npool: x": "pool: out of memory\\npool: x", "\x85\u2028": "\x85\u2028", "\"'": "\"'",
+}
+
+NOBODY = 65534
+
 WRONG_ARGUMENTS = [
-    "nonsense", "RUN", "", "-", "--", "-x", "--help", "-h", "help", "--version", "-V", "version",
+    "play", "replay", "journal", "settings", "counts", "run ", " run", "ru", "nonsense", "RUN", "", "-", "--", "-x", "--help", "-h", "help", "--version", "-V", "version",
     "run", "check", "run --help", "run -h", "check --help", "help run", "help check",
     "run defaults.toml", "check defaults.toml", "run defaults.toml plain.script more", "run missing missing missing",
     "check defaults.toml plain.journal more", "run -x defaults.toml plain.script", "run --settings defaults.toml plain.script",
@@ -86,6 +111,7 @@ SETTINGS_FAULTS = {
     "not_toml.toml": "settings: not TOML",
     "unknown_key.toml": "settings: unknown key maxTotl",
     "wrong_type.toml": "settings: wrong type maxTotal",
+    "key_of_two_lines.toml": "settings: unknown key a\\nb\\u001B\\\\",
     "first_fault.toml": "settings: wrong type lifo",
     "out_of_range.toml": "settings: out of range minIdle",
     "missing.toml": "cannot open missing.toml",
@@ -291,12 +317,52 @@ def play_stream_faults(play):
     play.expect(["check", "two_entries.toml", "plain.journal"], b"", *fault("line 1: journal full"))
 
 
+def play_paths(play):
+    """A path is a file's name as it stands, and is told on one line."""
+    script, journal = FILES["plain.script"], FILES["plain.journal"]
+    for settings in [" spaced.toml ", "two\nlines.toml"]:
+        play.expect(["run", settings, "plain.script"], journal, b"", 0)
+        play.expect(["run", settings, "two_borrows.script"], TWO_BORROWS, b"", 0)
+    for path, told in TOLD_PATHS.items():
+        play.expect(["run", path, "plain.script"], b"", *fault("cannot open " + told))
+        play.expect(["check", "defaults.toml", path], b"", *fault("cannot open " + told))
+        play.expect(["stats", path], b"", *fault("cannot open " + told))
+        play.expect(["load", path, "1", "1"], b"", *fault("cannot open " + told))
+    # A hyphen is a file's name, and not that of standard input.
+    play.expect(["run", "defaults.toml", "-"], b"", *fault("cannot open -"), input=script)
+    play.expect(["stats", "-"], b"", *fault("cannot open -"), input=journal)
+    (play.folder / "-").write_bytes(script)
+    play.expect(["run", "defaults.toml", "-"], journal, b"", 0, input=b"0 0 close\n")
+    (play.folder / "-").unlink()
+
+
+def play_defaults(play):
+    """Standard input is played with the default settings."""
+    script = b"".join(line.split(b" = ")[0] + b"\n" for line in DEFAULT_ANSWERS.splitlines())
+    play.expect([], DEFAULT_ANSWERS, b"", 0, input=script)
+    play.expect(["run", "defaults.toml", "/dev/stdin"], DEFAULT_ANSWERS, b"", 0, input=script)
+    # The last entry but one that fits is followed by the one that closes the pool.
+    uses = b"0 0 use 0\n" * 1_000_000
+    done = play.run([], input=uses)
+    good = done.stdout == b"0 0 use 0 = refused notlent\n" * 999_999 and (done.stderr, done.returncode) == fault("line 1000000: journal full")
+    play.note(good, f"a million lines: {done.stderr!r}, status {done.returncode}")
+
+
 def play_unreadable(play):
-    """Where the system lets this user read everything, there is nothing to see."""
-    if not os.access(play.folder / "unreadable", os.R_OK):
-        play.expect(["run", "unreadable", "plain.script"], b"", *fault("cannot open unreadable"))
-        play.expect(["check", "defaults.toml", "unreadable"], b"", *fault("cannot open unreadable"))
-        play.expect(["stats", "unreadable"], b"", *fault("cannot open unreadable"))
+    """A file that may not be read can't be opened. Root may read everything, and tries it as nobody."""
+    options = {}
+    if os.geteuid() == 0:
+        shutil.copy(play.pool, play.folder / "pool")
+        (play.folder / "pool").chmod(0o755)
+        play.folder.chmod(0o755)
+        play.pool, options = os.fsencode(play.folder / "pool"), {"user": NOBODY, "group": NOBODY, "extra_groups": []}
+    refused = fault("cannot open unreadable")
+    play.expect(["run", "unreadable", "plain.script"], b"", *refused, **options)
+    play.expect(["run", "defaults.toml", "unreadable"], b"", *refused, **options)
+    play.expect(["check", "defaults.toml", "unreadable"], b"", *refused, **options)
+    play.expect(["stats", "unreadable"], b"", *refused, **options)
+    play.expect(["load", "unreadable", "1", "1"], b"", *refused, **options)
+    play.expect(["run", "defaults.toml", "plain.script"], FILES["plain.journal"], b"", 0, **options)
 
 
 def play_failing_streams(play):
@@ -324,8 +390,10 @@ def main(pool):
         play_wrong_arguments(play)
         play_settings_faults(play)
         play_stream_faults(play)
-        play_unreadable(play)
+        play_paths(play)
+        play_defaults(play)
         play_failing_streams(play)
+        play_unreadable(play)
     print(f"{play.passed} passed, {play.failed} failed")
     return 1 if play.failed else 0
 

@@ -1,153 +1,214 @@
-use crate::fault::Fault;
-use clap::{Arg, ArgMatches, Command};
-use std::alloc::{AllocError, Global};
-use std::env;
-use std::rt::Env;
-
-const RUN: &str = "run";
-
-const CHECK: &str = "check";
-
-const STATS: &str = "stats";
-
-const LOAD: &str = "load";
-
-const SETTINGS: &str = "SETTINGS";
-
-const SCRIPT: &str = "SCRIPT";
-
-const JOURNAL: &str = "JOURNAL";
-
-const WORKERS: &str = "WORKERS";
-
-const ROUNDS: &str = "ROUNDS";
+//! What the arguments ask for.
+ghost use Rattle.std.specs.Prelude.{◌≡◌, ◌^◌, drop, map, option_map, string_bytes};
+ghost use Rattle.std.specs.List.{list_all};
+ghost use Rattle.std.specs.Char.{is_ascii_digit};
+ghost use Rattle.pool.specs.Arguments as Spec;
 
 /// What the arguments ask for. Files are named by their paths.
-#[derive(Debug, Drop)]
-pub(crate) enum Task {
+#[derive(Clone, Copy, Debug)]
+pub(crate) enum Task<'a> {
     /// To play standard input with the default settings.
     RunInput,
     /// To play a script.
     Run {
-        settings: String,
-        script: String,
+        settings: &'a str,
+        script: &'a str,
     },
     /// To judge a journal.
     Check {
-        settings: String,
-        journal: String,
+        settings: &'a str,
+        journal: &'a str,
     },
     /// To tell the statistics of a journal.
     Stats {
-        journal: String,
+        journal: &'a str,
     },
     /// To put a load on a pool: so many workers, and so many rounds of each.
     Load {
-        settings: String,
+        settings: &'a str,
         workers: u32,
         rounds: u64,
     },
 }
 
-/// Reads the program's arguments. No argument at all asks for a run of standard input.
-pub(crate) fn task_of<R: Env + AllocGlobal>(rt: &R) -> Result<Task, Fault> {
-    let words = words_of(rt)?;
-    if words.len() > 1 {
-        understand(rt.alloc(), &words)
-    } else {
-        Ok(Task::RunInput)
+/// The words behind a command that aren't read yet.
+#[derive(Clone, Copy)]
+struct Given<'a> {
+    words: &'a [String],
+    /// Whether the word `--` came: what follows it is no option, however it begins.
+    is_plain: bool,
+}
+
+/// What the program's name and the words behind it ask for; nothing where they are other words than those of the README.
+pub(crate) fn task_of<'a>(arguments: &'a [String]) -> Option<Task<'a>>
+    ensures { option_map Spec.asked result ≡ Spec.task_of (drop 1 (map string_bytes arguments.now)) }
+{
+    match arguments.split_first() {
+        Some((_, words)) => task_in(words),
+        None => Some(Task::RunInput),
     }
 }
 
-/// The name of the program, and the arguments.
-fn words_of<R: Env + AllocGlobal>(rt: &R) -> Result<Vec<String>, Fault> {
-    match env::args(rt) {
-        Ok(words) => Ok(words.collect(rt.alloc())?),
-        Err(cause) => Err(Fault::of_unread(&cause)),
-    }
-}
-
-fn understand(alloc: Global, words: &[String]) -> Result<Task, Fault> {
-    let command = command(alloc)?;
-    match command.try_get_matches_from(words) {
-        Ok(matches) => task_in(alloc, &matches),
-        Err(cause) => Err(Fault::of_parsing(&cause)),
-    }
-}
-
-fn command<'a>(alloc: Global) -> Result<Command<'a>, AllocError> {
-    Command::new(alloc, "pool")
-        .subcommand_required(true)
-        .subcommand(command_of(alloc, RUN, &[SETTINGS, SCRIPT])?)?
-        .subcommand(command_of(alloc, CHECK, &[SETTINGS, JOURNAL])?)?
-        .subcommand(command_of(alloc, STATS, &[JOURNAL])?)?
-        .subcommand(command_of(alloc, LOAD, &[SETTINGS, WORKERS, ROUNDS])?)
-}
-
-/// A command and what it is given, in this order.
-fn command_of<'a>(
-    alloc: Global,
-    name: &'a str,
-    given: &[&'static str],
-) -> Result<Command<'a>, AllocError> {
-    let mut command = Command::new(alloc, name);
-    for word in given {
-        command = command.arg(Arg::new(alloc, word).required(true))?;
-    }
-    Ok(command)
-}
-
-fn task_in(alloc: Global, matches: &ArgMatches<'_>) -> Result<Task, Fault> {
-    match matches.subcommand() {
-        Some((RUN, given)) => Ok(Task::Run {
-            settings: path_in(alloc, given, SETTINGS)?,
-            script: path_in(alloc, given, SCRIPT)?,
-        }),
-        Some((CHECK, given)) => Ok(Task::Check {
-            settings: path_in(alloc, given, SETTINGS)?,
-            journal: path_in(alloc, given, JOURNAL)?,
-        }),
-        Some((STATS, given)) => Ok(Task::Stats {
-            journal: path_in(alloc, given, JOURNAL)?,
-        }),
-        Some((LOAD, given)) => Ok(Task::Load {
-            settings: path_in(alloc, given, SETTINGS)?,
-            workers: workers_in(given)?,
-            rounds: number_in(given, ROUNDS)?,
-        }),
-        _ => Err(Fault::WrongArguments),
-    }
-}
-
-fn path_in(alloc: Global, given: &ArgMatches<'_>, name: &str) -> Result<String, Fault> {
-    match given.get_str(name) {
-        Some(path) => Ok(String::from_str(alloc, path)?),
-        None => Err(Fault::WrongArguments),
-    }
-}
-
-fn workers_in(given: &ArgMatches<'_>) -> Result<u32, Fault> {
-    match u32::try_from(number_in(given, WORKERS)?) {
-        Ok(workers) => Ok(workers),
-        Err(_) => Err(Fault::WrongArguments),
-    }
-}
-
-/// The number at an argument: decimal digits without leading zeros.
-fn number_in(given: &ArgMatches<'_>, name: &str) -> Result<u64, Fault> {
-    let Some(word) = given.get_str(name) else {
-        return Err(Fault::WrongArguments);
+/// What the words behind the program's name ask for.
+fn task_in<'a>(words: &'a [String]) -> Option<Task<'a>>
+    ensures { option_map Spec.asked result ≡ Spec.task_of (map string_bytes words.now) }
+{
+    let Some((command, words)) = words.split_first() else {
+        return Some(Task::RunInput);
     };
-    if !is_decimal(word.as_bytes()) {
-        return Err(Fault::WrongArguments);
-    }
-    match word.parse() {
-        Ok(number) => Ok(number),
-        Err(_) => Err(Fault::WrongArguments),
+    let given = Given {
+        words,
+        is_plain: false,
+    };
+    let command = command.as_str();
+    if command == "run" {
+        run_of(given)
+    } else if command == "check" {
+        check_of(given)
+    } else if command == "stats" {
+        stats_of(given)
+    } else if command == "load" {
+        load_of(given)
+    } else {
+        None
     }
 }
 
-fn is_decimal(word: &[u8]) -> bool {
+fn run_of<'a>(given: Given<'a>) -> Option<Task<'a>>
+    ensures { option_map Spec.asked result ≡ Spec.run_of (Spec.rest_of given.entry) }
+{
+    let (settings, given) = operand(given)?;
+    let (script, given) = operand(given)?;
+    end(given)?;
+    Some(Task::Run { settings, script })
+}
+
+fn check_of<'a>(given: Given<'a>) -> Option<Task<'a>>
+    ensures { option_map Spec.asked result ≡ Spec.check_of (Spec.rest_of given.entry) }
+{
+    let (settings, given) = operand(given)?;
+    let (journal, given) = operand(given)?;
+    end(given)?;
+    Some(Task::Check { settings, journal })
+}
+
+fn stats_of<'a>(given: Given<'a>) -> Option<Task<'a>>
+    ensures { option_map Spec.asked result ≡ Spec.stats_of (Spec.rest_of given.entry) }
+{
+    let (journal, given) = operand(given)?;
+    end(given)?;
+    Some(Task::Stats { journal })
+}
+
+fn load_of<'a>(given: Given<'a>) -> Option<Task<'a>>
+    ensures { option_map Spec.asked result ≡ Spec.load_of (Spec.rest_of given.entry) }
+{
+    let (settings, given) = operand(given)?;
+    let (workers, given) = operand(given)?;
+    let (rounds, given) = operand(given)?;
+    end(given)?;
+    let workers = count_of(workers)?;
+    let rounds = number_of(rounds)?;
+    Some(Task::Load {
+        settings,
+        workers,
+        rounds,
+    })
+}
+
+/// The next operand, and what follows it.
+fn operand<'a>(given: Given<'a>) -> Option<(&'a str, Given<'a>)>
+    ensures { option_map (λ read. (read.0.now, Spec.rest_of read.1)) result ≡ Spec.operand (Spec.rest_of given.entry) }
+{
+    let (word, words) = given.words.split_first()?;
+    let word = word.as_str();
+    if given.is_plain {
+        Some((
+            word,
+            Given {
+                words,
+                is_plain: true,
+            },
+        ))
+    } else if word == "--" {
+        plain_operand(words)
+    } else if is_option(word.as_bytes()) {
+        None
+    } else {
+        Some((
+            word,
+            Given {
+                words,
+                is_plain: false,
+            },
+        ))
+    }
+}
+
+/// The first word, and what follows it.
+fn plain_operand<'a>(words: &'a [String]) -> Option<(&'a str, Given<'a>)>
+    ensures { option_map (λ read. (read.0.now, Spec.rest_of read.1)) result ≡ Spec.plain_operand (map string_bytes words.now) }
+{
+    let (word, words) = words.split_first()?;
+    Some((
+        word.as_str(),
+        Given {
+            words,
+            is_plain: true,
+        },
+    ))
+}
+
+/// That no operand is left.
+fn end(given: Given<'_>) -> Option<()>
+    ensures { result ≡ Spec.end (Spec.rest_of given.entry) }
+{
+    match given.words.split_first() {
+        None => Some(()),
+        Some((word, words)) => {
+            if !given.is_plain && words.is_empty() && word.as_str() == "--" {
+                Some(())
+            } else {
+                None
+            }
+        }
+    }
+}
+
+/// Whether a word begins with a hyphen, and is more than that.
+fn is_option(word: &[u8]) -> bool
+    ensures { result ≡ Spec.is_option word.now }
+{
+    word.len() > 1 && word[0] == b'-'
+}
+
+/// The number that a word is, below 2^32.
+fn count_of(word: &str) -> Option<u32>
+    ensures { result ≡ Spec.number_below (2 ^ 32) word.now }
+{
+    u32::try_from(number_of(word)?).ok()
+}
+
+/// The number that a word is: decimal digits without leading zeros, below 2^64.
+fn number_of(word: &str) -> Option<u64>
+    ensures { result ≡ Spec.number_below (2 ^ 64) word.now }
+{
+    if is_decimal(word.as_bytes()) {
+        word.parse().ok()
+    } else {
+        None
+    }
+}
+
+fn is_decimal(word: &[u8]) -> bool
+    ensures { result ≡ Spec.is_decimal word.now }
+{
     let leads = word.len() > 1 && word[0] == b'0';
-    !word.is_empty() && !leads && word.iter().all(|byte| byte.is_ascii_digit())
+    !word.is_empty() && !leads && all_digits(word)
+}
+
+fn all_digits(word: &[u8]) -> bool
+    ensures { result ≡ list_all is_ascii_digit word.now }
+{
+    word.iter().all(|byte| byte.is_ascii_digit())
 }

@@ -14,6 +14,7 @@ use arguments::{Task, task_of};
 use fault::Fault;
 use pool_load::{Gate, check, load, read_settings, run, stats, write_report};
 use pool_settings::Settings;
+use std::env;
 use std::fs::File;
 use std::process::ExitCode;
 use std::sync::Wait;
@@ -22,49 +23,67 @@ use std::thread::Threads;
 const ILLEGAL: u8 = 1;
 
 fn main(rt: HostRuntime) -> ExitCode {
-    let ended = match task_of(&rt) {
-        Ok(task) => perform(&rt, &rt, task),
-        Err(fault) => Err(fault),
-    };
-    match ended {
-        Ok(code) => code,
+    match arguments_of(&rt) {
+        Ok(arguments) => match perform(&rt, &rt, &arguments) {
+            Ok(code) => code,
+            Err(fault) => tell(&rt, &fault),
+        },
         Err(fault) => tell(&rt, &fault),
     }
 }
 
-/// Does what is asked for. The threads are those of the runtime.
-fn perform<R: Threads + Wait + Sync>(
-    rt: &HostRuntime,
-    threads: &R,
-    task: Task,
-) -> Result<ExitCode, Fault> {
-    match task {
-        Task::RunInput => run_input(rt),
-        Task::Run { settings, script } => run_script(rt, settings, script),
-        Task::Check { settings, journal } => check_journal(rt, settings, journal),
-        Task::Stats { journal } => tell_statistics(rt, journal),
-        Task::Load {
-            settings,
-            workers,
-            rounds,
-        } => load_pool(rt, threads, settings, workers, rounds),
+/// The name of the program, and the words behind it.
+fn arguments_of<'a>(rt: &HostRuntime) -> Result<Vec<String>, Fault<'a>> {
+    match env::args(rt) {
+        Ok(words) => Ok(words.collect(rt.alloc())?),
+        Err(cause) => Err(Fault::of_unread(&cause)),
     }
 }
 
-fn run_input(rt: &HostRuntime) -> Result<ExitCode, Fault> {
+/// Does what is asked for. The threads are those of the runtime.
+fn perform<'a, R: Threads + Wait + Sync>(
+    rt: &HostRuntime,
+    threads: &R,
+    arguments: &'a [String],
+) -> Result<ExitCode, Fault<'a>> {
+    match task_of(arguments) {
+        Some(Task::RunInput) => run_input(rt),
+        Some(Task::Run { settings, script }) => run_script(rt, settings, script),
+        Some(Task::Check { settings, journal }) => check_journal(rt, settings, journal),
+        Some(Task::Stats { journal }) => tell_statistics(rt, journal),
+        Some(
+            Task::Load {
+                settings,
+                workers,
+                rounds,
+            },
+        ) => load_pool(rt, threads, settings, workers, rounds),
+        None => Err(Fault::WrongArguments),
+    }
+}
+
+fn run_input<'a>(rt: &HostRuntime) -> Result<ExitCode, Fault<'a>> {
     let settings = Settings::default();
     run(rt.alloc(), settings, &mut rt.stdin(), &mut rt.stdout())?;
     Ok(ExitCode::SUCCESS)
 }
 
-fn run_script(rt: &HostRuntime, settings: String, script: String) -> Result<ExitCode, Fault> {
+fn run_script<'a>(
+    rt: &HostRuntime,
+    settings: &'a str,
+    script: &'a str,
+) -> Result<ExitCode, Fault<'a>> {
     let settings = settings_in(rt, settings)?;
     let mut script = open(rt, script)?;
     run(rt.alloc(), settings, &mut script, &mut rt.stdout())?;
     Ok(ExitCode::SUCCESS)
 }
 
-fn check_journal(rt: &HostRuntime, settings: String, journal: String) -> Result<ExitCode, Fault> {
+fn check_journal<'a>(
+    rt: &HostRuntime,
+    settings: &'a str,
+    journal: &'a str,
+) -> Result<ExitCode, Fault<'a>> {
     let settings = settings_in(rt, settings)?;
     let mut journal = open(rt, journal)?;
     if check(rt.alloc(), settings, &mut journal, &mut rt.stdout())? {
@@ -74,7 +93,7 @@ fn check_journal(rt: &HostRuntime, settings: String, journal: String) -> Result<
     }
 }
 
-fn tell_statistics(rt: &HostRuntime, journal: String) -> Result<ExitCode, Fault> {
+fn tell_statistics<'a>(rt: &HostRuntime, journal: &'a str) -> Result<ExitCode, Fault<'a>> {
     let mut journal = open(rt, journal)?;
     stats(rt.alloc(), &mut journal, &mut rt.stdout())?;
     Ok(ExitCode::SUCCESS)
@@ -87,33 +106,33 @@ impl Gate for NoGate {
     fn pass(&self, _worker: u32, _round: u64) {}
 }
 
-fn load_pool<R: Threads + Wait + Sync>(
+fn load_pool<'a, R: Threads + Wait + Sync>(
     rt: &HostRuntime,
     threads: &R,
-    settings: String,
+    settings: &'a str,
     workers: u32,
     rounds: u64,
-) -> Result<ExitCode, Fault> {
+) -> Result<ExitCode, Fault<'a>> {
     let settings = settings_in(rt, settings)?;
     let report = load(threads, rt.alloc(), settings, workers, rounds, &NoGate)?;
     write_report(rt.alloc(), workers, rounds, &report, &mut rt.stdout())?;
     Ok(ExitCode::SUCCESS)
 }
 
-fn settings_in(rt: &HostRuntime, path: String) -> Result<Settings, Fault> {
+fn settings_in<'a>(rt: &HostRuntime, path: &'a str) -> Result<Settings, Fault<'a>> {
     let mut file = open(rt, path)?;
     Ok(read_settings(rt.alloc(), &mut file)?)
 }
 
-fn open(rt: &HostRuntime, path: String) -> Result<File, Fault> {
-    match File::open(rt, path.as_str()) {
+fn open<'a>(rt: &HostRuntime, path: &'a str) -> Result<File, Fault<'a>> {
+    match File::open(rt, path) {
         Ok(file) => Ok(file),
-        Err(cause) => Err(Fault::of_unopened(path, &cause)),
+        Err(_) => Err(Fault::Unopened(path)),
     }
 }
 
 /// Says the fault on standard error. Where that fails too, the status alone tells of it.
-fn tell(rt: &HostRuntime, fault: &Fault) -> ExitCode {
-    let _ = eprintln!(rt; "{fault}");
+fn tell(rt: &HostRuntime, fault: &Fault<'_>) -> ExitCode {
+    let _ = fault.tell(&mut rt.stderr());
     ExitCode::from(fault.status())
 }

@@ -14,3 +14,4 @@ pub mod StatisticsLines
 pub mod Stats
 pub mod Tallier
 pub mod ReportLines
+pub mod Messages

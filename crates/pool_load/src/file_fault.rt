@@ -1,22 +1,38 @@
 use pool_settings::SettingsFault;
-use thiserror::Error;
+use std::fmt;
+use std::fmt::{Formatter, Write};
 
 /// Why a settings file gives no settings.
-#[derive(Debug, Drop, Error)]
+#[derive(Debug, Drop)]
 pub enum FileFault {
     /// A read failed.
-    #[error("pool: read failed")]
     Read,
     /// There was no memory for the file's bytes.
-    #[error("pool: out of memory")]
     OutOfMemory,
     /// The file has more than 1,048,576 bytes.
-    #[error("pool: settings: too long")]
     TooLong,
     /// The file isn't UTF-8.
-    #[error("pool: settings: not TOML")]
     NotUtf8,
     /// The text has no settings, or there was no memory for reading it.
-    #[error("pool: {0}")]
     Text(SettingsFault),
 }
+
+/// The fault on one line.
+impl fmt::Display for FileFault {
+    ghost use Rattle.std.specs.Prelude.{Some};
+    ghost use Rattle.pool_load.specs.Messages.{file_text};
+
+    ghost output = { λ fault. Some (file_text fault) };
+
+    fn fmt<W: Write>(&self, f: &mut Formatter<W>) -> fmt::Result {
+        match self {
+            FileFault::Read => f.write_str("pool: read failed"),
+            FileFault::OutOfMemory => f.write_str("pool: out of memory"),
+            FileFault::TooLong => f.write_str("pool: settings: too long"),
+            FileFault::NotUtf8 => f.write_str("pool: settings: not TOML"),
+            FileFault::Text(fault) => write!(f, "pool: {fault}"),
+        }
+    }
+}
+
+impl std::error::Error for FileFault {}
