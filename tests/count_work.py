@@ -31,9 +31,9 @@ SETTINGS = 1_048_577
 # 8 bytes.
 ENTRY = 7 * 8
 
-# An object: the seven numbers and marks of its record, and its value with the mark whether there is one; and its place in the
-# queue: its position, its id, and a mark.
-OBJECT = 9 * 8 + 3 * 8
+# An object: the seven numbers and marks of its record, its value and its two links in the queue, each with the mark whether there
+# is one; and its place in the index: its id, its key, and a mark.
+OBJECT = (7 + 3 * 2) * 8 + 3 * 8
 
 # A list has room for so many at first, and for twice as many each time that it is full.
 FIRST = 4
@@ -69,7 +69,7 @@ class Script:
         if command == "stats":
             held, growths = room(count)
             return allocations + 2 + 1 + growths, ENTRY * held + 2 * BUFFER
-        # The settings' bytes, the document and its three keys; two buffers; the lists of entries, of objects and of the queue. In
+        # The settings' bytes, the document and its three keys; two buffers; the lists of entries, of objects and of their ids. In
         # that of the entries there is room for what is owed too.
         held, growths = room(max(FIRST, count + OWED * self.idle + 1))
         objects, more = room(self.idle)
