@@ -148,7 +148,7 @@ impl<T> State<T> {
         }
     }
 
-    // Lets the next step of an eviction run, or of a removal that found nothing, be found soon.
+    // Remembers where an eviction run goes on, and what a removal that found nothing has learned.
     fn remember(&mut self, at: u64, input: Input, answer: Answer)
         ensures { self.new ≡ self.old }
     {
