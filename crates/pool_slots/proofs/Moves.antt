@@ -35,7 +35,7 @@ module _ {T : Type 0} where
       let one : ◌≡◌ {A = ℕ} (cond (is_some (get s key)) 1 0) 1 = ap (λ o. cond (is_some o) 1 0) found in
       omega (arith, sum_by-set (λ o. cond (is_some o) 1 0) s.slots key (Some new) None within, one)
 
-  written_here : (s : Slab (Slot T)) (f l : Option ℕ) (key : ℕ) (old new : Slot T) (change : Item T → Item T) → IsQueue s f l (queue_of s f) → get s key ≡ Some old → new.after ≡ old.after → new.before ≡ old.before → item_of new ≡ change (item_of old) → Written (rack_of s f) (with_value s key new) f l key change
+  written_here : (s : Slab (Slot T)) (f l : Option ℕ) (key : ℕ) (old new : Slot T) (change : Item T → Item T) → IsQueue s f l (queue_of s f) → get s key ≡ Some old → new.links.after ≡ old.links.after → new.links.before ≡ old.links.before → item_of new ≡ change (item_of old) → Written (rack_of s f) (with_value s key new) f l key change
   written_here s f l key old new change is found after before changed =
       let s2 = with_value s key new in
       let updates = Updates-with_value s key new (ap is_some found) in
@@ -50,7 +50,7 @@ module _ {T : Type 0} where
         room = ap (λ n. s.capacity - n) counts;
       }
 
-  pub written : (s : Slab (Slot T)) (f l : Option ℕ) (r : Rack T) (key : ℕ) (old new : Slot T) (change : Item T → Item T) → rack_of s f ≡ r → IsQueue s f l (queue_of s f) → get s key ≡ Some old → new.after ≡ old.after → new.before ≡ old.before → item_of new ≡ change (item_of old) → Written r (with_value s key new) f l key change
+  pub written : (s : Slab (Slot T)) (f l : Option ℕ) (r : Rack T) (key : ℕ) (old new : Slot T) (change : Item T → Item T) → rack_of s f ≡ r → IsQueue s f l (queue_of s f) → get s key ≡ Some old → new.links.after ≡ old.links.after → new.links.before ≡ old.links.before → item_of new ≡ change (item_of old) → Written r (with_value s key new) f l key change
   written s f l r key old new change view is found after before changed =
       subst (λ x. Written x (with_value s key new) f l key change) view (written_here s f l key old new change is found after before changed)
 
@@ -130,19 +130,19 @@ module _ {T : Type 0} where
   last_good s f l queue is =
       end_is (after_of s f) (before_of s l) (Good s) None queue None is.chain _ is.present
 
-  pub before_good : (s : Slab (Slot T)) (f l : Option ℕ) (queue : List ℕ) (key : ℕ) (slot : Slot T) → IsQueue s f l queue → is_in key queue ≡ true → get s key ≡ Some slot → Good s slot.before
-  before_good s f l queue key slot is there found =
-      subst (Good s) (ap (option_and_then (λ x. x.before)) found) (around_key s f l queue key is there).before_is
+  pub before_good : (s : Slab (Slot T)) (f l : Option ℕ) (queue : List ℕ) (key : ℕ) (slot : Slot T) (p : Option ℕ) → IsQueue s f l queue → is_in key queue ≡ true → get s key ≡ Some slot → p ≡ slot.links.before → Good s p
+  before_good s f l queue key slot p is there found reads =
+      subst (Good s) (ap (option_and_then (λ x. x.links.before)) found ∙ sym reads) (around_key s f l queue key is there).before_is
 
-  pub after_good : (s : Slab (Slot T)) (f l : Option ℕ) (queue : List ℕ) (key : ℕ) (slot : Slot T) → IsQueue s f l queue → is_in key queue ≡ true → get s key ≡ Some slot → Good s slot.after
-  after_good s f l queue key slot is there found =
-      subst (Good s) (ap (option_and_then (λ x. x.after)) found) (around_key s f l queue key is there).after_is
+  pub after_good : (s : Slab (Slot T)) (f l : Option ℕ) (queue : List ℕ) (key : ℕ) (slot : Slot T) (n : Option ℕ) → IsQueue s f l queue → is_in key queue ≡ true → get s key ≡ Some slot → n ≡ slot.links.after → Good s n
+  after_good s f l queue key slot n is there found reads =
+      subst (Good s) (ap (option_and_then (λ x. x.links.after)) found ∙ sym reads) (around_key s f l queue key is there).after_is
 
-  pub unlinked_slot : (s s2 : Slab (Slot T)) (f l f2 l2 : Option ℕ) (queue : List ℕ) (key : ℕ) (slot : Slot T) → IsQueue s f l queue → is_in key queue ≡ true → get s key ≡ Some slot → items_of s2 ≡ items_of s → Leads (after_of s f) (after_of s2 f2) slot.before slot.after → Leads (before_of s l) (before_of s2 l2) slot.after slot.before → IsQueue s2 f2 l2 (without key queue)
-  unlinked_slot s s2 f l f2 l2 queue key slot is there found items forward backward =
-      let before : slot.before ≡ before_of s l (Some key) = sym (ap (option_and_then (λ x. x.before)) found) in
-      let after : slot.after ≡ after_of s f (Some key) = sym (ap (option_and_then (λ x. x.after)) found) in
-      unlinked s s2 f l f2 l2 queue key is there items (subst (λ p. Leads (after_of s f) (after_of s2 f2) p (after_of s f (Some key))) before (subst (λ p. Leads (after_of s f) (after_of s2 f2) slot.before p) after forward)) (subst (λ p. Leads (before_of s l) (before_of s2 l2) p (before_of s l (Some key))) after (subst (λ p. Leads (before_of s l) (before_of s2 l2) slot.after p) before backward))
+  pub unlinked_slot : (s s2 : Slab (Slot T)) (f l f2 l2 : Option ℕ) (queue : List ℕ) (key : ℕ) (slot : Slot T) (p n : Option ℕ) → IsQueue s f l queue → is_in key queue ≡ true → get s key ≡ Some slot → p ≡ slot.links.before → n ≡ slot.links.after → items_of s2 ≡ items_of s → Leads (after_of s f) (after_of s2 f2) p n → Leads (before_of s l) (before_of s2 l2) n p → IsQueue s2 f2 l2 (without key queue)
+  unlinked_slot s s2 f l f2 l2 queue key slot p n is there found reads_before reads_after items forward backward =
+      let before : p ≡ before_of s l (Some key) = reads_before ∙ sym (ap (option_and_then (λ x. x.links.before)) found) in
+      let after : n ≡ after_of s f (Some key) = reads_after ∙ sym (ap (option_and_then (λ x. x.links.after)) found) in
+      unlinked s s2 f l f2 l2 queue key is there items (subst (λ q. Leads (after_of s f) (after_of s2 f2) q (after_of s f (Some key))) before (subst (λ q. Leads (after_of s f) (after_of s2 f2) p q) after forward)) (subst (λ q. Leads (before_of s l) (before_of s2 l2) q (before_of s l (Some key))) after (subst (λ q. Leads (before_of s l) (before_of s2 l2) n q) before backward))
 
   -- ---- room
   pub room_taken : (s s2 : Slab (Slot T)) (f : Option ℕ) (r : Rack T) → rack_of s f ≡ r → slab_len s2 ≡ slab_len s + 1 → s2.capacity ≡ s.capacity → 1 ≤ r.room → (rack_of s2 f).room + 1 ≡ r.room

@@ -36,15 +36,15 @@ module _ {T : Type 0} where
         | inr differs ↦ ap (option_and_then part) (updates.others other differs.1)
       ]
 
-  after_same : (s s2 : Slab (Slot T)) (f : Option ℕ) (key : ℕ) (old new : Slot T) → Updates s s2 key (Some new) → get s key ≡ Some old → new.after ≡ old.after → (p : Option ℕ) → after_of s2 f p ≡ after_of s f p
+  after_same : (s s2 : Slab (Slot T)) (f : Option ℕ) (key : ℕ) (old new : Slot T) → Updates s s2 key (Some new) → get s key ≡ Some old → new.links.after ≡ old.links.after → (p : Option ℕ) → after_of s2 f p ≡ after_of s f p
   after_same s s2 f key old new updates found same None = refl
   after_same s s2 f key old new updates found same (Some other) =
-      part_same s s2 key old new (λ slot. slot.after) updates found same other
+      part_same s s2 key old new (λ slot. slot.links.after) updates found same other
 
-  before_same : (s s2 : Slab (Slot T)) (l : Option ℕ) (key : ℕ) (old new : Slot T) → Updates s s2 key (Some new) → get s key ≡ Some old → new.before ≡ old.before → (p : Option ℕ) → before_of s2 l p ≡ before_of s l p
+  before_same : (s s2 : Slab (Slot T)) (l : Option ℕ) (key : ℕ) (old new : Slot T) → Updates s s2 key (Some new) → get s key ≡ Some old → new.links.before ≡ old.links.before → (p : Option ℕ) → before_of s2 l p ≡ before_of s l p
   before_same s s2 l key old new updates found same None = refl
   before_same s s2 l key old new updates found same (Some other) =
-      part_same s s2 key old new (λ slot. slot.before) updates found same other
+      part_same s s2 key old new (λ slot. slot.links.before) updates found same other
 
   present_after : (s s2 : Slab (Slot T)) (key : ℕ) (new : Slot T) → Updates s s2 key (Some new) → (other : ℕ) → IsSome (get s other) → IsSome (get s2 other)
   present_after s s2 key new updates other present =
@@ -54,7 +54,7 @@ module _ {T : Type 0} where
       ]
 
   -- an entry is changed but for its links
-  pub queue_written : (s s2 : Slab (Slot T)) (f l : Option ℕ) (queue : List ℕ) (key : ℕ) (old new : Slot T) → Updates s s2 key (Some new) → get s key ≡ Some old → new.after ≡ old.after → new.before ≡ old.before → IsQueue s f l queue → IsQueue s2 f l queue
+  pub queue_written : (s s2 : Slab (Slot T)) (f l : Option ℕ) (queue : List ℕ) (key : ℕ) (old new : Slot T) → Updates s s2 key (Some new) → get s key ≡ Some old → new.links.after ≡ old.links.after → new.links.before ≡ old.links.before → IsQueue s f l queue → IsQueue s2 f l queue
   queue_written s s2 f l queue key old new updates found after before is = record {
     chain = chain_same _ _ _ _ (after_same s s2 f key old new updates found after) (before_same s s2 l key old new updates found before) None queue None is.chain;
     distinct = is.distinct;
@@ -64,12 +64,12 @@ module _ {T : Type 0} where
   after_apart : (s s2 : Slab (Slot T)) (f : Option ℕ) (key : ℕ) (slot : Option (Slot T)) → Updates s s2 key slot → (p : Option ℕ) → p ≢ Some key → after_of s2 f p ≡ after_of s f p
   after_apart s s2 f key slot updates None apart = refl
   after_apart s s2 f key slot updates (Some other) apart =
-      ap (option_and_then (λ x. x.after)) (updates.others other (λ same. apart (ap Some same)))
+      ap (option_and_then (λ x. x.links.after)) (updates.others other (λ same. apart (ap Some same)))
 
   before_apart : (s s2 : Slab (Slot T)) (l : Option ℕ) (key : ℕ) (slot : Option (Slot T)) → Updates s s2 key slot → (p : Option ℕ) → p ≢ Some key → before_of s2 l p ≡ before_of s l p
   before_apart s s2 l key slot updates None apart = refl
   before_apart s s2 l key slot updates (Some other) apart =
-      ap (option_and_then (λ x. x.before)) (updates.others other (λ same. apart (ap Some same)))
+      ap (option_and_then (λ x. x.links.before)) (updates.others other (λ same. apart (ap Some same)))
 
   present_apart : (s s2 : Slab (Slot T)) (queue : List ℕ) (key : ℕ) (slot : Option (Slot T)) → Updates s s2 key slot → is_in key queue ≡ false → (other : ℕ) → is_in other queue ≡ true → IsSome (get s other) → IsSome (get s2 other)
   present_apart s s2 queue key slot updates out other found present =

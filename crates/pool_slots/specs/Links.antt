@@ -31,12 +31,12 @@ module _ {T : Type 0} where
   -- what comes after a key, and after nothing the first
   abbrev pub after_of : Slab (Slot T) → Option ℕ → Option ℕ → Option ℕ
   after_of slots first None = first
-  after_of slots first (Some key) = option_and_then (λ slot. slot.after) (get slots key)
+  after_of slots first (Some key) = option_and_then (λ slot. slot.links.after) (get slots key)
 
   -- what comes before a key, and before nothing the last
   abbrev pub before_of : Slab (Slot T) → Option ℕ → Option ℕ → Option ℕ
   before_of slots last None = last
-  before_of slots last (Some key) = option_and_then (λ slot. slot.before) (get slots key)
+  before_of slots last (Some key) = option_and_then (λ slot. slot.links.before) (get slots key)
 
   -- an entry without its links
   abbrev pub item_of : Slot T → Item T

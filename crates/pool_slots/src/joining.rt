@@ -23,7 +23,7 @@ fn set_after<T>(
         None => *first = after,
         Some(key) => {
             let slot = &mut slots[key];
-            slot.after = after;
+            slot.links.set_after(after);
         }
     }
 }
@@ -46,7 +46,7 @@ fn set_before<T>(
         None => *last = before,
         Some(key) => {
             let slot = &mut slots[key];
-            slot.before = before;
+            slot.links.set_before(before);
         }
     }
 }

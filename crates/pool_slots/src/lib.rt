@@ -2,6 +2,7 @@
 #![tactic(auto)]
 
 mod joining;
+mod linking;
 mod slot;
 mod slots;
 

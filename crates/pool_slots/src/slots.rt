@@ -4,6 +4,7 @@ ghost use Rattle.pool_journal.specs.Queue.{first_of, last_of};
 ghost use Rattle.pool_slots.specs.Rack.{is_in, without, item_at, known_at, value_at, item_count, new_item, with_known, with_value, Sets, IsRack, IsNextIn, IsPreviousIn};
 
 use crate::joining::join;
+use crate::linking::Links;
 use crate::slot::Slot;
 use pool_journal::Record;
 use slab::Slab;
@@ -84,8 +85,7 @@ impl<T> Slots<T> {
         self.slots.insert_reserved(Slot {
             known,
             value: None,
-            before: None,
-            after: None,
+            links: Links::none(),
         })
     }
 
@@ -101,8 +101,7 @@ impl<T> Slots<T> {
         let Slot {
             known: _,
             value,
-            before: _,
-            after: _,
+            links: _,
         } = self.slots.remove(key);
         match value {
             None => {}
@@ -190,8 +189,8 @@ impl<T> Slots<T> {
         ensures { self.new ≡ record self.old { queue = without key self.old.queue } }
     {
         let slot = &self.slots[key];
-        let before = slot.before;
-        let after = slot.after;
+        let before = slot.links.before();
+        let after = slot.links.after();
         join(
             &mut self.slots,
             &mut self.first,
@@ -222,7 +221,7 @@ impl<T> Slots<T> {
         requires { is_in key self.now.queue ≡ true }
         ensures { IsNextIn self.now.queue key result }
     {
-        self.slots[key].after
+        self.slots[key].links.after()
     }
 
     /// The key before another one in the queue.
@@ -230,6 +229,6 @@ impl<T> Slots<T> {
         requires { is_in key self.now.queue ≡ true }
         ensures { IsPreviousIn self.now.queue key result }
     {
-        self.slots[key].before
+        self.slots[key].links.before()
     }
 }

@@ -5,4 +5,4 @@ use Rattle.pool_slots.proofs.joining.set_before.Goals as goal
 pub returns-in-Some-clause-items : goal.returns-in-Some-clause-items
 returns-in-Some-clause-items g c =
     let old = c.index_mut-slot.result.now in
-    items_same c.args.slots.now c.in-Some.key old (record old { before = c.args.before }) c.index_mut-slot.ensures.value refl
+    items_same c.args.slots.now c.in-Some.key old (record old { links = c.set_before.new.self }) c.index_mut-slot.ensures.value refl

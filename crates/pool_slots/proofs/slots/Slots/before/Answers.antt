@@ -8,4 +8,4 @@ pub returns : goal.returns
 returns g c front back split =
     let s = c.self.inside in
     let chain = subst (λ xs. IsChain (after_of s.slots s.first) (before_of s.slots s.last) None xs None) (ap (λ r. r.queue) c.self.view_is ∙ split) c.self.invariant.chain in
-    ap (option_and_then (λ slot. slot.before)) (sym c.index.ensures) ∙ chain_before _ _ front c.args.key back chain
+    c.before-2.ensures ∙ ap (option_and_then (λ slot. slot.links.before)) (sym c.index.ensures) ∙ chain_before _ _ front c.args.key back chain
