@@ -1,0 +1,99 @@
+use crate::history::{History, Sample};
+use crate::layout::{CHART, Layout};
+use crate::scale::Scale;
+use std::io;
+use std::io::Write;
+
+/// A count of objects that is drawn as a line.
+#[derive(Clone, Copy, Debug)]
+enum Line {
+    Idle,
+    Lent,
+    Reserved,
+}
+
+impl Line {
+    fn count_in(self, sample: &Sample) -> u64 {
+        match self {
+            Line::Idle => sample.idle,
+            Line::Lent => sample.lent,
+            Line::Reserved => sample.reserved,
+        }
+    }
+
+    fn colour(self) -> &'static str {
+        match self {
+            Line::Idle => "#3060b0",
+            Line::Lent => "#208040",
+            Line::Reserved => "#b07000",
+        }
+    }
+}
+
+/// The counts of objects over time.
+pub(crate) fn draw_chart<W: Write>(
+    out: &mut W,
+    history: &History,
+    layout: &Layout,
+    scale: &Scale,
+) -> io::Result<()> {
+    let highest = highest_of(&history.samples);
+    let mut y = layout.chart_top.saturating_add(12);
+    for line in [Line::Idle, Line::Lent, Line::Reserved] {
+        writeln!(
+            out,
+            "<text x=\"10\" y=\"{y}\" fill=\"{}\">{line:?}</text>",
+            line.colour()
+        )?;
+        draw_line(out, history, layout, scale, line, highest)?;
+        y = y.saturating_add(16);
+    }
+    writeln!(
+        out,
+        "<text x=\"104\" y=\"{}\" text-anchor=\"end\">{highest}</text><text x=\"104\" y=\"{}\" text-anchor=\"end\">0</text>",
+        layout.chart_top.saturating_add(4),
+        layout.chart_top.saturating_add(CHART)
+    )
+}
+
+/// The greatest count in any sample, and at least 1.
+fn highest_of(samples: &[Sample]) -> u64 {
+    let mut highest = 1;
+    for sample in samples {
+        highest = highest
+            .max(sample.idle)
+            .max(sample.lent)
+            .max(sample.reserved);
+    }
+    highest
+}
+
+fn draw_line<W: Write>(
+    out: &mut W,
+    history: &History,
+    layout: &Layout,
+    scale: &Scale,
+    line: Line,
+    highest: u64,
+) -> io::Result<()> {
+    let bottom = layout.chart_top.saturating_add(CHART);
+    write!(
+        out,
+        "<path fill=\"none\" stroke=\"{}\" d=\"M{} {bottom}",
+        line.colour(),
+        scale.place_of(history.first)
+    )?;
+    for sample in &history.samples {
+        let height = CHART
+            .saturating_mul(line.count_in(sample))
+            .checked_div(highest)
+            .unwrap_or(0);
+        write!(
+            out,
+            "H{}V{}",
+            scale.place_of(sample.at),
+            bottom.saturating_sub(height)
+        )?;
+    }
+    writeln!(out, "H{}\"/>", scale.place_of(history.last))
+}

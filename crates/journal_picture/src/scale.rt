@@ -1,0 +1,70 @@
+use crate::history::History;
+
+/// How many ticks the axis has at most, but for the last.
+const MOST_TICKS: u64 = 10;
+
+/// From moments, in milliseconds, to places across the picture.
+#[derive(Clone, Copy, Debug)]
+pub(crate) struct Scale {
+    first: u64,
+    span: u64,
+    left: u64,
+    width: u64,
+}
+
+impl Scale {
+    /// The time of a history, from `left` on and `width` wide.
+    pub(crate) fn of(history: &History, left: u64, width: u64) -> Scale {
+        Scale {
+            first: history.first,
+            span: history.last.saturating_sub(history.first).max(1),
+            left,
+            width,
+        }
+    }
+
+    /// Where a moment stands.
+    pub(crate) fn place_of(&self, at: u64) -> u64 {
+        let elapsed = at.saturating_sub(self.first).min(self.span);
+        let across = u128::from(elapsed) * u128::from(self.width);
+        let share = across.checked_div(u128::from(self.span)).unwrap_or(0);
+        self.left
+            .saturating_add(u64::try_from(share).unwrap_or(self.width))
+    }
+
+    /// How wide a stretch of time is, and at least 1, so that it is seen.
+    pub(crate) fn width_of(&self, from: u64, until: u64) -> u64 {
+        self.place_of(until)
+            .saturating_sub(self.place_of(from))
+            .max(1)
+    }
+
+    /// How far the ticks of the axis are apart: 1, 2 or 5 times a power of ten.
+    fn step(&self) -> u64 {
+        let mut unit: u64 = 1;
+        for _ in 0..20 {
+            for factor in [1, 2, 5] {
+                let step = unit.saturating_mul(factor);
+                if self.span / step.max(1) <= MOST_TICKS {
+                    return step.max(1);
+                }
+            }
+            unit = unit.saturating_mul(10);
+        }
+        u64::MAX
+    }
+
+    /// The moment of the tick of a number, from 0, if it is on the axis.
+    pub(crate) fn tick(&self, number: u64) -> Option<u64> {
+        let step = self.step();
+        let before = self.first.checked_rem(step).unwrap_or(0);
+        let begin = if before == 0 {
+            self.first
+        } else {
+            self.first.saturating_add(step - before)
+        };
+        let at = begin.checked_add(step.checked_mul(number)?)?;
+        let last = self.first.saturating_add(self.span);
+        if at <= last { Some(at) } else { None }
+    }
+}

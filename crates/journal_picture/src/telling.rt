@@ -1,0 +1,129 @@
+use crate::history::{Bar, History, Sample, Waiting};
+use crate::moves::moved;
+use pool_journal::{Answer, Entry, Input, Phase};
+use std::alloc::{AllocError, Global};
+use std::collections::HashMap;
+
+/// Goes over entries, and keeps what there is to draw of them.
+///
+/// A moment before an earlier entry's counts as that one.
+#[derive(Drop)]
+pub(crate) struct Teller {
+    history: History,
+    now: Sample,
+    /// Where the bar stands in which an object is.
+    bars: HashMap<u64, usize>,
+    /// Where the wait stands that a caller is in.
+    waits: HashMap<u32, usize>,
+}
+
+impl Teller {
+    pub(crate) fn new(alloc: Global) -> Teller {
+        Teller {
+            history: History {
+                entries: 0,
+                told: 0,
+                first: 0,
+                last: 0,
+                bars: Vec::new(alloc),
+                waits: Vec::new(alloc),
+                samples: Vec::new(alloc),
+                objects: Vec::new(alloc),
+                waiters: Vec::new(alloc),
+            },
+            now: Sample::none(),
+            bars: HashMap::new(alloc),
+            waits: HashMap::new(alloc),
+        }
+    }
+
+    /// Counts an entry that isn't drawn.
+    pub(crate) fn pass_over(&mut self) {
+        self.history.entries = self.history.entries.saturating_add(1);
+    }
+
+    /// Takes in the next entry.
+    pub(crate) fn take(&mut self, entry: &Entry) -> Result<(), AllocError> {
+        if self.history.entries == 0 {
+            self.history.first = entry.at;
+        }
+        self.now.at = self.now.at.max(entry.at);
+        self.history.last = self.now.at;
+        self.history.entries = self.history.entries.saturating_add(1);
+        self.history.told = self.history.entries;
+        if let Some((object, phase)) = moved(entry) {
+            self.move_object(object, phase, entry.caller)?;
+        }
+        match entry.input {
+            Input::Borrow { began: _ } => self.note_wait(entry.caller, entry.answer),
+            _ => Ok(()),
+        }
+    }
+
+    /// An object comes to a phase.
+    fn move_object(&mut self, object: u64, phase: Phase, caller: u32) -> Result<(), AllocError> {
+        let at = self.now.at;
+        match self.bars.remove(&object) {
+            Some(place) => self.end_bar(place),
+            None => self.history.objects.push(object)?,
+        }
+        if phase != Phase::Gone {
+            self.bars.insert(object, self.history.bars.len())?;
+            self.history.bars.push(Bar {
+                object,
+                phase,
+                caller,
+                from: at,
+                until: u64::MAX,
+            })?;
+        }
+        self.now.add(phase);
+        self.history.samples.push(self.now)?;
+        Ok(())
+    }
+
+    fn end_bar(&mut self, place: usize) {
+        if let Some(bar) = self.history.bars.get_mut(place) {
+            bar.until = self.now.at;
+            self.now.remove(bar.phase);
+        }
+    }
+
+    /// A borrower was answered: it waits, or it does no longer.
+    fn note_wait(&mut self, caller: u32, answer: Answer) -> Result<(), AllocError> {
+        let at = self.now.at;
+        if answer != Answer::Wait {
+            if let Some(place) = self.waits.remove(&caller) {
+                if let Some(wait) = self.history.waits.get_mut(place) {
+                    wait.until = at;
+                }
+            }
+            return Ok(());
+        }
+        if self.waits.contains_key(&caller) {
+            return Ok(());
+        }
+        if !self.history.waiters.contains(&caller) {
+            self.history.waiters.push(caller)?;
+        }
+        self.waits.insert(caller, self.history.waits.len())?;
+        self.history.waits.push(Waiting {
+            caller,
+            from: at,
+            until: u64::MAX,
+        })?;
+        Ok(())
+    }
+
+    /// What was taken in. What goes on at the end is drawn up to it.
+    pub(crate) fn finish(self) -> History {
+        let mut history = self.history;
+        for bar in history.bars.iter_mut() {
+            bar.until = bar.until.min(history.last);
+        }
+        for wait in history.waits.iter_mut() {
+            wait.until = wait.until.min(history.last);
+        }
+        history
+    }
+}
