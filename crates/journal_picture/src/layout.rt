@@ -41,9 +41,10 @@ impl Layout {
     pub(crate) fn of(history: &History) -> Layout {
         let waiters = history.waiters.len().min(MOST_WAITERS);
         let objects = history.objects.len().min(MOST_OBJECTS);
-        let objects_top = lane_top(TOP, waiters) + if waiters == 0 { 0 } else { GAP };
-        let chart_top = lane_top(objects_top, objects) + GAP;
-        let axis = chart_top + CHART + GAP / 2;
+        let gap = if waiters == 0 { 0 } else { GAP };
+        let objects_top = lane_top(TOP, waiters).saturating_add(gap);
+        let chart_top = lane_top(objects_top, objects).saturating_add(GAP);
+        let axis = chart_top.saturating_add(CHART + GAP / 2);
         Layout {
             waiters,
             objects,
@@ -51,7 +52,7 @@ impl Layout {
             objects_top,
             chart_top,
             axis,
-            height: axis + GAP + GAP,
+            height: axis.saturating_add(2 * GAP),
         }
     }
 }
