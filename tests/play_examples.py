@@ -1,13 +1,15 @@
 #!/usr/bin/env python3
-"""Plays the examples that docs/settings.md names, and looks for the journal lines that it shows.
+"""Plays the examples that docs/settings.md names, looks for the journal lines that it shows, and draws the journals whose pictures
+stand in docs/pictures, each under the name of its settings.
 
-play_examples.py PROGRAM  The last line is 'N passed, M failed'.
+play_examples.py POOL JOURNAL_PICTURE  Both are programs. The last line is 'N passed, M failed'.
 """
 
 import pathlib
 import re
 import subprocess
 import sys
+import tempfile
 
 TOP = pathlib.Path(__file__).resolve().parent.parent
 
@@ -20,7 +22,18 @@ def rows():
             yield named[0], named[1], [words for words in named[2:] if " = " in words]
 
 
-def main(program):
+def is_drawn(picture, settings, journal):
+    """Whether the picture of an example that stands in docs/pictures, if one does, is that of its journal."""
+    stands = TOP / "docs/pictures" / pathlib.Path(settings).with_suffix(".svg").name
+    if not stands.exists():
+        return True
+    with tempfile.NamedTemporaryFile("w") as file:
+        file.write(journal)
+        file.flush()
+        return subprocess.run([picture, file.name], capture_output=True, text=True).stdout == stands.read_text()
+
+
+def main(program, picture):
     wrong, played = [], 0
     named = set()
     for settings, script, lines in rows():
@@ -30,6 +43,8 @@ def main(program):
         found = done.stdout.splitlines()
         if done.returncode or done.stderr or not lines or not set(lines) <= set(found):
             wrong.append(f"{settings} on {script}: wanted {lines}, got {found}, {done.stderr!r}, status {done.returncode}")
+        elif not is_drawn(picture, settings, done.stdout):
+            wrong.append(f"{settings}: docs/pictures has another picture")
     unnamed = {f"examples/{path.name}" for path in (TOP / "examples").iterdir()} - named
     wrong += [f"{name}: docs/settings.md doesn't tell what it shows" for name in sorted(unnamed)]
     print(*wrong, sep="\n", end="\n" if wrong else "")
@@ -38,4 +53,4 @@ def main(program):
 
 
 if __name__ == "__main__":
-    sys.exit(main(sys.argv[1]))
+    sys.exit(main(sys.argv[1], sys.argv[2]))
