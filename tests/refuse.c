@@ -4,10 +4,6 @@
  *     REFUSE=N REFUSED=FILE LD_PRELOAD=./refuse.so PROGRAM ..
  *
  * The Nth call of malloc, realloc, aligned_alloc or posix_memalign fails, and the FILE is made then; with N = 0 none does.
- *
- *     REFUSE_SEED=SEED REFUSE_OF=K LD_PRELOAD=./refuse.so PROGRAM ..
- *
- * Of the calls by other threads than the first one in K fails, by chance.
  */
 #define _GNU_SOURCE
 #include <dlfcn.h>
@@ -17,34 +13,16 @@
 #include <unistd.h>
 
 static long calls, refused;
-static unsigned long seed, one_of;
 static const char *mark;
-
-static unsigned long number_from(const char *name) {
-  const char *text = getenv(name);
-  return text ? strtoul(text, NULL, 10) : 0;
-}
 
 __attribute__((constructor)) static void begin(void) {
   const char *number = getenv("REFUSE");
   refused = number ? atol(number) : 0;
   mark = getenv("REFUSED");
-  seed = number_from("REFUSE_SEED");
-  one_of = number_from("REFUSE_OF");
-}
-
-/* A number that looks like chance (splitmix64). */
-static unsigned long mixed(unsigned long x) {
-  x += 0x9e3779b97f4a7c15ul;
-  x = (x ^ (x >> 30)) * 0xbf58476d1ce4e5b9ul;
-  x = (x ^ (x >> 27)) * 0x94d049bb133111ebul;
-  return x ^ (x >> 31);
 }
 
 static int refuses(void) {
-  long call = __atomic_add_fetch(&calls, 1, __ATOMIC_SEQ_CST);
-  if (one_of && gettid() != getpid() && mixed(mixed(seed) + call) % one_of == 0) return 1;
-  if (call != refused) return 0;
+  if (__atomic_add_fetch(&calls, 1, __ATOMIC_SEQ_CST) != refused) return 0;
   if (mark) close(creat(mark, 0600));
   return 1;
 }

@@ -1,25 +1,17 @@
 // A caller that calls by chance, and writes down what it did.
 use crate::dice::Dice;
 use crate::fault::Fault;
-use crate::marks::{Mark, tells};
+use crate::marks::Mark;
 use crate::things::{Fickle, Thing, Ticking};
-use pool_journal::Entry;
-use pool_shared::{
-    AddFault, BorrowFault, Caller, Lent, PoolFault, ReturnFault, Returned, Room, SharedPool,
-};
-use std::alloc::{AllocError, Global};
+use pool_shared::{AddFault, BorrowFault, Caller, Lent, PoolFault, Room, SharedPool};
+use std::alloc::Global;
+use std::mem;
 use std::sync::Wait;
 
 pub type Pool<'a, B> = SharedPool<Thing, (), Fickle<'a>, Ticking, B>;
 
 /// How many calls each caller makes.
 const CALLS: u32 = 2_000;
-
-/// How many marks a caller makes at most: three a call, one for each object that it still holds, and one for the end.
-const MARKS: usize = 8_001;
-
-/// How often a call is made that has to be, where it wants memory.
-const TRIES: u32 = 64;
 
 /// What callers do in a pool that has nothing to lend.
 #[derive(Clone, Copy, PartialEq, Eq)]
@@ -36,71 +28,30 @@ pub struct Player<B: Room> {
     pub me: Caller<B>,
     pub marks: Vec<Mark>,
     pub forgotten: u64,
-    /// How many of its calls wanted memory.
-    pub refused: u64,
-    alloc: Global,
     dice: Dice,
     manner: Manner,
     held: Vec<Lent<Thing>>,
 }
 
 impl<B: Room> Player<B> {
-    /// It takes all the memory of its own at once.
-    pub fn new(
-        alloc: Global,
-        me: Caller<B>,
-        seed: u64,
-        manner: Manner,
-    ) -> Result<Player<B>, AllocError> {
+    pub fn new(alloc: Global, me: Caller<B>, seed: u64, manner: Manner) -> Player<B> {
         let dice = Dice::new(
             seed.wrapping_mul(1_000)
                 .wrapping_add(u64::from(me.number())),
         );
-        let mut marks = Vec::new(alloc);
-        marks.reserve(MARKS)?;
-        let mut held = Vec::new(alloc);
-        held.reserve(CALLS as usize)?;
-        Ok(Player {
+        Player {
             me,
-            marks,
+            marks: Vec::new(alloc),
             forgotten: 0,
-            refused: 0,
-            alloc,
             dice,
             manner,
-            held,
-        })
+            held: Vec::new(alloc),
+        }
     }
 
     fn mark(&mut self, mark: Mark) -> Result<(), Fault> {
         self.marks.push(mark)?;
         Ok(())
-    }
-
-    fn copy<R: Wait>(&mut self, rt: &R, pool: &Pool<B>) -> Result<Vec<Entry>, Fault> {
-        for _ in 0..TRIES {
-            if let Ok(journal) = pool.journal_copy(rt, self.alloc, &mut self.me) {
-                return Ok(journal);
-            }
-        }
-        Err(Fault::OutOfMemory)
-    }
-
-    // A call wanted memory. The journal tells all that was done before, and of this call no more than its beginning.
-    fn look_back<R: Wait>(&mut self, rt: &R, pool: &Pool<B>, begun: &[Mark]) -> Result<(), Fault> {
-        self.refused = self.refused.saturating_add(1);
-        let journal = self.copy(rt, pool)?;
-        let number = self.me.number();
-        if tells(&journal, number, &self.marks) {
-            return Ok(());
-        }
-        for mark in begun {
-            self.mark(*mark)?;
-            if tells(&journal, number, &self.marks) {
-                return Ok(());
-            }
-        }
-        Err(Fault::Untold)
     }
 
     // One of the objects that it holds, by chance.
@@ -117,38 +68,18 @@ impl<B: Room> Player<B> {
         if self.manner == Manner::Waiting && !self.held.is_empty() {
             return Ok(());
         }
+        self.mark(Mark::Borrows)?;
         match pool.borrow(rt, &mut self.me) {
             Ok(lent) => {
-                self.mark(Mark::Borrows)?;
                 self.mark(Mark::Lent(lent.id()))?;
                 self.held.push(lent)?;
                 Ok(())
             }
-            Err(BorrowFault::Closed | BorrowFault::Exhausted | BorrowFault::TimedOut) => {
-                self.mark(Mark::Borrows)?;
-                self.mark(Mark::Denied)
-            }
-            Err(BorrowFault::JournalFull) => Err(Fault::Stopped),
-            Err(BorrowFault::OutOfMemory) => self.look_back(rt, pool, &[Mark::Borrows]),
-            Err(_) => self.mark(Mark::Borrows),
-        }
-    }
-
-    // What came of a return or an invalidation. It keeps the object where memory was wanting.
-    fn end<R: Wait>(
-        &mut self,
-        rt: &R,
-        pool: &Pool<B>,
-        mark: Mark,
-        ended: Result<Returned, (ReturnFault, Lent<Thing>)>,
-    ) -> Result<(), Fault> {
-        match ended {
-            Ok(_) => self.mark(mark),
-            Err((ReturnFault::OutOfMemory, lent)) => {
-                self.held.push(lent)?;
-                self.look_back(rt, pool, &[])
-            }
-            Err(_) => Err(Fault::Stopped),
+            Err(BorrowFault::Closed | BorrowFault::Exhausted | BorrowFault::TimedOut) => self.mark(
+                Mark::Denied,
+            ),
+            Err(BorrowFault::JournalFull | BorrowFault::OutOfMemory) => Err(Fault::Stopped),
+            Err(_) => Ok(()),
         }
     }
 
@@ -158,9 +89,11 @@ impl<B: Room> Player<B> {
         pool: &Pool<B>,
         lent: Lent<Thing>,
     ) -> Result<(), Fault> {
-        let mark = Mark::GivesBack(lent.id());
-        let ended = pool.give_back(rt, &mut self.me, lent);
-        self.end(rt, pool, mark, ended)
+        self.mark(Mark::GivesBack(lent.id()))?;
+        match pool.give_back(rt, &mut self.me, lent) {
+            Ok(_) => Ok(()),
+            Err(_) => Err(Fault::Stopped),
+        }
     }
 
     fn invalidate<R: Wait>(
@@ -169,18 +102,19 @@ impl<B: Room> Player<B> {
         pool: &Pool<B>,
         lent: Lent<Thing>,
     ) -> Result<(), Fault> {
-        let mark = Mark::Invalidates(lent.id());
-        let ended = pool.invalidate(rt, &mut self.me, lent);
-        self.end(rt, pool, mark, ended)
+        self.mark(Mark::Invalidates(lent.id()))?;
+        match pool.invalidate(rt, &mut self.me, lent) {
+            Ok(_) => Ok(()),
+            Err(_) => Err(Fault::Stopped),
+        }
     }
 
     fn touch<R: Wait>(&mut self, rt: &R, pool: &Pool<B>, lent: Lent<Thing>) -> Result<(), Fault> {
-        let mark = Mark::Uses(lent.id());
+        self.mark(Mark::Uses(lent.id()))?;
         let touched = pool.touch(rt, &mut self.me, &lent);
         self.held.push(lent)?;
         match touched {
-            Ok(_) => self.mark(mark),
-            Err(ReturnFault::OutOfMemory) => self.look_back(rt, pool, &[]),
+            Ok(_) => Ok(()),
             Err(_) => Err(Fault::Stopped),
         }
     }
@@ -196,78 +130,61 @@ impl<B: Room> Player<B> {
     }
 
     fn add<R: Wait>(&mut self, rt: &R, pool: &Pool<B>) -> Result<(), Fault> {
+        self.mark(Mark::Adds)?;
         match pool.add(rt, &mut self.me) {
-            Err(AddFault::JournalFull) => Err(Fault::Stopped),
-            Err(AddFault::OutOfMemory) => self.look_back(rt, pool, &[]),
-            _ => self.mark(Mark::Adds),
+            Err(AddFault::JournalFull | AddFault::OutOfMemory) => Err(Fault::Stopped),
+            _ => Ok(()),
         }
     }
 
     fn fill<R: Wait>(&mut self, rt: &R, pool: &Pool<B>) -> Result<(), Fault> {
         match pool.fill(rt, &mut self.me) {
             Ok(_) => self.mark(Mark::Filled),
-            Err(AddFault::JournalFull | AddFault::Closed) => Err(Fault::Stopped),
-            Err(AddFault::OutOfMemory) => self.look_back(rt, pool, &[]),
+            Err(AddFault::JournalFull | AddFault::OutOfMemory | AddFault::Closed) => Err(
+                Fault::Stopped,
+            ),
             Err(_) => Ok(()),
         }
     }
 
     fn evict<R: Wait>(&mut self, rt: &R, pool: &Pool<B>) -> Result<(), Fault> {
+        self.mark(Mark::Evicts)?;
         match pool.evict(rt, &mut self.me) {
-            Ok(_) | Err(PoolFault::Closed) => self.mark(Mark::Evicts),
-            Err(PoolFault::JournalFull) => Err(Fault::Stopped),
-            Err(PoolFault::OutOfMemory) => self.look_back(rt, pool, &[Mark::Evicts]),
+            Ok(_) | Err(PoolFault::Closed) => Ok(()),
+            Err(_) => Err(Fault::Stopped),
         }
     }
 
     // Maintains the pool, which is an eviction run, a removal and a fill.
     fn maintain<R: Wait>(&mut self, rt: &R, pool: &Pool<B>) -> Result<(), Fault> {
+        self.mark(Mark::Evicts)?;
         match pool.maintain(rt, &mut self.me) {
             Ok(()) => {
-                self.mark(Mark::Evicts)?;
                 self.mark(Mark::Reclaims)?;
                 self.mark(Mark::Filled)
             }
-            Err(AddFault::Closed) => self.mark(Mark::Evicts),
-            Err(AddFault::JournalFull) => Err(Fault::Stopped),
-            Err(AddFault::OutOfMemory) => {
-                self.look_back(rt, pool, &[Mark::Evicts, Mark::Reclaims])
-            }
-            Err(_) => {
-                self.mark(Mark::Evicts)?;
-                self.mark(Mark::Reclaims)
-            }
-        }
-    }
-
-    // What came of a removal, a clear or a close, which is told by one mark.
-    fn sweep<R: Wait>(
-        &mut self,
-        rt: &R,
-        pool: &Pool<B>,
-        mark: Mark,
-        swept: Result<u64, PoolFault>,
-    ) -> Result<(), Fault> {
-        match swept {
-            Ok(_) => self.mark(mark),
-            Err(PoolFault::OutOfMemory) => self.look_back(rt, pool, &[mark]),
-            Err(_) => Err(Fault::Stopped),
+            Err(AddFault::Closed) => Ok(()),
+            Err(AddFault::JournalFull | AddFault::OutOfMemory) => Err(Fault::Stopped),
+            Err(_) => self.mark(Mark::Reclaims),
         }
     }
 
     fn reclaim<R: Wait>(&mut self, rt: &R, pool: &Pool<B>) -> Result<(), Fault> {
-        let swept = pool.reclaim(rt, &mut self.me);
-        self.sweep(rt, pool, Mark::Reclaims, swept)
+        self.mark(Mark::Reclaims)?;
+        pool.reclaim(rt, &mut self.me)?;
+        Ok(())
     }
 
     fn clear<R: Wait>(&mut self, rt: &R, pool: &Pool<B>) -> Result<(), Fault> {
-        let swept = pool.clear(rt, &mut self.me);
-        self.sweep(rt, pool, Mark::Clears, swept)
+        self.mark(Mark::Clears)?;
+        pool.clear(rt, &mut self.me)?;
+        Ok(())
     }
 
     fn close<R: Wait>(&mut self, rt: &R, pool: &Pool<B>) -> Result<(), Fault> {
-        let swept = pool.close(rt, &mut self.me);
-        self.sweep(rt, pool, Mark::Closes, swept)
+        self.mark(Mark::Closes)?;
+        pool.close(rt, &mut self.me)?;
+        Ok(())
     }
 
     // A call with an object that it holds. With none it borrows one.
@@ -309,18 +226,17 @@ impl<B: Room> Player<B> {
     }
 
     // Gives back all that it holds.
-    fn give_all_back<R: Wait>(&mut self, rt: &R, pool: &Pool<B>) -> Result<(), Fault> {
-        for _ in 0..self.held.len().saturating_add(TRIES as usize) {
-            match self.held.pop() {
-                Some(lent) => self.give_back(rt, pool, lent)?,
-                None => return Ok(()),
-            }
+    fn give_all_back<R: Wait>(
+        &mut self,
+        rt: &R,
+        alloc: Global,
+        pool: &Pool<B>,
+    ) -> Result<(), Fault> {
+        let held = mem::replace(&mut self.held, Vec::new(alloc));
+        for lent in held {
+            self.give_back(rt, pool, lent)?;
         }
-        if self.held.is_empty() {
-            Ok(())
-        } else {
-            Err(Fault::OutOfMemory)
-        }
+        Ok(())
     }
 
     /// Its caller, and what it did.
@@ -329,8 +245,6 @@ impl<B: Room> Player<B> {
             me,
             marks,
             forgotten: _,
-            refused: _,
-            alloc: _,
             dice: _,
             manner: _,
             held: _,
@@ -339,7 +253,7 @@ impl<B: Room> Player<B> {
     }
 
     /// Makes all its calls, and gives back what it holds. By chance it closes the pool before.
-    pub fn play<R: Wait>(self, rt: &R, pool: &Pool<B>) -> Result<Player<B>, Fault> {
+    pub fn play<R: Wait>(self, rt: &R, alloc: Global, pool: &Pool<B>) -> Result<Player<B>, Fault> {
         let mut player = self;
         for _ in 0..CALLS {
             player.call(rt, pool)?;
@@ -347,7 +261,7 @@ impl<B: Room> Player<B> {
         if player.dice.roll(4) == 0 {
             player.close(rt, pool)?;
         }
-        player.give_all_back(rt, pool)?;
+        player.give_all_back(rt, alloc, pool)?;
         Ok(player)
     }
 }

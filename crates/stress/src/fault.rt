@@ -1,3 +1,4 @@
+use pool_shared::PoolFault;
 use std::alloc::{AllocError, AllocFailed};
 
 /// Why a seed has no verdict.
@@ -7,8 +8,6 @@ pub enum Fault {
     NotOpened,
     /// A call was refused for what can't be.
     Stopped,
-    /// After a call that wanted memory the journal doesn't tell what was done before.
-    Untold,
     CallerMissing,
     NotJudged,
     OutOfMemory,
@@ -23,5 +22,11 @@ impl From<AllocError> for Fault {
 impl<T: Drop> From<AllocFailed<T>> for Fault {
     fn from(_: AllocFailed<T>) -> Fault {
         Fault::OutOfMemory
+    }
+}
+
+impl From<PoolFault> for Fault {
+    fn from(_: PoolFault) -> Fault {
+        Fault::Stopped
     }
 }

@@ -1,6 +1,6 @@
 // What is found of a pool once all have played.
 use crate::fault::Fault;
-use crate::marks::{Mark, tells};
+use crate::marks::{Mark, marks_of};
 use pool_journal::{Entry, print_entry};
 use pool_load::check;
 use pool_settings::Settings;
@@ -17,8 +17,6 @@ pub enum Verdict {
     CallsDiffer,
     /// An object that was made is nowhere.
     ObjectsLost,
-    /// An object is still in the hands of a call.
-    ObjectsHeld,
 }
 
 impl Display for Verdict {
@@ -28,7 +26,6 @@ impl Display for Verdict {
             Verdict::Illegal => "illegal",
             Verdict::CallsDiffer => "the calls differ",
             Verdict::ObjectsLost => "objects are lost",
-            Verdict::ObjectsHeld => "objects are held",
         })
     }
 }
@@ -51,7 +48,12 @@ pub fn is_legal(alloc: Global, settings: Settings, journal: &[Entry]) -> Result<
 }
 
 /// Whether a journal tells what each caller did, in its order.
-pub fn tells_all(journal: &[Entry], all: &[Played]) -> bool {
-    all.iter()
-        .all(|played| tells(journal, played.number, &played.marks))
+pub fn tells_all(alloc: Global, journal: &[Entry], all: &[Played]) -> Result<bool, Fault> {
+    for played in all {
+        let told = marks_of(alloc, journal, played.number)?;
+        if told.as_slice() != played.marks.as_slice() {
+            return Ok(false);
+        }
+    }
+    Ok(true)
 }

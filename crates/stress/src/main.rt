@@ -2,7 +2,6 @@
 //!
 //! For each seed the journal is judged by the engine of `pool check`, what each thread did is compared with what the journal
 //! tells of it, and the objects are counted. A line tells what was found, and nothing in it depends on how the threads run.
-//! Where calls want memory, they are told on standard error; after each the journal is compared, too.
 #![tactic(auto)]
 
 ghost use Rattle.std.specs.Prelude.{◌≡◌};
@@ -64,14 +63,6 @@ removeAbandonedOnMaintenance = true
 removeAbandonedTimeoutMillis = 60
 ";
 
-/// What came of a seed.
-#[derive(Clone, Copy, Debug)]
-struct Found {
-    verdict: Verdict,
-    /// How many calls wanted memory.
-    refused: u64,
-}
-
 // All callers play on one pool.
 fn play<B: Room + Send + Sync, R: Threads + Wait + Sync>(
     rt: &R,
@@ -81,7 +72,7 @@ fn play<B: Room + Send + Sync, R: Threads + Wait + Sync>(
     seed: u64,
     manner: Manner,
     tally: &Tally,
-) -> Result<Found, Fault>
+) -> Result<Verdict, Fault>
     requires { (site ≡ B.table) × (settings ≡ B.settings) × (4 ≡ B.callers) }
 {
     let things = Fickle { tally, seed };
@@ -98,17 +89,15 @@ fn play<B: Room + Send + Sync, R: Threads + Wait + Sync>(
     let (pool, callers) = opened.map_err(|_| Fault::NotOpened)?;
     let mut players = Vec::new(alloc);
     for me in callers {
-        players.push(Player::new(alloc, me, seed, manner)?)?;
+        players.push(Player::new(alloc, me, seed, manner))?;
     }
 
     let mut back = Vec::new(alloc);
     let mut all = Vec::new(alloc);
     let mut forgotten = 0u64;
-    let mut refused = 0u64;
-    for played in thread::map_vec(rt, players, &|player| player.play(rt, &pool))? {
+    for played in thread::map_vec(rt, players, &|player| player.play(rt, alloc, &pool))? {
         let player = played?;
         forgotten = forgotten.saturating_add(player.forgotten);
-        refused = refused.saturating_add(player.refused);
         let (me, marks) = player.leave();
         all.push(Played {
             number: me.number(),
@@ -119,23 +108,19 @@ fn play<B: Room + Send + Sync, R: Threads + Wait + Sync>(
 
     let core = pool.finish(rt, back).map_err(|_| Fault::CallerMissing)?;
     let journal = core.journal();
-    let counts = core.counts();
-    let verdict = if !is_legal(alloc, settings, journal)? {
+    Ok(if !is_legal(alloc, settings, journal)? {
         Verdict::Illegal
-    } else if !tells_all(journal, &all) {
+    } else if !tells_all(alloc, journal, &all)? {
         Verdict::CallsDiffer
-    } else if !tally.leaves(forgotten.saturating_add(counts.idle)) {
+    } else if !tally.leaves(forgotten.saturating_add(core.counts().idle)) {
         Verdict::ObjectsLost
-    } else if counts.reserved != 0 {
-        Verdict::ObjectsHeld
     } else {
         Verdict::Legal
-    };
-    Ok(Found { verdict, refused })
+    })
 }
 
 // One seed in three has callers that wait.
-fn try_seed<R: Threads + Wait + Sync>(rt: &R, alloc: Global, seed: u64) -> Result<Found, Fault> {
+fn try_seed<R: Threads + Wait + Sync>(rt: &R, alloc: Global, seed: u64) -> Result<Verdict, Fault> {
     let (text, manner) = if seed % 3 == 0 {
         (WAITING, Manner::Waiting)
     } else {
@@ -150,12 +135,7 @@ fn try_seed<R: Threads + Wait + Sync>(rt: &R, alloc: Global, seed: u64) -> Resul
 fn main(rt: HostRuntime) -> io::Result<()> {
     for seed in 1..=SEEDS {
         match try_seed(&rt, rt.alloc(), seed) {
-            Ok(found) => {
-                println!(rt; "seed {seed}: {}", found.verdict)?;
-                if found.refused > 0 {
-                    eprintln!(rt; "{} calls wanted memory", found.refused)?;
-                }
-            }
+            Ok(verdict) => println!(rt; "seed {seed}: {verdict}")?,
             Err(fault) => println!(rt; "seed {seed}: {fault:?}")?,
         }
     }

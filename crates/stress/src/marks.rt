@@ -1,5 +1,6 @@
 // What a caller knows of its calls, and what a journal tells of them.
 use pool_journal::{Answer, Entry, Input, Outcome, When};
+use std::alloc::{AllocError, Global};
 
 /// A call that began, or what it came to.
 #[derive(Clone, Copy, Debug, PartialEq, Eq)]
@@ -68,17 +69,15 @@ fn mark_of(entry: &Entry) -> Option<Mark> {
     }
 }
 
-/// Whether a journal tells just this of the calls of one caller.
-pub fn tells(journal: &[Entry], caller: u32, marks: &[Mark]) -> bool {
-    let mut left = marks.iter();
+/// What a journal tells of the calls of one caller, in its order.
+pub fn marks_of(alloc: Global, journal: &[Entry], caller: u32) -> Result<Vec<Mark>, AllocError> {
+    let mut marks = Vec::new(alloc);
     for entry in journal {
         if entry.caller == caller {
             if let Some(mark) = mark_of(entry) {
-                if left.next() != Some(&mark) {
-                    return false;
-                }
+                marks.push(mark)?;
             }
         }
     }
-    left.next().is_none()
+    Ok(marks)
 }
