@@ -31,9 +31,9 @@ SETTINGS = 1_048_577
 # 8 bytes.
 ENTRY = 7 * 8
 
-# An object: the seven numbers and marks of its record, its value and its two links in the queue, each with the mark whether there
-# is one; and its place in the index: its id, its key, and a mark.
-OBJECT = (7 + 3 * 2) * 8 + 3 * 8
+# An object: the seven numbers and marks of its record, its value with the mark whether there is one, and its two links in the
+# queue, whose marks share a word; and its place in the index: its id, its key, and a mark.
+OBJECT = (7 + 2 + 3) * 8 + 3 * 8
 
 # A list has room for so many at first, and for twice as many each time that it is full.
 FIRST = 4
