@@ -41,8 +41,17 @@ impl Index {
     }
 
     fn position(&self, id: u64) -> Option<usize> {
-        let position = self.pairs.binary_search_by_key(&id, |pair| pair.id).ok()?;
+        let position = match self.position_in_a_row(id) {
+            Some(position) => position,
+            None => self.pairs.binary_search_by_key(&id, |pair| pair.id).ok()?,
+        };
         (!self.pairs[position].is_gone).then_some(position)
+    }
+
+    /// Where an id is if no id between it and the first is missing.
+    fn position_in_a_row(&self, id: u64) -> Option<usize> {
+        let position = id.checked_sub(self.pairs.first()?.id)? as usize;
+        (self.pairs.get(position)?.id == id).then_some(position)
     }
 
     fn tidy(&mut self) {

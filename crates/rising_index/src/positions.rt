@@ -4,13 +4,38 @@ ghost use Rattle.rising_index.specs.Marks.{all_in, pairs_in, IsStoredAt, IsThere
 
 use crate::stored::Stored;
 
+// Where an id is stored if no id between it and the first is missing: as far from the first as the ids are apart.
+fn position_in_a_row(stored: &[Stored], id: u64) -> Option<usize>
+    ensures { IfSome result (IsStoredAt stored.now id) }
+{
+    let first = stored.first()?;
+    let position = id.checked_sub(first.pair.id)? as usize;
+    if stored.get(position)?.pair.id == id {
+        Some(position)
+    } else {
+        None
+    }
+}
+
+// Where an id is stored, marked or not, by a search.
+fn position_searched(stored: &[Stored], id: u64) -> Option<usize>
+    requires { IsRising (all_in stored.now) }
+    ensures found { IfSome result (IsStoredAt stored.now id) }
+    ensures absent { IfNone result (IsNowhere stored.now id) }
+{
+    stored.binary_search_by_key(&id, |kept| kept.pair.id).ok()
+}
+
 // Where an id is stored, marked or not.
 fn position_stored(stored: &[Stored], id: u64) -> Option<usize>
     requires { IsRising (all_in stored.now) }
     ensures found { IfSome result (IsStoredAt stored.now id) }
     ensures absent { IfNone result (IsNowhere stored.now id) }
 {
-    stored.binary_search_by_key(&id, |kept| kept.pair.id).ok()
+    match position_in_a_row(stored, id) {
+        Some(position) => Some(position),
+        None => position_searched(stored, id),
+    }
 }
 
 /// Where an id is stored, if its pair is there.

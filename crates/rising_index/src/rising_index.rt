@@ -11,9 +11,9 @@ use std::marker::Model;
 
 /// Pairs of an id and a key, by rising id. An id is only ever added above all that are there.
 ///
-/// A pair is found by a binary search. One that is taken out is marked at first, and the marked ones are
-/// swept out together once they are more than half of all that are stored. So `find` takes logarithmic
-/// time, each `push` and `remove` does too on average over all calls, and there are at most twice as many
+/// A pair is found at once where no id between it and the first was swept out, else by a binary search. One that
+/// is taken out is marked at first, and the marked ones are swept out together once they are more than half of all
+/// that are stored. So `find` takes logarithmic time at most, each `push` and `remove` does too on average over all calls, and there are at most twice as many
 /// pairs stored as there are. Memory that was reserved is kept for later pairs.
 #[derive(Drop)]
 pub struct RisingIndex {

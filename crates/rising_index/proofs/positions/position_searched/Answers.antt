@@ -2,7 +2,7 @@ use Rattle.std.proofs.Common.{rules}
 use Rattle.std.proofs.lemmas.List.Sorted.{answers_always}
 use Rattle.rising_index.specs.declared.stored.Stored.{Stored}
 use Rattle.rising_index.proofs.Found.{found_stored, found_nowhere}
-use Rattle.rising_index.proofs.positions.position_stored.Goals as goal
+use Rattle.rising_index.proofs.positions.position_searched.Goals as goal
 
 pub returns-clause-found : goal.returns-clause-found
 returns-clause-found c =
