@@ -1,0 +1,114 @@
+#!/usr/bin/env python3
+"""Proves and builds a program of the repository, with the libraries that it stands on: those that don't stand on one another side by side.
+
+    tools/build.py PROGRAM
+
+Says on standard error which crates it is at, how many of them are done, and for how long it has worked. What a build said is shown only
+where it failed, and the status is then 1. What was built before and hasn't changed takes a moment.
+"""
+
+import os
+import pathlib
+import subprocess
+import sys
+import tempfile
+import time
+
+TOP = pathlib.Path(__file__).resolve().parent.parent
+# For how long to wait before looking again, and before saying again how long it has been, in seconds.
+PAUSE, REMIND = 0.2, 60
+
+
+def libraries():
+    """For each crate of the repository the libraries of the repository that it uses."""
+    uses = {}
+    for line in (TOP / "crates.txt").read_text().splitlines():
+        head, colon, names = line.partition("#")[0].partition(":")
+        if colon:
+            uses[head.split()[0]] = names.split()
+    return {crate: [name for name in names if name in uses] for crate, names in uses.items()}
+
+
+def below(crate, uses):
+    """All that a crate stands on, itself included."""
+    return {crate}.union(*(below(name, uses) for name in uses[crate]))
+
+
+class Work:
+    """What is to be built, what is being built, and since when."""
+
+    def __init__(self, program):
+        uses = libraries()
+        if program not in uses:
+            sys.exit(f"{program}: no crate of this repository")
+        self.program = program
+        self.built = TOP / "crates" / program / "out" / program
+        self.waiting = {crate: set(uses[crate]) for crate in below(program, uses)}
+        self.total = len(self.waiting)
+        self.running = {}
+        self.done = set()
+        self.began = time.monotonic()
+
+    def say(self):
+        """Says how far the work is."""
+        minutes, seconds = divmod(int(time.monotonic() - self.began), 60)
+        names = ", ".join(sorted(self.running))
+        print(f"{self.program}: {len(self.done)} of {self.total} crates, {minutes}:{seconds:02} min: {names}", file=sys.stderr, flush=True)
+
+    def words(self, crate, share):
+        """The command that builds a crate."""
+        if crate != self.program:
+            return ["rt", "lib", "--jobs", str(share)]
+        # A program that is given no input ends at once, with a status of its own, so that to run it builds it.
+        self.built.unlink(missing_ok=True)
+        return ["rt", "run"]
+
+    def is_built(self, crate, status):
+        """Whether a build that ended with this status did what it should."""
+        return self.built.exists() if crate == self.program else status == 0
+
+    def start(self):
+        """Starts what stands on nothing that isn't built, and tells whether there was some of it."""
+        ready = sorted(crate for crate, uses in self.waiting.items() if uses <= self.done)
+        share = max(1, (os.cpu_count() or 1) // max(1, len(ready) + len(self.running)))
+        for crate in ready:
+            del self.waiting[crate]
+            log = tempfile.TemporaryFile("w+")
+            self.running[crate] = subprocess.Popen(self.words(crate, share), cwd=TOP / "crates" / crate, stdin=subprocess.DEVNULL, stdout=log, stderr=log), log
+        return bool(ready)
+
+    def collect(self):
+        """Takes out what has ended, and tells whether something has."""
+        ended = [crate for crate, (started, _) in self.running.items() if started.poll() is not None]
+        for crate in ended:
+            started, log = self.running.pop(crate)
+            if not self.is_built(crate, started.returncode):
+                self.fail(crate, log)
+            self.done.add(crate)
+        return bool(ended)
+
+    def fail(self, crate, log):
+        """Shows what a build said, stops the others and ends."""
+        for started, _ in self.running.values():
+            started.terminate()
+        log.seek(0)
+        sys.stderr.write(log.read())
+        sys.exit(f"{self.program}: {crate} can't be built")
+
+
+def main():
+    if len(sys.argv) != 2:
+        sys.exit(__doc__)
+    work = Work(sys.argv[1])
+    said = 0.0
+    while work.waiting or work.running:
+        has_changed = work.collect()
+        has_changed = work.start() or has_changed
+        if work.running and (has_changed or time.monotonic() - said > REMIND):
+            work.say()
+            said = time.monotonic()
+        time.sleep(PAUSE)
+
+
+if __name__ == "__main__":
+    main()
