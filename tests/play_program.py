@@ -10,11 +10,14 @@ Prints each case that differs, and in the end the line 'N passed, M failed'.
 
 import os
 import pathlib
+import re
 import resource
 import shutil
 import subprocess
 import sys
 import tempfile
+
+TOP = pathlib.Path(__file__).resolve().parent.parent
 
 MOST = 1_048_576
 
@@ -83,19 +86,25 @@ TOLD_PATHS = {
 NOBODY = 65534
 
 WRONG_ARGUMENTS = [
-    "play", "replay", "journal", "settings", "counts", "run ", " run", "ru", "nonsense", "RUN", "", "-", "--", "-x", "--help", "-h", "help", "--version", "-V", "version",
-    "run", "check", "run --help", "run -h", "check --help", "help run", "help check",
+    "play", "replay", "journal", "settings", "counts", "run ", " run", "ru", "nonsense", "RUN", "", "-", "--", "-x", "--version", "-V", "version",
+    "run", "check", "Help", "--help=run", "-help", "run help",
     "run defaults.toml", "check defaults.toml", "run defaults.toml plain.script more", "run missing missing missing",
     "check defaults.toml plain.journal more", "run -x defaults.toml plain.script", "run --settings defaults.toml plain.script",
     "run defaults.toml --script=plain.script", "-- run defaults.toml plain.script", "-q run defaults.toml plain.script",
     "defaults.toml plain.script", "run run", "run --", "run -- defaults.toml",
-    "stats", "STATS plain.journal", "stats --help", "stats -h", "help stats", "stats plain.journal more", "stats defaults.toml plain.journal",
+    "stats", "STATS plain.journal", "stats plain.journal more", "stats defaults.toml plain.journal",
     "stats -x plain.journal", "stats --journal plain.journal", "stats --",
-    "load", "LOAD defaults.toml 1 1", "load --help", "help load", "load defaults.toml", "load defaults.toml 1", "load defaults.toml 1 1 1",
+    "load", "LOAD defaults.toml 1 1", "load defaults.toml", "load defaults.toml 1", "load defaults.toml 1 1 1",
     "load -x defaults.toml 1 1", "load defaults.toml --workers=1 1", "load defaults.toml -1 1", "load defaults.toml 1 -1",
     # Numbers out of their ranges, where the settings are good.
     "load defaults.toml 0 1", "load defaults.toml 1 0", "load defaults.toml 0 0", "load defaults.toml 1024 1", "load defaults.toml 1 1000001",
     "load defaults.toml 4294967295 1", "load defaults.toml 1 18446744073709551615",
+]
+
+# Other wrong arguments, which ask for help besides.
+HELP = [
+    "--help", "-h", "help", "run --help", "run -h", "check --help", "help run", "help check", "stats --help", "stats -h", "help stats",
+    "load --help", "help load", "help help", "nonsense -h", "run defaults.toml plain.script -h", "help no such thing",
 ]
 
 # Words that are no numbers of the format. They are told before any file is opened.
@@ -129,6 +138,22 @@ LINE_FAULTS = {"long_line": "line too long", "not_a_line": "not a line", "bad_nu
 def statistics(*numbers):
     """The lines of statistics."""
     return "".join(f"{name} {number}\n" for name, number in zip(NAMES, numbers)).encode()
+
+
+def is_help(output):
+    """Whether an output is the uses of the program in the order of the man page, each told in some words, with the page's example of it."""
+    page = (TOP / "docs/pool.1").read_text()
+    named = [re.sub(r"\\f.", "", line) for line in between(page, ".SH SYNOPSIS", ".SH")]
+    shown = [f"  {example}" for example in between(page, ".SH EXAMPLES", None)]
+    lines = output.decode().splitlines()
+    return lines[1::2] == shown and [line.partition("  ")[0] for line in lines[::2]] == named
+
+
+def between(page, start, end):
+    """The lines of text of a section of a man page."""
+    section = page.partition(start + "\n")[2]
+    section = section.partition(end + " ")[0] if end else section
+    return [line for line in section.splitlines() if not line.startswith(".")]
 
 
 def fault(text):
@@ -290,6 +315,12 @@ def play_wrong_arguments(play):
         play.expect(words.split(" "), *wrong)
     for words in NOT_TEXT:
         play.expect(words, *wrong)
+    for words in HELP:
+        done = play.run(words.split(" "))
+        play.note(is_help(done.stdout) and (done.stderr, done.returncode) == wrong[1:], f"{words}: {done}")
+    # These name files.
+    play.expect(["run", "--", "-h", "--help"], b"", *fault("cannot open -h"))
+    play.expect(["stats", "help"], b"", *fault("cannot open help"))
 
 
 def play_settings_faults(play):

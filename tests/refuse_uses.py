@@ -77,7 +77,7 @@ def uses():
     for arguments, output, given in good:
         yield Use(arguments, (output, b"", 0), given)
     yield Use(["check", "a.toml", "illegal"], (b"illegal 2 check\n", b"", 1))
-    for words in ["nonsense", "run", "run a.toml", "run a.toml script more", "stats", "load a.toml 0 1", "load a.toml 1 x", "--help"]:
+    for words in ["nonsense", "run", "run a.toml", "run a.toml script more", "stats", "load a.toml 0 1", "load a.toml 1 x"]:
         yield Use(words.split(), (b"", b"pool: wrong arguments\n", 2))
     told = {
         "key.toml": b"unknown key a long key that no setting has", "table.toml": b"unknown key abandoned.none", "type.toml": b"wrong type lifo",

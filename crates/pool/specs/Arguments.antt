@@ -1,7 +1,7 @@
 -- What the arguments ask for.
 use Rattle.std.specs.Prelude.{ℕ, ◌^◌, Bool, true, false, not, ◌&&◌, ◌||◌, ◌==◌, nat_lt, if◌then◌else◌, List, [], ◌∷◌, length, slice_index, map, string_bytes, codes, bytes_eq, Option, None, Some}
 use Rattle.std.specs.Char.{is_ascii_digit}
-use Rattle.std.specs.List.{list_all}
+use Rattle.std.specs.List.{list_all, list_any}
 use Rattle.std.specs.Str.Parse.{digits_value}
 use Rattle.pool.specs.declared.arguments.Given.{Given}
 use Rattle.pool.specs.declared.arguments.Task.{Task}
@@ -108,3 +108,12 @@ task_of (command ∷ words) =
     else if bytes_eq command (codes "stats") then stats_of (false, words)
     else if bytes_eq command (codes "load") then load_of (false, words)
     else None
+
+-- a word that asks for help wherever it stands
+abbrev pub is_help_option : Text → Bool
+is_help_option word = bytes_eq word (codes "--help") || bytes_eq word (codes "-h")
+
+-- the command is to help, or some word asks for it
+abbrev pub asks_for_help : List Text → Bool
+asks_for_help [] = false
+asks_for_help (command ∷ words) = bytes_eq command (codes "help") || list_any is_help_option (command ∷ words)

@@ -3,19 +3,23 @@
 //!
 //! Without arguments it plays standard input with the default settings; `run SETTINGS SCRIPT` plays a
 //! file, `check SETTINGS JOURNAL` judges one, `stats JOURNAL` tells its statistics, and `load SETTINGS
-//! WORKERS ROUNDS` lets workers borrow and give back. It writes to standard output. The status is 0 where all went well, 1 for a journal that isn't legal, 2 for any
-//! other arguments, and 3 at a fault; what is wrong is told in one line on standard error.
+//! WORKERS ROUNDS` lets workers borrow and give back. It writes to standard output. The status is 0 where all
+//! went well, 1 for a journal that isn't legal, 2 for any other arguments, and 3 at a fault; what is wrong is
+//! told in one line on standard error. Where the other arguments ask for help, the uses are written too.
 #![tactic(auto)]
 
 mod arguments;
 mod fault;
+mod help;
 
 use arguments::{Task, task_of};
 use fault::Fault;
+use help::{USES, asks_for_help};
 use pool_load::{Gate, check, load, read_settings, run, stats, write_report};
 use pool_settings::Settings;
 use std::env;
 use std::fs::File;
+use std::io::Write;
 use std::process::ExitCode;
 use std::sync::Wait;
 use std::thread::Threads;
@@ -58,8 +62,16 @@ fn perform<'a, R: Threads + Wait + Sync>(
                 rounds,
             },
         ) => load_pool(rt, threads, settings, workers, rounds),
-        None => Err(Fault::WrongArguments),
+        None => Err(refuse(rt, arguments)),
     }
+}
+
+/// Why the arguments are refused. Where they ask for help, the uses are written first, as far as they can be.
+fn refuse<'a>(rt: &HostRuntime, arguments: &[String]) -> Fault<'a> {
+    if asks_for_help(arguments) {
+        let _ = rt.stdout().write_all(USES.as_bytes());
+    }
+    Fault::WrongArguments
 }
 
 fn run_input<'a>(rt: &HostRuntime) -> Result<ExitCode, Fault<'a>> {

@@ -1,0 +1,52 @@
+//! What the program says where it is asked for help.
+ghost use Rattle.std.specs.Prelude.{◌≡◌, drop, map, string_bytes};
+ghost use Rattle.std.specs.List.{list_any};
+ghost use Rattle.pool.specs.Arguments as Spec;
+
+/// The uses of the program, and an example of each.
+pub(crate) const USES: &str = "\
+pool run SETTINGS SCRIPT           plays a script, and writes its journal
+  pool run examples/patient.toml examples/one-object.script > journal
+pool check SETTINGS JOURNAL        judges a journal: it is legal, or what was due at its first wrong answer
+  pool check examples/patient.toml journal
+pool stats JOURNAL                 tells the statistics of a journal
+  pool stats journal
+pool load SETTINGS WORKERS ROUNDS  lets threads borrow from one pool and give back, and reports
+  pool load examples/settings.toml 4 1000
+pool                               plays standard input with the default settings
+  pool < examples/plain-life.script
+";
+
+/// Whether the program's name and the words behind it ask for help.
+pub(crate) fn asks_for_help(arguments: &[String]) -> bool
+    ensures { result ≡ Spec.asks_for_help (drop 1 (map string_bytes arguments.now)) }
+{
+    match arguments.split_first() {
+        Some((_, words)) => is_help(words),
+        None => false,
+    }
+}
+
+/// Whether the words behind the program's name ask for help.
+fn is_help(words: &[String]) -> bool
+    ensures { result ≡ Spec.asks_for_help (map string_bytes words.now) }
+{
+    match words.split_first() {
+        Some((command, _)) => command.as_str() == "help" || has_help_option(words),
+        None => false,
+    }
+}
+
+/// Whether one of the words asks for help wherever it stands.
+fn has_help_option(words: &[String]) -> bool
+    ensures { result ≡ list_any (λ word. Spec.is_help_option (string_bytes word)) words.now }
+{
+    words.iter().any(|word| is_help_option(word))
+}
+
+/// Whether a word is one that asks for help wherever it stands.
+fn is_help_option(word: &String) -> bool
+    ensures { result ≡ Spec.is_help_option (string_bytes word.now) }
+{
+    word.as_str() == "--help" || word.as_str() == "-h"
+}

@@ -1,0 +1,93 @@
+#!/usr/bin/env python3
+"""Runs the commands that README.md, docs/ and the program's help show, and judges the journals.
+
+play_commands.py POOL  The last line is 'N passed, M failed'.
+
+A block is what a page indents by four spaces, and the man page's section of examples. Each must be of commands, which are run one after the other with the repository's examples at
+hand, the lines of a journal, which must be legal with the default settings, cut into segments or not, the form of a line, or the kit's name.
+The command ./check is not run, since it runs this. Blocks of Rust are held against the sources by check_readme.py.
+"""
+
+import pathlib
+import re
+import subprocess
+import sys
+import tempfile
+
+TOP = pathlib.Path(__file__).resolve().parent.parent
+COMMAND = re.compile(r"(\./pool|\./check|pool|crates/\S+|\(cd) ")
+ENTRY = re.compile(r"\d+ \d+ .* = ")
+BASE = re.compile(r"pool-journal 2 |\d+ (readying|adding|lent|returning|idle|testing|destroying) ")
+FORM = "<caller> <at> <input>"
+
+
+def blocks(page):
+    """The indented blocks of a page, without those of Rust."""
+    text = re.sub(r"^```.*?^```$", "", page.read_text(), flags=re.MULTILINE | re.DOTALL)
+    if page.suffix == ".1":
+        yield [line for line in text.partition(".SH EXAMPLES\n")[2].splitlines() if not line.startswith(".")]
+    for block in re.findall(r"(?:^    \S.*\n)+", text, flags=re.MULTILINE):
+        yield [line[4:] for line in block.splitlines()]
+
+
+class Place:
+    """A folder in which the commands find what they name."""
+
+    def __init__(self, folder, pool):
+        self.folder = pathlib.Path(folder)
+        for name in ("examples", "crates"):
+            (self.folder / name).symlink_to(TOP / name)
+        (self.folder / "pool").symlink_to(pool)
+
+    def fault_of_command(self, line):
+        """Why a command is not as the page says, if it isn't."""
+        words = line.partition("#")[0].strip()
+        if words == "./check":
+            return None
+        if words.startswith("pool"):
+            words = "./" + words
+        done = subprocess.run(["bash", "-c", words], cwd=self.folder, capture_output=True, text=True, stdin=subprocess.DEVNULL)
+        # Built without arguments, the program that draws says that they are wrong.
+        wanted = (2,) if words.startswith("(cd") else (0,)
+        return None if done.returncode in wanted else f"status {done.returncode}: {done.stderr.strip()}"
+
+    def fault_of_journal(self, lines):
+        """Why lines are no legal journal, if they aren't."""
+        (self.folder / "shown").write_text("".join(line + "\n" for line in lines))
+        (self.folder / "defaults.toml").write_text("")
+        done = subprocess.run(["./pool", "check", "defaults.toml", "shown"], cwd=self.folder, capture_output=True, text=True)
+        return None if done.stdout == f"legal {len(lines)}\n" else done.stdout + done.stderr
+
+    def faults_of_page(self, page):
+        """What is tried of a page, each with its fault, if it has one."""
+        entries = []
+        for block in blocks(page):
+            if all(COMMAND.match(line + " ") for line in block):
+                yield from ((line, self.fault_of_command(line)) for line in block)
+            elif all(ENTRY.match(line) or BASE.match(line) for line in block):
+                entries += [line for line in block if ENTRY.match(line)]
+            elif block not in ([FORM], [kit()]):
+                yield block[0], "neither a command nor a journal"
+        if entries:
+            yield entries[0], self.fault_of_journal(entries)
+
+
+def kit():
+    return subprocess.run(["rt", "version"], capture_output=True, text=True).stdout.strip()
+
+
+def main(pool):
+    passed, failed = 0, 0
+    for page in [TOP / "README.md", *sorted((TOP / "docs").glob("*.md")), TOP / "docs/pool.1"]:
+        with tempfile.TemporaryDirectory() as folder:
+            for shown, fault in Place(folder, pathlib.Path(pool).resolve()).faults_of_page(page):
+                passed += not fault
+                failed += bool(fault)
+                if fault:
+                    print(f"{page.name}: {shown}: {fault}")
+    print(f"{passed} passed, {failed} failed")
+    return 1 if failed else 0
+
+
+if __name__ == "__main__":
+    sys.exit(main(sys.argv[1]))
