@@ -1,9 +1,9 @@
 -- The pairs that are there, among those that are stored.
-use Rattle.std.proofs.Common.{◌≡◌, ℕ, ◌+◌, ◌<◌, Bool, true, false, not, cond, List, [], ◌∷◌, ◌++◌, length, refl, ap, sym, ◌∙◌, arith}
+use Rattle.std.proofs.Common.{◌≡◌, ℕ, ◌+◌, ◌<◌, Bool, true, false, not, cond, List, [], ◌∷◌, ◌++◌, length, refl, ap, ◌∙◌, arith}
 use Rattle.std.specs.Prelude.{count_by, filter}
 use Rattle.std.specs.List.{AllByRecursion}
 use Rattle.std.proofs.lemmas.List.{length-map, map-append}
-use Rattle.std.proofs.lemmas.List.Sums.{length-filter}
+use Rattle.std.proofs.lemmas.List.Sums.{length-filter, sum_by-cons}
 use Rattle.std.proofs.lemmas.List.Filters.{length-filter_both}
 use Rattle.std.proofs.lemmas.List.Elements.{filter-append}
 use Rattle.rising_index.specs.declared.pair.Pair.{Pair}
@@ -42,3 +42,12 @@ weighs_one false is = absurd (cc is)
 pub weighs_none : (b : Bool) → b ≡ false → ◌≡◌ {A = ℕ} (cond b 1 0) 0
 weighs_none true is = absurd (cc is)
 weighs_none false is = refl
+
+-- where none is marked, all are there
+pub none_marked : (ss : List Stored) → count_by (λ s. s.is_gone) ss ≡ 0 → filter is_there ss ≡ ss
+none_marked [] none = refl
+none_marked (s ∷ ss) none = by_mark s.is_gone refl (none_marked ss)
+  where
+    by_mark : (b : Bool) → s.is_gone ≡ b → (count_by (λ s. s.is_gone) ss ≡ 0 → filter is_there ss ≡ ss) → filter is_there (s ∷ ss) ≡ s ∷ ss
+    by_mark true is later = absurd (omega (arith, none, sum_by-cons (λ (t : Stored). cond t.is_gone 1 0) s ss, weighs_one s.is_gone is))
+    by_mark false is later = ap (λ b. cond (not b) (s ∷ filter is_there ss) (filter is_there ss)) is ∙ ap (λ ts. s ∷ ts) (later (omega (arith, none, sum_by-cons (λ (t : Stored). cond t.is_gone 1 0) s ss)))

@@ -4,6 +4,7 @@
 mod marks;
 mod pair;
 mod positions;
+mod reading;
 mod rising_index;
 mod stored;
 mod walk;

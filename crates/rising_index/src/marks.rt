@@ -30,8 +30,8 @@ fn trim(stored: &mut Vec<Stored>, gone: &mut usize)
     }
 }
 
-// Drops all marked pairs.
-fn sweep(stored: &mut Vec<Stored>, gone: &mut usize)
+/// Drops all marked pairs.
+pub(crate) fn sweep(stored: &mut Vec<Stored>, gone: &mut usize)
     requires { IsCounted stored.old.items gone.old }
     ensures pairs { pairs_in stored.new.items ≡ pairs_in stored.old.items }
     ensures tidy { IsTidy stored.new.items gone.new }

@@ -1,9 +1,10 @@
-ghost use Rattle.std.specs.Prelude.{◌≡◌, ◌≢◌, ◌≤◌, ◌+◌, ◌++◌, ◌∷◌, ◌==◌, ℕ, [], Some, None, OnOk, OnErr, IsSome, length};
+ghost use Rattle.std.specs.Prelude.{◌≡◌, ◌≢◌, ◌≤◌, ◌<◌, ◌+◌, ◌++◌, ◌∷◌, ◌==◌, ℕ, [], Some, None, OnOk, OnErr, IsSome, length, slice_get};
 ghost use Rattle.rising_index.specs.Pairs.{key_of, without, IdsBelow, IsRising};
 
-use crate::marks::tidy;
+use crate::marks::{sweep, tidy};
 use crate::pair::Pair;
 use crate::positions::position_there;
+use crate::reading::{pair_stored, pair_there};
 use crate::stored::Stored;
 use crate::walk::Walk;
 use std::alloc::{AllocError, Global};
@@ -72,6 +73,28 @@ impl RisingIndex {
         Some(self.stored[position].pair.key)
     }
 
+    /// The pair at a position by rising id, from 0, if there are so many.
+    ///
+    /// Where nothing was taken out since the last `sweep`, each position takes the same time. Else it is walked to.
+    pub fn nth(&self, position: usize) -> Option<Pair>
+        ensures { result ≡ slice_get self.now.pairs position }
+    {
+        if self.gone == 0 {
+            pair_stored(&self.stored, position)
+        } else {
+            pair_there(&self.stored, position)
+        }
+    }
+
+    /// Sweeps the marked pairs out, so that `nth` takes the same time for each position. Nothing changes
+    /// that is seen, but that there may be memory for more pairs.
+    pub fn sweep(&mut self)
+        ensures pairs { self.new.pairs ≡ self.old.pairs }
+        ensures spare { self.old.spare ≤ self.new.spare }
+    {
+        sweep(&mut self.stored, &mut self.gone);
+    }
+
     /// The pairs, by rising id.
     pub fn walk(&self) -> Walk<'_>
         ensures pairs { result ≡ self.now.pairs }
@@ -93,6 +116,21 @@ impl RisingIndex {
         ensures spare { self.old.spare ≤ self.new.spare }
     {
         self.stored.reserve(1)
+    }
+
+    /// Makes sure that there is memory for so many more pairs. Where there is not, nothing changes.
+    ///
+    /// # Errors
+    ///
+    /// There is no memory.
+    pub fn reserve(&mut self, count: usize) -> Result<(), AllocError>
+        ensures pairs { self.new.pairs ≡ self.old.pairs }
+        ensures ok { OnOk result (count ≤ self.new.spare) }
+        ensures full { OnErr result (self.old.spare < count) }
+        ensures unchanged { OnErr result (self.new ≡ self.old) }
+        ensures spare { self.old.spare ≤ self.new.spare }
+    {
+        self.stored.reserve(count)
     }
 
     /// Adds a key under an id that is above all that are there.

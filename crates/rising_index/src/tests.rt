@@ -62,6 +62,23 @@ fn each_call_once(rt: HostRuntime) -> Result<(), Fail> {
     Ok(())
 }
 
+// Pairs by their positions, before and after those that are gone are swept out.
+#[test]
+fn by_position(rt: HostRuntime) -> Result<(), Fail> {
+    let mut index = RisingIndex::new(rt.alloc());
+    index.reserve(3)?;
+    index.push(3, 30);
+    index.push(7, 70);
+    index.push(9, 90);
+    assert_eq!(rt; index.nth(0), Some(Pair { id: 3, key: 30 }));
+    assert_eq!(rt; index.remove(3), 30);
+    assert_eq!(rt; index.nth(1), Some(Pair { id: 9, key: 90 }));
+    index.sweep();
+    assert_eq!(rt; index.nth(0), Some(Pair { id: 7, key: 70 }));
+    assert_eq!(rt; index.nth(2), None);
+    Ok(())
+}
+
 // An id may come again once it and all above it are gone.
 #[test]
 fn an_id_twice(rt: HostRuntime) -> Result<(), Fail> {
