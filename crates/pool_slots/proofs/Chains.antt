@@ -1,9 +1,9 @@
 -- What a change of links makes of a chain.
-use Rattle.std.proofs.Common.{◌≡◌, ◌≢◌, ℕ, zero, suc, ◌≤◌, true, false, eqb, List, [], ◌∷◌, ◌++◌, length, Option, Some, None, unwrap_or, refl, sym, ap, ◌∙◌, inl, inr, subst, arith}
+use Rattle.std.proofs.Common.{◌≡◌, ◌≢◌, ℕ, zero, suc, ◌≤◌, true, false, eqb, List, [], ◌∷◌, ◌++◌, length, Option, Some, None, IfSome, unwrap_or, refl, sym, ap, ◌∙◌, inl, inr, subst, arith}
 use Rattle.std.proofs.lemmas.Bool.{eqb-false}
 use Rattle.std.proofs.lemmas.Bool.Decides.{eqb_tells}
 use Rattle.pool_journal.specs.Queue.{first_of, last_of}
-use Rattle.pool_slots.specs.Rack.{is_in, without, AreDistinct}
+use Rattle.pool_slots.specs.Rack.{is_in, without, put_before, AreDistinct}
 use Rattle.pool_slots.specs.Links.{Linked, IsChain, Leads, walk}
 use Rattle.pool_slots.proofs.Keys.{neither, is_in_first, is_in_later, without_none}
 
@@ -212,3 +212,66 @@ chain_appended a b a1 b1 a2 b2 key done ends p (x ∷ xs) from out chain =
 pub chain_push : (a b a1 b1 a2 b2 : Links) (key : ℕ) → Appended a b a1 b1 a2 b2 key → (xs : List ℕ) → is_in key xs ≡ false → IsChain a b None xs None → IsChain a2 b2 None (xs ++ key ∷ []) None
 chain_push a b a1 b1 a2 b2 key done xs out chain =
     chain_appended a b a1 b1 a2 b2 key done (chain_ends a b None xs None chain) None xs (none_apart key) out chain
+
+-- the key is joined to what stands before n, and then to n
+pub record Between (a b a1 b1 a2 b2 : Links) (key : ℕ) (n : Option ℕ) : Type 0 where
+  pub forward : Leads a a1 (b n) (Some key)
+  pub backward : Leads b b1 (Some key) (b n)
+  pub to_next : Leads a1 a2 (Some key) n
+  pub from_next : Leads b1 b2 n (Some key)
+
+-- neighbours stay linked whose second isn't n
+between_stays : (a b a1 b1 a2 b2 : Links) (key : ℕ) (n : Option ℕ) → Between a b a1 b1 a2 b2 key n → a (b n) ≡ n → (p m : Option ℕ) → p ≢ Some key → m ≢ Some key → m ≢ n → Linked a b p m → Linked a2 b2 p m
+between_stays a b a1 b1 a2 b2 key n done ends p m from to apart linked = record {
+  forward =
+      done.to_next.others p from ∙ done.forward.others p (λ same. apart (sym linked.forward ∙ ap a same ∙ ends)) ∙ linked.forward;
+  backward = done.from_next.others m apart ∙ done.backward.others m to ∙ linked.backward;
+}
+
+-- so does a chain that n isn't in
+between_beyond : (a b a1 b1 a2 b2 : Links) (key k : ℕ) → Between a b a1 b1 a2 b2 key (Some k) → a (b (Some k)) ≡ Some k → (p : Option ℕ) (xs : List ℕ) → p ≢ Some key → is_in key xs ≡ false → is_in k xs ≡ false → IsChain a b p xs None → IsChain a2 b2 p xs None
+between_beyond a b a1 b1 a2 b2 key k done ends p [] from out alone chain =
+    between_stays a b a1 b1 a2 b2 key (Some k) done ends p None from (none_apart key) (none_apart k) chain
+between_beyond a b a1 b1 a2 b2 key k done ends p (x ∷ xs) from out alone chain =
+    let apart = neither (eqb key x) (is_in key xs) out in
+    let other = neither (eqb k x) (is_in k xs) alone in
+    let here = some_apart key x apart.0 in
+    (between_stays a b a1 b1 a2 b2 key (Some k) done ends p (Some x) from here (some_apart k x other.0) chain.0, between_beyond a b a1 b1 a2 b2 key k done ends (Some x) xs here apart.1 other.1 chain.1)
+
+between_new : (a b a1 b1 a2 b2 : Links) (key : ℕ) (n : Option ℕ) → Between a b a1 b1 a2 b2 key n → (p : Option ℕ) → p ≢ Some key → n ≢ Some key → b n ≡ p → Linked a2 b2 p (Some key)
+between_new a b a1 b1 a2 b2 key n done p from to before = record {
+  forward = done.to_next.others p from ∙ ap a1 (sym before) ∙ done.forward.changed;
+  backward = done.from_next.others (Some key) (λ same. to (sym same)) ∙ done.backward.changed ∙ before;
+}
+
+chain_between : (a b a1 b1 a2 b2 : Links) (key k : ℕ) → Between a b a1 b1 a2 b2 key (Some k) → a (b (Some k)) ≡ Some k → Some k ≢ Some key → (p : Option ℕ) (xs : List ℕ) → p ≢ Some key → is_in key xs ≡ false → is_in k xs ≡ true → AreDistinct xs → IsChain a b p xs None → IsChain a2 b2 p (put_before (Some k) key xs) None
+chain_between a b a1 b1 a2 b2 key k done ends to p [] from out found distinct chain = absurd (cc)
+chain_between a b a1 b1 a2 b2 key k done ends to p (x ∷ xs) from out found distinct chain =
+    let apart = neither (eqb key x) (is_in key xs) out in
+    let here = some_apart key x apart.0 in
+    elim (eqb_tells k x) [
+      | inl same ↦
+          let before : b (Some k) ≡ p = ap (λ y. b (Some y)) same.1 ∙ chain.0.backward in
+          let linked : Linked a2 b2 (Some key) (Some k) = record { forward = done.to_next.changed; backward = done.from_next.changed } in
+          let alone : is_in k xs ≡ false = ap (λ y. is_in y xs) same.1 ∙ distinct.0 in
+          rw same.0 (between_new a b a1 b1 a2 b2 key (Some k) done p from to before, (subst (λ y. Linked a2 b2 (Some key) (Some y)) same.1 linked, between_beyond a b a1 b1 a2 b2 key k done ends (Some x) xs here apart.1 alone chain.1))
+      | inr differs ↦
+          rw differs.0 (between_stays a b a1 b1 a2 b2 key (Some k) done ends p (Some x) from here (some_apart k x differs.0) chain.0, chain_between a b a1 b1 a2 b2 key k done ends to (Some x) xs here apart.1 (rw differs.0 at found) distinct.1 chain.1)
+    ]
+
+put_end : (key : ℕ) (keys : List ℕ) → put_before None key keys ≡ keys ++ key ∷ []
+put_end key [] = refl
+put_end key (x ∷ xs) = ap (λ ys. x ∷ ys) (put_end key xs)
+
+chain_at_end : (a b a1 b1 a2 b2 : Links) (key : ℕ) → Between a b a1 b1 a2 b2 key None → (xs : List ℕ) → is_in key xs ≡ false → IsChain a b None xs None → IsChain a2 b2 None (put_before None key xs) None
+chain_at_end a b a1 b1 a2 b2 key done xs out chain =
+    let end : Appended a b a1 b1 a2 b2 key = record { forward = done.forward; backward = done.backward; to_end = done.to_next; from_end = done.from_next } in
+    subst (λ ys. IsChain a2 b2 None ys None) (sym (put_end key xs)) (chain_push a b a1 b1 a2 b2 key end xs out chain)
+
+-- a chain whose key came right before n
+pub chain_put : (a b a1 b1 a2 b2 : Links) (key : ℕ) (n : Option ℕ) → Between a b a1 b1 a2 b2 key n → (xs : List ℕ) → is_in key xs ≡ false → IfSome n (λ k. is_in k xs ≡ true) → AreDistinct xs → IsChain a b None xs None → IsChain a2 b2 None (put_before n key xs) None
+chain_put a b a1 b1 a2 b2 key None done xs out found distinct chain = chain_at_end a b a1 b1 a2 b2 key done xs out chain
+chain_put a b a1 b1 a2 b2 key (Some k) done xs out found distinct chain =
+    let ends = (around a b (λ p. Unit {0}) k None xs None chain found tt tt (λ x there. tt)).to_key in
+    let apart : Some k ≢ Some key = λ same. let e : k ≡ key = cc same in cc (found, out, ap (λ y. is_in y xs) e) in
+    chain_between a b a1 b1 a2 b2 key k done ends apart None xs (none_apart key) out found distinct chain

@@ -1,12 +1,12 @@
 -- Lists of keys.
-use Rattle.std.proofs.Common.{◌≡◌, ◌⊎◌, ℕ, ◌+◌, ◌<◌, ◌≤◌, Bool, true, false, eqb, ◌||◌, List, [], ◌∷◌, ◌++◌, length, refl, sym, ap, ◌∙◌, inl, inr, arith}
+use Rattle.std.proofs.Common.{◌≡◌, ◌⊎◌, ℕ, ◌+◌, ◌<◌, ◌≤◌, Bool, true, false, eqb, ◌||◌, if◌then◌else◌, List, [], ◌∷◌, ◌++◌, length, Option, refl, sym, ap, ◌∙◌, inl, inr, arith}
 use Rattle.std.specs.List.{AllByRecursion, IsDistinct, range_with_len}
 use Rattle.std.specs.Cmp.{IsEquivalence}
 use Rattle.std.proofs.lemmas.Bool.{eqb-true, eq-eqb, eqb-false, ne_eqb}
 use Rattle.std.proofs.lemmas.List.Folds.{list_any-append, list_any_at}
 use Rattle.std.proofs.lemmas.List.FromFn.{length-range_with_len, get_or-range_with_len}
 use Rattle.std.proofs.lemmas.Map.Made.{length-le_from_is_member}
-use Rattle.pool_slots.specs.Rack.{is_in, without, AreDistinct}
+use Rattle.pool_slots.specs.Rack.{is_in, is_key, without, put_before, AreDistinct}
 
 -- neither is true
 pub neither : (a b : Bool) → (a || b) ≡ false → (a ≡ false) × (b ≡ false)
@@ -124,3 +124,38 @@ pub few_distinct : (n : ℕ) (keys : List ℕ) → AreDistinct keys → ((key : 
 few_distinct n keys distinct below =
     let few = length-le_from_is_member eqb_laws keys (range_with_len 0 n) (distinct_keys keys distinct) (λ key found. in_range key n (below key found)) in
     omega (arith, length-range_with_len 0 n, few)
+
+-- ---- a key that comes before another one
+swapped : (a b c : Bool) → (a || (b || c)) ≡ (b || (a || c))
+swapped true true c = refl
+swapped true false c = refl
+swapped false true c = refl
+swapped false false c = refl
+
+pub in_put : (other key : ℕ) (next : Option ℕ) (keys : List ℕ) → is_in other (put_before next key keys) ≡ (eqb other key || is_in other keys)
+in_put other key next [] = refl
+in_put other key next (x ∷ xs) = by_test (is_key next x) (in_put other key next xs)
+  where
+    by_test : (b : Bool) → is_in other (put_before next key xs) ≡ (eqb other key || is_in other xs) → is_in other (if b then key ∷ x ∷ xs else x ∷ put_before next key xs) ≡ (eqb other key || (eqb other x || is_in other xs))
+    by_test true later = refl
+    by_test false later = ap (λ t. eqb other x || t) later ∙ swapped (eqb other x) (eqb other key) (is_in other xs)
+
+neither_is : (a b : Bool) → a ≡ false → b ≡ false → (a || b) ≡ false
+neither_is a b first second = ap (λ t. t || b) first ∙ second
+
+pub distinct_put : (key : ℕ) (next : Option ℕ) (keys : List ℕ) → is_in key keys ≡ false → AreDistinct keys → AreDistinct (put_before next key keys)
+distinct_put key next [] out distinct = (refl, tt)
+distinct_put key next (x ∷ xs) out distinct =
+    let apart = neither (eqb key x) (is_in key xs) out in
+    by_test (is_key next x) (in_put x key next xs ∙ neither_is (eqb x key) (is_in x xs) (eqb_apart key x apart.0) distinct.0) (distinct_put key next xs apart.1 distinct.1)
+  where
+    by_test : (b : Bool) → is_in x (put_before next key xs) ≡ false → AreDistinct (put_before next key xs) → AreDistinct (if b then key ∷ x ∷ xs else x ∷ put_before next key xs)
+    by_test true alone later = (out, distinct)
+    by_test false alone later = (alone, later)
+
+pub in_put_cases : (other key : ℕ) (next : Option ℕ) (keys : List ℕ) → is_in other (put_before next key keys) ≡ true → (is_in other keys ≡ true) ⊎ (other ≡ key)
+in_put_cases other key next keys there =
+    elim (either (eqb other key) (is_in other keys) (sym (in_put other key next keys) ∙ there)) [
+      | inl same ↦ inr (eqb-true other key same)
+      | inr before ↦ inl before
+    ]

@@ -1,5 +1,5 @@
 -- What each call does to the objects and the queue.
-use Rattle.std.proofs.Common.{◌≡◌, ℕ, ◌+◌, ◌-◌, ◌≤◌, true, false, cond, List, [], ◌∷◌, ◌++◌, Option, Some, None, Result, Ok, Err, IsSome, is_some, IfSome, refl, sym, ap, ◌∙◌, inl, inr, subst, arith}
+use Rattle.std.proofs.Common.{◌≡◌, ◌≢◌, ℕ, ◌+◌, ◌-◌, ◌<◌, ◌≤◌, true, false, cond, List, [], ◌∷◌, ◌++◌, Option, Some, None, Result, Ok, Err, IsSome, is_some, IfSome, refl, sym, ap, ◌∙◌, inl, inr, subst, arith}
 use Rattle.std.specs.Option.{option_map, option_and_then}
 use Rattle.std.proofs.lemmas.Bool.{cases_lt}
 use Rattle.std.specs.Result.{IsOk, OnErr}
@@ -8,12 +8,12 @@ use Rattle.std.proofs.lemmas.List.Sums.{sum_by-set}
 use Rattle.slab.specs.Slab.{Slab, get, slab_len, with_value, Updates, HasRoomFor}
 use Rattle.slab.proofs.SlabLemmas.{ContainsKey-within, Updates-with_value}
 use Rattle.pool_slots.specs.declared.slot.Slot.{Slot}
-use Rattle.pool_slots.specs.Rack.{Item, Rack, item_at, item_count, is_in, without, Sets}
+use Rattle.pool_slots.specs.Rack.{Item, Rack, item_at, item_count, is_in, without, put_before, Sets}
 use Rattle.pool_slots.specs.Links.{Leads, after_of, before_of, item_of, items_of, rack_of, queue_of, IsQueue}
 use Rattle.pool_slots.proofs.Items.{item_is, is_some_item, item_found, sets, count_is, present_same}
-use Rattle.pool_slots.proofs.Keys.{in_push, in_without, distinct_push, distinct_without}
+use Rattle.pool_slots.proofs.Keys.{in_push, in_put_cases, in_without, distinct_push, distinct_put, distinct_without}
 use Rattle.pool_slots.proofs.Queues.{queue_is, as_queue, queue_written, queue_apart, vacant_out}
-use Rattle.pool_slots.proofs.Chains.{Around, Appended, around, end_is, chain_without, chain_push}
+use Rattle.pool_slots.proofs.Chains.{Around, Appended, Between, around, end_is, chain_without, chain_push, chain_put}
 
 module _ {T : Type 0} where
   -- a write of an entry that leaves what an object is
@@ -118,6 +118,19 @@ module _ {T : Type 0} where
             ];
       }
 
+  -- the key was joined to what stands before the next one, and then to that
+  pub linked_before : (s s1 s2 : Slab (Slot T)) (f l f1 l1 f2 l2 : Option ℕ) (queue : List ℕ) (key : ℕ) (next : Option ℕ) → IsQueue s f l queue → is_in key queue ≡ false → IfSome next (λ other. is_in other queue ≡ true) → IsSome (get s key) → items_of s2 ≡ items_of s → Between (after_of s f) (before_of s l) (after_of s1 f1) (before_of s1 l1) (after_of s2 f2) (before_of s2 l2) key next → IsQueue s2 f2 l2 (put_before next key queue)
+  linked_before s s1 s2 f l f1 l1 f2 l2 queue key next is out there present items done =
+      record {
+        chain = chain_put _ _ _ _ _ _ key next done queue out there is.distinct is.chain;
+        distinct = distinct_put key next queue out is.distinct;
+        present = λ other found.
+            elim (in_put_cases other key next queue found) [
+              | inl before ↦ present_same s s2 items other (is.present other before)
+              | inr same ↦ present_same s s2 items other (ap (λ k. is_some (get s k)) same ∙ present)
+            ];
+      }
+
   -- ---- as the caller sees it
   pub queue_seen : (s : Slab (Slot T)) (f l : Option ℕ) (r : Rack T) → rack_of s f ≡ r → IsQueue s f l (queue_of s f) → IsQueue s f l r.queue
   queue_seen s f l r view is = subst (IsQueue s f l) (ap (λ x. x.queue) view) is
@@ -168,6 +181,33 @@ module _ {T : Type 0} where
   reserve_full (Ok x) s f r view succeeds = _
   reserve_full (Err e) s f r view succeeds =
       elim (cases_lt s.capacity (slab_len s + 1)) [
+        | inl over ↦ omega (arith, count_is s f, ap (λ x. x.room) view)
+        | inr fits ↦ absurd (cc (succeeds fits))
+      ]
+
+  -- a key of the queue has an object, and what stands before it too
+  pub next_good : (s : Slab (Slot T)) (f l : Option ℕ) (queue : List ℕ) (next : Option ℕ) → IsQueue s f l queue → IfSome next (λ other. is_in other queue ≡ true) → Good s next
+  next_good s f l queue None is there = tt
+  next_good s f l queue (Some key) is there = is.present key there
+
+  pub previous_good : (s : Slab (Slot T)) (f l : Option ℕ) (queue : List ℕ) (next p : Option ℕ) → IsQueue s f l queue → IfSome next (λ other. is_in other queue ≡ true) → p ≡ before_of s l next → Good s p
+  previous_good s f l queue None p is there reads = subst (Good s) (sym reads) (last_good s f l queue is)
+  previous_good s f l queue (Some key) p is there reads = subst (Good s) (sym reads) (around_key s f l queue key is there).before_is
+
+  -- a caller's `Leads` from what was read before the next one
+  pub between : (s s1 s2 : Slab (Slot T)) (f l f1 l1 f2 l2 : Option ℕ) (key : ℕ) (next p : Option ℕ) → p ≡ before_of s l next → Leads (after_of s f) (after_of s1 f1) p (Some key) → Leads (before_of s l) (before_of s1 l1) (Some key) p → Leads (after_of s1 f1) (after_of s2 f2) (Some key) next → Leads (before_of s1 l1) (before_of s2 l2) next (Some key)
+      → Between (after_of s f) (before_of s l) (after_of s1 f1) (before_of s1 l1) (after_of s2 f2) (before_of s2 l2) key next
+  between s s1 s2 f l f1 l1 f2 l2 key next p reads forward backward to_next from_next = record {
+    forward = subst (λ q. Leads (after_of s f) (after_of s1 f1) q (Some key)) reads forward;
+    backward = subst (λ q. Leads (before_of s l) (before_of s1 l1) (Some key) q) reads backward;
+    to_next = to_next;
+    from_next = from_next;
+  }
+
+  pub reserve_less : {X E : Type 0} (result : Result X E) (s : Slab (Slot T)) (f : Option ℕ) (r : Rack T) (n : ℕ) → rack_of s f ≡ r → n ≢ 0 → (HasRoomFor s n → IsOk result) → OnErr result (r.room < n)
+  reserve_less (Ok x) s f r n view some succeeds = _
+  reserve_less (Err e) s f r n view some succeeds =
+      elim (cases_lt s.capacity (slab_len s + n)) [
         | inl over ↦ omega (arith, count_is s f, ap (λ x. x.room) view)
         | inr fits ↦ absurd (cc (succeeds fits))
       ]

@@ -1,5 +1,5 @@
 -- What a caller sees: the objects under their keys, and the queue.
-use Rattle.std.specs.Prelude.{◌≡◌, ◌≢◌, ℕ, Bool, true, false, not, eqb, List, [], ◌∷◌, ◌++◌, filter, Option, None, is_some, IsSome, count_by, slice_index_or, ⊤}
+use Rattle.std.specs.Prelude.{◌≡◌, ◌≢◌, ℕ, Bool, true, false, not, eqb, if◌then◌else◌, List, [], ◌∷◌, ◌++◌, filter, Option, Some, None, is_some, IsSome, count_by, slice_index_or, ⊤}
 use Rattle.std.specs.List.{list_any}
 use Rattle.std.specs.Option.{option_map, option_and_then}
 use Rattle.pool_journal.specs.declared.record.Record.{Record}
@@ -27,6 +27,16 @@ without key keys = filter (λ other. not (eqb key other)) keys
 abbrev pub AreDistinct : List ℕ → Type 0
 AreDistinct [] = ⊤
 AreDistinct (key ∷ keys) = (is_in key keys ≡ false) × AreDistinct keys
+
+-- there is a key, and it is this one
+abbrev pub is_key : Option ℕ → ℕ → Bool
+is_key None x = false
+is_key (Some key) x = eqb key x
+
+-- these keys, with one more right before the next one, or at the end
+abbrev pub put_before : Option ℕ → ℕ → List ℕ → List ℕ
+put_before next key [] = key ∷ []
+put_before next key (x ∷ keys) = if is_key next x then key ∷ x ∷ keys else x ∷ put_before next key keys
 
 -- wherever the key stands in the queue, this one comes next
 abbrev pub IsNextIn : List ℕ → ℕ → Option ℕ → Type 0

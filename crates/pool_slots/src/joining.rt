@@ -51,6 +51,21 @@ fn set_before<T>(
     }
 }
 
+/// The key before another one. Before nothing stands the last.
+pub(crate) fn place_before<T>(
+    slots: &Slab<Slot<T>>,
+    last: Option<usize>,
+    after: Option<usize>,
+) -> Option<usize>
+    requires { IfSome after (λ key. ContainsKey slots.now key) }
+    ensures { result ≡ before_of slots.now last after }
+{
+    match after {
+        None => last,
+        Some(key) => slots[key].links.before(),
+    }
+}
+
 /// Lets two keys follow one another in the queue. `None` stands before the first and after the last.
 pub(crate) fn join<T>(
     slots: &mut Slab<Slot<T>>,

@@ -1,9 +1,9 @@
-ghost use Rattle.std.specs.Prelude.{◌≡◌, ◌≤◌, ◌+◌, ◌++◌, ◌∷◌, [], IsSome, IsSomeAnd, Some, None, true, false, OnOk, OnErr};
+ghost use Rattle.std.specs.Prelude.{◌≡◌, ◌≤◌, ◌<◌, ◌+◌, ◌++◌, ◌∷◌, [], IfSome, IsSome, IsSomeAnd, Some, None, true, false, OnOk, OnErr};
 ghost use Rattle.std.specs.Option.{option_map};
 ghost use Rattle.pool_journal.specs.Queue.{first_of, last_of};
-ghost use Rattle.pool_slots.specs.Rack.{is_in, without, item_at, known_at, value_at, item_count, new_item, with_known, with_value, Sets, IsRack, IsNextIn, IsPreviousIn};
+ghost use Rattle.pool_slots.specs.Rack.{is_in, without, put_before, item_at, known_at, value_at, item_count, new_item, with_known, with_value, Sets, IsRack, IsNextIn, IsPreviousIn};
 
-use crate::joining::join;
+use crate::joining::{join, place_before};
 use crate::linking::Links;
 use crate::slot::Slot;
 use pool_journal::Record;
@@ -71,6 +71,23 @@ impl<T> Slots<T> {
         self.slots.reserve(1)
     }
 
+    /// Makes sure that there is memory for so many more objects. Where there is not, nothing changes.
+    ///
+    /// # Errors
+    ///
+    /// There is no room for so many, and no memory either.
+    pub fn reserve(&mut self, count: usize) -> Result<(), AllocError>
+        ensures ok { OnOk result (count ≤ self.new.room) }
+        ensures full { OnErr result (self.old.room < count) }
+        ensures room { self.old.room ≤ self.new.room }
+        ensures rest { self.new ≡ record self.old { room = self.new.room } }
+    {
+        if count == 0 {
+            return Ok(());
+        }
+        self.slots.reserve(count)
+    }
+
     /// Puts an object under a key that was free, in the memory that was reserved. It has no value,
     /// and isn't in the queue.
     pub fn insert(&mut self, known: Record) -> usize
@@ -82,9 +99,23 @@ impl<T> Slots<T> {
         ensures queue { self.new.queue ≡ self.old.queue }
         ensures room { self.new.room + 1 ≡ self.old.room }
     {
+        self.insert_with(known, None)
+    }
+
+    /// Puts an object under a key that was free, in the memory that was reserved, with its value where it
+    /// has one. It isn't in the queue.
+    pub fn insert_with(&mut self, known: Record, value: Option<T>) -> usize
+        requires { 1 ≤ self.old.room }
+        ensures vacant { item_at self.old result ≡ None }
+        ensures sets { Sets self.old self.new result (Some (record { known = known; value = value })) }
+        ensures count { item_count self.new ≡ item_count self.old + 1 }
+        ensures out { is_in result self.new.queue ≡ false }
+        ensures queue { self.new.queue ≡ self.old.queue }
+        ensures room { self.new.room + 1 ≡ self.old.room }
+    {
         self.slots.insert_reserved(Slot {
             known,
-            value: None,
+            value,
             links: Links::none(),
         })
     }
@@ -180,6 +211,30 @@ impl<T> Slots<T> {
             &mut self.last,
             Some(key),
             None,
+        );
+    }
+
+    /// Puts an object into the queue, right before another one of it or at its end.
+    pub fn link_before(&mut self, next: Option<usize>, key: usize)
+        requires present { IsSome (item_at self.old key) }
+        requires out { is_in key self.old.queue ≡ false }
+        requires next { IfSome next (λ other. is_in other self.old.queue ≡ true) }
+        ensures { self.new ≡ record self.old { queue = put_before next key self.old.queue } }
+    {
+        let before = place_before(&self.slots, self.last, next);
+        join(
+            &mut self.slots,
+            &mut self.first,
+            &mut self.last,
+            before,
+            Some(key),
+        );
+        join(
+            &mut self.slots,
+            &mut self.first,
+            &mut self.last,
+            Some(key),
+            next,
         );
     }
 

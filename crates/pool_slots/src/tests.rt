@@ -73,3 +73,21 @@ fn three_objects(rt: HostRuntime) -> Result<(), Fail> {
     assert_eq!(rt; (slots.first(), slots.last()), (None, None));
     Ok(())
 }
+
+// An object that comes with its value, before the other of the queue.
+#[test]
+fn before_another(rt: HostRuntime) -> Result<(), Fail> {
+    let mut slots = Slots::new(rt.alloc());
+    slots.reserve(2)?;
+    let one = slots.insert_with(record(1), None);
+    slots.link_before(None, one);
+    let two = slots.insert_with(record(2), Some(20u8));
+    slots.link_before(Some(one), two);
+    assert_eq!(rt; (slots.first(), slots.last()), (Some(two), Some(one)));
+    assert_eq!(rt;
+        (slots.before(one), slots.after(two)),
+        (Some(two), Some(one))
+    );
+    assert_eq!(rt; slots.take(two), 20);
+    Ok(())
+}

@@ -1,7 +1,7 @@
 use Rattle.std.proofs.Common.{ap, ◌∙◌}
 use Rattle.pool_slots.specs.Rack.{is_in}
 use Rattle.pool_slots.proofs.Moves.{apart, vacant_apart, room_taken}
-use Rattle.pool_slots.proofs.slots.Slots.insert.Goals as goal
+use Rattle.pool_slots.proofs.slots.Slots.insert_with.Goals as goal
 
 pub invariant_of-self : goal.invariant_of-self
 invariant_of-self g c =
