@@ -3,6 +3,7 @@ use Rattle.std.proofs.Common.{◌≡◌, ◌≢◌, ℕ, suc, ◌<◌, ◌==◌,
 use Rattle.std.specs.Prelude.{IsSome, is_some, IsSomeAnd, find}
 use Rattle.std.specs.List.{AllByRecursion}
 use Rattle.std.specs.Option.{option_map}
+use Rattle.std.proofs.lemmas.Bool.{eqb-false}
 use Rattle.std.proofs.lemmas.Bool.Decides.{eqb_tells, nat_tests}
 use Rattle.pool_journal.specs.declared.record.Record.{Record}
 use Rattle.pool_journal.specs.declared.record.Phase.TheVariants as phases
@@ -13,12 +14,12 @@ use Rattle.rising_index.specs.declared.pair.Pair.{Pair}
 use Rattle.rising_index.specs.Pairs.{key_of, IsRising}
 use Rattle.pool_places.specs.declared.place.Place.{Place}
 use Rattle.pool_places.specs.Shelf.{records_in, place_in, changed, new_place, IsShelf}
-use Rattle.pool_places.specs.Stored.{place_of, place_at, kept_of, entry_at, parked_of, IsTied, IsLine}
+use Rattle.pool_places.specs.Stored.{place_of, place_at, kept_of, entry_at, entry_of, parked_of, IsTied, IsLine}
 use Rattle.pool_places.specs.Waiting.{Parked, Rises, IsEntry, HasEntry, IsQueueOf}
 use Rattle.pool_places.proofs.Entries.{all_mapped}
 use Rattle.pool_places.proofs.Found.{Found}
 use Rattle.pool_places.proofs.Shelves.{record_in-records_in}
-use Rattle.pool_slots.proofs.Keys.{is_in_first, is_in_later}
+use Rattle.pool_slots.proofs.Keys.{is_in_first, is_in_later, neither}
 use Rattle.pool_places.proofs.Walks.{other_stays, key_is_gone, in_pushed, in_push_other}
 
 each_key : (ps : List Pair) → IsRising ps → AllByRecursion (λ p. key_of ps p.id ≡ Some p.key) ps
@@ -277,6 +278,17 @@ module _ {T : Type 0} where
         others = λ other apart. ap (is_in other) queue;
         rises = rw queue (rises_same (entry_at rack) (entry_at rack2) rack.queue (λ k there. entry_same rack rack2 key k o sets (not_key key k rack.queue there out)) line.rises);
       })
+
+  -- the entries stay where the key isn't in the queue
+  pub parked_same : (rack rack2 : Rack T) (key : ℕ) (o : Option (Item T)) → Sets rack rack2 key o → rack2.queue ≡ rack.queue → is_in key rack.queue ≡ false → parked_of rack2 ≡ parked_of rack
+  parked_same rack rack2 key o sets queue out = ap (map (entry_at rack2)) queue ∙ along rack.queue out
+    where
+      along : (keys : List ℕ) → is_in key keys ≡ false → map (entry_at rack2) keys ≡ map (entry_at rack) keys
+      along [] apart = refl
+      along (x ∷ xs) apart =
+          let both = neither (eqb key x) (is_in key xs) apart in
+          let stays = ap (λ p. entry_of p.known) (place_same rack rack2 x (sets.others x (λ same. eqb-false key x both.0 (sym same)))) in
+          λ j. stays j ∷ along xs both.1 j
 
   -- an object that leaves the queue, or isn't in it
   pub line_left : (rack rack2 : Rack T) (key : ℕ) (o : Option (Item T)) → IsLine rack → Sets rack rack2 key o → rack2.queue ≡ without_key key rack.queue → is_queued_item o ≡ false → IsLine rack2

@@ -1,5 +1,6 @@
 -- Which value is kept under an id after a change.
-use Rattle.std.proofs.Common.{◌≡◌, ◌≢◌, ℕ, ◌==◌, eqb, Bool, true, false, not, cond, if◌then◌else◌, List, [], ◌∷◌, ◌++◌, Some, None, refl, ap, sym, ◌∙◌, arith}
+use Rattle.std.proofs.Common.{◌≡◌, ◌≢◌, ℕ, ◌<◌, ◌==◌, eqb, Bool, true, false, not, cond, if◌then◌else◌, List, [], ◌∷◌, ◌++◌, Some, None, refl, ap, sym, ◌∙◌, arith}
+use Rattle.std.specs.List.{AllByRecursion}
 use Rattle.std.specs.Option.{option_map, option_and_then}
 use Rattle.std.proofs.lemmas.Bool.Decides.{nat_tests}
 use Rattle.pool_journal.specs.Queue.{later}
@@ -88,3 +89,16 @@ value_without {T} i ps j empty = by_test (j == i) refl
         let same : j ≡ i = eqb_of j i is in
         ap (value_in (without i ps)) same ∙ ap (option_and_then (λ p. p.value)) (place_without_here i ps) ∙ sym empty ∙ ap (value_in ps) (sym same)
     by_test false is = ap (option_and_then (λ p. p.value)) (place_without_other i ps j (λ same. grind (arith, nat_tests)))
+
+-- an object that comes is found under its id
+pub value_push_here : {T : Type 0} (ps : List (Place T)) (p : Place T) → AllByRecursion (λ q. q.known.id < p.known.id) ps → value_in (ps ++ p ∷ []) p.known.id ≡ p.value
+value_push_here [] p above = (let same : (p.known.id == p.known.id) ≡ true = grind (arith, nat_tests) in rw same refl)
+value_push_here (q ∷ ps) p above = (let apart : (p.known.id == q.known.id) ≡ false = grind (arith, nat_tests, above.0) in rw apart (value_push_here ps p above.1))
+
+pub value_push_other : {T : Type 0} (ps : List (Place T)) (p : Place T) (j : ℕ) → j ≢ p.known.id → value_in (ps ++ p ∷ []) j ≡ value_in ps j
+value_push_other [] p j other = (let apart : (j == p.known.id) ≡ false = grind (arith, nat_tests, other) in rw apart refl)
+value_push_other {T} (q ∷ ps) p j other = by_test (j == q.known.id) (value_push_other ps p j other)
+  where
+    by_test : (b : Bool) → value_in (ps ++ p ∷ []) j ≡ value_in ps j → option_and_then (λ p. p.value) (cond b (Some q) (place_in (ps ++ p ∷ []) j)) ≡ option_and_then (λ p. p.value) (cond b (Some q) (place_in ps j))
+    by_test true later = refl
+    by_test false later = later

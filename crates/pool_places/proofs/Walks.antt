@@ -2,13 +2,13 @@
 use Rattle.std.proofs.Common.{◌≡◌, ◌≢◌, ℕ, ◌<◌, ◌≤◌, eqb, Bool, true, false, not, ◌||◌, ◌&&◌, nat_lt, cond, if◌then◌else◌, List, [], ◌∷◌, ◌++◌, map, reverse, length, Option, Some, None, unwrap_or, refl, ap, sym, ◌∙◌, inl, inr, arith, subst}
 use Rattle.std.specs.Prelude.{find, IfSome}
 use Rattle.std.specs.List.{AllByRecursion}
-use Rattle.std.proofs.lemmas.Bool.{le-ltb}
+use Rattle.std.proofs.lemmas.Bool.{le-ltb, ltb-true, ltb-false}
 use Rattle.std.proofs.lemmas.Bool.Decides.{eqb_tells}
 use Rattle.std.proofs.lemmas.List.{map-append, reverse-append, reverse-reverse}
 use Rattle.std.proofs.lemmas.List.Folds.{list_any-append}
 use Rattle.pool_journal.specs.Queue.{first_of, last_of}
-use Rattle.pool_slots.specs.Rack.{is_in, without, AreDistinct, IsNextIn, IsPreviousIn}
-use Rattle.pool_slots.proofs.Keys.{is_in_first, is_in_later, distinct_push}
+use Rattle.pool_slots.specs.Rack.{is_in, is_key, put_before, without, AreDistinct, IsNextIn, IsPreviousIn}
+use Rattle.pool_slots.proofs.Keys.{is_in_first, is_in_later, distinct_push, in_put}
 use Rattle.pool_places.specs.Kept.{IsWithin}
 use Rattle.pool_places.specs.Stored.{from_key}
 use Rattle.pool_places.specs.Waiting.{Parked, Rises, is_wanted}
@@ -243,3 +243,80 @@ in_push_left other key keys there =
 pub within_push : (key : ℕ) (keys : List ℕ) (o : Option ℕ) → IsWithin keys o → IsWithin (keys ++ key ∷ []) o
 within_push key keys None there = tt
 within_push key keys (Some other) there = in_push_left other key keys there
+
+-- ---- the first key whose object was parked after a position
+pub found_in : (test : ℕ → Bool) (keys : List ℕ) → IsWithin keys (find test keys)
+found_in test [] = tt
+found_in test (x ∷ xs) = by_test (test x) (found_in test xs)
+  where
+    by_test : (b : Bool) → IsWithin xs (find test xs) → IsWithin (x ∷ xs) (cond b (Some x) (find test xs))
+    by_test true later = is_in_first x xs
+    by_test false later = within_later x xs (find test xs) later
+
+pub key_here : (test : ℕ → Bool) (keys : List ℕ) (key : ℕ) → is_in key keys ≡ true → test key ≡ true → find test (from_key (Some key) keys) ≡ Some key
+key_here test keys key there passes = ap (find test) (heads key keys there) ∙ ap (λ b. cond b (Some key) (find test (after_key key keys))) passes
+
+pub key_later : (test : ℕ → Bool) (keys : List ℕ) (key : ℕ) (next : Option ℕ) → IsStep keys key next → test key ≡ false → find test (from_key (Some key) keys) ≡ find test (from_key next keys)
+key_later test keys key next is fails = ap (find test) is.rest ∙ ap (λ b. cond b (Some key) (find test (from_key next keys))) fails
+
+none_parked : (e : ℕ → Parked) (n : ℕ) (front rest : List ℕ) → AllByRecursion (λ k. (e k).parked ≤ n) front → find (λ k. nat_lt n (e k).parked) (front ++ rest) ≡ find (λ k. nat_lt n (e k).parked) rest
+none_parked e n [] rest all = refl
+none_parked e n (x ∷ xs) rest all =
+    ap (λ b. cond b (Some x) (find (λ k. nat_lt n (e k).parked) (xs ++ rest))) (le-ltb n (e x).parked all.0) ∙ none_parked e n xs rest all.1
+
+-- where the one before was parked at the position or before it, none is missed
+pub start_parked : (e : ℕ → Parked) (n : ℕ) (keys : List ℕ) (key : ℕ) (p : Option ℕ) → Rises (map e keys) → is_in key keys ≡ true → IsPreviousIn keys key p → IfSome p (λ k. (e k).parked ≤ n) → find (λ k. nat_lt n (e k).parked) keys ≡ find (λ k. nat_lt n (e k).parked) (from_key (Some key) keys)
+start_parked e n keys key p up there is before =
+    let below = all_below e n (before_key key keys) (from_key (Some key) keys) (subst (λ xs. Rises (map e xs)) (splits key keys) up) (subst (λ o. IfSome o (λ k. (e k).parked ≤ n)) (previous_is_last keys key p there is) before) in
+    ap (find (λ k. nat_lt n (e k).parked)) (splits key keys) ∙ none_parked e n (before_key key keys) (from_key (Some key) keys) below
+
+-- ---- a key that comes where its position belongs
+pub in_put_other : (other key : ℕ) (next : Option ℕ) (keys : List ℕ) → other ≢ key → is_in other (put_before next key keys) ≡ is_in other keys
+in_put_other other key next keys apart =
+    elim (eqb_tells other key) [
+      | inl same ↦ absurd (apart same.1)
+      | inr differs ↦ in_put other key next keys ∙ ap (λ b. b || is_in other keys) differs.0
+    ]
+
+pub in_put_here : (key : ℕ) (next : Option ℕ) (keys : List ℕ) → is_in key (put_before next key keys) ≡ true
+in_put_here key next keys =
+    elim (eqb_tells key key) [
+      | inl same ↦ in_put key key next keys ∙ ap (λ b. b || is_in key keys) same.0
+      | inr differs ↦ absurd (differs.1 refl)
+    ]
+
+above_put : (e : ℕ → Parked) (n key : ℕ) (next : Option ℕ) (keys : List ℕ) → n < (e key).parked → AllByRecursion (λ q. n < q.parked) (map e keys) → AllByRecursion (λ q. n < q.parked) (map e (put_before next key keys))
+above_put e n key next [] here above = (here, tt)
+above_put e n key next (x ∷ xs) here above = by_test (is_key next x) (above_put e n key next xs here above.1)
+  where
+    by_test : (b : Bool) → AllByRecursion (λ q. n < q.parked) (map e (put_before next key xs)) → AllByRecursion (λ q. n < q.parked) (map e (if b then key ∷ x ∷ xs else x ∷ put_before next key xs))
+    by_test true later = (here, above)
+    by_test false later = (above.0, later)
+
+above_more : (e : ℕ → Parked) (m n : ℕ) (keys : List ℕ) → m < n → AllByRecursion (λ q. n < q.parked) (map e keys) → AllByRecursion (λ q. m < q.parked) (map e keys)
+above_more e m n [] less above = tt
+above_more e m n (x ∷ xs) less above = (omega (arith, less, above.0), above_more e m n xs less above.1)
+
+not_first : (x : ℕ) (xs : List ℕ) (o : Option ℕ) → is_in x xs ≡ false → IsWithin xs o → is_key o x ≡ false
+not_first x xs None out there = refl
+not_first x xs (Some n) out there = apart_of n x xs there out
+
+pub rises_put : (e : ℕ → Parked) (key : ℕ) (keys : List ℕ) → AreDistinct keys → Rises (map e keys) → AllByRecursion (λ q. q.parked ≢ (e key).parked) (map e keys) → Rises (map e (put_before (find (λ k. nat_lt (e key).parked (e k).parked) keys) key keys))
+rises_put e key [] distinct up free = (tt, tt)
+rises_put e key (x ∷ xs) distinct up free = by_test (nat_lt (e key).parked (e x).parked) refl (rises_put e key xs distinct.1 up.1 free.1)
+  where
+    later : Option ℕ
+    later = find (λ k. nat_lt (e key).parked (e k).parked) xs
+
+    by_test : (b : Bool) → nat_lt (e key).parked (e x).parked ≡ b → Rises (map e (put_before later key xs)) → Rises (map e (put_before (cond b (Some x) later) key (x ∷ xs)))
+    by_test true is rest =
+        let less = ltb-true (e key).parked (e x).parked is in
+        elim (eqb_tells x x) [
+          | inl same ↦ rw same.0 ((less, above_more e (e key).parked (e x).parked xs less up.0), up)
+          | inr differs ↦ absurd (differs.1 refl)
+        ]
+    by_test false is rest =
+        let most = ltb-false (e key).parked (e x).parked is in
+        let other = free.0 in
+        let less : (e x).parked < (e key).parked = omega (arith, most, other) in
+        rw (not_first x xs later distinct.0 (found_in (λ k. nat_lt (e key).parked (e k).parked) xs)) (above_put e (e x).parked key later xs less up.0, rest)

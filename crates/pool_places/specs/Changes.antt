@@ -1,5 +1,5 @@
 -- How a call changes the record of one object, and when it may be called.
-use Rattle.std.specs.Prelude.{◌≡◌, ℕ, ◌==◌, ◌<◌, Bool, true, false, not, if◌then◌else◌, List, map, filter, IsSomeAnd}
+use Rattle.std.specs.Prelude.{◌≡◌, ◌≢◌, ℕ, ◌==◌, ◌<◌, Bool, true, false, not, if◌then◌else◌, List, map, filter, IsSomeAnd}
 use Rattle.std.specs.List.{AllByRecursion}
 use Rattle.pool_journal.specs.declared.record.Record.{Record}
 use Rattle.pool_journal.specs.declared.record.Phase.{Phase}
@@ -60,6 +60,10 @@ IsInPhase rs i phase = IsSomeAnd (record_in rs i) (λ r. r.phase ≡ phase)
 -- all ids are below i
 abbrev pub IdsBelow : ℕ → List Record → Type 0
 IdsBelow i rs = AllByRecursion (λ r. r.id < i) rs
+
+-- no object of the queue has this position
+abbrev pub IsFreePosition : ℕ → List Record → Type 0
+IsFreePosition k rs = AllByRecursion (λ r. is_queued r.phase ≡ true → r.parked ≢ k) rs
 
 -- all positions in the queue are below k
 abbrev pub QueueBelow : ℕ → List Record → Type 0

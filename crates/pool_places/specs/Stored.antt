@@ -1,5 +1,5 @@
 -- The objects and the queue as they are stored: a rack of objects under keys, and the key of each id.
-use Rattle.std.specs.Prelude.{◌≡◌, ℕ, true, List, [], ◌∷◌, map, if◌then◌else◌, eqb, Option, Some, None, unwrap_or, IsSome, IsSomeAnd}
+use Rattle.std.specs.Prelude.{◌≡◌, ℕ, true, List, [], ◌∷◌, map, if◌then◌else◌, eqb, nat_lt, find, Option, Some, None, unwrap_or, IsSome, IsSomeAnd}
 use Rattle.std.specs.Option.{option_map}
 use Rattle.pool_journal.specs.declared.record.Record.{Record}
 use Rattle.pool_journal.specs.declared.record.Phase.TheVariants as phases
@@ -41,6 +41,10 @@ module _ {T : Type 0} where
   -- the entries of the queue
   abbrev pub parked_of : Rack T → List Parked
   parked_of rack = map (entry_at rack) rack.queue
+
+  -- the first of these keys whose object was parked after the position
+  abbrev pub first_parked : Rack T → ℕ → List ℕ → Option ℕ
+  first_parked rack position keys = find (λ key. nat_lt position (entry_at rack key).parked) keys
 
   -- each id leads to its object, and each object is led to
   pub record IsTied (rack : Rack T) (pairs : List Pair) : Type 0 where

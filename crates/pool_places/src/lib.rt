@@ -15,6 +15,8 @@ pub use place_counts::PlaceCounts;
 pub use places::Places;
 
 #[cfg(test)]
+mod restores;
+#[cfg(test)]
 mod tests;
 #[cfg(test)]
 mod trials;

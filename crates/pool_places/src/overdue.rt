@@ -60,8 +60,8 @@ pub(crate) fn earlier(one: u64, other: u64) -> u64
     one.min(other)
 }
 
-// When an object was last used, where it is lent.
-fn last_use(known: Record) -> u64
+/// When an object was last used, where it is lent; else the latest moment.
+pub(crate) fn last_use(known: Record) -> u64
     ensures { is_lent known.phase ≡ true → result ≡ known.used }
 {
     if is_lent_phase(known.phase) {

@@ -1,20 +1,21 @@
-ghost use Rattle.std.specs.Prelude.{◌≡◌, ◌≢◌, ◌≤◌, ◌<◌, ◌+◌, ◌^◌, ◌++◌, ◌∷◌, [], ℕ, IfSome, IsSomeAnd, IsTrue, OnOk, OnErr, Some, None, false, length, filter, count_by};
+ghost use Rattle.std.specs.Prelude.{◌≡◌, ◌≢◌, ◌≤◌, ◌<◌, ◌+◌, ◌^◌, ◌++◌, ◌∷◌, [], ℕ, IfSome, IsSomeAnd, IsTrue, OnOk, OnErr, Some, None, true, false, is_some, length, filter, count_by, slice_get};
 ghost use Rattle.std.specs.List.{AllByRecursion};
 ghost use Rattle.std.specs.Option.{option_map};
+ghost use Rattle.pool_journal.specs.Journal.{is_present};
 ghost use Rattle.pool_journal.specs.Queue.{is_idle, is_queued, queue_length, idle_queue, first_of, last_of, record_in};
 ghost use Rattle.pool_journal.specs.declared.record.Phase.TheVariants as phases;
 ghost use Rattle.pool_journal.specs.declared.record.Record.{Record as Known};
 ghost use Rattle.pool_places.specs.After.{is_after};
-ghost use Rattle.pool_places.specs.Changes.{with_changed, without_id, new_record, phase_set, lent_at, used_at, parked_at, opens_as, sets_to, takes_to, IdsBelow, IsInPhase, QueueBelow};
+ghost use Rattle.pool_places.specs.Changes.{with_changed, without_id, new_record, phase_set, lent_at, used_at, parked_at, opens_as, sets_to, takes_to, IdsBelow, IsFreePosition, IsInPhase, QueueBelow};
 ghost use Rattle.pool_places.specs.Counts.{is_adding, weight, weight_of, owed_by};
 ghost use Rattle.pool_places.specs.Overdue.{is_lent, overdue};
 ghost use Rattle.pool_places.specs.Shelf.{records_in, value_in, changed, without, new_place, to_phase, to_lent, to_used, to_idle, to_kept, to_taken, IsShelf};
 
 use crate::keys::key_under;
-use crate::overdue::{earlier, first_overdue, least_use, overdue_count};
+use crate::overdue::{earlier, first_overdue, last_use, least_use, overdue_count};
 use crate::phase_tests::is_queued_phase;
 use crate::place_counts::PlaceCounts;
-use crate::queue::{change, first_wanted, last_wanted, leave, start_after};
+use crate::queue::{change, enter, first_wanted, last_wanted, leave, start_after};
 use pool_journal::{Phase, Record};
 use pool_slots::Slots;
 use rising_index::RisingIndex;
@@ -107,6 +108,23 @@ impl<T> Places<T> {
     {
         let key = self.index.find(id)?;
         Some(self.slots.known(key))
+    }
+
+    /// What is known of the object at a position by rising id, from 0, if there are so many.
+    pub fn nth(&self, n: u64) -> Option<Record>
+        ensures { result ≡ slice_get (records_in self.now.kept) n }
+    {
+        let pair = self.index.nth(n as usize)?;
+        Some(self.slots.known(pair.key))
+    }
+
+    /// Lets `nth` take the same time for each position, until an object leaves. Nothing changes that is seen,
+    /// but that there may be memory for more objects.
+    pub fn look_through(&mut self)
+        ensures kept { self.new.kept ≡ self.old.kept }
+        ensures spare { self.old.spare ≤ self.new.spare }
+    {
+        self.index.sweep();
     }
 
     /// The idle object that was parked first.
@@ -213,6 +231,53 @@ impl<T> Places<T> {
         }
         self.slots.reserve_one()?;
         self.index.reserve_one()
+    }
+
+    /// Makes sure that there is memory for so many more objects. Where there is not, nothing changes.
+    ///
+    /// # Errors
+    ///
+    /// There is no memory for so many.
+    pub fn reserve(&mut self, n: usize) -> Result<(), AllocError>
+        ensures kept { self.new.kept ≡ self.old.kept }
+        ensures ok { OnOk result (n ≤ self.new.spare) }
+        ensures full { OnErr result (self.old.spare < n) }
+        ensures spare { self.old.spare ≤ self.new.spare }
+    {
+        if n > MOST_PLACES - self.present() {
+            return Err(AllocError);
+        }
+        self.slots.reserve(n)?;
+        self.index.reserve(n)
+    }
+
+    /// Puts an object back that was known before, in the memory that was reserved, with its value where it is
+    /// idle. In the queue it stands where its position belongs.
+    ///
+    /// Its place is sought from the object that was put back last, or that `look_from` named since. So it takes
+    /// the same time where positions rise or fall from object to object, and a walk along the queue where they
+    /// have no order; where one of its neighbours there was named, it takes the same time.
+    pub fn restore(&mut self, known: Record, value: Option<T>)
+        requires reserved { 1 ≤ self.old.spare }
+        requires above { IdsBelow known.id (records_in self.old.kept) }
+        requires phase { IsTrue (is_present known.phase) }
+        requires valued { is_some value ≡ is_idle known.phase }
+        requires position { is_queued known.phase ≡ true
+            → IsFreePosition known.parked (records_in self.old.kept) }
+        ensures kept { self.new.kept ≡ self.old.kept ++ record { known = known; value = value } ∷ [] }
+        ensures records { records_in self.new.kept ≡ records_in self.old.kept ++ known ∷ [] }
+        ensures value { value_in self.new.kept known.id ≡ value }
+        ensures others { (j : ℕ) → j ≢ known.id →
+            value_in self.new.kept j ≡ value_in self.old.kept j }
+        ensures owed { owed_by (records_in self.new.kept)
+            ≡ owed_by (records_in self.old.kept) + weight known.phase }
+        ensures spare { self.new.spare + 1 ≡ self.old.spare }
+    {
+        let key = self.slots.insert_with(known, value);
+        enter(&mut self.slots, &mut self.remembered, key, known);
+        self.index.push(known.id, key);
+        self.counts.add(known.phase);
+        self.least_used = earlier(self.least_used, last_use(known));
     }
 
     /// Adds an object that is just drawn, in the memory that was reserved. It begins as `Readying` or

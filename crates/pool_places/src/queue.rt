@@ -1,9 +1,10 @@
-ghost use Rattle.std.specs.Prelude.{◌≡◌, if◌then◌else◌, Some, IfSome, true, map, find, reverse};
+ghost use Rattle.std.specs.Prelude.{◌≡◌, ◌≢◌, ℕ, if◌then◌else◌, Some, IfSome, true, false, map, find, reverse};
+ghost use Rattle.std.specs.List.{AllByRecursion};
 ghost use Rattle.std.specs.Option.{option_map};
 ghost use Rattle.pool_journal.specs.Queue.{is_queued};
 ghost use Rattle.pool_slots.specs.Rack.{is_in, without, known_at, value_at, Sets, IsRack};
 ghost use Rattle.pool_places.specs.Kept.{IsWithin};
-ghost use Rattle.pool_places.specs.Stored.{entry_at, entry_of, from_key, parked_of};
+ghost use Rattle.pool_places.specs.Stored.{entry_at, entry_of, first_parked, from_key, parked_of};
 ghost use Rattle.pool_places.specs.Waiting.{Rises, is_wanted};
 
 use crate::phase_tests::{is_idle_phase, is_queued_phase};
@@ -126,6 +127,8 @@ pub(crate) fn start_after<T>(slots: &Slots<T>, from: usize, position: u64) -> us
     ensures start { find (is_wanted (Some position)) (parked_of slots.now)
         ≡ find (is_wanted (Some position))
         (map (entry_at slots.now) (from_key (Some result) slots.now.queue)) }
+    ensures parked { first_parked slots.now position slots.now.queue
+        ≡ first_parked slots.now position (from_key (Some result) slots.now.queue) }
 {
     let mut start = from;
     while let Some(before) = slots.before(start) {
@@ -135,4 +138,50 @@ pub(crate) fn start_after<T>(slots: &Slots<T>, from: usize, position: u64) -> us
         start = before;
     }
     start
+}
+
+/// The first object of the queue that was parked after the position, sought from another one of the queue.
+pub(crate) fn first_after<T>(slots: &Slots<T>, from: Option<usize>, position: u64) -> Option<usize>
+    requires from { IsWithin slots.now.queue from }
+    requires rises { Rises (parked_of slots.now) }
+    ensures first { result ≡ first_parked slots.now position slots.now.queue }
+    ensures rack { IsRack slots.now }
+{
+    let first = slots.first()?;
+    let mut next = Some(start_after(slots, from.unwrap_or(first), position));
+    while let Some(key) = next {
+        if slots.known(key).parked > position {
+            return Some(key);
+        }
+        next = slots.after(key);
+    }
+    None
+}
+
+/// Puts an object into the queue where its position belongs, if its phase is one of the queue. The next one is
+/// then sought from it.
+pub(crate) fn enter<T>(
+    slots: &mut Slots<T>,
+    remembered: &mut Option<usize>,
+    key: usize,
+    known: Record,
+)
+    requires known { known_at slots.old key ≡ Some known }
+    requires out { is_in key slots.old.queue ≡ false }
+    requires rises { Rises (parked_of slots.old) }
+    requires free { is_queued known.phase ≡ true
+        → AllByRecursion (λ q. q.parked ≢ known.parked) (parked_of slots.old) }
+    requires remembered { IsWithin slots.old.queue remembered.old }
+    ensures rest { slots.new ≡ record slots.old { queue = slots.new.queue } }
+    ensures here { is_in key slots.new.queue ≡ is_queued known.phase }
+    ensures others { (other : ℕ) → other ≢ key →
+        is_in other slots.new.queue ≡ is_in other slots.old.queue }
+    ensures rises { Rises (parked_of slots.new) }
+    ensures remembered { IsWithin slots.new.queue remembered.new }
+{
+    if is_queued_phase(known.phase) {
+        let next = first_after(slots, *remembered, known.parked);
+        slots.link_before(next, key);
+        *remembered = Some(key);
+    }
 }

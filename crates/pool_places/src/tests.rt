@@ -1,5 +1,5 @@
 use crate::{PlaceCounts, Places};
-use pool_journal::Phase;
+use pool_journal::{Phase, Record};
 use std::test::Fail;
 
 // An object from its opening until its place is free.
@@ -56,6 +56,56 @@ fn a_queue(rt: HostRuntime) -> Result<(), Fail> {
         lent: 0,
         adding: 1,
         owed: 7,
+    };
+    assert_eq!(rt; places.counts(), counts);
+    Ok(())
+}
+
+// Three objects that are put back, of which two are in the queue, the one that was parked later first.
+#[test]
+fn put_back(rt: HostRuntime) -> Result<(), Fail> {
+    let idle = Record {
+        id: 4,
+        phase: Phase::Idle,
+        parked: 9,
+        since: 90,
+        lent: 70,
+        used: 80,
+        is_new: false,
+    };
+    let tested = Record {
+        id: 6,
+        phase: Phase::Testing,
+        parked: 5,
+        ..idle
+    };
+    let lent = Record {
+        id: 7,
+        phase: Phase::Lent,
+        ..idle
+    };
+    let mut places = Places::new(rt.alloc());
+    places.reserve(3)?;
+    places.restore(idle, Some(40));
+    places.restore(tested, None);
+    places.restore(lent, None);
+    places.look_through();
+    assert_eq!(rt; (places.nth(0), places.nth(1)), (Some(idle), Some(tested)));
+    assert_eq!(rt; (places.nth(2), places.nth(3)), (Some(lent), None));
+    places.put_value(6, 60);
+    assert_eq!(rt;
+        (places.first_idle(), places.last_idle()),
+        (Some(6), Some(4))
+    );
+    assert_eq!(rt; places.least_overdue(90, 10), Some(7));
+    assert_eq!(rt; places.take_value(4, Phase::Readying), 40);
+    let counts = PlaceCounts {
+        present: 3,
+        queue: 1,
+        idle: 1,
+        lent: 1,
+        adding: 0,
+        owed: 11,
     };
     assert_eq!(rt; places.counts(), counts);
     Ok(())

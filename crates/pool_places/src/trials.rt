@@ -11,7 +11,7 @@ use std::process::Abort;
 use std::test::Fail;
 
 // The next of a row of numbers without an order.
-fn next_number(state: &mut u64) -> u64 {
+pub(crate) fn next_number(state: &mut u64) -> u64 {
     *state = state
         .wrapping_mul(6_364_136_223_846_793_005)
         .wrapping_add(1_442_695_040_888_963_407);
@@ -251,7 +251,12 @@ fn counts_of(plain: &[Place<u64>]) -> PlaceCounts {
 }
 
 // Questions about the queue.
-fn ask_queue(rt: &impl Abort, places: &Places<u64>, plain: &[Place<u64>], position: u64) {
+pub(crate) fn ask_queue(
+    rt: &impl Abort,
+    places: &Places<u64>,
+    plain: &[Place<u64>],
+    position: u64,
+) {
     assert_eq!(rt; places.first_idle(), first_from(plain, 0));
     assert_eq!(rt; places.last_idle(), last_of(plain));
     assert_eq!(rt;
@@ -261,7 +266,13 @@ fn ask_queue(rt: &impl Abort, places: &Places<u64>, plain: &[Place<u64>], positi
 }
 
 // Questions about lent objects.
-fn ask_overdue(rt: &impl Abort, places: &Places<u64>, plain: &[Place<u64>], at: u64, timeout: u64) {
+pub(crate) fn ask_overdue(
+    rt: &impl Abort,
+    places: &Places<u64>,
+    plain: &[Place<u64>],
+    at: u64,
+    timeout: u64,
+) {
     let overdue = plain
         .iter()
         .filter(|place| is_overdue(place, at, timeout))
@@ -275,7 +286,7 @@ fn ask_overdue(rt: &impl Abort, places: &Places<u64>, plain: &[Place<u64>], at: 
 }
 
 // Questions about one object and about all.
-fn ask_known(rt: &impl Abort, places: &Places<u64>, plain: &[Place<u64>], id: u64) {
+pub(crate) fn ask_known(rt: &impl Abort, places: &Places<u64>, plain: &[Place<u64>], id: u64) {
     let known = plain
         .iter()
         .find(|place| place.known.id == id)

@@ -4,7 +4,7 @@ use Rattle.pool_journal.specs.declared.record.Record.{Record}
 use Rattle.pool_places.specs.Kept.{IsWithin}
 use Rattle.pool_places.specs.Stored.{entry_at, from_key}
 use Rattle.pool_places.proofs.Racks.{known_place}
-use Rattle.pool_places.proofs.Walks.{step, fewer, distinct_reverse, in_reverse, previous_is_next, within_reverse, start_here}
+use Rattle.pool_places.proofs.Walks.{step, fewer, distinct_reverse, in_reverse, previous_is_next, within_reverse, start_here, start_parked}
 use Rattle.pool_places.proofs.queue.start_after.Goals as goal
 
 pub known-requires : goal.known-requires
@@ -37,3 +37,16 @@ returns-clause-start g c =
     let rack = c.args.slots.now in
     let none : c.before-in-loop-before.result ≡ None = c.in_default.is in
     start_here (entry_at rack) c.args.position rack.queue c.loop-before.start c.before-in-loop-before.result c.requires.rises c.loop-before.invariant c.before-in-loop-before.ensures (subst (λ o. IfSome o (λ k. (entry_at rack k).parked ≤ c.args.position)) (sym none) tt)
+
+pub returns-then-known-position-clause-parked : goal.returns-then-known-position-clause-parked
+returns-then-known-position-clause-parked g c =
+    let rack = c.args.slots.now in
+    let known = known_place rack c.in-Some.before c.known.result c.known.ensures in
+    let parked : (entry_at rack c.in-Some.before).parked ≤ c.args.position = omega (arith, ap (λ (r : Record). r.parked) known, c.if-known-position.true) in
+    start_parked (entry_at rack) c.args.position rack.queue c.loop-before.start c.before-in-loop-before.result c.requires.rises c.loop-before.invariant c.before-in-loop-before.ensures (subst (λ o. IfSome o (λ k. (entry_at rack k).parked ≤ c.args.position)) (sym c.in-Some.is) parked)
+
+pub returns-clause-parked : goal.returns-clause-parked
+returns-clause-parked g c =
+    let rack = c.args.slots.now in
+    let none : c.before-in-loop-before.result ≡ None = c.in_default.is in
+    start_parked (entry_at rack) c.args.position rack.queue c.loop-before.start c.before-in-loop-before.result c.requires.rises c.loop-before.invariant c.before-in-loop-before.ensures (subst (λ o. IfSome o (λ k. (entry_at rack k).parked ≤ c.args.position)) (sym none) tt)
