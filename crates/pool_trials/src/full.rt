@@ -85,12 +85,72 @@ fn adds_none<B: Room, R: Wait + Abort>(rt: &R, pool: &Pool<B>, me: &mut Caller<B
     assert_eq!(rt; pool.counts(rt, me).steps, 0);
 }
 
+// A broken object is ended where there is room for nothing else.
+fn ends_a_broken_one<B: Room, R: Wait + Abort>(
+    rt: &R,
+    pool: &Pool<B>,
+    me: &mut Caller<B>,
+) -> Result<(), Fail> {
+    let lent = pool.borrow(rt, me).ok().ok_or("an object")?;
+    assert!(rt; matches!(&pool.add(rt, me), Err(AddFault::JournalFull)));
+    assert!(rt; matches!(&pool.invalidate(rt, me, lent), Ok(Returned::Destroyed)));
+    assert_eq!(rt; pool.counts(rt, me).steps, 4);
+    assert_eq!(rt; pool.counts(rt, me).destroyed, 1);
+    assert!(rt; matches!(&pool.close(rt, me), Ok(0)));
+    assert_eq!(rt; pool.counts(rt, me).steps, 5);
+    Ok(())
+}
+
+// Three entries more, and there is room for the end alone.
+fn fills_up<B: Room, R: Wait + Abort>(rt: &R, pool: &Pool<B>, me: &mut Caller<B>) {
+    for length in 5..=7 {
+        assert!(rt; matches!(&pool.clear(rt, me), Ok(0)));
+        assert_eq!(rt; pool.counts(rt, me).steps, length);
+    }
+}
+
+// An object that was reclaimed stays with its holder, where there is no room to take it back.
+fn keeps_what_was_reclaimed<B: Room, R: Wait + Abort>(
+    rt: &R,
+    pool: &Pool<B>,
+    me: &mut Caller<B>,
+) -> Result<(), Fail> {
+    let lent = pool.borrow(rt, me).ok().ok_or("an object")?;
+    assert!(rt; matches!(&pool.reclaim(rt, me), Ok(1)));
+    fills_up(rt, pool, me);
+    let Err((ReturnFault::JournalFull, lent)) = pool.give_back(rt, me, lent) else {
+        return Err("not refused for want of room".into());
+    };
+    let Err((ReturnFault::JournalFull, lent)) = pool.invalidate(rt, me, lent) else {
+        return Err("not refused for want of room".into());
+    };
+    assert!(rt; matches!(&pool.touch(rt, me, &lent), Err(ReturnFault::JournalFull)));
+    assert_eq!(rt; lent.id(), 0);
+    assert!(rt; lent.value().awake);
+    assert_eq!(rt; pool.counts(rt, me).steps, 7);
+    assert!(rt; matches!(&pool.close(rt, me), Ok(0)));
+    assert_eq!(rt; pool.counts(rt, me).steps, 8);
+    Ok(())
+}
+
+/// What is tried.
+#[derive(Clone, Copy)]
+enum Trial {
+    Addition,
+    Borrow,
+    Loan,
+    Run,
+    Broken,
+    Reclaimed,
+}
+
 fn lives<B: Room, R: Wait + Abort>(
     rt: &R,
     alloc: Global,
     site: Site,
     settings: Settings,
     record: &Record,
+    trial: Trial,
 ) -> Result<(), Fail>
     requires { (site ≡ B.table) × (settings ≡ B.settings) × (1 ≡ B.callers) }
 {
@@ -100,30 +160,41 @@ fn lives<B: Room, R: Wait + Abort>(
     };
     let (pool, callers) = Pool::<B>::open(rt, alloc, site, settings, NUMBER, 1, items, Still)?;
     let mut me = single(callers).ok_or("a caller")?;
-    match settings.journal_limit() {
-        4 => adds_none(rt, &pool, &mut me),
-        5 => adds_and_lends_none(rt, &pool, &mut me),
-        7 => {
+    match trial {
+        Trial::Addition => adds_none(rt, &pool, &mut me),
+        Trial::Borrow => adds_and_lends_none(rt, &pool, &mut me),
+        Trial::Loan => {
             refuses_while_lent(rt, &pool, &mut me)?;
             closes_at_the_limit(rt, &pool, &mut me);
         }
-        _ => stops_a_run(rt, &pool, &mut me)?,
+        Trial::Run => stops_a_run(rt, &pool, &mut me)?,
+        Trial::Broken => ends_a_broken_one(rt, &pool, &mut me)?,
+        Trial::Reclaimed => keeps_what_was_reclaimed(rt, &pool, &mut me)?,
     }
     Ok(())
 }
 
+/// Every object is abandoned as soon as it is lent.
+const FORGETFUL: &str = "journalLimit = 8
+[abandoned]
+removeAbandonedOnMaintenance = true
+removeAbandonedTimeoutMillis = 0
+";
+
 #[test]
 fn what_was_begun_is_finished_in_a_full_journal(rt: HostRuntime) -> Result<(), Fail> {
-    for text in [
-        "journalLimit = 4",
-        "journalLimit = 5",
-        "journalLimit = 7",
-        "journalLimit = 8",
+    for (trial, text) in [
+        (Trial::Addition, "journalLimit = 4"),
+        (Trial::Borrow, "journalLimit = 5"),
+        (Trial::Loan, "journalLimit = 7"),
+        (Trial::Run, "journalLimit = 8"),
+        (Trial::Broken, "journalLimit = 7"),
+        (Trial::Reclaimed, FORGETFUL),
     ] {
         let site = Site::new(rt.alloc())?;
         let settings = Settings::from_text(rt.alloc(), text)?;
         let record = Record::new(rt.alloc(), 8)?;
-        lives::<Brand, _>(&rt, rt.alloc(), site, settings, &record)?;
+        lives::<Brand, _>(&rt, rt.alloc(), site, settings, &record, trial)?;
     }
     Ok(())
 }
