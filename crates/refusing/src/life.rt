@@ -187,15 +187,8 @@ impl<B: Room> Life<B> {
         Err(Fault::OutOfMemory)
     }
 
-    // What a refused call left: nothing is in its hands, what was lent is lent or was reclaimed, and the journal is legal.
-    fn look<R: Wait>(
-        &mut self,
-        rt: &R,
-        alloc: Global,
-        pool: &Pool<B>,
-        settings: Settings,
-        notes: &mut Notes,
-    ) -> Result<(), Fault> {
+    // What a call left: nothing is in its hands, and what was lent is lent or was reclaimed.
+    fn look<R: Wait>(&mut self, rt: &R, pool: &Pool<B>) -> Result<(), Fault> {
         let counts = pool.counts(rt, &mut self.me);
         if counts.reserved != 0 {
             return Err(Fault::LeftBehind);
@@ -203,6 +196,18 @@ impl<B: Room> Life<B> {
         if counts.lent.saturating_add(counts.reclaimed) != self.loans {
             return Err(Fault::TakenAway);
         }
+        Ok(())
+    }
+
+    // What a refused call left: a journal with the answers of a new core.
+    fn look_back<R: Wait>(
+        &mut self,
+        rt: &R,
+        alloc: Global,
+        pool: &Pool<B>,
+        settings: Settings,
+        notes: &mut Notes,
+    ) -> Result<(), Fault> {
         let journal = self.journal(rt, alloc, pool, notes)?;
         replay(alloc, settings, &journal, notes)
     }
@@ -219,12 +224,18 @@ impl<B: Room> Life<B> {
     ) -> Result<End, Fault> {
         for _ in 0..TRIES {
             let told = self.ask(rt, alloc, pool, part);
-            self.look(rt, alloc, pool, settings, notes)?;
+            self.look(rt, pool)?;
             match told {
                 Told::Done => return Ok(End::Done),
-                Told::WantsMemory => notes.note(part),
-                Told::WantsRoom => return Ok(End::Refused),
                 Told::Wrong => return Err(Fault::WrongAnswer),
+                Told::WantsRoom => {
+                    self.look_back(rt, alloc, pool, settings, notes)?;
+                    return Ok(End::Refused);
+                }
+                Told::WantsMemory => {
+                    notes.note(part);
+                    self.look_back(rt, alloc, pool, settings, notes)?;
+                }
             }
         }
         Err(Fault::OutOfMemory)

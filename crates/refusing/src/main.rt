@@ -1,8 +1,9 @@
 //! A test program: one caller's calls on a shared pool, each made when the journal has memory or room for few entries more.
 //!
-//! After each call it is seen that nothing is left in its hands, that what was lent is lent or was reclaimed, and that a new
-//! core gives the answers of the journal. A call that is answered that there is no memory is then made again: so what is
-//! printed is the same whatever allocation is refused. Which call it was is told on standard error.
+//! After each call it is seen that nothing is left in its hands, and that what was lent is lent or was reclaimed; after each
+//! that was refused, and at the end, that a new core gives the answers of the journal. A call that is answered that there is
+//! no memory is then made again: so what is printed is the same whatever allocation is refused. Which call it was is told on
+//! standard error.
 #![tactic(auto)]
 
 ghost use Rattle.std.specs.Prelude.{◌≡◌};
