@@ -37,18 +37,26 @@ class Program:
         compiler = os.environ.get("CC", "cc")
         subprocess.run([compiler, "-O1", "-shared", "-fPIC", "-o", self.library, SOURCE, "-ldl"], check=True)
 
-    def refuse(self, number):
-        """What it writes where this allocation is refused, or none where the number is 0: output, error, status."""
-        settings = {"LD_PRELOAD": self.library, "REFUSE": str(number), "REFUSED": self.mark}
+    def run(self, settings):
+        """What it writes with these settings of the library: output, error, status."""
+        preloaded = {"LD_PRELOAD": self.library, "REFUSED": self.mark}
         self.mark.unlink(missing_ok=True)
         done = subprocess.run(
-            self.command, env=os.environ | settings, stdin=subprocess.DEVNULL, capture_output=True, timeout=60
+            self.command, env=os.environ | preloaded | settings, stdin=subprocess.DEVNULL, capture_output=True, timeout=60
         )
         return done.stdout, done.stderr, done.returncode
 
+    def refuse(self, number):
+        """What it writes where this allocation is refused, or none where the number is 0: output, error, status."""
+        return self.run({"REFUSE": str(number)})
+
+    def refusals(self):
+        """How many allocations were refused in the last run."""
+        return self.mark.stat().st_size if self.mark.exists() else 0
+
     def was_refused(self):
         """Whether the last run made so many allocations."""
-        return self.mark.exists()
+        return self.refusals() > 0
 
     def is_whole(self, output, error, status):
         return status == 0 and output == self.wanted

@@ -1,17 +1,25 @@
 // A caller that calls by chance, and writes down what it did.
+use crate::TRIES;
 use crate::dice::Dice;
 use crate::fault::Fault;
-use crate::marks::Mark;
+use crate::judging::Played;
+use crate::marks::{Mark, tells};
+use crate::refusals::{Call, Refusals};
 use crate::things::{Fickle, Thing, Ticking};
-use pool_shared::{AddFault, BorrowFault, Caller, Lent, PoolFault, Room, SharedPool};
-use std::alloc::Global;
-use std::mem;
+use pool_journal::Entry;
+use pool_shared::{
+    AddFault, BorrowFault, Caller, Lent, PoolFault, ReturnFault, Returned, Room, SharedPool,
+};
+use std::alloc::{AllocError, Global};
 use std::sync::Wait;
 
 pub type Pool<'a, B> = SharedPool<Thing, (), Fickle<'a>, Ticking, B>;
 
 /// How many calls each caller makes.
 const CALLS: u32 = 2_000;
+
+/// How many marks a caller makes at most: three a call, one for each object that it still holds, and one for the end.
+const MARKS: usize = 8_001;
 
 /// What callers do in a pool that has nothing to lend.
 #[derive(Clone, Copy, PartialEq, Eq)]
@@ -25,33 +33,82 @@ pub enum Manner {
 /// A caller with what it holds, and what it did.
 #[derive(Drop)]
 pub struct Player<B: Room> {
-    pub me: Caller<B>,
-    pub marks: Vec<Mark>,
-    pub forgotten: u64,
+    me: Caller<B>,
+    marks: Vec<Mark>,
+    forgotten: u64,
+    refusals: Refusals,
+    end: Result<(), Fault>,
+    alloc: Global,
     dice: Dice,
     manner: Manner,
     held: Vec<Lent<Thing>>,
 }
 
 impl<B: Room> Player<B> {
-    pub fn new(alloc: Global, me: Caller<B>, seed: u64, manner: Manner) -> Player<B> {
+    /// It takes all the memory of its own at once.
+    pub fn new(
+        alloc: Global,
+        me: Caller<B>,
+        seed: u64,
+        manner: Manner,
+    ) -> Result<Player<B>, AllocError> {
         let dice = Dice::new(
             seed.wrapping_mul(1_000)
                 .wrapping_add(u64::from(me.number())),
         );
-        Player {
+        let mut marks = Vec::new(alloc);
+        marks.reserve(MARKS)?;
+        let mut held = Vec::new(alloc);
+        held.reserve(CALLS as usize)?;
+        Ok(Player {
             me,
-            marks: Vec::new(alloc),
+            marks,
             forgotten: 0,
+            refusals: Refusals::none(),
+            end: Ok(()),
+            alloc,
             dice,
             manner,
-            held: Vec::new(alloc),
-        }
+            held,
+        })
     }
 
     fn mark(&mut self, mark: Mark) -> Result<(), Fault> {
         self.marks.push(mark)?;
         Ok(())
+    }
+
+    fn copy<R: Wait>(&mut self, rt: &R, pool: &Pool<B>) -> Result<Vec<Entry>, Fault> {
+        for _ in 0..TRIES {
+            if let Ok(journal) = pool.journal_copy(rt, self.alloc, &mut self.me) {
+                return Ok(journal);
+            }
+            self.refusals.note(Call::JournalCopy);
+        }
+        Err(Fault::Starved)
+    }
+
+    // A call wanted memory. The journal tells all that was done before, and of this call no more than how it begins.
+    fn look_back<R: Wait>(
+        &mut self,
+        rt: &R,
+        pool: &Pool<B>,
+        call: Call,
+        begun: &[Mark],
+    ) -> Result<(), Fault> {
+        self.refusals.note(call);
+        let journal = self.copy(rt, pool)?;
+        let number = self.me.number();
+        if tells(&journal, number, &self.marks) {
+            return Ok(());
+        }
+        for mark in begun {
+            self.mark(*mark)?;
+            if tells(&journal, number, &self.marks) {
+                return Ok(());
+            }
+        }
+        Err(Fault::Untold)
     }
 
     // One of the objects that it holds, by chance.
@@ -68,18 +125,44 @@ impl<B: Room> Player<B> {
         if self.manner == Manner::Waiting && !self.held.is_empty() {
             return Ok(());
         }
-        self.mark(Mark::Borrows)?;
         match pool.borrow(rt, &mut self.me) {
             Ok(lent) => {
+                self.mark(Mark::Borrows)?;
                 self.mark(Mark::Lent(lent.id()))?;
                 self.held.push(lent)?;
                 Ok(())
             }
-            Err(BorrowFault::Closed | BorrowFault::Exhausted | BorrowFault::TimedOut) => self.mark(
-                Mark::Denied,
+            Err(BorrowFault::Closed | BorrowFault::Exhausted | BorrowFault::TimedOut) => {
+                self.mark(Mark::Borrows)?;
+                self.mark(Mark::Denied)
+            }
+            Err(BorrowFault::JournalFull) => Err(Fault::Stopped),
+            Err(BorrowFault::OutOfMemory) => self.look_back(
+                rt,
+                pool,
+                Call::Borrow,
+                &[Mark::Borrows],
             ),
-            Err(BorrowFault::JournalFull | BorrowFault::OutOfMemory) => Err(Fault::Stopped),
-            Err(_) => Ok(()),
+            Err(_) => self.mark(Mark::Borrows),
+        }
+    }
+
+    // What came of a return or an invalidation. It keeps the object where memory was wanting.
+    fn ended<R: Wait>(
+        &mut self,
+        rt: &R,
+        pool: &Pool<B>,
+        call: Call,
+        mark: Mark,
+        ended: Result<Returned, (ReturnFault, Lent<Thing>)>,
+    ) -> Result<(), Fault> {
+        match ended {
+            Ok(_) => self.mark(mark),
+            Err((ReturnFault::OutOfMemory, lent)) => {
+                self.held.push(lent)?;
+                self.look_back(rt, pool, call, &[])
+            }
+            Err(_) => Err(Fault::Stopped),
         }
     }
 
@@ -89,11 +172,9 @@ impl<B: Room> Player<B> {
         pool: &Pool<B>,
         lent: Lent<Thing>,
     ) -> Result<(), Fault> {
-        self.mark(Mark::GivesBack(lent.id()))?;
-        match pool.give_back(rt, &mut self.me, lent) {
-            Ok(_) => Ok(()),
-            Err(_) => Err(Fault::Stopped),
-        }
+        let mark = Mark::GivesBack(lent.id());
+        let ended = pool.give_back(rt, &mut self.me, lent);
+        self.ended(rt, pool, Call::GiveBack, mark, ended)
     }
 
     fn invalidate<R: Wait>(
@@ -102,19 +183,18 @@ impl<B: Room> Player<B> {
         pool: &Pool<B>,
         lent: Lent<Thing>,
     ) -> Result<(), Fault> {
-        self.mark(Mark::Invalidates(lent.id()))?;
-        match pool.invalidate(rt, &mut self.me, lent) {
-            Ok(_) => Ok(()),
-            Err(_) => Err(Fault::Stopped),
-        }
+        let mark = Mark::Invalidates(lent.id());
+        let ended = pool.invalidate(rt, &mut self.me, lent);
+        self.ended(rt, pool, Call::Invalidate, mark, ended)
     }
 
     fn touch<R: Wait>(&mut self, rt: &R, pool: &Pool<B>, lent: Lent<Thing>) -> Result<(), Fault> {
-        self.mark(Mark::Uses(lent.id()))?;
+        let mark = Mark::Uses(lent.id());
         let touched = pool.touch(rt, &mut self.me, &lent);
         self.held.push(lent)?;
         match touched {
-            Ok(_) => Ok(()),
+            Ok(_) => self.mark(mark),
+            Err(ReturnFault::OutOfMemory) => self.look_back(rt, pool, Call::Touch, &[]),
             Err(_) => Err(Fault::Stopped),
         }
     }
@@ -130,61 +210,82 @@ impl<B: Room> Player<B> {
     }
 
     fn add<R: Wait>(&mut self, rt: &R, pool: &Pool<B>) -> Result<(), Fault> {
-        self.mark(Mark::Adds)?;
         match pool.add(rt, &mut self.me) {
-            Err(AddFault::JournalFull | AddFault::OutOfMemory) => Err(Fault::Stopped),
-            _ => Ok(()),
+            Err(AddFault::JournalFull) => Err(Fault::Stopped),
+            Err(AddFault::OutOfMemory) => self.look_back(rt, pool, Call::Add, &[]),
+            _ => self.mark(Mark::Adds),
         }
     }
 
     fn fill<R: Wait>(&mut self, rt: &R, pool: &Pool<B>) -> Result<(), Fault> {
         match pool.fill(rt, &mut self.me) {
             Ok(_) => self.mark(Mark::Filled),
-            Err(AddFault::JournalFull | AddFault::OutOfMemory | AddFault::Closed) => Err(
-                Fault::Stopped,
-            ),
+            Err(AddFault::JournalFull | AddFault::Closed) => Err(Fault::Stopped),
+            Err(AddFault::OutOfMemory) => self.look_back(rt, pool, Call::Fill, &[]),
             Err(_) => Ok(()),
         }
     }
 
     fn evict<R: Wait>(&mut self, rt: &R, pool: &Pool<B>) -> Result<(), Fault> {
-        self.mark(Mark::Evicts)?;
         match pool.evict(rt, &mut self.me) {
-            Ok(_) | Err(PoolFault::Closed) => Ok(()),
-            Err(_) => Err(Fault::Stopped),
+            Ok(_) | Err(PoolFault::Closed) => self.mark(Mark::Evicts),
+            Err(PoolFault::JournalFull) => Err(Fault::Stopped),
+            Err(PoolFault::OutOfMemory) => self.look_back(rt, pool, Call::Evict, &[Mark::Evicts]),
         }
     }
 
     // Maintains the pool, which is an eviction run, a removal and a fill.
     fn maintain<R: Wait>(&mut self, rt: &R, pool: &Pool<B>) -> Result<(), Fault> {
-        self.mark(Mark::Evicts)?;
         match pool.maintain(rt, &mut self.me) {
             Ok(()) => {
+                self.mark(Mark::Evicts)?;
                 self.mark(Mark::Reclaims)?;
                 self.mark(Mark::Filled)
             }
-            Err(AddFault::Closed) => Ok(()),
-            Err(AddFault::JournalFull | AddFault::OutOfMemory) => Err(Fault::Stopped),
-            Err(_) => self.mark(Mark::Reclaims),
+            Err(AddFault::Closed) => self.mark(Mark::Evicts),
+            Err(AddFault::JournalFull) => Err(Fault::Stopped),
+            Err(AddFault::OutOfMemory) => {
+                self.look_back(rt, pool, Call::Maintain, &[Mark::Evicts, Mark::Reclaims])
+            }
+            Err(_) => {
+                self.mark(Mark::Evicts)?;
+                self.mark(Mark::Reclaims)
+            }
+        }
+    }
+
+    // What came of a removal or a clear, which is told by one mark.
+    fn sweep<R: Wait>(
+        &mut self,
+        rt: &R,
+        pool: &Pool<B>,
+        call: Call,
+        mark: Mark,
+        swept: Result<u64, PoolFault>,
+    ) -> Result<(), Fault> {
+        match swept {
+            Ok(_) => self.mark(mark),
+            Err(PoolFault::OutOfMemory) => self.look_back(rt, pool, call, &[mark]),
+            Err(_) => Err(Fault::Stopped),
         }
     }
 
     fn reclaim<R: Wait>(&mut self, rt: &R, pool: &Pool<B>) -> Result<(), Fault> {
-        self.mark(Mark::Reclaims)?;
-        pool.reclaim(rt, &mut self.me)?;
-        Ok(())
+        let swept = pool.reclaim(rt, &mut self.me);
+        self.sweep(rt, pool, Call::Reclaim, Mark::Reclaims, swept)
     }
 
     fn clear<R: Wait>(&mut self, rt: &R, pool: &Pool<B>) -> Result<(), Fault> {
-        self.mark(Mark::Clears)?;
-        pool.clear(rt, &mut self.me)?;
-        Ok(())
+        let swept = pool.clear(rt, &mut self.me);
+        self.sweep(rt, pool, Call::Clear, Mark::Clears, swept)
     }
 
     fn close<R: Wait>(&mut self, rt: &R, pool: &Pool<B>) -> Result<(), Fault> {
-        self.mark(Mark::Closes)?;
-        pool.close(rt, &mut self.me)?;
-        Ok(())
+        match pool.close(rt, &mut self.me) {
+            Ok(_) => self.mark(Mark::Closes),
+            Err(PoolFault::OutOfMemory) => self.look_back(rt, pool, Call::Close, &[]),
+            Err(_) => Err(Fault::Stopped),
+        }
     }
 
     // A call with an object that it holds. With none it borrows one.
@@ -226,42 +327,59 @@ impl<B: Room> Player<B> {
     }
 
     // Gives back all that it holds.
-    fn give_all_back<R: Wait>(
-        &mut self,
-        rt: &R,
-        alloc: Global,
-        pool: &Pool<B>,
-    ) -> Result<(), Fault> {
-        let held = mem::replace(&mut self.held, Vec::new(alloc));
-        for lent in held {
-            self.give_back(rt, pool, lent)?;
+    fn give_all_back<R: Wait>(&mut self, rt: &R, pool: &Pool<B>) -> Result<(), Fault> {
+        for _ in 0..self.held.len().saturating_add(TRIES as usize) {
+            match self.held.pop() {
+                Some(lent) => self.give_back(rt, pool, lent)?,
+                None => return Ok(()),
+            }
         }
-        Ok(())
+        if self.held.is_empty() {
+            Ok(())
+        } else {
+            Err(Fault::Starved)
+        }
+    }
+
+    // Makes all its calls, and gives back what it holds. By chance it closes the pool before.
+    fn make_calls<R: Wait>(&mut self, rt: &R, pool: &Pool<B>) -> Result<(), Fault> {
+        for _ in 0..CALLS {
+            self.call(rt, pool)?;
+        }
+        if self.dice.roll(4) == 0 {
+            self.close(rt, pool)?;
+        }
+        self.give_all_back(rt, pool)
+    }
+
+    /// Plays to the end. One that can't closes the pool, so that nobody waits for what it holds.
+    pub fn play<R: Wait>(&mut self, rt: &R, pool: &Pool<B>) {
+        self.end = self.make_calls(rt, pool);
+        if self.end.is_err() {
+            let _closed = pool.close(rt, &mut self.me);
+        }
     }
 
     /// Its caller, and what it did.
-    pub fn leave(self) -> (Caller<B>, Vec<Mark>) {
+    pub fn leave(self) -> (Caller<B>, Played) {
         let Player {
             me,
             marks,
-            forgotten: _,
+            forgotten,
+            refusals,
+            end,
+            alloc: _,
             dice: _,
             manner: _,
             held: _,
         } = self;
-        (me, marks)
-    }
-
-    /// Makes all its calls, and gives back what it holds. By chance it closes the pool before.
-    pub fn play<R: Wait>(self, rt: &R, alloc: Global, pool: &Pool<B>) -> Result<Player<B>, Fault> {
-        let mut player = self;
-        for _ in 0..CALLS {
-            player.call(rt, pool)?;
-        }
-        if player.dice.roll(4) == 0 {
-            player.close(rt, pool)?;
-        }
-        player.give_all_back(rt, alloc, pool)?;
-        Ok(player)
+        let played = Played {
+            number: me.number(),
+            marks,
+            forgotten,
+            refusals,
+            end,
+        };
+        (me, played)
     }
 }

@@ -1,12 +1,19 @@
-// What is found of a pool once all have played.
+// What is found of a pool once all have played. What wants memory is tried again.
+use crate::TRIES;
 use crate::fault::Fault;
-use crate::marks::{Mark, marks_of};
+use crate::marks::{Mark, tells};
+use crate::refusals::Refusals;
+use crate::things::{Tally, Thing};
+use pool_core::Core;
 use pool_journal::{Entry, print_entry};
-use pool_load::check;
+use pool_load::{EngineFault, check};
 use pool_settings::Settings;
 use std::alloc::Global;
 use std::fmt;
 use std::fmt::Display;
+
+/// How many bytes a verdict has at most.
+const VERDICT: usize = 256;
 
 /// What was found.
 #[derive(Clone, Copy, Debug)]
@@ -17,6 +24,8 @@ pub enum Verdict {
     CallsDiffer,
     /// An object that was made is nowhere.
     ObjectsLost,
+    /// An object is still in the hands of a call.
+    ObjectsHeld,
 }
 
 impl Display for Verdict {
@@ -26,6 +35,7 @@ impl Display for Verdict {
             Verdict::Illegal => "illegal",
             Verdict::CallsDiffer => "the calls differ",
             Verdict::ObjectsLost => "objects are lost",
+            Verdict::ObjectsHeld => "objects are held",
         })
     }
 }
@@ -35,25 +45,77 @@ impl Display for Verdict {
 pub struct Played {
     pub number: u32,
     pub marks: Vec<Mark>,
+    pub forgotten: u64,
+    pub refusals: Refusals,
+    pub end: Result<(), Fault>,
 }
 
-/// Whether a pool with these settings gives just these answers.
-pub fn is_legal(alloc: Global, settings: Settings, journal: &[Entry]) -> Result<bool, Fault> {
-    let mut text = Vec::new(alloc);
-    for entry in journal {
-        print_entry(entry, &mut text)?;
-    }
-    let mut verdict = Vec::new(alloc);
-    check(alloc, settings, &mut text.as_slice(), &mut verdict).map_err(|_| Fault::NotJudged)
-}
-
-/// Whether a journal tells what each caller did, in its order.
-pub fn tells_all(alloc: Global, journal: &[Entry], all: &[Played]) -> Result<bool, Fault> {
-    for played in all {
-        let told = marks_of(alloc, journal, played.number)?;
-        if told.as_slice() != played.marks.as_slice() {
-            return Ok(false);
+// Appends the line of an entry.
+fn print(entry: &Entry, text: &mut Vec<u8>) -> Result<(), Fault> {
+    for _ in 0..TRIES {
+        if print_entry(entry, text).is_ok() {
+            return Ok(());
         }
     }
-    Ok(true)
+    Err(Fault::Starved)
+}
+
+// What the engine of `pool check` says of a journal's text.
+fn judge_text(alloc: Global, settings: Settings, text: &[u8]) -> Result<bool, Fault> {
+    let mut text = text;
+    let mut verdict = Vec::new(alloc);
+    verdict.reserve(VERDICT)?;
+    check(alloc, settings, &mut text, &mut verdict).map_err(|fault| match fault {
+        EngineFault::OutOfMemory => Fault::OutOfMemory,
+        _ => Fault::NotJudged,
+    })
+}
+
+// Whether a pool with these settings gives just these answers.
+fn is_legal(alloc: Global, settings: Settings, journal: &[Entry]) -> Result<bool, Fault> {
+    let mut text = Vec::new(alloc);
+    for entry in journal {
+        print(entry, &mut text)?;
+    }
+    for _ in 0..TRIES {
+        match judge_text(alloc, settings, text.as_slice()) {
+            Err(Fault::OutOfMemory) => {}
+            judged => return judged,
+        }
+    }
+    Err(Fault::Starved)
+}
+
+// Whether a journal tells what each caller did, in its order.
+fn tells_all(journal: &[Entry], all: &[Played]) -> bool {
+    all.iter()
+        .all(|played| tells(journal, played.number, &played.marks))
+}
+
+/// What is found of a pool, which ended so after all this was done, and of the objects.
+pub fn judge(
+    alloc: Global,
+    settings: Settings,
+    core: &Core<Thing>,
+    all: &[Played],
+    tally: &Tally,
+) -> Result<Verdict, Fault> {
+    let mut forgotten = 0u64;
+    for played in all {
+        played.end?;
+        forgotten = forgotten.saturating_add(played.forgotten);
+    }
+    let journal = core.journal();
+    let counts = core.counts();
+    Ok(if !is_legal(alloc, settings, journal)? {
+        Verdict::Illegal
+    } else if !tells_all(journal, all) {
+        Verdict::CallsDiffer
+    } else if !tally.leaves(forgotten.saturating_add(counts.idle)) {
+        Verdict::ObjectsLost
+    } else if counts.reserved != 0 {
+        Verdict::ObjectsHeld
+    } else {
+        Verdict::Legal
+    })
 }

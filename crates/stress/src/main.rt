@@ -1,7 +1,9 @@
 //! A test program: four threads call a shared pool by chance, over a factory that fails by chance.
 //!
 //! For each seed the journal is judged by the engine of `pool check`, what each thread did is compared with what the journal
-//! tells of it, and the objects are counted. A line tells what was found, and nothing in it depends on how the threads run.
+//! tells of it, and the objects are counted. A line tells what was found, and nothing in it depends on how the threads run, nor
+//! on which allocations are refused: a call that wants memory isn't made again, but the journal is compared then, too; what
+//! is done before and after all calls is tried again. Standard error tells how many calls of each kind wanted memory.
 #![tactic(auto)]
 
 ghost use Rattle.std.specs.Prelude.{◌≡◌};
@@ -11,13 +13,15 @@ mod dice;
 mod fault;
 mod judging;
 mod marks;
+mod refusals;
 mod things;
 
 use calling::{Manner, Player, Pool};
 use fault::Fault;
-use judging::{Played, Verdict, is_legal, tells_all};
+use judging::{Verdict, judge};
 use pool_settings::Settings;
-use pool_shared::{Room, Site};
+use pool_shared::{Caller, OpenFault, Room, Site};
+use refusals::{CALLS, Call, Refusals};
 use std::alloc::Global;
 use std::marker::Brand;
 use std::sync::Wait;
@@ -29,41 +33,64 @@ const SEEDS: u64 = 20;
 
 const CALLERS: u32 = 4;
 
-/// A pool that refuses who finds nothing.
-const REFUSING: &str = "maxTotal = 4
-maxIdle = 2
-minIdle = 1
-blockWhenExhausted = false
-testOnBorrow = true
-testOnCreate = true
-testOnReturn = true
-testWhileIdle = true
-minEvictableIdleMillis = 40
-numTestsPerEvictionRun = 2
+/// How often something is tried that has to be, where it wants memory.
+const TRIES: u32 = 10_000;
 
-[abandoned]
-removeAbandonedOnBorrow = true
-removeAbandonedOnMaintenance = true
-removeAbandonedTimeoutMillis = 200
-";
+/// A pool that refuses who finds nothing.
+fn refusing() -> Settings {
+    Settings {
+        max_total: 4,
+        max_idle: 2,
+        min_idle: 1,
+        block_when_exhausted: false,
+        test_on_borrow: true,
+        test_on_create: true,
+        test_on_return: true,
+        test_while_idle: true,
+        min_evictable_idle_millis: 40,
+        num_tests_per_eviction_run: 2,
+        abandoned: true,
+        remove_abandoned_on_borrow: true,
+        remove_abandoned_on_maintenance: true,
+        remove_abandoned_timeout_millis: 200,
+        ..Settings::default()
+    }
+}
 
 /// A pool in which they wait.
-const WAITING: &str = "maxTotal = 1
-minIdle = 1
-lifo = false
-testOnBorrow = true
-testWhileIdle = true
-minEvictableIdleMillis = 40
-softMinEvictableIdleMillis = 20
-numTestsPerEvictionRun = -1
+fn waiting() -> Settings {
+    Settings {
+        max_total: 1,
+        min_idle: 1,
+        lifo: false,
+        test_on_borrow: true,
+        test_while_idle: true,
+        min_evictable_idle_millis: 40,
+        soft_min_evictable_idle_millis: 20,
+        num_tests_per_eviction_run: -1,
+        abandoned: true,
+        remove_abandoned_on_borrow: true,
+        remove_abandoned_on_maintenance: true,
+        remove_abandoned_timeout_millis: 60,
+        ..Settings::default()
+    }
+}
 
-[abandoned]
-removeAbandonedOnBorrow = true
-removeAbandonedOnMaintenance = true
-removeAbandonedTimeoutMillis = 60
-";
+// The players with these callers.
+fn players_of<B: Room>(
+    alloc: Global,
+    callers: Vec<Caller<B>>,
+    seed: u64,
+    manner: Manner,
+) -> Result<Vec<Player<B>>, Fault> {
+    let mut players = Vec::new(alloc);
+    for me in callers {
+        players.push(Player::new(alloc, me, seed, manner)?)?;
+    }
+    Ok(players)
+}
 
-// All callers play on one pool.
+// All callers play on one pool. Where it finds no memory to begin with, nobody plays.
 fn play<B: Room + Send + Sync, R: Threads + Wait + Sync>(
     rt: &R,
     alloc: Global,
@@ -72,71 +99,86 @@ fn play<B: Room + Send + Sync, R: Threads + Wait + Sync>(
     seed: u64,
     manner: Manner,
     tally: &Tally,
+    refusals: &mut Refusals,
 ) -> Result<Verdict, Fault>
     requires { (site ≡ B.table) × (settings ≡ B.settings) × (4 ≡ B.callers) }
 {
     let things = Fickle { tally, seed };
-    let opened = Pool::<B>::open(
-        rt,
-        alloc,
-        site,
-        settings,
-        seed,
-        CALLERS,
-        things,
-        Ticking::new(),
-    );
-    let (pool, callers) = opened.map_err(|_| Fault::NotOpened)?;
-    let mut players = Vec::new(alloc);
-    for me in callers {
-        players.push(Player::new(alloc, me, seed, manner))?;
+    let clock = Ticking::new();
+    let opened = Pool::<B>::open(rt, alloc, site, settings, seed, CALLERS, things, clock);
+    if let Err(OpenFault::OutOfMemory) = &opened {
+        refusals.note(Call::Open);
     }
-
+    let (pool, callers) = opened?;
+    let mut players = players_of(alloc, callers, seed, manner)?;
     let mut back = Vec::new(alloc);
+    back.reserve(CALLERS as usize)?;
     let mut all = Vec::new(alloc);
-    let mut forgotten = 0u64;
-    for played in thread::map_vec(rt, players, &|player| player.play(rt, alloc, &pool))? {
-        let player = played?;
-        forgotten = forgotten.saturating_add(player.forgotten);
-        let (me, marks) = player.leave();
-        all.push(Played {
-            number: me.number(),
-            marks,
-        })?;
-        back.push(me)?;
-    }
+    all.reserve(CALLERS as usize)?;
 
+    thread::for_each_mut(
+        rt,
+        players.as_mut_slice(),
+        CALLERS as usize,
+        &|_, player| player.play(rt, &pool),
+    );
+    for player in players {
+        let (me, played) = player.leave();
+        refusals.join(&played.refusals);
+        back.push(me).map_err(|_| Fault::Starved)?;
+        all.push(played).map_err(|_| Fault::Starved)?;
+    }
     let core = pool.finish(rt, back).map_err(|_| Fault::CallerMissing)?;
-    let journal = core.journal();
-    Ok(if !is_legal(alloc, settings, journal)? {
-        Verdict::Illegal
-    } else if !tells_all(alloc, journal, &all)? {
-        Verdict::CallsDiffer
-    } else if !tally.leaves(forgotten.saturating_add(core.counts().idle)) {
-        Verdict::ObjectsLost
-    } else {
-        Verdict::Legal
-    })
+    judge(alloc, settings, &core, all.as_slice(), tally)
+}
+
+// Plays on a new site.
+fn play_anew<R: Threads + Wait + Sync>(
+    rt: &R,
+    alloc: Global,
+    settings: Settings,
+    seed: u64,
+    manner: Manner,
+    refusals: &mut Refusals,
+) -> Result<Verdict, Fault> {
+    let site = Site::new(alloc)?;
+    let tally = Tally::new();
+    play::<Brand, R>(rt, alloc, site, settings, seed, manner, &tally, refusals)
 }
 
 // One seed in three has callers that wait.
-fn try_seed<R: Threads + Wait + Sync>(rt: &R, alloc: Global, seed: u64) -> Result<Verdict, Fault> {
-    let (text, manner) = if seed % 3 == 0 {
-        (WAITING, Manner::Waiting)
+fn try_seed<R: Threads + Wait + Sync>(
+    rt: &R,
+    alloc: Global,
+    seed: u64,
+    refusals: &mut Refusals,
+) -> Result<Verdict, Fault> {
+    let (settings, manner) = if seed % 3 == 0 {
+        (waiting(), Manner::Waiting)
     } else {
-        (REFUSING, Manner::Refused)
+        (refusing(), Manner::Refused)
     };
-    let site = Site::new(alloc)?;
-    let settings = Settings::from_text(alloc, text).map_err(|_| Fault::Settings)?;
-    let tally = Tally::new();
-    play::<Brand, R>(rt, alloc, site, settings, seed, manner, &tally)
+    for _ in 0..TRIES {
+        match play_anew(rt, alloc, settings, seed, manner, refusals) {
+            Err(Fault::OutOfMemory) => {}
+            found => return found,
+        }
+    }
+    Err(Fault::Starved)
 }
 
 fn main(rt: HostRuntime) -> io::Result<()> {
+    let mut refusals = Refusals::none();
     for seed in 1..=SEEDS {
-        match try_seed(&rt, rt.alloc(), seed) {
+        match try_seed(&rt, rt.alloc(), seed, &mut refusals) {
             Ok(verdict) => println!(rt; "seed {seed}: {verdict}")?,
             Err(fault) => println!(rt; "seed {seed}: {fault:?}")?,
+        }
+    }
+    for call in CALLS {
+        let count = refusals.of(call);
+        if count > 0 {
+            eprintln!(rt; "{call} {count}")?;
         }
     }
     Ok(())

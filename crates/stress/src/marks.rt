@@ -1,6 +1,5 @@
 // What a caller knows of its calls, and what a journal tells of them.
 use pool_journal::{Answer, Entry, Input, Outcome, When};
-use std::alloc::{AllocError, Global};
 
 /// A call that began, or what it came to.
 #[derive(Clone, Copy, Debug, PartialEq, Eq)]
@@ -69,15 +68,17 @@ fn mark_of(entry: &Entry) -> Option<Mark> {
     }
 }
 
-/// What a journal tells of the calls of one caller, in its order.
-pub fn marks_of(alloc: Global, journal: &[Entry], caller: u32) -> Result<Vec<Mark>, AllocError> {
-    let mut marks = Vec::new(alloc);
+/// Whether a journal tells just this of the calls of one caller.
+pub fn tells(journal: &[Entry], caller: u32, marks: &[Mark]) -> bool {
+    let mut left = marks.iter();
     for entry in journal {
         if entry.caller == caller {
             if let Some(mark) = mark_of(entry) {
-                marks.push(mark)?;
+                if left.next() != Some(&mark) {
+                    return false;
+                }
             }
         }
     }
-    Ok(marks)
+    left.next().is_none()
 }
