@@ -1,6 +1,6 @@
-ghost use Rattle.std.specs.Prelude.{◌≡◌, ℕ, ◌+◌, ◌<◌, ◌≤◌, List, [], ◌++◌, length, take, is_err, IsOk, IfOk, IfErr, OnOk, OnErr};
+ghost use Rattle.std.specs.Prelude.{◌≡◌, ℕ, ◌+◌, ◌<◌, ◌≤◌, List, [], ◌++◌, length, take, is_err, IsOk, IfOk, IfErr, OnOk, OnErr, vec_capacity};
 ghost use Rattle.std.specs.Io.KnownBytes.{Appends, Keeps};
-ghost use Rattle.pool_load.specs.Handing.{AppendsFront};
+ghost use Rattle.pool_load.specs.Handing.{AppendsFront, HasRoom, waiting_room};
 ghost use Rattle.pool_load.specs.Faults.{IsTold};
 
 use crate::engine_fault::EngineFault;
@@ -9,10 +9,13 @@ use crate::sink::Sink;
 /// How many bytes wait at most after a line.
 const FULL: usize = 65_536 - 256;
 
-/// Hands on what waits where there is little room left behind it.
+/// Hands on what waits where there is little room left behind it. A line then has room.
 pub(crate) fn make_room<W: Sink>(waiting: &mut Vec<u8>, writer: &mut W) -> Result<(), EngineFault>
+    requires room { waiting_room ≤ vec_capacity waiting.old }
     ensures ok { OnOk result ((sent : List ℕ) × (waiting.old.items ≡ sent ++ waiting.new.items)
         × Appends (W.contents writer.old) (W.contents writer.new) sent) }
+    ensures room { OnOk result (HasRoom waiting.new) }
+    ensures capacity { vec_capacity waiting.new ≡ vec_capacity waiting.old }
     ensures err { OnErr result
         (AppendsFront (W.contents writer.old) (W.contents writer.new) waiting.old.items) }
     ensures fault { IfErr result (λ fault. fault ≡ EngineFault.Write) }
@@ -35,6 +38,7 @@ pub(crate) fn hand_on<W: Sink>(waiting: &mut Vec<u8>, writer: &mut W) -> Result<
     ensures fault { IfErr result (λ fault. fault ≡ EngineFault.Write) }
     ensures told { IsTold (is_err result) (W.may_have_failed writer.old) (W.may_have_failed writer.new) }
     ensures idle { waiting.old.items ≡ [] → IsOk result }
+    ensures capacity { vec_capacity waiting.new ≡ vec_capacity waiting.old }
 {
     if waiting.is_empty() {
         return Ok(());

@@ -1,4 +1,4 @@
-ghost use Rattle.std.specs.Prelude.{◌≡◌, ◌++◌, OnOk, OnErr};
+ghost use Rattle.std.specs.Prelude.{◌≡◌, ◌≤◌, ◌++◌, OnOk, OnErr, vec_capacity};
 ghost use Rattle.pool_journal.specs.Appending.{Extends};
 
 use pool_journal::{Answer, push_answer, push_number_word};
@@ -28,6 +28,7 @@ impl Verdict {
     pub(crate) fn tell(&self, count: u64, waiting: &mut Vec<u8>) -> Result<(), AllocError>
         ensures ok { OnOk result (waiting.new.items ≡ waiting.old.items ++ told_by self.now count) }
         ensures err { OnErr result (waiting.new.items ≡ waiting.old.items) }
+        ensures room { vec_capacity waiting.old ≤ vec_capacity waiting.new }
     {
         let start = waiting.len();
         let told = self.append(count, waiting);
@@ -40,6 +41,7 @@ impl Verdict {
     fn append(&self, count: u64, waiting: &mut Vec<u8>) -> Result<(), AllocError>
         ensures ok { OnOk result (waiting.new.items ≡ waiting.old.items ++ told_by self.now count) }
         ensures grows { Extends waiting.old.items waiting.new.items }
+        ensures room { vec_capacity waiting.old ≤ vec_capacity waiting.new }
     {
         match self {
             Verdict::Open => {}

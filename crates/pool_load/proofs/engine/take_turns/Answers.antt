@@ -1,4 +1,4 @@
-use Rattle.std.proofs.Common.{Ok, Err, ap, sym, ◌∙◌}
+use Rattle.std.proofs.Common.{Ok, Err, length, ap, sym, ◌∙◌, arith}
 use Rattle.std.proofs.lemmas.Bool.{false≢true}
 use Rattle.std.proofs.lemmas.Result.{err_from_is_err_and}
 use Rattle.pool_load.proofs.Going.{Passes-ended, Passes-stopped, Passes-failed, Passes-finished, Going-took, Going-sent, Going-emptied, Going-filled, Going-kept, Going-same}
@@ -67,6 +67,8 @@ loop-count-preserved-in_ok-make_room-in-Took g c =
     let (sent, parts, given) = c.in_ok-make_room-in-Took.ensures.ok in
     rw c.drop_front.ensures (record {
       going = Going-sent e.settings e.taken e.told e.stands e.is_partial e.ends c.args.engine.now _ _ c.turn.new.self _ _ _ _ _ _ sent going parts given;
+      room = c.in_ok-make_room-in-Took.ensures.room;
+      capacity = omega (arith, c.in_ok-make_room-in-Took.ensures.capacity, c.in_ok-count.ensures.room, c.loop-count.invariant.capacity);
       reads = c.loop-count.invariant.reads;
       writes = c.in_ok-make_room-in-Took.ensures.told ∙ c.loop-count.invariant.writes;
     })
@@ -81,6 +83,8 @@ loop-count-preserved g c =
     let (more, count, grown, came) = c.in_ok-fill-in-Unfinished.ensures.more in
     record {
       going = Going-filled e.settings e.taken e.told e.stands e.is_partial e.ends c.args.engine.now _ _ c.turn.new.self _ _ _ _ _ more _ emptied grown c.in_ok-fill-in-Unfinished.ensures.ahead came;
+      room = omega (arith, c.in_ok-hand_on-in-Unfinished.ensures.capacity, ap length ok.0, c.hand_on.new.waiting.ok.0, c.in_ok-count.ensures.room, c.loop-count.invariant.capacity);
+      capacity = omega (arith, c.in_ok-hand_on-in-Unfinished.ensures.capacity, c.in_ok-count.ensures.room, c.loop-count.invariant.capacity);
       reads = c.in_ok-fill-in-Unfinished.ensures.told ∙ c.loop-count.invariant.reads;
       writes = c.in_ok-hand_on-in-Unfinished.ensures.told ∙ c.loop-count.invariant.writes;
     }
