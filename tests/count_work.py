@@ -11,13 +11,12 @@ Prints each number that is out of its bounds, and in the end the line 'N passed,
 """
 
 import dataclasses
-import os
 import pathlib
 import subprocess
 import sys
 import tempfile
 
-SOURCE = pathlib.Path(__file__).resolve().parent / "count.c"
+from preloading import preloaded
 
 # The buffer for what comes, that for what waits to be written, and the longest line. At most so many bytes less are read at once.
 BUFFER = 65_536
@@ -88,10 +87,8 @@ def scripts():
 class Counter:
     def __init__(self, pool, folder):
         self.pool, self.folder = pool, folder
-        self.library, self.file = folder / "count.so", folder / "counted"
+        self.library, self.file = preloaded("count", folder), folder / "counted"
         self.passed = self.failed = 0
-        compiler = os.environ.get("CC", "cc")
-        subprocess.run([compiler, "-O1", "-shared", "-fPIC", "-o", self.library, SOURCE, "-ldl"], check=True)
         self.environment = {"LD_PRELOAD": str(self.library), "COUNTED": str(self.file)}
         (folder / "settings.toml").write_text("journalLimit = 4294967296\nmaxTotal = -1\nmaxIdle = -1\n")
 

@@ -23,7 +23,8 @@ import subprocess
 import sys
 import tempfile
 
-SOURCE = pathlib.Path(__file__).resolve().parent / "refuse.c"
+from preloading import preloaded
+
 FAULTS = {b"pool: out of memory", b"pool: no thread"}
 
 
@@ -33,16 +34,14 @@ class Program:
     def __init__(self, folder, path, output_file, arguments):
         self.command = [path, *arguments]
         self.wanted = pathlib.Path(output_file).read_bytes()
-        self.library, self.mark = folder / "refuse.so", folder / "refused"
-        compiler = os.environ.get("CC", "cc")
-        subprocess.run([compiler, "-O1", "-shared", "-fPIC", "-o", self.library, SOURCE, "-ldl"], check=True)
+        self.library, self.mark = preloaded("refuse", folder), folder / "refused"
 
     def run(self, settings):
         """What it writes with these settings of the library: output, error, status."""
-        preloaded = {"LD_PRELOAD": self.library, "REFUSED": self.mark}
+        variables = {"LD_PRELOAD": self.library, "REFUSED": self.mark}
         self.mark.unlink(missing_ok=True)
         done = subprocess.run(
-            self.command, env=os.environ | preloaded | settings, stdin=subprocess.DEVNULL, capture_output=True, timeout=60
+            self.command, env=os.environ | variables | settings, stdin=subprocess.DEVNULL, capture_output=True, timeout=60
         )
         return done.stdout, done.stderr, done.returncode
 

@@ -21,7 +21,7 @@ import subprocess
 import sys
 import tempfile
 
-from refuse_memory import SOURCE
+from preloading import preloaded
 
 CASES = pathlib.Path(__file__).resolve().parent / "cases"
 
@@ -125,10 +125,8 @@ class Refuser:
     """A program, and the library that refuses it allocations. Files of uses are in the folder."""
 
     def __init__(self, pool, folder):
-        self.pool, self.folder, self.library = pool, folder, folder / "refuse.so"
+        self.pool, self.folder, self.library = pool, folder, preloaded("refuse", folder)
         self.marks = itertools.count()
-        compiler = os.environ.get("CC", "cc")
-        subprocess.run([compiler, "-O1", "-shared", "-fPIC", "-o", self.library, SOURCE, "-ldl"], check=True)
 
     def answer(self, use, number, mark):
         """What is answered where this allocation is refused, or none where the number is 0."""
