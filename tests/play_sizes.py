@@ -1,10 +1,10 @@
 #!/usr/bin/env python3
-"""Plays the program on journals, pools, settings texts and keys of all sizes, and sees that it gives up on none.
+"""Plays the program on journals, pools, settings texts, keys and loads of all sizes, and sees that it gives up on none.
 
     play_sizes.py POOL
 
-POOL is the program. Sizes are spread from 1 to the limit, or to 1,200,000 lines and 100,000 objects, with the numbers about each
-power of 2 for texts and keys. What must be answered is known for each size without playing.
+POOL is the program. Sizes are spread from 1 to the limit, or to 1,200,000 lines, 100,000 objects, and 300,000 rounds of a load, with the
+numbers about each power of 2 for texts and keys. What must be answered is known for each size without playing.
 
 Prints each case that differs, and in the end the line 'N passed, M failed'.
 """
@@ -20,6 +20,9 @@ LONGEST_TEXT = 1_048_576
 LINES = [1, 2, 10, 100, 1_000, 4_096, 10_000, 65_535, 65_536, 65_537, 100_001, 300_000, 1_048_577, 1_200_000]
 
 OBJECTS = [1, 2, 9, 100, 1_023, 1_025, 2_001, 4_097, 10_000, 32_769, 65_537, 100_000]
+
+# Workers, and rounds of each.
+LOADS = [(1, 1), (1, 16_385), (1, 300_000), (2, 65_537), (4, 40_000), (7, 2_049), (100, 257), (1_023, 20)]
 
 NO_LIMITS = "journalLimit = 4294967296\nmaxTotal = -1\nmaxIdle = -1\n"
 
@@ -42,11 +45,16 @@ class Play:
     def expect(self, name, arguments, wanted):
         """A run must write this to standard output and standard error, and end with this status."""
         done = subprocess.run([self.pool, *arguments], cwd=self.folder, capture_output=True, timeout=60)
-        if (done.stdout, done.stderr, done.returncode) == wanted:
+        told = f"{name}: status {done.returncode}, wrote {done.stdout[:100]!r} .. and {done.stderr[:100]!r}"
+        self.note((done.stdout, done.stderr, done.returncode) == wanted, told)
+
+    def note(self, is_right, told):
+        """Counts a case, and tells what was answered where that is wrong."""
+        if is_right:
             self.passed += 1
         else:
             self.failed += 1
-            print(f"{name}: status {done.returncode}, wrote {done.stdout[:100]!r} .. and {done.stderr[:100]!r}")
+            print(told)
 
     def put(self, name, text):
         (self.folder / name).write_bytes(text)
@@ -80,6 +88,19 @@ def play_objects(play):
         play.journal(f"{count} objects", entries, None)
         lent = b"borrowed 1\nreturned 0\ncreated %d\ndestroyed 0\nevicted 0\nborrowtestfailed 0\nreclaimed 0\nlongest 0\ntotal 0\n"
         play.expect(f"stats: {count} objects", ["stats", "journal"], (lent % count, b"", 0))
+
+
+def play_loads(play):
+    play.put("limits.toml", NO_LIMITS.encode())
+    for workers, rounds in LOADS:
+        done = subprocess.run([play.pool, "load", "limits.toml", str(workers), str(rounds)], cwd=play.folder, capture_output=True, timeout=60)
+        told = dict(line.split() for line in done.stdout.decode().splitlines())
+        every = str(workers * rounds)
+        none = {"refused": "0", "evicted": "0", "borrowtestfailed": "0", "reclaimed": "0"}
+        wanted = {"workers": str(workers), "rounds": str(rounds), "borrowed": every, "returned": every} | none
+        # How many objects are made depends on the threads' turns.
+        is_right = wanted.items() <= told.items() and told["created"] == told["destroyed"] and 1 <= int(told["created"]) <= workers
+        play.note(is_right and (done.stderr, done.returncode) == (b"", 0), f"{workers} workers, {rounds} rounds: {done}")
 
 
 def play_settings(play):
@@ -121,7 +142,7 @@ def played(pool, part):
 
 
 def main(pool):
-    parts = [play_lines, play_objects, play_settings, play_keys]
+    parts = [play_lines, play_objects, play_loads, play_settings, play_keys]
     with concurrent.futures.ThreadPoolExecutor(len(parts)) as workers:
         found = list(workers.map(lambda part: played(pool, part), parts))
     passed, failed = (sum(numbers) for numbers in zip(*found))
