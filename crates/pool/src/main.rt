@@ -11,12 +11,14 @@
 mod arguments;
 mod fault;
 mod help;
+mod progress;
 
 use arguments::{Task, task_of};
 use fault::Fault;
 use help::{USES, asks_for_help};
 use pool_load::{Gate, check, load, read_settings, run, stats, write_report};
 use pool_settings::Settings;
+use progress::{Progress, Watched, Wiped};
 use std::env;
 use std::fs::File;
 use std::io::Write;
@@ -97,8 +99,19 @@ fn check_journal<'a>(
     journal: &'a str,
 ) -> Result<ExitCode, Fault<'a>> {
     let settings = settings_in(rt, settings)?;
-    let mut journal = open(rt, journal)?;
-    if check(rt.alloc(), settings, &mut journal, &mut rt.stdout())? {
+    let file = open(rt, journal)?;
+    let progress = Progress::of(rt, &file);
+    let mut journal = Watched {
+        file,
+        progress: &progress,
+    };
+    let mut out = Wiped {
+        out: rt.stdout(),
+        progress: &progress,
+    };
+    let judged = check(rt.alloc(), settings, &mut journal, &mut out);
+    progress.wipe();
+    if judged? {
         Ok(ExitCode::SUCCESS)
     } else {
         Ok(ExitCode::from(ILLEGAL))
