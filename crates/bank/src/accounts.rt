@@ -44,7 +44,10 @@ pub fn carry_out<S: Alter>(connection: &mut Connection<S>, order: Order) -> Resu
 /// What an account holds.
 pub fn balance<S: Alter>(connection: &mut Connection<S>, account: i64) -> Result<i64, Error> {
     connection
-        .query_row("SELECT balance FROM account WHERE id = ?1", params![account])?
+        .query_row(
+            "SELECT balance FROM account WHERE id = ?1",
+            params![account],
+        )?
         .get(0)
 }
 

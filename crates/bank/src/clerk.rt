@@ -10,7 +10,7 @@ use std::sync::Wait;
 const ORDERS: u32 = 25;
 
 /// How long a clerk is away who forgot a connection, in milliseconds: longer than an object may be lent.
-const BREAK: u64 = 300;
+const ABSENCE: u64 = 300;
 
 /// What goes wrong with an order.
 #[derive(Clone, Copy, PartialEq, Eq)]
@@ -67,7 +67,7 @@ fn try_order<B: Room, R: Wait>(
     Ok(true)
 }
 
-/// Carries out all orders of a clerk. Who forgot a connection maintains the pool after a break: until then nobody gets one.
+/// Carries out all orders of a clerk. Who forgot a connection maintains the pool after an absence: until then nobody gets one.
 pub fn work<B: Room, R: Wait>(
     rt: &R,
     bank: &Bank<B>,
@@ -84,7 +84,7 @@ pub fn work<B: Room, R: Wait>(
             return Err(Fault::NotCarriedOut);
         }
         if mishap == Some(Mishap::Forgets) {
-            clock.pass(BREAK);
+            clock.pass(ABSENCE);
             bank.maintain(rt, &mut me)
                 .map_err(|_| Fault::NotMaintained)?;
         }

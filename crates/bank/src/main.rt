@@ -77,8 +77,7 @@ fn day<B: Room + Send + Sync, R: Threads + Wait + Sync>(
         CLERKS + 1,
         opener,
         clock,
-    )
-    .map_err(|_| Fault::NotOpened)?;
+    ).map_err(|_| Fault::NotOpened)?;
     let mut manager = callers.pop().ok_or(Fault::CallerMissing)?;
 
     let mut back = Vec::new(alloc);
