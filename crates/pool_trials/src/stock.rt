@@ -192,3 +192,39 @@ fn filled_in_part(rt: HostRuntime) -> Result<(), Fail> {
     let site = Site::new(rt.alloc())?;
     fills::<Brand, _>(&rt, rt.alloc(), site, settings, Broken::MakeMore, 1)
 }
+
+// A stock of many is filled, gone over by an eviction run, and cleared.
+fn goes_over_many<B: Room, R: Wait + Abort>(
+    rt: &R,
+    alloc: Global,
+    site: Site,
+    settings: Settings,
+    many: u64,
+) -> Result<(), Fail>
+    requires { (site ≡ B.table) × (settings ≡ B.settings) × (1 ≡ B.callers) }
+{
+    let factory = Maker(Broken::Nothing);
+    let (pool, mut callers) = Pool::<B>::open(rt, alloc, site, settings, 5, 1, factory, Still)?;
+    let mut me = callers.pop().ok_or("a caller")?;
+    assert!(rt; matches!(pool.fill(rt, &mut me), Ok(parked) if parked == many));
+    let run = pool.evict(rt, &mut me)?;
+    assert_eq!(rt; run.examined, many);
+    assert_eq!(rt; pool.counts(rt, &mut me).idle, many);
+    assert_eq!(rt; pool.clear(rt, &mut me)?, many);
+    assert_eq!(rt; pool.counts(rt, &mut me).destroyed, many);
+    Ok(())
+}
+
+#[test]
+fn stocked_with_many(rt: HostRuntime) -> Result<(), Fail> {
+    let many = 20_000;
+    let settings = Settings {
+        min_idle: 20_000,
+        max_idle: -1,
+        max_total: -1,
+        num_tests_per_eviction_run: -1,
+        ..Settings::default()
+    };
+    let site = Site::new(rt.alloc())?;
+    goes_over_many::<Brand, _>(&rt, rt.alloc(), site, settings, many)
+}
