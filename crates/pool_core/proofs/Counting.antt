@@ -1,11 +1,10 @@
 -- How many objects are present in a legal journal.
-use Rattle.std.proofs.Common.{◌≡◌, ◌≢◌, ℕ, zero, suc, ◌+◌, ◌<◌, ◌≤◌, ◌==◌, Bool, true, false, if◌then◌else◌, List, []}
-use Rattle.std.proofs.Common.{◌∷◌, ◌++◌, length, Option, Some, None, refl, ap, sym, ◌∙◌, subst, arith, zero-add}
-use Rattle.std.specs.Prelude.{◌||◌, ◌-◌, not, count_by, IsSome, ℤ, pos, negsuc}
+use Rattle.std.proofs.Common.{◌≡◌, ◌≢◌, ℕ, suc, ◌+◌, ◌<◌, ◌≤◌, Bool, true, false, if◌then◌else◌, List, []}
+use Rattle.std.proofs.Common.{◌∷◌, ◌++◌, length, Option, Some, None, refl, ap, sym, ◌∙◌, subst, arith}
+use Rattle.std.specs.Prelude.{◌||◌, ◌-◌, not, IsSome, ℤ, pos, negsuc}
 use Rattle.std.specs.List.{range_with_len}
 use Rattle.std.proofs.lemmas.Bool.{ltb-true}
-use Rattle.std.proofs.lemmas.Bool.Decides.{nat_tests}
-use Rattle.std.proofs.lemmas.List.Sums.{length-filter, sum_by_push}
+use Rattle.std.proofs.lemmas.List.Sums.{length-filter}
 use Rattle.pool_journal.specs.Journal.{made_to, phase, drawn, present, records, closed, is_present, is_make_answer}
 use Rattle.pool_journal.specs.declared.entry.Entry.{Entry}
 use Rattle.pool_journal.specs.declared.record.Phase.{Phase}
@@ -16,7 +15,6 @@ use Rattle.pool_journal.specs.declared.answer.Answer.TheVariants as answers
 use Rattle.pool_journal.specs.declared.answer.Cause.TheVariants as causes
 use Rattle.pool_journal.proofs.Found.{each_present}
 use Rattle.pool_journal.proofs.Pushed.{drawn-push}
-use Rattle.pool_journal.proofs.Touched.{range-more}
 use Rattle.pool_stats.specs.Answers.{is_freed, is_reclaimed, count_answers}
 use Rattle.pool_stats.specs.Counts.{counts_of}
 use Rattle.pool_settings.specs.declared.settings.Settings.{Settings}
@@ -24,58 +22,12 @@ use Rattle.pool_core.specs.Laws.{IsWithin, AtMostMaxTotal, NothingLost}
 use Rattle.pool_core.specs.Legal.{IsLegal}
 use Rattle.pool_core.specs.Reply.{reply, is_below, borrow_reply, add_reply, full_reply, has_reached, choice, has_enough}
 use Rattle.pool_core.specs.Steps.{Finds}
-use Rattle.pool_core.proofs.Counted.{one_if, count_cons, counted}
+use Rattle.pool_core.proofs.Counted.{one_if, counted}
 use Rattle.pool_core.proofs.Fronts.{IsDue, DueKeeps, each_legal}
 use Rattle.pool_core.proofs.Lives.{Acts, Still, Makes, Brings, still, makes, brings, acts, finds_due, gives_up, phase_stays}
 use Rattle.pool_core.proofs.Lives.{phase_moved, phase_of_others}
+use Rattle.pool_core.proofs.Ranges.{count_push, count_range, count_last, same_count, but_one}
 use Rattle.pool_core.proofs.Tables.{length-records}
-
-count_push : {A : Type 0} (p : A → Bool) (xs : List A) (x : A) → count_by p (xs ++ x ∷ []) ≡ count_by p xs + one_if (p x)
-count_push p xs x = sum_by_push (λ y. one_if (p y)) xs x
-
--- how many numbers of a range pass a test
-abbrev count_range : (ℕ → Bool) → ℕ → ℕ → ℕ
-count_range p a n = count_by p (range_with_len a n)
-
-count_first : (p : ℕ → Bool) (a n : ℕ) → count_range p a (suc n) ≡ one_if (p a) + count_range p (a + 1) n
-count_first p a n = count_cons p a (range_with_len (a + 1) n)
-
-count_last : (p : ℕ → Bool) (n : ℕ) → count_range p 0 (suc n) ≡ count_range p 0 n + one_if (p n)
-count_last p n =
-    ap (count_by p) (range-more 0 n) ∙ ap (λ (j : ℕ). count_by p (range_with_len 0 n ++ j ∷ [])) (zero-add n)
-    ∙ count_push p (range_with_len 0 n) n
-
--- two tests that agree on a range
-same_count : (p q : ℕ → Bool) (a n : ℕ) → ((j : ℕ) → a ≤ j → j < a + n → p j ≡ q j) → count_range p a n ≡ count_range q a n
-same_count p q a zero same = refl
-same_count p q a (suc n) same =
-    let rest = same_count p q (a + 1) n (λ j above below. same j (omega (arith, above)) (omega (arith, below))) in
-    omega (arith, count_first p a n, count_first q a n, ap one_if (same a (omega arith) (omega arith)), rest)
-
--- two tests that agree but at one number, where the first holds
-but_one : (p q : ℕ → Bool) (i a n : ℕ) → a ≤ i → i < a + n → p i ≡ true → ((j : ℕ) → j ≢ i → q j ≡ p j)
-    → count_range q a n + one_if (not (q i)) ≡ count_range p a n
-but_one p q i a zero from below here same = absurd (omega (arith, from, below))
-but_one p q i a (suc n) from below here same =
-    by_test (a == i) refl (λ above. but_one p q i (a + 1) n above (omega (arith, below)) here same)
-  where
-    either : (b : Bool) → one_if b + one_if (not b) ≡ 1
-    either true = refl
-    either false = refl
-
-    by_test : (t : Bool) → (a == i) ≡ t → (a + 1 ≤ i → count_range q (a + 1) n + one_if (not (q i)) ≡ count_range p (a + 1) n)
-        → count_range q a (suc n) + one_if (not (q i)) ≡ count_range p a (suc n)
-    by_test true is later =
-        let e : a ≡ i = grind (arith, nat_tests) in
-        let q_at : one_if (q a) ≡ one_if (q i) = ap (λ (j : ℕ). one_if (q j)) e in
-        let p_at : one_if (p a) ≡ 1 = ap (λ (j : ℕ). one_if (p j)) e ∙ ap one_if here in
-        let others = same_count q p (a + 1) n (λ j above under. same j (λ equal. omega (arith, above, equal, e))) in
-        omega (arith, count_first p a n, count_first q a n, q_at, p_at, others, either (q i))
-    by_test false is later =
-        let e : a ≢ i = grind (arith, nat_tests) in
-        let at : one_if (q a) ≡ one_if (p a) = ap one_if (same a e) in
-        let above : a + 1 ≤ i = omega (arith, e, from) in
-        omega (arith, count_first p a n, count_first q a n, at, later above)
 
 -- whether an object is present
 abbrev is_there : List Entry → ℕ → Bool
@@ -130,21 +82,21 @@ present_on S J e due = omega (arith, count_present J, count_present (J ++ e ∷ 
     by_act (brings b) = brings_goes_on J e b
 
 -- an answer to which no object is made
-full_makes_none : (block is_late : Bool)
+pub full_makes_none : (block is_late : Bool)
     → is_make_answer (if block then (if is_late then answers.TimedOut else answers.Wait) else answers.Exhausted) ≡ false
 full_makes_none true true = refl
 full_makes_none true false = refl
 full_makes_none false is_late = refl
 
 -- where an object is made, there was room
-borrow_makes : (shut : Bool) (o : Option ℕ) (room : Bool) (next : ℕ) (full : Answer) → is_make_answer full ≡ false
+pub borrow_makes : (shut : Bool) (o : Option ℕ) (room : Bool) (next : ℕ) (full : Answer) → is_make_answer full ≡ false
     → is_make_answer (if shut then answers.Refused causes.Closed else borrow_reply o room next full) ≡ true → room ≡ true
 borrow_makes true o room next full none is = absurd (cc is)
 borrow_makes false (Some j) room next full none is = absurd (cc is)
 borrow_makes false None true next full none is = refl
 borrow_makes false None false next full none is = absurd (cc (none, is))
 
-add_makes : (a : Answer) (b room : Bool) (next : ℕ) → is_make_answer a ≡ false
+pub add_makes : (a : Answer) (b room : Bool) (next : ℕ) → is_make_answer a ≡ false
     → is_make_answer (if b then a else add_reply room next) ≡ true → room ≡ true
 add_makes a true room next none is = absurd (cc (none, is))
 add_makes a false true next none is = refl
@@ -171,11 +123,11 @@ due_makes_below S J e due made = by_answer e.answer refl made (finds_due S J e d
     by_answer _ is made finds = absurd (cc made)
 
 -- no more are within the limit too, and one more where there is a place
-no_more_within : (limit : ℤ) (n m : ℕ) → m ≤ n → IsWithin limit n → IsWithin limit m
+pub no_more_within : (limit : ℤ) (n m : ℕ) → m ≤ n → IsWithin limit n → IsWithin limit m
 no_more_within (pos limit) n m le is = omega (arith, le, is)
 no_more_within (negsuc _) n m le is = tt
 
-one_more_within : (limit : ℤ) (n m : ℕ) → m ≤ n + 1 → is_below limit n ≡ true → IsWithin limit m
+pub one_more_within : (limit : ℤ) (n m : ℕ) → m ≤ n + 1 → is_below limit n ≡ true → IsWithin limit m
 one_more_within (pos limit) n m le is = let below : n < limit = ltb-true n limit is in omega (arith, le, below)
 one_more_within (negsuc _) n m le is = tt
 

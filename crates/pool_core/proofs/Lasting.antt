@@ -27,7 +27,7 @@ use Rattle.pool_core.proofs.Legality.{legal_reaches}
 use Rattle.pool_core.proofs.Lives.{Acts, still, makes, brings, acts, finds_due, due_in_table, move, phase_moved}
 
 -- two moves that are one have one object, and one phase
-same_object : (i j : ℕ) (p q : Phase) → move i p ≡ move j q → i ≡ j
+pub same_object : (i j : ℕ) (p q : Phase) → move i p ≡ move j q → i ≡ j
 same_object i j p q is = ap (λ (m : Option Move). (unwrap_or m (i, p)).0) is
 
 same_phase : (i j : ℕ) (p q : Phase) → move i p ≡ move j q → p ≡ q
@@ -49,7 +49,7 @@ not_made_to_idle Fill i j is = absurd (cc (same_phase j i phases.Adding phases.I
 not_made_to_idle _ i j is = absurd (cc is)
 
 -- an object that comes to Idle keeps a value
-idle_keeps : (a : Answer) (input : Input) (i : ℕ) → moved_by a input ≡ Some (i, phases.Idle) → keeps_value a ≡ true
+pub idle_keeps : (a : Answer) (input : Input) (i : ℕ) → moved_by a input ≡ Some (i, phases.Idle) → keeps_value a ≡ true
 idle_keeps answers.Parked input i is = refl
 idle_keeps answers.Kept input i is = refl
 idle_keeps (answers.Take j) input i is = absurd (not_taken_to_idle (is_borrow input) i j is)

@@ -22,15 +22,15 @@ use Rattle.pool_core.proofs.Fronts.{front_with, due_at}
 use Rattle.pool_core.proofs.Lives.{Leaves, finds_due, move, phase_moved}
 
 -- where a test changes from true to false
-record Turns (test : ℕ → Bool) (a b : ℕ) : Type 0 where
-  m : ℕ
-  from : a ≤ m
-  below : m < b
-  before : test m ≡ true
-  after : test (m + 1) ≡ false
+pub record Turns (test : ℕ → Bool) (a b : ℕ) : Type 0 where
+  pub m : ℕ
+  pub from : a ≤ m
+  pub below : m < b
+  pub before : test m ≡ true
+  pub after : test (m + 1) ≡ false
 
 -- a test that is true at first and false at last changes in between
-turns : (test : ℕ → Bool) (n a b : ℕ) → a + n ≡ b → test a ≡ true → test b ≡ false → Turns test a b
+pub turns : (test : ℕ → Bool) (n a b : ℕ) → a + n ≡ b → test a ≡ true → test b ≡ false → Turns test a b
 turns test zero a b is first last = let same : a ≡ b = omega (arith, is) in absurd (cc (sym first ∙ ap test same ∙ last))
 turns test (suc n) a b is first last =
     by_test (test (a + 1)) refl (λ next. turns test n (a + 1) b (omega (arith, is)) next last)
@@ -41,11 +41,11 @@ turns test (suc n) a b is first last =
         let later = on next in
         record { m = later.m; from = omega (arith, later.from); below = later.below; before = later.before; after = later.after }
 
-same_id : (i j : ℕ) → (j == i) ≡ true → j ≡ i
+pub same_id : (i j : ℕ) → (j == i) ≡ true → j ≡ i
 same_id i j same = grind (arith, nat_tests)
 
 -- an entry that lends an object moves it to Lent
-lends_to : (a : Answer) (input : Input) (i : ℕ) → (is_lent_answer a && is_of i (id_of input)) ≡ true
+pub lends_to : (a : Answer) (input : Input) (i : ℕ) → (is_lent_answer a && is_of i (id_of input)) ≡ true
     → moved_by a input ≡ Some (i, phases.Lent)
 lends_to answers.Lent input i is = by_id (id_of input) is
   where
@@ -54,7 +54,7 @@ lends_to answers.Lent input i is = by_id (id_of input) is
     by_id (Some j) is = ap (λ (n : ℕ). move n phases.Lent) (same_id i j is)
 lends_to _ input i is = absurd (cc is)
 
-lent_from : (p : Phase) → comes_from answers.Lent p ≡ true → is_lent p ≡ false
+pub lent_from : (p : Phase) → comes_from answers.Lent p ≡ true → is_lent p ≡ false
 lent_from phases.Readying is = refl
 lent_from _ is = absurd (cc is)
 
@@ -78,11 +78,11 @@ was_not_lent J answers.Lent input i is finds = by_id (id_of input) is finds
     by_id (Some j) is named = ap (λ (n : ℕ). is_lent (phase n J)) (sym (same_id i j is)) ∙ found_not_lent J j named
 was_not_lent J _ input i is finds = absurd (cc is)
 
-lent_is : (p : Phase) → is_lent p ≡ true → p ≡ phases.Lent
+pub lent_is : (p : Phase) → is_lent p ≡ true → p ≡ phases.Lent
 lent_is phases.Lent is = refl
 lent_is _ is = absurd (cc is)
 
-lent_is_not : (p : Phase) → is_lent p ≡ false → p ≢ phases.Lent
+pub lent_is_not : (p : Phase) → is_lent p ≡ false → p ≢ phases.Lent
 lent_is_not p other is = absurd (cc (sym other ∙ ap is_lent is))
 
 -- whether i is lent before the entry at position m

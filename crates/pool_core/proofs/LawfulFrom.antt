@@ -1,0 +1,23 @@
+-- Legal entries behind a base that a pool can go on from keep the laws.
+use Rattle.std.proofs.Common.{List}
+use Rattle.pool_journal.specs.declared.base.Base.{Base}
+use Rattle.pool_journal.specs.declared.entry.Entry.{Entry}
+use Rattle.pool_settings.specs.declared.settings.Settings.{Settings}
+use Rattle.pool_core.specs.LawsFrom.{LawsFrom}
+use Rattle.pool_core.specs.Legal.{IsLegalFrom}
+use Rattle.pool_core.specs.Openable.{IsRunnable}
+use Rattle.pool_core.proofs.CountingFrom.{at_most_max_total_from, nothing_lost_from}
+use Rattle.pool_core.proofs.LastingFrom.{closed_parks_none_from, closed_base_parks_none, made_anew, made_and_gone_once_from}
+use Rattle.pool_core.proofs.LendingFrom.{lent_in_turn_from}
+
+pub keeps_laws_from : (S : Settings) (b : Base) (J : List Entry) → IsRunnable S b → IsLegalFrom S b J → LawsFrom S b J
+keeps_laws_from S b J runs legal =
+    record {
+      at_most_max_total = at_most_max_total_from S b J runs legal;
+      closed_parks_none = closed_parks_none_from S b J runs.sound legal;
+      closed_base_parks_none = closed_base_parks_none S b J runs.sound legal;
+      made_and_gone_once = made_and_gone_once_from S b J runs.sound legal;
+      made_anew = made_anew S b J runs.sound legal;
+      lent_in_turn = lent_in_turn_from S b J runs.sound legal;
+      nothing_lost = nothing_lost_from S b J runs legal;
+    }

@@ -1,0 +1,63 @@
+-- Behind a base too an object is lent again only after it left Lent.
+use Rattle.std.proofs.Common.{◌≡◌, ℕ, ◌+◌, ◌-◌, Bool, true, false, List, Option, Some, None}
+use Rattle.std.proofs.Common.{ap, sym, ◌∙◌, arith, refl}
+use Rattle.std.specs.Prelude.{◌&&◌, IsSomeAnd, take}
+use Rattle.pool_journal.specs.Journal.{id_of, is_of, is_lent_answer}
+use Rattle.pool_journal.specs.Queue.{record_in}
+use Rattle.pool_journal.specs.Base.{phase_from, drawn_from, records_from}
+use Rattle.pool_journal.specs.Sound.{IsSound}
+use Rattle.pool_journal.specs.declared.base.Base.{Base}
+use Rattle.pool_journal.specs.declared.entry.Entry.{Entry}
+use Rattle.pool_journal.specs.declared.record.Record.{Record}
+use Rattle.pool_journal.specs.declared.record.Phase.TheVariants as phases
+use Rattle.pool_journal.specs.declared.input.Input.{Input}
+use Rattle.pool_journal.specs.declared.answer.Answer.{Answer}
+use Rattle.pool_journal.specs.declared.answer.Answer.TheVariants as answers
+use Rattle.pool_journal.proofs.BaseFound.{found_from}
+use Rattle.pool_places.specs.Overdue.{is_lent}
+use Rattle.pool_settings.specs.declared.settings.Settings.{Settings}
+use Rattle.pool_core.specs.LawsFrom.{LeavesLentFrom, LentInTurnFrom}
+use Rattle.pool_core.specs.Legal.{IsLegalFrom}
+use Rattle.pool_core.specs.Steps.{Finds, comes_from}
+use Rattle.pool_core.proofs.Fronts.{front_with}
+use Rattle.pool_core.proofs.FrontsFrom.{due_at_from}
+use Rattle.pool_core.proofs.Lending.{turns, same_id, lends_to, lent_from, lent_is, lent_is_not}
+use Rattle.pool_core.proofs.Lives.{Leaves}
+use Rattle.pool_core.proofs.LivesFrom.{finds_due, phase_moved}
+
+-- the object that is found to be lent isn't lent yet
+found_not_lent_from : (b : Base) (J : List Entry) (j : ℕ) → IsSomeAnd (record_in (records_from b J) j) (Leaves answers.Lent) → is_lent (phase_from b j J) ≡ false
+found_not_lent_from b J j leaves = by_record (record_in (records_from b J) j) refl leaves
+  where
+    by_record : (o : Option Record) → record_in (records_from b J) j ≡ o → IsSomeAnd o (Leaves answers.Lent) → is_lent (phase_from b j J) ≡ false
+    by_record None none is = absurd is
+    by_record (Some r) some is =
+        let at = found_from b J j r some in
+        lent_from (phase_from b j J) (ap (λ (r : Record). comes_from answers.Lent r.phase) (sym at.is) ∙ is)
+
+was_not_lent_from : (b : Base) (J : List Entry) (a : Answer) (input : Input) (i : ℕ) → (is_lent_answer a && is_of i (id_of input)) ≡ true
+    → Finds input a (records_from b J) (drawn_from b J) → is_lent (phase_from b i J) ≡ false
+was_not_lent_from b J answers.Lent input i is finds = by_id (id_of input) is finds
+  where
+    by_id : (o : Option ℕ) → is_of i o ≡ true → IsSomeAnd o (λ j. IsSomeAnd (record_in (records_from b J) j) (Leaves answers.Lent))
+        → is_lent (phase_from b i J) ≡ false
+    by_id None is named = absurd named
+    by_id (Some j) is named = ap (λ (n : ℕ). is_lent (phase_from b n J)) (sym (same_id i j is)) ∙ found_not_lent_from b J j named
+was_not_lent_from b J _ input i is finds = absurd (cc is)
+
+-- whether i is lent before the entry at position m of the segment
+abbrev lent_at_from : Base → List Entry → ℕ → ℕ → Bool
+lent_at_from b J i m = is_lent (phase_from b i (take m J))
+
+pub lent_in_turn_from : (S : Settings) (b : Base) (J : List Entry) → IsSound b → IsLegalFrom S b J → LentInTurnFrom b J
+lent_in_turn_from S b J sound legal i k l e f before at_k at_l first second =
+    let to = phase_moved b (take k J) e i phases.Lent (lends_to e.answer e.input i first) in
+    let lent_then : lent_at_from b J i (k + 1) ≡ true = ap (λ K. is_lent (phase_from b i K)) (front_with J k e at_k) ∙ ap is_lent to in
+    let finds = finds_due S b (take l J) f (due_at_from S b J l f sound legal at_l) in
+    let not_at_last : lent_at_from b J i l ≡ false = was_not_lent_from b (take l J) f.answer f.input i second finds in
+    let t = turns (lent_at_from b J i) (l - (k + 1)) (k + 1) l (omega (arith, before)) lent_then not_at_last in
+    let leaves : LeavesLentFrom b J i t.m = record {
+      lent_before = lent_is (phase_from b i (take t.m J)) t.before;
+      not_after = lent_is_not (phase_from b i (take (t.m + 1) J)) t.after;
+    } in
+    (t.m, omega (arith, t.from), t.below, leaves)
