@@ -11,13 +11,15 @@ use Rattle.pool_journal.specs.declared.record.Record.{Record}
 use Rattle.pool_journal.specs.declared.record.Phase.{Phase}
 use Rattle.pool_journal.specs.declared.record.Phase.TheVariants as phases
 use Rattle.pool_journal.specs.declared.entry.Entry.{Entry}
-use Rattle.pool_journal.specs.Reaches.{Reaches}
-use Rattle.pool_journal.proofs.Found.{each_present}
+use Rattle.pool_journal.specs.Base.{records_from, reach}
+use Rattle.pool_journal.specs.Segments.{ReachesFrom}
+use Rattle.pool_journal.specs.declared.base.Base.{Base}
+use Rattle.pool_journal.proofs.BaseFound.{each_present_from}
 use Rattle.pool_places.specs.declared.place.Place.{Place}
 use Rattle.pool_places.specs.Shelf.{records_in}
-use Rattle.pool_stats.specs.Answers.{is_freed, is_reclaimed, is_evicting, count_answers, count_entries}
-use Rattle.pool_stats.specs.Counts.{is_lent, is_reserved, count_in, counts_of}
+use Rattle.pool_stats.specs.Counts.{is_lent, is_reserved}
 use Rattle.pool_stats.specs.declared.counts.Counts.{Counts}
+use Rattle.pool_core.specs.LawsFrom.{counts_from}
 
 -- one, where the test holds
 abbrev pub one_if : Bool → ℕ
@@ -41,18 +43,30 @@ counted (r ∷ rs) all =
     omega (arith, is_one r.phase all.0, counted rs all.1, queued, lent, reserved)
 
 -- the objects of a pool are idle, lent or reserved
-pub whole : {T : Type 0} (J : List Entry) (ps : List (Place T)) (next : ℕ) → Reaches J (records_in ps) next
+pub whole : {T : Type 0} (b : Base) (J : List Entry) (ps : List (Place T)) (next : ℕ) → ReachesFrom b J (records_in ps) next
     → count_by (λ r. is_queued r.phase) (records_in ps) + count_by (λ r. is_lent r.phase) (records_in ps) + count_by (λ r. is_reserved r.phase) (records_in ps) ≡ length ps
-whole J ps next reaches = counted (records_in ps) (subst (AllByRecursion (λ r. is_present r.phase ≡ true)) (sym reaches.shown) (each_present J)) ∙ length-map ps (λ p. p.known)
+whole b J ps next reaches = counted (records_in ps) (subst (AllByRecursion (λ r. is_present r.phase ≡ true)) (sym reaches.shown) (each_present_from b J)) ∙ length-map ps (λ p. p.known)
 
--- what is counted of the objects and of the entries are the counts of the journal
-pub counts_are : {T : Type 0} (J : List Entry) (ps : List (Place T)) (next queued lent reserved destroyed evicted reclaimed : ℕ) → Reaches J (records_in ps) next
+-- what is counted of the objects and of the entries are the counts of the base and the journal
+pub counts_are : {T : Type 0} (b : Base) (J : List Entry) (ps : List (Place T)) (next steps queued lent reserved destroyed evicted reclaimed : ℕ)
+    → ReachesFrom b J (records_in ps) next → steps ≡ b.first + length J
     → queued ≡ count_by (λ r. is_queued r.phase) (records_in ps) → lent ≡ count_by (λ r. is_lent r.phase) (records_in ps) → queued + lent + reserved ≡ length ps
-    → destroyed ≡ count_answers is_freed J → evicted ≡ count_entries is_evicting J → reclaimed ≡ count_answers is_reclaimed J
-    → ◌≡◌ {A = Counts} (record { steps = length J; idle = queued; lent = lent; reserved = reserved; created = next; destroyed = destroyed; evicted = evicted; reclaimed = reclaimed }) (counts_of J)
-counts_are J ps next queued lent reserved destroyed evicted reclaimed reaches queued_is lent_is sum destroyed_is evicted_is reclaimed_is =
-    let counted_in = λ (test : Phase → Bool). ap (count_by (λ r. test r.phase)) reaches.shown in
-    let idle_is : queued ≡ count_in is_queued J = queued_is ∙ counted_in is_queued in
-    let held_is : lent ≡ count_in is_lent J = lent_is ∙ counted_in is_lent in
-    let reserved_is : reserved ≡ count_in is_reserved J = omega (arith, sum, whole J ps next reaches, queued_is, lent_is, counted_in is_reserved) in
-    rw (idle_is, held_is, reserved_is, reaches.next_is, destroyed_is, evicted_is, reclaimed_is) refl
+    → destroyed ≡ (reach b J).destroyed → evicted ≡ (reach b J).evicted → reclaimed ≡ (reach b J).reclaimed
+    → ◌≡◌ {A = Counts} (record { steps = steps; idle = queued; lent = lent; reserved = reserved; created = next; destroyed = destroyed; evicted = evicted; reclaimed = reclaimed }) (counts_from b J)
+counts_are b J ps next steps queued lent reserved destroyed evicted reclaimed reaches steps_is queued_is lent_is sum destroyed_is evicted_is reclaimed_is = λ t.
+    record {
+      steps = steps_is t;
+      idle = (queued_is ∙ counted_in is_queued) t;
+      lent = (lent_is ∙ counted_in is_lent) t;
+      reserved = (reserved_here ∙ counted_in is_reserved) t;
+      created = reaches.next_is t;
+      destroyed = destroyed_is t;
+      evicted = evicted_is t;
+      reclaimed = reclaimed_is t;
+    }
+  where
+    counted_in : (test : Phase → Bool) → count_by (λ r. test r.phase) (records_in ps) ≡ count_by (λ r. test r.phase) (records_from b J)
+    counted_in test = ap (count_by (λ (r : Record). test r.phase)) reaches.shown
+
+    reserved_here : reserved ≡ count_by (λ r. is_reserved r.phase) (records_in ps)
+    reserved_here = omega (arith, sum, whole b J ps next reaches, queued_is, lent_is)

@@ -177,6 +177,12 @@ pub nothing_lost_from : (S : Settings) (b : Base) (J : List Entry) → IsRunnabl
 nothing_lost_from S b J runs legal =
     omega (arith, drawn_or_gone S b J runs legal, length-records_from b J, counted (records_from b J) (each_present_from b J))
 
+-- the objects idle, lent and reserved are within the limit
+pub places_within_from : (S : Settings) (b : Base) (J : List Entry) → IsRunnable S b → IsLegalFrom S b J
+    → IsWithin S.max_total ((counts_from b J).idle + (counts_from b J).lent + (counts_from b J).reserved)
+places_within_from S b J runs legal =
+    subst (IsWithin S.max_total) (sym (length-records_from b J) ∙ sym (counted (records_from b J) (each_present_from b J))) (at_most_max_total_from S b J runs legal)
+
 -- ---- the objects that are to be destroyed
 
 -- what is counted of the present objects is counted of all that were drawn

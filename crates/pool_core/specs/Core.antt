@@ -4,24 +4,25 @@ use Rattle.pool_journal.specs.declared.input.Input.{Input}
 use Rattle.pool_journal.specs.declared.answer.Answer.{Answer}
 use Rattle.pool_core.specs.declared.step_fault.StepFault.{StepFault}
 use Rattle.pool_core.specs.declared.step_fault.StepFault.TheVariants.{JournalFull, OutOfMemory}
-use Rattle.pool_core.specs.Reply.{reply}
-use Rattle.pool_core.specs.Legal.{entry_due}
-use Rattle.pool_core.specs.Fits.{Fits, IsTooLong}
+use Rattle.pool_core.specs.ReplyFrom.{reply_from}
+use Rattle.pool_core.specs.Legal.{entry_due_from}
+use Rattle.pool_core.specs.Fits.{FitsFrom, IsTooLongFrom}
 use Rattle.pool_core.specs.Kept.{Hands}
 use Rattle.pool_core.specs.Pool.{Pool}
 
 -- the new pool has one entry more, which fits and has the answer that is due
 pub record Answered {T : Type 0} (caller at : ℕ) (input : Input) (handed : Option T) (old new : Pool T) (answer : Answer)
     (out : Option T) : Type 0 where
-  pub due : answer ≡ reply old.settings old.journal at input
-  pub appended : new.journal ≡ old.journal ++ entry_due old.settings old.journal caller at input ∷ []
-  pub fits : Fits old.settings new.journal
+  pub due : answer ≡ reply_from old.settings old.base old.journal at input
+  pub appended : new.journal ≡ old.journal ++ entry_due_from old.settings old.base old.journal caller at input ∷ []
+  pub fits : FitsFrom old.settings old.base new.journal
   pub settings_stay : new.settings ≡ old.settings
+  pub base_stays : new.base ≡ old.base
   pub hands : Hands answer input old.places new.places handed out
 
 -- the journal is full exactly where the entry that is due doesn't fit, and what was handed in comes back
 abbrev pub Faulted : {T : Type 0} → ℕ → ℕ → Input → Option T → Pool T → StepFault T → Type 0
 Faulted caller at input handed old (JournalFull out) =
-    IsTooLong old.settings (old.journal ++ entry_due old.settings old.journal caller at input ∷ []) × (out ≡ handed)
+    IsTooLongFrom old.settings old.base (old.journal ++ entry_due_from old.settings old.base old.journal caller at input ∷ []) × (out ≡ handed)
 Faulted caller at input handed old (OutOfMemory out) =
-    Fits old.settings (old.journal ++ entry_due old.settings old.journal caller at input ∷ []) × (out ≡ handed)
+    FitsFrom old.settings old.base (old.journal ++ entry_due_from old.settings old.base old.journal caller at input ∷ []) × (out ≡ handed)

@@ -1,4 +1,4 @@
-ghost use Rattle.std.specs.Prelude.{◌≡◌, int_le, int_lt, pos};
+ghost use Rattle.std.specs.Prelude.{◌≡◌, ◌-◌, ◌^◌, int_le, int_lt, min, pos};
 ghost use Rattle.pool_core.specs.Reply.{is_below, has_reached, is_past, is_nearly_full, tests};
 
 /// Whether `n` is below a limit, where a negative one is none.
@@ -54,4 +54,11 @@ pub fn number_of_tests(number: i32, queue: u64) -> u64
     } else {
         queue.min(parts)
     }
+}
+
+/// How many entries may stand behind `first` others: no more than the limit, and so many that all are fewer than 2^63.
+pub fn limit_behind(limit: u64, first: u64) -> u64
+    ensures { result ≡ min limit (2 ^ 63 - 1 - first) }
+{
+    limit.min(((1 << 63) - 1u64).saturating_sub(first))
 }

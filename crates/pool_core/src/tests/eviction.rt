@@ -6,7 +6,7 @@ use pool_settings::Settings;
 use std::test::Fail;
 
 // Five objects are made for the queue.
-fn five_added() -> [Entry; 10] {
+pub(super) fn five_added() -> [Entry; 10] {
     [
         line(0, 0, Input::Add, Answer::Make(0)),
         line(0, 0, added(0, GOOD), Answer::Parked),

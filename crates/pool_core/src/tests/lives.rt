@@ -11,12 +11,12 @@ use std::test::Fail;
 
 // Numbers that look random, and are the same each time.
 #[derive(Drop)]
-struct Dice {
-    state: u64,
+pub(super) struct Dice {
+    pub(super) state: u64,
 }
 
 impl Dice {
-    fn roll(&mut self) -> u64 {
+    pub(super) fn roll(&mut self) -> u64 {
         self.state = self
             .state
             .wrapping_mul(6_364_136_223_846_793_005)
@@ -176,7 +176,7 @@ fn any_input(dice: &mut Dice, at: u64, id: u64) -> Input {
 }
 
 // Something new, or the next part of what was begun.
-fn next_input(dice: &mut Dice, journal: &[Entry], at: u64) -> Input {
+pub(super) fn next_input(dice: &mut Dice, journal: &[Entry], at: u64) -> Input {
     let id = dice.roll() % made_in(journal).saturating_add(1);
     let outcome = some_outcome(dice);
     match way_on(phase_in(journal, id), id, outcome) {
@@ -248,7 +248,7 @@ fn end_all(rt: &impl Abort, core: &mut Core<u64>, at: u64, limit: u64, closes_fi
     agrees(rt, core, limit);
 }
 
-fn some_settings(dice: &mut Dice, limit: u64) -> Settings {
+pub(super) fn some_settings(dice: &mut Dice, limit: u64) -> Settings {
     Settings {
         abandoned: dice.roll() % 2 == 0,
         journal_limit: limit,
@@ -309,7 +309,7 @@ fn room_at_limits(rt: HostRuntime) -> Result<(), Fail> {
         (6, 5, None),
         (7, 6, Some(0)),
         (8, 7, Some(1)),
-        (u64::MAX, u64::MAX - 1, Some(u64::MAX - 7)),
+        (u64::MAX, (1 << 63) - 2, Some((1 << 63) - 8)),
     ] {
         let settings = Settings {
             journal_limit: limit,
