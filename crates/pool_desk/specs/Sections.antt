@@ -2,6 +2,7 @@
 use Rattle.std.specs.Prelude.{◌≡◌, ℕ, Bool, true, false, List, [], ◌∷◌, ◌++◌, Option, None, Some, IsSomeAnd}
 use Rattle.atomic_table.specs.Seated.{TableId}
 use Rattle.pool_journal.specs.Journal.{moves, is_make_answer}
+use Rattle.pool_journal.specs.declared.base.Base.{Base}
 use Rattle.pool_journal.specs.declared.entry.Entry.{Entry}
 use Rattle.pool_journal.specs.declared.input.Input.{Input}
 use Rattle.pool_journal.specs.declared.input.Input.TheVariants.{Borrow, Ready, GiveBack, Park, Invalidate, Use, Add, Fill, Added, Evict, EvictNext, Tested, Reclaim, ReclaimNext, Clear, ClearNext, Destroyed, Close}
@@ -18,26 +19,26 @@ use Rattle.pool_settings.specs.declared.settings.Settings.{Settings}
 use Rattle.pool_core.specs.declared.step_fault.StepFault.{StepFault}
 use Rattle.pool_core.specs.declared.step_fault.StepFault.TheVariants.{JournalFull, OutOfMemory}
 use Rattle.pool_core.specs.Finishing.{finishes}
-use Rattle.pool_core.specs.Fits.{IsTooLong}
+use Rattle.pool_core.specs.Fits.{IsTooLongFrom}
 use Rattle.pool_core.specs.Legal.{IsLegal, entry_of, entry_due}
 use Rattle.pool_core.specs.Pool.{Pool}
 use Rattle.pool_core.specs.Reply.{reply}
 use Rattle.pool_history.specs.declared.room.View.{View}
 use Rattle.pool_history.specs.Rule.{keeper}
 use Rattle.pool_history.specs.Standings.{Standing}
-use Rattle.pool_history.specs.Stored.{IsStored}
+use Rattle.pool_history.specs.Stored.{IsBehind}
 use Rattle.pool_history.specs.Tended.{IsTended}
 
 -- each value that is kept is so
 abbrev pub AllKept : {T : Type 0} → (T → Type 0) → List (Place T) → Type 0
 AllKept {T} P ps = (i : ℕ) (v : T) → value_in ps i ≡ Some v → P v
 
--- the keeper's pass is of this cell, and knows the whole history, which is legal and tended, and which the core's journal ends; each kept value is passive
+-- the keeper's pass is of this cell, and knows the whole history, which is legal and tended, and which the core's journal ends, behind the last cut; each kept value is passive
 pub record IsDesk {T : Type 0} (table : TableId) (s : Settings) (callers : ℕ) (P : T → Type 0) (id : TableId) (core : Pool T) (v : View) : Type 0 where
   pub here : id ≡ table
   pub settings : core.settings ≡ s
-  pub knows : v ≡ keeper s v.all callers []
-  pub ends : IsStored v.all core.journal
+  pub knows : v ≡ keeper s v.all callers v.cut_at []
+  pub ends : IsBehind v.cut_at v.all core.base core.journal
   pub legal : IsLegal s v.all
   pub tended : IsTended v.all
   pub kept : AllKept P core.places
@@ -164,12 +165,13 @@ Gets P answers.Parked handed out = out ≡ None
 Gets P answers.Kept handed out = out ≡ None
 Gets P _ handed out = out ≡ handed
 
--- the entry that is due to the input, after what is seen, at some moment, doesn't fit behind the stored entries
+-- the entry that is due to the input, after what is seen, at some moment, doesn't fit behind the stored entries, those behind the last cut
 pub record IsFullFor (s : Settings) (input : Input) (me : Standing) : Type 0 where
   pub at : ℕ
+  pub base : Base
   pub stored : List Entry
-  pub ends : IsStored me.seen stored
-  pub too_long : IsTooLong s (stored ++ entry_due s me.seen me.number at input ∷ [])
+  pub ends : IsBehind me.cut_at me.seen base stored
+  pub too_long : IsTooLongFrom s base (stored ++ entry_due s me.seen me.number at input ∷ [])
 
 -- the entry that was due doesn't fit, if that is why, and what was handed in comes back
 abbrev pub IsWhy : {T : Type 0} → Settings → Input → Option T → StepFault T → Standing → Type 0

@@ -1,4 +1,6 @@
 pub mod Walking
+pub mod Looking
+pub mod Opening
 pub mod Backs
 pub mod Sweeping
 pub mod Removing

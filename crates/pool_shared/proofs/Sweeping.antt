@@ -24,10 +24,18 @@ use Rattle.pool_shared.proofs.Walking.{walk_one, walk_on, walk_none}
 
 pub goes_then : (s : Settings) (a b c : Standing) → Goes s a b → Goes s b c → Goes s a c
 goes_then s a b c p q =
-    record { number = q.number ∙ p.number; later = begins_trans a.seen b.seen c.seen p.later q.later; legal = q.legal; tended = q.tended; all = q.all }
+    record {
+      number = q.number ∙ p.number;
+      later = begins_trans a.seen b.seen c.seen p.later q.later;
+      legal = q.legal;
+      tended = q.tended;
+      all = q.all;
+      uncut = q.uncut ∙ p.uncut;
+      later_cuts = begins_trans a.cut_at b.cut_at c.cut_at p.later_cuts q.later_cuts;
+    }
 
 pub goes_self : (s : Settings) (a : Standing) → Knows s a → Goes s a a
-goes_self s a k = record { number = refl; later = begins_self a.seen; legal = k.legal; tended = k.tended; all = k.all }
+goes_self s a k = record { number = refl; later = begins_self a.seen; legal = k.legal; tended = k.tended; all = k.all; uncut = refl; later_cuts = begins_self a.cut_at }
 
 pub took_one : (first : Input) (count left taken i : ℕ) (a b c d : Standing) → 0 < left → Goes_on first (sweeps count 0) a b (sweeps left taken) → Makes ClearNext (answers.DestroyIdle i) b c → Makes (Destroyed i) answers.Freed c d
     → Goes_on first (sweeps count 0) a d (sweeps (left - 1) (taken + 1))

@@ -7,7 +7,7 @@ use Rattle.pool_settings.specs.declared.settings.Settings.{Settings}
 use Rattle.pool_core.specs.Legal.{entry_of}
 use Rattle.pool_history.specs.Rule.{Begins}
 use Rattle.pool_history.specs.Standings.{Standing, Goes}
-use Rattle.pool_history.proofs.Hands.{begins_trans}
+use Rattle.pool_history.proofs.Hands.{begins_self, begins_trans}
 use Rattle.pool_journal.specs.declared.input.Input.TheVariants.{Borrow}
 use Rattle.pool_journal.specs.declared.answer.Answer.TheVariants as answers
 use Rattle.pool_shared.specs.declared.faults.BorrowFault.{BorrowFault}
@@ -83,11 +83,30 @@ asked_on s began a first now after w made =
     walk_on (borrows.Due s began) borrows.next asks asks (after_asking a) first now after w
     (walk_one (borrows.Due s began) borrows.next asks (after_asking a) (Borrow began) a now after made (λ n at. refl) (λ n at. refl))
 
+-- a caller comes from what it was, whatever it has seen and made since
+pub record ComesFrom (first now : Standing) : Type 0 where
+  pub number : now.number ≡ first.number
+  pub later : Begins first.seen now.seen
+  pub uncut : now.cuts ≡ first.cuts
+  pub later_cuts : Begins first.cut_at now.cut_at
+
+comes_from_there : (first : Standing) → ComesFrom first first
+comes_from_there first = record { number = refl; later = begins_self first.seen; uncut = refl; later_cuts = begins_self first.cut_at }
+
+pub comes_on : (s : Settings) (first now after : Standing) → ComesFrom first now → Goes s now after → ComesFrom first after
+comes_on s first now after come goes =
+    record {
+      number = goes.number ∙ come.number;
+      later = begins_trans first.seen now.seen after.seen come.later goes.later;
+      uncut = goes.uncut ∙ come.uncut;
+      later_cuts = begins_trans first.cut_at now.cut_at after.cut_at come.later_cuts goes.later_cuts;
+    }
+
 -- a borrow that asked and has to wait
-pub waited : (s : Settings) (began : ℕ) (a : Answer) (first now after : Standing) → a ≡ answers.Wait → now.number ≡ first.number → Begins first.seen now.seen → Goes_on s began asks first now asks
-    → Goes s now after → Makes (Borrow began) a now after → (after.number ≡ first.number) × Begins first.seen after.seen × Goes_on s began asks first after asks
-waited s began a first now after is same begun w goes made =
-    (goes.number ∙ same, begins_trans first.seen now.seen after.seen begun goes.later, subst (λ b. Goes_on s began asks first after (after_asking b)) is (asked_on s began a first now after w made))
+pub waited : (s : Settings) (began : ℕ) (a : Answer) (first now after : Standing) → a ≡ answers.Wait → ComesFrom first now → Goes_on s began asks first now asks
+    → Goes s now after → Makes (Borrow began) a now after → ComesFrom first after × Goes_on s began asks first after asks
+waited s began a first now after is come w goes made =
+    (comes_on s first now after come goes, subst (λ b. Goes_on s began asks first after (after_asking b)) is (asked_on s began a first now after w made))
 
 -- a borrow that asked and was refused for want of room or memory
 pub refused_on : (s : Settings) (began : ℕ) (first now after : Standing) → Goes_on s began asks first now asks → after.made ≡ now.made → Goes_on s began asks first after asks
@@ -98,14 +117,15 @@ pub to_there : (s : Settings) (began : ℕ) (a b : Answer) (before after : Stand
 to_there s began a b before after is w = subst (λ c. Goes_on s began asks before after (after_asking c)) is w
 
 -- a borrow whose round had no result
-pub once_more : (s : Settings) (began : ℕ) (first now after : Standing) → now.number ≡ first.number → Begins first.seen now.seen → Goes_on s began asks first now asks
-    → Goes s now after → Goes_on s began asks now after asks → (after.number ≡ first.number) × Begins first.seen after.seen × Goes_on s began asks first after asks
-once_more s began first now after same begun w goes more =
-    (goes.number ∙ same, begins_trans first.seen now.seen after.seen begun goes.later, walk_on (borrows.Due s began) borrows.next asks asks asks first now after w more)
+pub once_more : (s : Settings) (began : ℕ) (first now after : Standing) → ComesFrom first now → Goes_on s began asks first now asks
+    → Goes s now after → Goes_on s began asks now after asks → ComesFrom first after × Goes_on s began asks first after asks
+once_more s began first now after come w goes more =
+    (comes_on s first now after come goes, walk_on (borrows.Due s began) borrows.next asks asks asks first now after w more)
 
-pub goes_far : (s : Settings) (first now after : Standing) → now.number ≡ first.number → Begins first.seen now.seen → Goes s now after → Goes s first after
-goes_far s first now after same begun goes =
-    record { number = goes.number ∙ same; later = begins_trans first.seen now.seen after.seen begun goes.later; legal = goes.legal; tended = goes.tended; all = goes.all }
+pub goes_far : (s : Settings) (first now after : Standing) → ComesFrom first now → Goes s now after → Goes s first after
+goes_far s first now after come goes =
+    let on = comes_on s first now after come goes in
+    record { number = on.number; later = on.later; legal = goes.legal; tended = goes.tended; all = goes.all; uncut = on.uncut; later_cuts = on.later_cuts }
 
 pub is_found : (began : ℕ) (a : Answer) → IsAnswerTo (Borrow began) a → (a ≡ answers.Wait → ⊥) → borrows.IsFound a
 is_found began (answers.Take i) it other = tt

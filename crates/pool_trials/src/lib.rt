@@ -4,6 +4,8 @@
 #[cfg(test)]
 mod clocks;
 #[cfg(test)]
+mod cutting;
+#[cfg(test)]
 mod dropping;
 #[cfg(test)]
 mod failing;

@@ -9,7 +9,7 @@ use Rattle.pool_settings.specs.declared.settings.Settings.{Settings}
 use Rattle.pool_stats.specs.Statistics.{statistics_of}
 use Rattle.pool_stats.specs.declared.statistics.Statistics.{Statistics}
 use Rattle.pool_core.specs.Legal.{IsLegal}
-use Rattle.pool_history.specs.Ends.{EachMade, AllUnder}
+use Rattle.pool_history.specs.Ends.{EachMade, AllUnder, NoneCut}
 use Rattle.pool_history.specs.Rule.{own, AllBelow}
 use Rattle.pool_history.specs.Standings.{Standing, newcomer_at}
 use Rattle.pool_shared.specs.Clears.{CloseRow}
@@ -65,6 +65,7 @@ module _ (s : Settings) (rounds workers : ℕ) (front after : List Standing) (la
     a : Standing
     at : slice_get after w ≡ Some a
     number : a.number ≡ w
+    uncut : a.cuts ≡ 0
     makes : MakesRounds s rounds (slice_index fs w) (newcomer_at w) a
 
   worker : Newcomers workers front last → AllWorked s rounds front after (map Ok fs) → (w : ℕ) → w < workers → Worker w
@@ -75,34 +76,42 @@ module _ (s : Settings) (rounds workers : ℕ) (front after : List Standing) (la
       let at_a = slice_get-get_or after w (newcomer_at 0) (omega (arith, many, lt)) in
       let at_o : slice_get (map Ok fs) w ≡ Some (Ok (slice_index fs w)) = slice_get-map Ok fs w ∙ ap (option_map Ok) (slice_get-get_or fs w 0 (omega (arith, told, lt))) in
       let is = worked.each w (newcomer_at w) a (Ok (slice_index fs w)) (new.each w lt) at_a at_o in
-      record { a = a; at = at_a; number = is.number; makes = is.worked }
+      record { a = a; at = at_a; number = is.number; uncut = is.uncut; makes = is.worked }
 
-  below_all : Newcomers workers front last → AllWorked s rounds front after (map Ok fs) → last'.number ≡ workers → (i : ℕ) (c : Standing) → slice_get (after ++ last' ∷ []) i ≡ Some c → c.number < workers + 1
-  below_all new worked same i c at = ⊎_elim among the_last (in_front after last' c i at)
+  -- who came back is one of the callers, and didn't cut the journal
+  all_back : Newcomers workers front last → AllWorked s rounds front after (map Ok fs) → last'.number ≡ workers → last'.cuts ≡ 0 → (i : ℕ) (c : Standing) → slice_get (after ++ last' ∷ []) i ≡ Some c
+      → (c.number < workers + 1) × (c.cuts ≡ 0)
+  all_back new worked same uncut i c at = ⊎_elim among the_last (in_front after last' c i at)
     where
-      among : slice_get after i ≡ Some c → c.number < workers + 1
+      among : slice_get after i ≡ Some c → (c.number < workers + 1) × (c.cuts ≡ 0)
       among at =
           let within = slice_get_within after i c at in
           let many : length after ≡ workers = worked.callers ∙ new.long in
           let w = worker new worked i (omega (arith, within, many)) in
           let is : w.a ≡ c = cc (sym w.at ∙ at) in
           let n : c.number ≡ i = sym (ap (λ (x : Standing). x.number) is) ∙ w.number in
-          omega (arith, within, many, n)
+          (omega (arith, within, many, n), sym (ap (λ (x : Standing). x.cuts) is) ∙ w.uncut)
 
-      the_last : last' ≡ c → c.number < workers + 1
-      the_last is = let n : c.number ≡ workers = sym (ap (λ (x : Standing). x.number) is) ∙ same in omega (arith, n)
+      the_last : last' ≡ c → (c.number < workers + 1) × (c.cuts ≡ 0)
+      the_last is = let n : c.number ≡ workers = sym (ap (λ (x : Standing). x.number) is) ∙ same in (omega (arith, n), sym (ap (λ (x : Standing). x.cuts) is) ∙ uncut)
+
+  pub none_cut : (all : List Standing) → length all ≡ workers + 1 → ((k : ℕ) → k < workers + 1 → slice_get all k ≡ Some (newcomer_at k)) → all ≡ front ++ last ∷ []
+      → AllWorked s rounds front after (map Ok fs) → last'.number ≡ last.number → last'.cuts ≡ last.cuts → NoneCut (after ++ last' ∷ [])
+  none_cut all long is cut worked same uncut k c at =
+      let new = newcomers workers all front last long is cut in
+      (all_back new worked (same ∙ ap (λ (c : Standing). c.number) new.end) (uncut ∙ ap (λ (c : Standing). c.cuts) new.end) k c at).1
 
   pub loaded : (refused taken : ℕ) (stats : Statistics) (all : List Standing) → length all ≡ workers + 1 → ((k : ℕ) → k < workers + 1 → slice_get all k ≡ Some (newcomer_at k)) → all ≡ front ++ last ∷ []
-      → AllWorked s rounds front after (map Ok fs) → last'.number ≡ last.number → CloseRow s (Ok taken) last last'
+      → AllWorked s rounds front after (map Ok fs) → last'.number ≡ last.number → last'.cuts ≡ last.cuts → CloseRow s (Ok taken) last last'
       → IsLegal s H → EachMade (after ++ last' ∷ []) H → AllUnder (after ++ last' ∷ []) H → refused ≡ sum fs → stats ≡ statistics_of H → IsLoad s workers rounds refused stats
-  loaded refused taken stats all long is cut worked same row legal made under sums told =
+  loaded refused taken stats all long is cut worked same uncut row legal made under sums told =
       let new = newcomers workers all front last long is cut in
       let number : last'.number ≡ workers = same ∙ ap (λ (c : Standing). c.number) new.end in
       let closes = made (length after) last' (at_end after last') in
       record {
         journal = H;
         legal = legal;
-        below = below_of (workers + 1) H (λ k e at. let u = under k e at in let n = below_all new worked number u.0 u.1 u.2 in let m = u.3 in omega (arith, n, m));
+        below = below_of (workers + 1) H (λ k e at. let u = under k e at in let n = (all_back new worked number (uncut ∙ ap (λ (c : Standing). c.cuts) new.end) u.0 u.1 u.2).0 in let m = u.3 in omega (arith, n, m));
         refusals = fs;
         each = sym (length-map fs Ok) ∙ worked.results ∙ new.long;
         worked = λ w lt. by_worker w (worker new worked w lt);

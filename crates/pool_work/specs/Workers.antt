@@ -12,9 +12,10 @@ IsOutcome s rounds (Ok refused) me = refused ≤ rounds
 IsOutcome s rounds (Err NoThread) me = Unit {0}
 IsOutcome s rounds (Err fault) me = Stops s fault me
 
--- the same caller as before, which made its rounds or stopped in them
+-- the same caller as before, which made its rounds or stopped in them, and didn't cut the journal
 pub record Works (s : Settings) (rounds : ℕ) (outcome : Result ℕ LoadFault) (before after : Standing) : Type 0 where
   pub number : after.number ≡ before.number
+  pub uncut : after.cuts ≡ before.cuts
   pub result : IsOutcome s rounds outcome after
   pub worked : IfOk outcome (λ refused. MakesRounds s rounds refused before after)
 

@@ -118,6 +118,7 @@ fn load_on<B: Room + Send + Sync, G: Gate, R: Threads + Wait + Sync>(
 /// The last caller closes the pool.
 fn close<B: Room, R: Wait>(rt: &R, pool: &IdPool<B>, last: &mut Caller<B>) -> Result<(), LoadFault>
     ensures number { last.new.number ≡ last.old.number }
+    ensures uncut { last.new.cuts ≡ last.old.cuts }
     ensures row { IfOk result (λ u. (taken : ℕ) × CloseRow B.settings (Ok taken) last.old last.new) }
     ensures stops { IfErr result (StopsLoad B.settings) }
 {

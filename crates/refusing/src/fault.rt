@@ -12,6 +12,10 @@ pub enum Fault {
     TakenAway,
     /// A new core gives other answers than the journal has.
     AnswersDiffer,
+    /// A new core comes to another base than the journal was cut from.
+    BasesDiffer,
+    /// A new core counts otherwise.
+    CountsDiffer,
     CallerMissing,
     OutOfMemory,
 }
@@ -23,6 +27,8 @@ impl Display for Fault {
             Fault::LeftBehind => "an object is left behind",
             Fault::TakenAway => "a lent object was taken away",
             Fault::AnswersDiffer => "a new core answers otherwise",
+            Fault::BasesDiffer => "a new core comes to another base",
+            Fault::CountsDiffer => "a new core counts otherwise",
             Fault::CallerMissing => "a caller is missing",
             Fault::OutOfMemory => "out of memory",
         })

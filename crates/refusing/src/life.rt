@@ -4,7 +4,7 @@ use crate::fault::Fault;
 use crate::parts::{Notes, Part};
 use crate::replay::replay;
 use crate::things::{Hands, Thing, Things};
-use pool_journal::Entry;
+use pool_journal::{Entry, Segment};
 use pool_settings::Settings;
 use pool_shared::{
     AddFault, BorrowFault, Caller, Lent, PoolFault, ReturnFault, Returned, Room, SharedPool,
@@ -78,6 +78,8 @@ pub struct Life<B: Room> {
     held: Option<Lent<Thing>>,
     /// How many objects it was lent and has not given back, those that were reclaimed since among them.
     loans: u64,
+    /// What was cut from the journal.
+    pub segment: Option<Segment>,
 }
 
 impl<B: Room> Life<B> {
@@ -86,6 +88,7 @@ impl<B: Room> Life<B> {
             me,
             held: None,
             loans: 0,
+            segment: None,
         }
     }
 
@@ -147,6 +150,19 @@ impl<B: Room> Life<B> {
         }
     }
 
+    // Cuts the journal. A cut that is refused changes nothing that is counted.
+    fn cut<R: Wait>(&mut self, rt: &R, alloc: Global, pool: &Pool<B>) -> Told {
+        let before = pool.counts(rt, &mut self.me);
+        match pool.cut(rt, alloc, &mut self.me) {
+            Ok(segment) => {
+                self.segment = Some(segment);
+                Told::Done
+            }
+            Err(_) if pool.counts(rt, &mut self.me) == before => Told::WantsMemory,
+            Err(_) => Told::Wrong,
+        }
+    }
+
     // Makes a call once.
     fn ask<R: Wait>(&mut self, rt: &R, alloc: Global, pool: &Pool<B>, part: Part) -> Told {
         let me = &mut self.me;
@@ -166,6 +182,7 @@ impl<B: Room> Life<B> {
                 Ok(_) => Told::Done,
                 Err(_) => Told::WantsMemory,
             },
+            Part::Cut => self.cut(rt, alloc, pool),
             _ => Told::Wrong,
         }
     }
@@ -199,7 +216,7 @@ impl<B: Room> Life<B> {
         Ok(())
     }
 
-    // What a refused call left: a journal with the answers of a new core.
+    // What a refused call left: a journal with the answers of a new core, and its counts.
     fn look_back<R: Wait>(
         &mut self,
         rt: &R,
@@ -208,8 +225,13 @@ impl<B: Room> Life<B> {
         settings: Settings,
         notes: &mut Notes,
     ) -> Result<(), Fault> {
-        let journal = self.journal(rt, alloc, pool, notes)?;
-        replay(alloc, settings, &journal, notes)
+        let stored = self.journal(rt, alloc, pool, notes)?;
+        let core = replay(alloc, settings, &self.segment, &stored, notes)?;
+        if core.counts() == pool.counts(rt, &mut self.me) {
+            Ok(())
+        } else {
+            Err(Fault::CountsDiffer)
+        }
     }
 
     /// Makes a call, again where it wants memory. In the end it is done, or there is no room for it.

@@ -1,9 +1,9 @@
 //! A test program: one caller's calls on a shared pool, each made when the journal has memory or room for few entries more.
 //!
 //! After each call it is seen that nothing is left in its hands, and that what was lent is lent or was reclaimed; after each
-//! that was refused, and at the end, that a new core gives the answers of the journal. A call that is answered that there is
-//! no memory is then made again: so what is printed is the same whatever allocation is refused. Which call it was is told on
-//! standard error.
+//! that was refused, and at the end, that a new core gives the answers of the journal, of what was cut from it before what it
+//! stores, and counts as the pool does. A call that is answered that there is no memory is then made again: so what is printed
+//! is the same whatever allocation is refused. Which call it was is told on standard error.
 #![tactic(auto)]
 
 ghost use Rattle.std.specs.Prelude.{◌≡◌};
@@ -18,9 +18,10 @@ use fault::Fault;
 use life::{End, FULL, Life, Pool};
 use parts::{Notes, Part};
 use pool_core::Core;
+use pool_journal::{Entry, Segment};
 use pool_settings::Settings;
 use pool_shared::{OpenFault, Room, Site};
-use replay::{count, replay};
+use replay::{count, is_same, replay};
 use std::alloc::Global;
 use std::fmt::Display;
 use std::marker::Brand;
@@ -33,7 +34,7 @@ use things::{Hands, Thing, Things};
 const TRIES: u32 = 3;
 
 /// The calls, each in the midst of a life.
-const CALLS: [Part; 12] = [
+const CALLS: [Part; 13] = [
     Part::Borrow,
     Part::GiveBack,
     Part::Invalidate,
@@ -46,6 +47,7 @@ const CALLS: [Part; 12] = [
     Part::Clear,
     Part::Close,
     Part::JournalCopy,
+    Part::Cut,
 ];
 
 /// For how many entries more there is memory or room, at most.
@@ -105,6 +107,10 @@ fn prepare<B: Room, R: Wait>(
         Part::Borrow | Part::Reclaim | Part::Maintain | Part::Touch | Part::JournalCopy => {
             life.call(rt, alloc, pool, settings, Part::Borrow, notes)?;
         }
+        Part::Cut => {
+            life.call(rt, alloc, pool, settings, Part::Fill, notes)?;
+            life.call(rt, alloc, pool, settings, Part::Borrow, notes)?;
+        }
         Part::GiveBack | Part::Invalidate => {
             life.call(rt, alloc, pool, settings, Part::Borrow, notes)?;
             moment.store(LATE, Ordering::SeqCst);
@@ -125,18 +131,42 @@ fn prepare<B: Room, R: Wait>(
     Ok(())
 }
 
-// A pool in which no object is left, and whose journal has its answers and its statistics.
+// How many objects were made, as the entries tell that were cut and those that are stored.
+fn count_made(
+    alloc: Global,
+    segment: &Option<Segment>,
+    stored: &[Entry],
+    notes: &mut Notes,
+) -> Result<u64, Fault> {
+    let behind = count(alloc, stored, notes)?.created;
+    match segment {
+        Some(before) => {
+            let made = count(alloc, before.entries.as_slice(), notes)?.created;
+            Ok(made.saturating_add(behind))
+        }
+        None => Ok(behind),
+    }
+}
+
+// A pool in which no object is left, and whose journal has its base, its answers, its counts and its statistics.
 fn judge(
     alloc: Global,
     settings: Settings,
+    segment: &Option<Segment>,
     core: &Core<Thing>,
     notes: &mut Notes,
 ) -> Result<(), Fault> {
-    replay(alloc, settings, core.journal(), notes)?;
-    let statistics = count(alloc, core.journal(), notes)?;
+    let again = replay(alloc, settings, segment, core.journal(), notes)?;
+    if !is_same(again.base(), core.base()) {
+        return Err(Fault::BasesDiffer);
+    }
     let counts = core.counts();
+    if again.counts() != counts {
+        return Err(Fault::CountsDiffer);
+    }
     let ended = counts.destroyed.saturating_add(counts.reclaimed);
-    if ended == counts.created && statistics.created == counts.created {
+    let made = count_made(alloc, segment, core.journal(), notes)?;
+    if ended == counts.created && made == counts.created {
         Ok(())
     } else {
         Err(Fault::LeftBehind)
@@ -170,7 +200,7 @@ fn live<B: Room, R: Wait>(
         return Ok(Err(Fault::OutOfMemory));
     }
     Ok(match pool.finish(rt, callers) {
-        Ok(core) => judge(alloc, settings, &core, notes).and(end),
+        Ok(core) => judge(alloc, settings, &life.segment, &core, notes).and(end),
         Err(_) => Err(Fault::CallerMissing),
     })
 }

@@ -19,8 +19,10 @@ pub enum Part {
     Clear,
     Close,
     JournalCopy,
+    Cut,
     CoreOpen,
     CoreStep,
+    CoreCut,
     Statistics,
 }
 
@@ -41,8 +43,10 @@ impl Display for Part {
             Part::Clear => "clear",
             Part::Close => "close",
             Part::JournalCopy => "journal_copy",
+            Part::Cut => "cut",
             Part::CoreOpen => "Core::open",
             Part::CoreStep => "Core::step",
+            Part::CoreCut => "Core::cut",
             Part::Statistics => "Statistics::of",
         })
     }
