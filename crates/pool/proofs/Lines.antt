@@ -7,9 +7,9 @@ use Rattle.pool_settings.specs.Escaped.{escaped, is_control, IsOnOneLine}
 use Rattle.pool_settings.specs.Faults as read
 use Rattle.pool_settings.specs.Messages as read_texts
 use Rattle.pool_settings.proofs.Escapes.{told_on_one_line}
-use Rattle.pool_load.specs.Messages.{file_text}
-use Rattle.pool_load.specs.declared.file_fault.FileFault.{FileFault}
-use Rattle.pool_load.specs.declared.file_fault.FileFault.TheVariants as files
+use Rattle.pool_engines.specs.Messages.{file_text}
+use Rattle.pool_engines.specs.declared.file_fault.FileFault.{FileFault}
+use Rattle.pool_engines.specs.declared.file_fault.FileFault.TheVariants as files
 use Rattle.pool.specs.Messages.{text_of}
 use Rattle.pool.specs.declared.fault.Fault.{Fault}
 use Rattle.pool.specs.declared.fault.Fault.TheVariants as faults

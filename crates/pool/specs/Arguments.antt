@@ -1,5 +1,5 @@
 -- What the arguments ask for.
-use Rattle.std.specs.Prelude.{ℕ, ◌^◌, Bool, true, false, not, ◌&&◌, ◌||◌, ◌==◌, nat_lt, if◌then◌else◌, List, [], ◌∷◌, length, slice_index, map, string_bytes, codes, bytes_eq, Option, None, Some}
+use Rattle.std.specs.Prelude.{ℕ, ◌^◌, Bool, true, false, not, ◌&&◌, ◌||◌, ◌==◌, nat_lt, if◌then◌else◌, List, [], ◌∷◌, ◌++◌, length, slice_index, map, string_bytes, codes, bytes_eq, Option, None, Some}
 use Rattle.std.specs.Char.{is_ascii_digit}
 use Rattle.std.specs.List.{list_all, list_any}
 use Rattle.std.specs.Str.Parse.{digits_value}
@@ -14,14 +14,14 @@ Text = List ℕ
 pub data Asked : Type 0 where
   run_input : Asked
   run : Text → Text → Asked
-  check : Text → Text → Asked
+  check : Text → List Text → Asked
   stats : Text → Asked
   load : Text → ℕ → ℕ → Asked
 
 abbrev pub asked : Task → Asked
 asked tasks.RunInput = run_input
 asked (tasks.Run settings script) = run settings.now script.now
-asked (tasks.Check settings journal) = check settings.now journal.now
+asked (tasks.Check settings first others) = check settings.now (first.now ∷ map string_bytes others.now)
 asked (tasks.Stats journal) = stats journal.now
 asked (tasks.Load settings workers rounds) = load settings.now workers rounds
 
@@ -54,6 +54,15 @@ end (_, []) = Some tt
 end (false, word ∷ []) = if bytes_eq word (codes "--") then Some tt else None
 end (_, _ ∷ _) = None
 
+-- all operands that are left; where `--` is to stand among them, it is the first
+abbrev pub operands : Rest → Option (List Text)
+operands (_, []) = Some []
+operands (true, words) = Some words
+operands (false, word ∷ words) =
+    if bytes_eq word (codes "--") then Some words
+    else if list_any is_option (word ∷ words) then None
+    else Some (word ∷ words)
+
 infixl 10 ◌>>=◌
 abbrev pub ◌>>=◌ : {A B : Type 0} → Option A → (A → Option B) → Option B
 None >>= f = None
@@ -79,9 +88,9 @@ run_of given = do
 abbrev pub check_of : Rest → Option Asked
 check_of given = do
   settings ← operand given
-  journal ← operand settings.1
-  _ ← end journal.1
-  Some (check settings.0 journal.0)
+  first ← operand settings.1
+  others ← operands first.1
+  Some (check settings.0 (first.0 ∷ others))
 
 abbrev pub stats_of : Rest → Option Asked
 stats_of given = do

@@ -1,7 +1,7 @@
 -- What is told of a fault, and the status that the program ends with.
 use Rattle.std.specs.Prelude.{ℕ, List, ◌++◌, codes, Option, None, Some}
 use Rattle.pool_settings.specs.Escaped.{escaped}
-use Rattle.pool_load.specs.Messages.{file_text}
+use Rattle.pool_engines.specs.Messages.{file_text}
 use Rattle.pool.specs.declared.fault.Fault.{Fault}
 use Rattle.pool.specs.declared.fault.Fault.TheVariants.{WrongArguments, Unopened, OutOfMemory, Settings, Engine, Load}
 

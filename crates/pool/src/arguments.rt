@@ -1,6 +1,6 @@
 //! What the arguments ask for.
 ghost use Rattle.std.specs.Prelude.{◌≡◌, ◌^◌, drop, map, option_map, string_bytes};
-ghost use Rattle.std.specs.List.{list_all};
+ghost use Rattle.std.specs.List.{list_all, list_any};
 ghost use Rattle.std.specs.Char.{is_ascii_digit};
 ghost use Rattle.pool.specs.Arguments as Spec;
 
@@ -14,10 +14,11 @@ pub(crate) enum Task<'a> {
         settings: &'a str,
         script: &'a str,
     },
-    /// To judge a journal.
+    /// To judge a journal that lies in files, of which there is one at least.
     Check {
         settings: &'a str,
-        journal: &'a str,
+        first: &'a str,
+        others: &'a [String],
     },
     /// To tell the statistics of a journal.
     Stats {
@@ -87,9 +88,13 @@ fn check_of<'a>(given: Given<'a>) -> Option<Task<'a>>
     ensures { option_map Spec.asked result ≡ Spec.check_of (Spec.rest_of given.entry) }
 {
     let (settings, given) = operand(given)?;
-    let (journal, given) = operand(given)?;
-    end(given)?;
-    Some(Task::Check { settings, journal })
+    let (first, given) = operand(given)?;
+    let others = operands(given)?;
+    Some(Task::Check {
+        settings,
+        first,
+        others,
+    })
 }
 
 fn stats_of<'a>(given: Given<'a>) -> Option<Task<'a>>
@@ -143,6 +148,39 @@ fn operand<'a>(given: Given<'a>) -> Option<(&'a str, Given<'a>)>
             },
         ))
     }
+}
+
+/// All operands that are left. Where `--` is to stand among them, it is the first.
+fn operands<'a>(given: Given<'a>) -> Option<&'a [String]>
+    ensures { option_map (λ paths. map string_bytes paths.now) result ≡ Spec.operands (Spec.rest_of given.entry) }
+{
+    if given.is_plain {
+        return Some(given.words);
+    }
+    match given.words.split_first() {
+        Some((word, words)) if word.as_str() == "--" => Some(words),
+        _ => {
+            if has_option(given.words) {
+                None
+            } else {
+                Some(given.words)
+            }
+        }
+    }
+}
+
+/// Whether one of the words is an option.
+fn has_option(words: &[String]) -> bool
+    ensures { result ≡ list_any Spec.is_option (map string_bytes words.now) }
+{
+    let mut left = words;
+    while let [word, rest @ ..] = left {
+        if is_option(word.as_bytes()) {
+            return true;
+        }
+        left = rest;
+    }
+    false
 }
 
 /// The first word, and what follows it.

@@ -2,7 +2,7 @@
 //! pool that threads share.
 //!
 //! Without arguments it plays standard input with the default settings; `run SETTINGS SCRIPT` plays a
-//! file, `check SETTINGS JOURNAL` judges one, `stats JOURNAL` tells its statistics, and `load SETTINGS
+//! file, `check SETTINGS JOURNAL..` judges a journal in one file or more, `stats JOURNAL` tells its statistics, and `load SETTINGS
 //! WORKERS ROUNDS` lets workers borrow and give back. It writes to standard output. The status is 0 where all
 //! went well, 1 for a journal that isn't legal, 2 for any other arguments, and 3 at a fault; what is wrong is
 //! told in one line on standard error. Where the other arguments ask for help, the uses are written too.
@@ -27,6 +27,9 @@ use std::sync::Wait;
 use std::thread::Threads;
 
 const ILLEGAL: u8 = 1;
+
+/// How many files are kept open until they are read.
+const MOST_OPEN: usize = 500;
 
 fn main(rt: HostRuntime) -> ExitCode {
     match arguments_of(&rt) {
@@ -55,7 +58,13 @@ fn perform<'a, R: Threads + Wait + Sync>(
     match task_of(arguments) {
         Some(Task::RunInput) => run_input(rt),
         Some(Task::Run { settings, script }) => run_script(rt, settings, script),
-        Some(Task::Check { settings, journal }) => check_journal(rt, settings, journal),
+        Some(
+            Task::Check {
+                settings,
+                first,
+                others,
+            },
+        ) => check_journal(rt, settings, first, others),
         Some(Task::Stats { journal }) => tell_statistics(rt, journal),
         Some(
             Task::Load {
@@ -96,25 +105,53 @@ fn run_script<'a>(
 fn check_journal<'a>(
     rt: &HostRuntime,
     settings: &'a str,
-    journal: &'a str,
+    first: &'a str,
+    others: &'a [String],
 ) -> Result<ExitCode, Fault<'a>> {
     let settings = settings_in(rt, settings)?;
-    let file = open(rt, journal)?;
-    let progress = Progress::of(rt, &file);
-    let mut journal = Watched {
-        file,
-        progress: &progress,
-    };
+    let progress = Progress::of(rt);
+    let mut files = Vec::new(rt.alloc());
+    watch(rt, first, &progress, &mut files)?;
+    for path in others {
+        watch(rt, path, &progress, &mut files)?;
+    }
     let mut out = Wiped {
         out: rt.stdout(),
         progress: &progress,
     };
-    let judged = check(rt.alloc(), settings, &mut journal, &mut out);
+    let judged = check(rt.alloc(), settings, &mut files, &mut out);
     progress.wipe();
+    if let Some(lost) = files.iter().find(|file| file.is_lost) {
+        return Err(Fault::Unopened(lost.path));
+    }
     if judged? {
         Ok(ExitCode::SUCCESS)
     } else {
         Ok(ExitCode::from(ILLEGAL))
+    }
+}
+
+/// Opens the file at this path, and puts it behind the others. Where there are many, it is closed, and opened again once it
+/// is read: there may be more files than may be open at once.
+fn watch<'a, 'p, 'r>(
+    rt: &'r HostRuntime,
+    path: &'a str,
+    progress: &'p Progress<'r>,
+    files: &mut Vec<Watched<'a, 'p, 'r>>,
+) -> Result<(), Fault<'a>> {
+    let file = open(rt, path)?;
+    progress.expect(&file);
+    let kept = files.len() < MOST_OPEN;
+    let watched = Watched {
+        rt,
+        path,
+        file: if kept { Some(file) } else { None },
+        is_lost: false,
+        progress,
+    };
+    match files.push(watched) {
+        Ok(()) => Ok(()),
+        Err(_) => Err(Fault::OutOfMemory),
     }
 }
 
@@ -140,7 +177,14 @@ fn load_pool<'a, R: Threads + Wait + Sync>(
 ) -> Result<ExitCode, Fault<'a>> {
     let settings = settings_in(rt, settings)?;
     let report = load(threads, rt.alloc(), settings, workers, rounds, &NoGate)?;
-    write_report(rt.alloc(), workers, rounds, &report, &mut rt.stdout())?;
+    write_report(
+        rt.alloc(),
+        workers,
+        rounds,
+        report.refused,
+        &report.stats,
+        &mut rt.stdout(),
+    )?;
     Ok(ExitCode::SUCCESS)
 }
 

@@ -1,35 +1,8 @@
-//! The engines: what the program does with a stream of lines.
+//! What the program does: the engines, which go over a stream of lines, and a load of many workers.
 #![tactic(auto)]
 
-mod checker;
-mod engine;
-mod engine_fault;
-mod file_fault;
-mod incoming;
-mod laws;
-mod outgoing;
-mod report_lines;
-mod runner;
-mod settings_file;
-mod sink;
-mod source;
-mod statistics_lines;
-mod step;
-mod tallier;
-mod turn;
-mod verdict;
-
-pub use checker::check;
-pub use engine_fault::EngineFault;
-pub use file_fault::FileFault;
-pub use laws::runs_are_determined;
+pub use pool_engines::{
+    EngineFault, FileFault, Sink, Source, check, flush_past_signals, read_past_signals,
+    read_settings, run, runs_are_determined, stats, write_past_signals, write_report,
+};
 pub use pool_work::{Gate, LoadFault, LoadReport, load};
-pub use report_lines::write_report;
-pub use runner::run;
-pub use settings_file::read_settings;
-pub use sink::{Sink, flush_past_signals, write_past_signals};
-pub use source::{Source, read_past_signals};
-pub use tallier::stats;
-
-#[cfg(test)]
-mod tests;

@@ -1,7 +1,7 @@
 // The judgement of a journal, by the engine that the program `pool check` runs.
 use crate::fault::Fault;
+use pool_engines::check;
 use pool_journal::{Entry, print_entry};
-use pool_load::check;
 use pool_settings::Settings;
 use std::alloc::Global;
 
@@ -12,5 +12,5 @@ pub fn is_legal(alloc: Global, settings: Settings, journal: &[Entry]) -> Result<
         print_entry(entry, &mut text)?;
     }
     let mut verdict = Vec::new(alloc);
-    check(alloc, settings, &mut text.as_slice(), &mut verdict).map_err(|_| Fault::NotJudged)
+    check(alloc, settings, &mut [text.as_slice()], &mut verdict).map_err(|_| Fault::NotJudged)
 }

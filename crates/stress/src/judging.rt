@@ -5,8 +5,8 @@ use crate::marks::{Mark, tells};
 use crate::refusals::Refusals;
 use crate::things::{Tally, Thing};
 use pool_core::Core;
+use pool_engines::{EngineFault, check};
 use pool_journal::{Entry, print_entry};
-use pool_load::{EngineFault, check};
 use pool_settings::Settings;
 use std::alloc::Global;
 use std::fmt;
@@ -62,10 +62,9 @@ fn print(entry: &Entry, text: &mut Vec<u8>) -> Result<(), Fault> {
 
 // What the engine of `pool check` says of a journal's text.
 fn judge_text(alloc: Global, settings: Settings, text: &[u8]) -> Result<bool, Fault> {
-    let mut text = text;
     let mut verdict = Vec::new(alloc);
     verdict.reserve(VERDICT)?;
-    check(alloc, settings, &mut text, &mut verdict).map_err(|fault| match fault {
+    check(alloc, settings, &mut [text], &mut verdict).map_err(|fault| match fault {
         EngineFault::OutOfMemory => Fault::OutOfMemory,
         _ => Fault::NotJudged,
     })

@@ -1,0 +1,204 @@
+-- An engine on its way through a stream.
+use Rattle.std.proofs.Common.{◌≡◌, ℕ, ◌≤◌, true, false, List, [], ◌++◌, length, take, drop, length-drop, arith, Option, Some, None, Result, Ok, Err, IfSome, unwrap_or, refl, sym, ap, ◌∙◌, subst, append_assoc, append-nil, take-append-drop}
+use Rattle.std.specs.Io.KnownBytes.{Appends, Consumes, IsAtEnd, Keeps}
+use Rattle.std.proofs.KnownBytes.{Appends-trans, Consumes-trans, Consumes-kept, Consumes-nil, Appends-nil}
+use Rattle.std.proofs.lemmas.Bool.{false≢true}
+use Rattle.pool_engines.specs.Handing.{AppendsFront}
+use Rattle.pool_engines.specs.Faults.{is_write_failure}
+use Rattle.pool_engines.specs.Leaving.{read_ahead}
+use Rattle.pool_engines.specs.Engine.{Tells, Gives, Passes}
+use Rattle.pool_engines.specs.declared.engine_fault.EngineFault.{EngineFault}
+use Rattle.pool_engines.specs.declared.engine_fault.EngineFault.TheVariants.{Line, Full, OutOfMemory, Read, Write}
+
+-- the bytes that are told were given to the writer, but for those that wait
+abbrev pub Gave : List ℕ → Option (List ℕ) → Option (List ℕ) → List ℕ → Type 0
+Gave told held written waiting = (sent : List ℕ) × (told ≡ sent ++ waiting) × Appends held written sent
+
+-- more is told
+pub Gave-more : (told held_told : List ℕ) (held written : Option (List ℕ)) (before after words : List ℕ) → Gave told held written before → after ≡ before ++ words → held_told ≡ told ++ words → Gave held_told held written after
+Gave-more told new held written before after words (sent, parts, given) grown is = (sent, is ∙ ap (λ l. l ++ words) parts ∙ append_assoc sent before words ∙ ap (λ l. sent ++ l) (sym grown), given)
+
+-- some of what waits is given
+pub Gave-sent : (told : List ℕ) (held mid written : Option (List ℕ)) (before after more : List ℕ) → Gave told held mid before → before ≡ more ++ after → Appends mid written more → Gave told held written after
+Gave-sent told held mid written before after more (sent, parts, given) e more_given = (sent ++ more, parts ∙ ap (λ l. sent ++ l) e ∙ sym (append_assoc sent more after), Appends-trans held mid written sent more given more_given)
+
+-- the writer fails
+pub Gave-failed : (told : List ℕ) (held mid written : Option (List ℕ)) (waiting : List ℕ) → Gave told held mid waiting → AppendsFront mid written waiting → AppendsFront held written told
+Gave-failed told held mid written waiting (sent, parts, given) (front, rest, e, more_given) = (sent ++ front, rest, parts ∙ ap (λ l. sent ++ l) e ∙ sym (append_assoc sent front rest), Appends-trans held mid written sent front given more_given)
+
+-- the bytes that are left, where they are known
+abbrev pub left : Option (List ℕ) → List ℕ
+left known = unwrap_or known []
+
+-- the known bytes are those that were consumed, and what is left
+pub IfSome-consumed : (known now : Option (List ℕ)) (taken pending : List ℕ) → Consumes known now (taken ++ pending) → IfSome known (λ bytes. bytes ≡ taken ++ (pending ++ left now))
+IfSome-consumed None now taken pending h = tt
+IfSome-consumed (Some xs) None taken pending h = absurd h
+IfSome-consumed (Some xs) (Some ys) taken pending h = h ∙ append_assoc taken pending ys
+
+-- at the end nothing is left
+pub left-at_end : (now : Option (List ℕ)) → IsAtEnd now → left now ≡ []
+left-at_end None h = refl
+left-at_end (Some xs) h = h
+
+module _ {E F : Type 0} (settings : E → F) (taken told : E → List ℕ) (stands : E → Type 0) (is_partial : List ℕ → Type 0) (ends : E → List ℕ → Result (Unit {0}) EngineFault → Type 0) (begun : E) (known held : Option (List ℕ)) where
+  pub record Going (engine : E) (now written : Option (List ℕ)) (pending waiting : List ℕ) : Type 0 where
+    pub standing : stands engine
+    pub same : settings engine ≡ settings begun
+    pub took : Consumes known now (taken engine ++ pending)
+    pub ahead : length pending ≤ read_ahead
+    pub gave : Gave (told engine) held written waiting
+
+  Gives-gave : (result : Result (Unit {0}) EngineFault) (engine : E) (written : Option (List ℕ)) (waiting : List ℕ) → Gave (told engine) held written waiting → Gives settings taken told stands is_partial ends result engine held written waiting
+  Gives-gave (Ok u) engine written waiting h = h
+  Gives-gave (Err (Line n f)) engine written waiting h = h
+  Gives-gave (Err (Full n)) engine written waiting h = h
+  Gives-gave (Err OutOfMemory) engine written waiting h = h
+  Gives-gave (Err Read) engine written waiting h = h
+  Gives-gave (Err Write) engine written waiting (sent, parts, given) = (sent, waiting, parts, given)
+
+  -- the engine ends before what is pending
+  pub Passes-ended : (result : Result (Unit {0}) EngineFault) (old new : E) (now written : Option (List ℕ)) (pending before after shown : List ℕ) → Going old now written pending before → shown ≡ pending
+      → taken new ≡ taken old → Tells settings taken told stands is_partial ends old new before after → ((more : List ℕ) → ends new (shown ++ more) result)
+      → Passes settings taken told stands is_partial ends result begun new known now held written after
+  Passes-ended result old new now written pending before after shown going all same (words, grown, is, stay) ended = record {
+    rest = pending ++ left now;
+    same = stay ∙ going.same;
+    stream = IfSome-consumed known now (taken new) pending (subst (λ l. Consumes known now (l ++ pending)) (sym same) going.took);
+    leaves = (pending, subst (λ l. Consumes known now (l ++ pending)) (sym same) going.took, going.ahead);
+    ended = subst (λ l. ends new (l ++ left now) result) all (ended (left now));
+    gave = Gives-gave result new written after (Gave-more (told old) (told new) held written before after words going.gave grown is);
+  }
+
+  -- the engine is stopped
+  pub Passes-stopped : (result : Result (Unit {0}) EngineFault) (engine : E) (now written : Option (List ℕ)) (pending waiting : List ℕ) → Going engine now written pending waiting
+      → ((rest : List ℕ) → ends engine rest result) → Passes settings taken told stands is_partial ends result begun engine known now held written waiting
+  Passes-stopped result engine now written pending waiting going ended =
+      Passes-ended result engine engine now written pending waiting waiting pending going refl refl ([], sym (append-nil waiting), sym (append-nil (told engine)), refl) (λ more. ended (pending ++ more))
+
+  -- the writer fails
+  pub Passes-failed : (engine : E) (now mid written : Option (List ℕ)) (pending before after : List ℕ) → Going engine now mid pending before → AppendsFront mid written before
+      → ((rest : List ℕ) → ends engine rest (Err Write)) → Passes settings taken told stands is_partial ends (Err Write) begun engine known now held written after
+  Passes-failed engine now mid written pending before after going failed ended = record {
+    rest = pending ++ left now;
+    same = going.same;
+    stream = IfSome-consumed known now (taken engine) pending going.took;
+    leaves = (pending, going.took, going.ahead);
+    ended = ended (pending ++ left now);
+    gave = Gave-failed (told engine) held mid written before going.gave failed;
+  }
+
+  -- a line is taken
+  pub Going-took : (old new : E) (now written : Option (List ℕ)) (pending before after shown : List ℕ) (count : ℕ) → Going old now written pending before → shown ≡ pending
+      → stands new → taken new ≡ taken old ++ take count shown → Tells settings taken told stands is_partial ends old new before after → Going new now written (drop count pending) after
+  Going-took old new now written pending before after shown count going all standing is (words, grown, told_is, stay) = record {
+    standing = standing;
+    same = stay ∙ going.same;
+    took = subst (Consumes known now) (ap (λ l. taken old ++ l) (sym (take-append-drop count pending)) ∙ sym (append_assoc (taken old) (take count pending) (drop count pending)) ∙ ap (λ l. l ++ drop count pending) (sym (is ∙ ap (λ l. taken old ++ take count l) all))) going.took;
+    ahead = omega (arith, length-drop count pending, going.ahead);
+    gave = Gave-more (told old) (told new) held written before after words going.gave grown told_is;
+  }
+
+  -- some of what waits is given
+  pub Going-sent : (engine : E) (now mid written : Option (List ℕ)) (pending before after sent : List ℕ) → Going engine now mid pending before → before ≡ sent ++ after → Appends mid written sent
+      → Going engine now written pending after
+  Going-sent engine now mid written pending before after sent going parts given = record {
+    standing = going.standing;
+    same = going.same;
+    took = going.took;
+    ahead = going.ahead;
+    gave = Gave-sent (told engine) held mid written before after sent going.gave parts given;
+  }
+
+  -- all that waits is given
+  pub Going-emptied : (engine : E) (now mid written : Option (List ℕ)) (pending before after : List ℕ) → Going engine now mid pending before → after ≡ [] → Appends mid written before
+      → Going engine now written pending after
+  Going-emptied engine now mid written pending before after going empty given =
+      Going-sent engine now mid written pending before after before going (sym (ap (λ l. before ++ l) empty ∙ append-nil before)) given
+
+  -- more has come
+  pub Going-filled : (engine : E) (old now written : Option (List ℕ)) (before after more waiting : List ℕ) → Going engine old written before waiting → after ≡ before ++ more → length after ≤ read_ahead → Consumes old now more
+      → Going engine now written after waiting
+  Going-filled engine old now written before after more waiting going grown within came = record {
+    standing = going.standing;
+    same = going.same;
+    took = subst (Consumes known now) (append_assoc (taken engine) before more ∙ ap (λ l. taken engine ++ l) (sym grown)) (Consumes-trans known old now (taken engine ++ before) more going.took came);
+    ahead = within;
+    gave = going.gave;
+  }
+
+  -- the reader stays where it is
+  pub Going-kept : (engine : E) (old now written : Option (List ℕ)) (pending waiting : List ℕ) → Going engine old written pending waiting → Keeps old now
+      → Going engine now written pending waiting
+  Going-kept engine old now written pending waiting going kept = record {
+    standing = going.standing;
+    same = going.same;
+    took = Consumes-kept known old now (taken engine ++ pending) going.took kept;
+    ahead = going.ahead;
+    gave = going.gave;
+  }
+
+  -- the stream is at its end
+  pub Passes-finished : (result : Result (Unit {0}) EngineFault) (old new : E) (now written : Option (List ℕ)) (pending before after shown : List ℕ) → Going old now written pending before → shown ≡ pending → IsAtEnd now
+      → taken new ≡ taken old → Tells settings taken told stands is_partial ends old new before after → ends new shown result
+      → Passes settings taken told stands is_partial ends result begun new known now held written after
+  Passes-finished result old new now written pending before after shown going all at_end same (words, grown, is, stay) ended = record {
+    rest = pending ++ left now;
+    same = stay ∙ going.same;
+    stream = IfSome-consumed known now (taken new) pending (subst (λ l. Consumes known now (l ++ pending)) (sym same) going.took);
+    leaves = (pending, subst (λ l. Consumes known now (l ++ pending)) (sym same) going.took, going.ahead);
+    ended = subst (λ l. ends new l result) (sym (ap (λ l. pending ++ l) (left-at_end now at_end) ∙ append-nil pending ∙ sym all)) ended;
+    gave = Gives-gave result new written after (Gave-more (told old) (told new) held written before after words going.gave grown is);
+  }
+
+  -- nothing is changed
+  pub Going-same : (old new : E) (now written : Option (List ℕ)) (pending before after : List ℕ) → Going old now written pending before → new ≡ old → after ≡ before → Going new now written pending after
+  Going-same old new now written pending before after going same stays =
+      subst (λ l. Going new now written pending l) (sym stays) (subst (λ e. Going e now written pending before) (sym same) going)
+
+  -- an engine that begins
+  pub Going-begun : stands begun → taken begun ≡ [] → told begun ≡ [] → Going begun known held [] []
+  Going-begun standing none_taken none_told = record {
+    standing = standing;
+    same = refl;
+    took = subst (Consumes known known) (sym (append-nil (taken begun) ∙ none_taken)) (Consumes-nil known);
+    ahead = omega arith;
+    gave = ([], none_told, Appends-nil held);
+  }
+
+  Gives-handed : (result : Result (Unit {0}) EngineFault) (engine : E) (mid written : Option (List ℕ)) (waiting : List ℕ) → is_write_failure result ≡ false → Gives settings taken told stands is_partial ends result engine held mid waiting → Appends mid written waiting
+      → Gives settings taken told stands is_partial ends result engine held written []
+  Gives-handed (Ok u) engine mid written waiting works h given = Gave-sent (told engine) held mid written waiting [] waiting h (sym (append-nil waiting)) given
+  Gives-handed (Err (Line n f)) engine mid written waiting works h given = Gave-sent (told engine) held mid written waiting [] waiting h (sym (append-nil waiting)) given
+  Gives-handed (Err (Full n)) engine mid written waiting works h given = Gave-sent (told engine) held mid written waiting [] waiting h (sym (append-nil waiting)) given
+  Gives-handed (Err OutOfMemory) engine mid written waiting works h given = Gave-sent (told engine) held mid written waiting [] waiting h (sym (append-nil waiting)) given
+  Gives-handed (Err Read) engine mid written waiting works h given = Gave-sent (told engine) held mid written waiting [] waiting h (sym (append-nil waiting)) given
+  Gives-handed (Err Write) engine mid written waiting works h given = absurd (false≢true (sym works))
+
+  Gave-from : (result : Result (Unit {0}) EngineFault) (engine : E) (written : Option (List ℕ)) (waiting : List ℕ) → is_write_failure result ≡ false → Gives settings taken told stands is_partial ends result engine held written waiting → Gave (told engine) held written waiting
+  Gave-from (Ok u) engine written waiting works h = h
+  Gave-from (Err (Line n f)) engine written waiting works h = h
+  Gave-from (Err (Full n)) engine written waiting works h = h
+  Gave-from (Err OutOfMemory) engine written waiting works h = h
+  Gave-from (Err Read) engine written waiting works h = h
+  Gave-from (Err Write) engine written waiting works h = absurd (false≢true (sym works))
+
+  -- what waits at the end is given
+  pub Passes-handed : (result : Result (Unit {0}) EngineFault) (engine : E) (now mid written : Option (List ℕ)) (waiting : List ℕ) → is_write_failure result ≡ false → Passes settings taken told stands is_partial ends result begun engine known now held mid waiting → Appends mid written waiting
+      → Passes settings taken told stands is_partial ends result begun engine known now held written []
+  Passes-handed result engine now mid written waiting works p given = record { rest = p.rest; same = p.same; stream = p.stream; leaves = p.leaves; ended = p.ended; gave = Gives-handed result engine mid written waiting works p.gave given }
+
+  -- the writer fails at the end
+  pub Passes-unhanded : (result : Result (Unit {0}) EngineFault) (engine : E) (now mid written : Option (List ℕ)) (waiting : List ℕ) → is_write_failure result ≡ false → Passes settings taken told stands is_partial ends result begun engine known now held mid waiting → AppendsFront mid written waiting
+      → ((rest : List ℕ) → ends engine rest result → ends engine rest (Err Write)) → Passes settings taken told stands is_partial ends (Err Write) begun engine known now held written []
+  Passes-unhanded result engine now mid written waiting works p failed fails = record { rest = p.rest; same = p.same; stream = p.stream; leaves = p.leaves; ended = fails p.rest p.ended; gave = Gave-failed (told engine) held mid written waiting (Gave-from result engine mid waiting works p.gave) failed }
+
+  -- the writer had failed before
+  pub Passes-broken : (result : Result (Unit {0}) EngineFault) (engine : E) (now written : Option (List ℕ)) (waiting : List ℕ) → is_write_failure result ≡ true → Passes settings taken told stands is_partial ends result begun engine known now held written waiting
+      → Passes settings taken told stands is_partial ends result begun engine known now held written []
+  Passes-broken (Ok u) engine now written waiting broken p = absurd (false≢true broken)
+  Passes-broken (Err (Line n f)) engine now written waiting broken p = absurd (false≢true broken)
+  Passes-broken (Err (Full n)) engine now written waiting broken p = absurd (false≢true broken)
+  Passes-broken (Err OutOfMemory) engine now written waiting broken p = absurd (false≢true broken)
+  Passes-broken (Err Read) engine now written waiting broken p = absurd (false≢true broken)
+  Passes-broken (Err Write) engine now written waiting broken p = record { rest = p.rest; same = p.same; stream = p.stream; leaves = p.leaves; ended = p.ended; gave = p.gave }

@@ -1,0 +1,15 @@
+pub mod Windows
+pub mod Going
+pub mod Telling
+pub mod Journals
+pub mod Whole
+pub mod Running
+pub mod OneRun
+pub mod Empty
+pub mod Parts
+pub mod Tallying
+pub mod Naming
+pub mod Filing
+pub mod Verdicts
+pub mod OneFile
+pub mod AllFiles

@@ -1,0 +1,159 @@
+use Rattle.std.proofs.Common.{Ok, Err, length, ap, sym, ◌∙◌, arith}
+use Rattle.std.proofs.lemmas.Bool.{false≢true}
+use Rattle.std.proofs.lemmas.Result.{err_from_is_err_and}
+use Rattle.pool_engines.proofs.Going.{Passes-ended, Passes-stopped, Passes-failed, Passes-finished, Going-took, Going-sent, Going-emptied, Going-filled, Going-kept, Going-same}
+use Rattle.pool_engines.proofs.Telling.{own_reads, own_writes, untold}
+use Rattle.pool_engines.specs.declared.engine_fault.EngineFault.TheVariants as faults
+use Rattle.pool_engines.proofs.engine.take_turns.Goals as goal
+
+pub returns-in_err-count-clause-passed : goal.returns-in_err-count-clause-passed
+returns-in_err-count-clause-passed g c =
+    let e = g.E.Engine in
+    let h = c.in_err-count.ensures.turned in
+    let p = err_from_is_err_and c.from_residual.result c.from_residual.ensures.1 in
+    rw (p.1, p.2) (Passes-ended e.settings e.taken e.told e.stands e.is_partial e.ends c.args.engine.now _ _ _ c.loop-count.engine c.turn.new.self _ _ c.loop-count.incoming _ _ c.bytes.result.now c.loop-count.invariant.going c.bytes.ensures h.0 h.1 h.2)
+
+pub returns-in-Done-clause-passed : goal.returns-in-Done-clause-passed
+returns-in-Done-clause-passed g c =
+    let e = g.E.Engine in
+    let h = rw c.in-Done.is at c.in_ok-count.ensures.turned in
+    Passes-ended e.settings e.taken e.told e.stands e.is_partial e.ends c.args.engine.now _ _ _ c.loop-count.engine c.turn.new.self _ _ c.loop-count.incoming _ _ c.bytes.result.now c.loop-count.invariant.going c.bytes.ensures h.0 h.1 h.2
+
+pub returns-in_err-make_room-in-Took-clause-passed : goal.returns-in_err-make_room-in-Took-clause-passed
+returns-in_err-make_room-in-Took-clause-passed g c =
+    let e = g.E.Engine in
+    let h = rw c.in-Took.is at c.in_ok-count.ensures.turned in
+    let p = err_from_is_err_and c.from_residual-in_err-make_room-in-Took.result c.from_residual-in_err-make_room-in-Took.ensures.1 in
+    let going = Going-took e.settings e.taken e.told e.stands e.is_partial e.ends c.args.engine.now _ _ c.loop-count.engine c.turn.new.self _ _ c.loop-count.incoming _ _ c.bytes.result.now c.in-Took.count c.loop-count.invariant.going c.bytes.ensures h.0 h.2 h.3 in
+    rw (p.1, p.2, c.in_err-make_room-in-Took.ensures.fault) (Passes-failed e.settings e.taken e.told e.stands e.is_partial e.ends c.args.engine.now _ _ c.turn.new.self _ _ _ _ _ _ going c.in_err-make_room-in-Took.ensures.err (λ rest. g.met.E.Engine.stops_anywhere c.turn.new.self rest faults.Write h.0 tt))
+
+pub returns-in_err-hand_on-in-Unfinished-clause-passed : goal.returns-in_err-hand_on-in-Unfinished-clause-passed
+returns-in_err-hand_on-in-Unfinished-clause-passed g c =
+    let e = g.E.Engine in
+    let h = rw c.in-Unfinished.is at c.in_ok-count.ensures.turned in
+    let p = err_from_is_err_and c.from_residual-in_err-hand_on-in-Unfinished.result c.from_residual-in_err-hand_on-in-Unfinished.ensures.1 in
+    let going = Going-same e.settings e.taken e.told e.stands e.is_partial e.ends c.args.engine.now _ _ c.loop-count.engine c.turn.new.self _ _ _ _ _ c.loop-count.invariant.going h.0 h.1 in
+    rw (p.1, p.2, c.in_err-hand_on-in-Unfinished.ensures.fault) (Passes-failed e.settings e.taken e.told e.stands e.is_partial e.ends c.args.engine.now _ _ c.turn.new.self _ _ _ _ _ _ going c.in_err-hand_on-in-Unfinished.ensures.err (λ rest. g.met.E.Engine.stops_anywhere c.turn.new.self rest faults.Write going.standing tt))
+
+pub returns-in_err-fill-in-Unfinished-clause-passed : goal.returns-in_err-fill-in-Unfinished-clause-passed
+returns-in_err-fill-in-Unfinished-clause-passed g c =
+    let e = g.E.Engine in
+    let h = rw c.in-Unfinished.is at c.in_ok-count.ensures.turned in
+    let p = err_from_is_err_and c.from_residual-in_err-fill-in-Unfinished.result c.from_residual-in_err-fill-in-Unfinished.ensures.1 in
+    let going = Going-same e.settings e.taken e.told e.stands e.is_partial e.ends c.args.engine.now _ _ c.loop-count.engine c.turn.new.self _ _ _ _ _ c.loop-count.invariant.going h.0 h.1 in
+    let ok = c.in_ok-hand_on-in-Unfinished.ensures.ok in
+    let given = Going-emptied e.settings e.taken e.told e.stands e.is_partial e.ends c.args.engine.now _ _ c.turn.new.self _ _ _ _ _ _ going ok.0 ok.1 in
+    let kept = Going-kept e.settings e.taken e.told e.stands e.is_partial e.ends c.args.engine.now _ _ c.turn.new.self _ _ _ _ _ given c.in_err-fill-in-Unfinished.ensures.err.1 in
+    rw (p.1, p.2, c.in_err-fill-in-Unfinished.ensures.fault) (Passes-stopped e.settings e.taken e.told e.stands e.is_partial e.ends c.args.engine.now _ _ _ c.turn.new.self _ _ _ _ kept (λ rest. g.met.E.Engine.stops_anywhere c.turn.new.self rest faults.Read going.standing tt))
+
+pub returns-then-branch-eq0-clause-passed : goal.returns-then-branch-eq0-clause-passed
+returns-then-branch-eq0-clause-passed g c =
+    let e = g.E.Engine in
+    let h = rw c.in-Unfinished.is at c.in_ok-count.ensures.turned in
+    let going = Going-same e.settings e.taken e.told e.stands e.is_partial e.ends c.args.engine.now _ _ c.loop-count.engine c.turn.new.self _ _ _ _ _ c.loop-count.invariant.going h.0 h.1 in
+    let ok = c.in_ok-hand_on-in-Unfinished.ensures.ok in
+    let given = Going-emptied e.settings e.taken e.told e.stands e.is_partial e.ends c.args.engine.now _ _ c.turn.new.self _ _ _ _ _ _ going ok.0 ok.1 in
+    let (more, count, grown, came) = c.in_ok-fill-in-Unfinished.ensures.more in
+    let filled = Going-filled e.settings e.taken e.told e.stands e.is_partial e.ends c.args.engine.now _ _ c.turn.new.self _ _ _ _ _ more _ given grown c.in_ok-fill-in-Unfinished.ensures.ahead came in
+    let at_end = c.in_ok-fill-in-Unfinished.ensures.end (ap Ok c.if-branch-eq0.true) in
+    let f = c.finish.ensures.finished in
+    Passes-finished e.settings e.taken e.told e.stands e.is_partial e.ends c.args.engine.now _ _ c.finish.result c.turn.new.self c.finish.new.self _ _ _ _ _ c.bytes-then-branch-eq0.result.now filled c.bytes-then-branch-eq0.ensures at_end f.0 f.1 f.2
+
+pub loop-count-preserved-in_ok-make_room-in-Took : goal.loop-count-preserved-in_ok-make_room-in-Took
+loop-count-preserved-in_ok-make_room-in-Took g c =
+    let e = g.E.Engine in
+    let h = rw c.in-Took.is at c.in_ok-count.ensures.turned in
+    let going = Going-took e.settings e.taken e.told e.stands e.is_partial e.ends c.args.engine.now _ _ c.loop-count.engine c.turn.new.self _ _ c.loop-count.incoming _ _ c.bytes.result.now c.in-Took.count c.loop-count.invariant.going c.bytes.ensures h.0 h.2 h.3 in
+    let (sent, parts, given) = c.in_ok-make_room-in-Took.ensures.ok in
+    rw c.drop_front.ensures (record {
+      going = Going-sent e.settings e.taken e.told e.stands e.is_partial e.ends c.args.engine.now _ _ c.turn.new.self _ _ _ _ _ _ sent going parts given;
+      room = c.in_ok-make_room-in-Took.ensures.room;
+      capacity = omega (arith, c.in_ok-make_room-in-Took.ensures.capacity, c.in_ok-count.ensures.room, c.loop-count.invariant.capacity);
+      reads = c.loop-count.invariant.reads;
+      writes = c.in_ok-make_room-in-Took.ensures.told ∙ c.loop-count.invariant.writes;
+    })
+
+pub loop-count-preserved : goal.loop-count-preserved
+loop-count-preserved g c =
+    let e = g.E.Engine in
+    let h = rw c.in-Unfinished.is at c.in_ok-count.ensures.turned in
+    let going = Going-same e.settings e.taken e.told e.stands e.is_partial e.ends c.args.engine.now _ _ c.loop-count.engine c.turn.new.self _ _ _ _ _ c.loop-count.invariant.going h.0 h.1 in
+    let ok = c.in_ok-hand_on-in-Unfinished.ensures.ok in
+    let emptied = Going-emptied e.settings e.taken e.told e.stands e.is_partial e.ends c.args.engine.now _ _ c.turn.new.self _ _ _ _ _ _ going ok.0 ok.1 in
+    let (more, count, grown, came) = c.in_ok-fill-in-Unfinished.ensures.more in
+    record {
+      going = Going-filled e.settings e.taken e.told e.stands e.is_partial e.ends c.args.engine.now _ _ c.turn.new.self _ _ _ _ _ more _ emptied grown c.in_ok-fill-in-Unfinished.ensures.ahead came;
+      room = omega (arith, c.in_ok-hand_on-in-Unfinished.ensures.capacity, ap length ok.0, c.hand_on.new.waiting.ok.0, c.in_ok-count.ensures.room, c.loop-count.invariant.capacity);
+      capacity = omega (arith, c.in_ok-hand_on-in-Unfinished.ensures.capacity, c.in_ok-count.ensures.room, c.loop-count.invariant.capacity);
+      reads = c.in_ok-fill-in-Unfinished.ensures.told ∙ c.loop-count.invariant.reads;
+      writes = c.in_ok-hand_on-in-Unfinished.ensures.told ∙ c.loop-count.invariant.writes;
+    }
+
+pub returns-in_err-count-clause-reader : goal.returns-in_err-count-clause-reader
+returns-in_err-count-clause-reader g c =
+    let p = err_from_is_err_and c.from_residual.result c.from_residual.ensures.1 in
+    rw (p.1, p.2) (untold _ _ _ (own_reads {A = Unit {0}} (Err c.in_err-count.field-0.0) c.in_err-count.ensures.own) c.loop-count.invariant.reads)
+
+pub returns-in_err-count-clause-writer : goal.returns-in_err-count-clause-writer
+returns-in_err-count-clause-writer g c =
+    let p = err_from_is_err_and c.from_residual.result c.from_residual.ensures.1 in
+    rw (p.1, p.2) (untold _ _ _ (own_writes {A = Unit {0}} (Err c.in_err-count.field-0.0) c.in_err-count.ensures.own) c.loop-count.invariant.writes)
+
+pub returns-in_err-count-clause-handed : goal.returns-in_err-count-clause-handed
+returns-in_err-count-clause-handed g c =
+    let p = err_from_is_err_and c.from_residual.result c.from_residual.ensures.1 in
+    rw (p.1, p.2) (λ told. absurd (false≢true (sym (own_reads {A = Unit {0}} (Err c.in_err-count.field-0.0) c.in_err-count.ensures.own) ∙ told)))
+
+pub returns-then-branch-eq0-clause-reader : goal.returns-then-branch-eq0-clause-reader
+returns-then-branch-eq0-clause-reader g c =
+    untold _ _ _ (own_reads c.finish.result c.finish.ensures.own) (c.in_ok-fill-in-Unfinished.ensures.told ∙ c.loop-count.invariant.reads)
+
+pub returns-then-branch-eq0-clause-writer : goal.returns-then-branch-eq0-clause-writer
+returns-then-branch-eq0-clause-writer g c =
+    untold _ _ _ (own_writes c.finish.result c.finish.ensures.own) (c.in_ok-hand_on-in-Unfinished.ensures.told ∙ c.loop-count.invariant.writes)
+
+pub returns-then-branch-eq0-clause-handed : goal.returns-then-branch-eq0-clause-handed
+returns-then-branch-eq0-clause-handed g c = λ told. absurd (false≢true (sym (own_reads c.finish.result c.finish.ensures.own) ∙ told))
+
+pub returns-in_err-make_room-in-Took-clause-reader : goal.returns-in_err-make_room-in-Took-clause-reader
+returns-in_err-make_room-in-Took-clause-reader g c =
+    let p = err_from_is_err_and c.from_residual-in_err-make_room-in-Took.result c.from_residual-in_err-make_room-in-Took.ensures.1 in
+    rw (p.1, p.2, c.in_err-make_room-in-Took.ensures.fault) c.loop-count.invariant.reads
+
+pub returns-in_err-make_room-in-Took-clause-writer : goal.returns-in_err-make_room-in-Took-clause-writer
+returns-in_err-make_room-in-Took-clause-writer g c =
+    let p = err_from_is_err_and c.from_residual-in_err-make_room-in-Took.result c.from_residual-in_err-make_room-in-Took.ensures.1 in
+    rw (p.1, p.2, c.in_err-make_room-in-Took.ensures.fault) c.in_err-make_room-in-Took.ensures.told
+
+pub returns-in_err-make_room-in-Took-clause-handed : goal.returns-in_err-make_room-in-Took-clause-handed
+returns-in_err-make_room-in-Took-clause-handed g c =
+    let p = err_from_is_err_and c.from_residual-in_err-make_room-in-Took.result c.from_residual-in_err-make_room-in-Took.ensures.1 in
+    rw (p.1, p.2, c.in_err-make_room-in-Took.ensures.fault) (λ told. absurd (false≢true told))
+
+pub returns-in_err-hand_on-in-Unfinished-clause-reader : goal.returns-in_err-hand_on-in-Unfinished-clause-reader
+returns-in_err-hand_on-in-Unfinished-clause-reader g c =
+    let p = err_from_is_err_and c.from_residual-in_err-hand_on-in-Unfinished.result c.from_residual-in_err-hand_on-in-Unfinished.ensures.1 in
+    rw (p.1, p.2, c.in_err-hand_on-in-Unfinished.ensures.fault) c.loop-count.invariant.reads
+
+pub returns-in_err-hand_on-in-Unfinished-clause-writer : goal.returns-in_err-hand_on-in-Unfinished-clause-writer
+returns-in_err-hand_on-in-Unfinished-clause-writer g c =
+    let p = err_from_is_err_and c.from_residual-in_err-hand_on-in-Unfinished.result c.from_residual-in_err-hand_on-in-Unfinished.ensures.1 in
+    rw (p.1, p.2, c.in_err-hand_on-in-Unfinished.ensures.fault) c.in_err-hand_on-in-Unfinished.ensures.told
+
+pub returns-in_err-hand_on-in-Unfinished-clause-handed : goal.returns-in_err-hand_on-in-Unfinished-clause-handed
+returns-in_err-hand_on-in-Unfinished-clause-handed g c =
+    let p = err_from_is_err_and c.from_residual-in_err-hand_on-in-Unfinished.result c.from_residual-in_err-hand_on-in-Unfinished.ensures.1 in
+    rw (p.1, p.2, c.in_err-hand_on-in-Unfinished.ensures.fault) (λ told. absurd (false≢true told))
+
+pub returns-in_err-fill-in-Unfinished-clause-reader : goal.returns-in_err-fill-in-Unfinished-clause-reader
+returns-in_err-fill-in-Unfinished-clause-reader g c =
+    let p = err_from_is_err_and c.from_residual-in_err-fill-in-Unfinished.result c.from_residual-in_err-fill-in-Unfinished.ensures.1 in
+    rw (p.1, p.2, c.in_err-fill-in-Unfinished.ensures.fault) c.in_err-fill-in-Unfinished.ensures.told
+
+pub returns-in_err-fill-in-Unfinished-clause-writer : goal.returns-in_err-fill-in-Unfinished-clause-writer
+returns-in_err-fill-in-Unfinished-clause-writer g c =
+    let p = err_from_is_err_and c.from_residual-in_err-fill-in-Unfinished.result c.from_residual-in_err-fill-in-Unfinished.ensures.1 in
+    rw (p.1, p.2, c.in_err-fill-in-Unfinished.ensures.fault) (c.in_ok-hand_on-in-Unfinished.ensures.told ∙ c.loop-count.invariant.writes)
+
+pub returns-in_err-fill-in-Unfinished-clause-handed : goal.returns-in_err-fill-in-Unfinished-clause-handed
+returns-in_err-fill-in-Unfinished-clause-handed g c = λ told. c.in_ok-hand_on-in-Unfinished.ensures.ok.0

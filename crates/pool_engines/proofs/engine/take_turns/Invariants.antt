@@ -1,0 +1,20 @@
+use Rattle.std.proofs.Common.{◌≡◌, ◌+◌, ◌-◌, ◌*◌, ◌≤◌, length}
+use Rattle.std.specs.Prelude.{vec_capacity}
+use Rattle.pool_engines.specs.Handing.{HasRoom, waiting_room}
+use Rattle.pool_engines.proofs.Going.{Going}
+use Rattle.pool_engines.proofs.engine.take_turns.Given as goal
+
+abbrev pub invariant-loop-count : goal.invariant-loop-count
+invariant-loop-count g l =
+    let e = g.E.Engine in
+    record {
+      going : Going e.settings e.taken e.told e.stands e.is_partial e.ends l.fn.engine (g.R.Read.remaining l.fn.reader) (g.W.Write.contents l.fn.writer)
+          l.engine (g.R.Read.remaining l.reader) (g.W.Write.contents l.writer) l.incoming l.waiting.items;
+      room : HasRoom l.waiting;
+      capacity : waiting_room ≤ vec_capacity l.waiting;
+      reads : g.R.Source.may_have_failed l.reader ≡ g.R.Source.may_have_failed l.fn.reader;
+      writes : g.W.Sink.may_have_failed l.writer ≡ g.W.Sink.may_have_failed l.fn.writer;
+    }
+
+abbrev pub decreases-loop-count : goal.decreases-loop-count
+decreases-loop-count g l = g.E.Engine.lines_left l.engine * 65537 + (65536 - length l.incoming)

@@ -1,0 +1,64 @@
+-- What an engine does with the lines of a stream.
+use Rattle.std.specs.Prelude.{◌≡◌, ⊤, ℕ, ◌<◌, ◌≤◌, List, ◌++◌, length, take, Option, Result, Ok, Err, IfSome}
+use Rattle.std.specs.Io.KnownBytes.{Appends}
+use Rattle.pool_engines.specs.Handing.{AppendsFront}
+use Rattle.pool_engines.specs.Leaving.{IsLeftAfter}
+use Rattle.pool_engines.specs.declared.engine_fault.EngineFault.{EngineFault}
+use Rattle.pool_engines.specs.declared.engine_fault.EngineFault.TheVariants.{Line, Full, OutOfMemory, Read, Write}
+use Rattle.pool_engines.specs.declared.turn.Turn.{Turn}
+use Rattle.pool_engines.specs.declared.turn.Turn.TheVariants.{Took, Unfinished, Done}
+
+-- a fault of the reader or the writer
+abbrev pub IsFromOutside : EngineFault → Type 0
+IsFromOutside (Line number fault) = ⊥
+IsFromOutside (Full number) = ⊥
+IsFromOutside OutOfMemory = ⊥
+IsFromOutside Read = ⊤
+IsFromOutside Write = ⊤
+
+-- a fault that neither the reader nor the writer is the cause of
+abbrev pub IsOwnFault : EngineFault → Type 0
+IsOwnFault (Line number fault) = ⊤
+IsOwnFault (Full number) = ⊤
+IsOwnFault OutOfMemory = ⊤
+IsOwnFault Read = ⊥
+IsOwnFault Write = ⊥
+
+-- a line that is taken leaves fewer to be taken
+abbrev pub TakesOne : {E : Type 0} → (E → ℕ) → Result Turn EngineFault → E → E → Type 0
+TakesOne lines_left (Ok (Took count)) old new = lines_left new < lines_left old
+TakesOne lines_left (Ok Unfinished) old new = ⊤
+TakesOne lines_left (Ok Done) old new = ⊤
+TakesOne lines_left (Err fault) old new = ⊤
+
+-- Words on an engine of the type E: what it goes by, as its settings, the bytes of the lines that it took, what it told of them, when it can go on,
+-- which bytes are no whole line, and what is so where it ends before the rest of a stream.
+module _ {E F : Type 0} (settings : E → F) (taken told : E → List ℕ) (stands : E → Type 0) (is_partial : List ℕ → Type 0) (ends : E → List ℕ → Result (Unit {0}) EngineFault → Type 0) where
+  -- what the engine tells is put behind what was there, and what it goes by stays
+  abbrev pub Tells : E → E → List ℕ → List ℕ → Type 0
+  Tells old new before after = (words : List ℕ) × (after ≡ before ++ words) × (told new ≡ told old ++ words) × (settings new ≡ settings old)
+
+  -- one turn of the engine, before these bytes
+  abbrev pub Turns : Result Turn EngineFault → E → E → List ℕ → List ℕ → List ℕ → Type 0
+  Turns (Ok (Took count)) old new bytes before after = stands new × ((0 < count) × (count ≤ length bytes)) × (taken new ≡ taken old ++ take count bytes) × Tells old new before after
+  Turns (Ok Unfinished) old new bytes before after = (new ≡ old) × (after ≡ before) × (length bytes < 256) × is_partial bytes
+  Turns (Ok Done) old new bytes before after = (taken new ≡ taken old) × Tells old new before after × ((more : List ℕ) → ends new (bytes ++ more) (Ok tt))
+  Turns (Err fault) old new bytes before after = (taken new ≡ taken old) × Tells old new before after × ((more : List ℕ) → ends new (bytes ++ more) (Err fault))
+
+  -- the end of the stream, before which no whole line is left
+  abbrev pub Finishes : Result (Unit {0}) EngineFault → E → E → List ℕ → List ℕ → List ℕ → Type 0
+  Finishes result old new rest before after = (taken new ≡ taken old) × Tells old new before after × ends new rest result
+
+  -- what is told was given to the writer, but for what still waits, or where the writer failed a front of it
+  abbrev pub Gives : Result (Unit {0}) EngineFault → E → Option (List ℕ) → Option (List ℕ) → List ℕ → Type 0
+  Gives (Err Write) engine held written waiting = AppendsFront held written (told engine)
+  Gives _ engine held written waiting = (sent : List ℕ) × (told engine ≡ sent ++ waiting) × Appends held written sent
+
+  -- the engine is through with a stream
+  pub record Passes (result : Result (Unit {0}) EngineFault) (begun engine : E) (known left held written : Option (List ℕ)) (waiting : List ℕ) : Type 0 where
+    pub rest : List ℕ
+    pub same : settings engine ≡ settings begun
+    pub stream : IfSome known (λ bytes. bytes ≡ taken engine ++ rest)
+    pub leaves : IsLeftAfter known left (taken engine)
+    pub ended : ends engine rest result
+    pub gave : Gives result engine held written waiting

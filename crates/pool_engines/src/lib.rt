@@ -1,0 +1,36 @@
+//! The engines: what the program does with a stream of lines.
+#![tactic(auto)]
+
+mod checker;
+mod due;
+mod engine;
+mod engine_fault;
+mod file_fault;
+mod incoming;
+mod judging;
+mod laws;
+mod outgoing;
+mod report_lines;
+mod runner;
+mod settings_file;
+mod sink;
+mod source;
+mod statistics_lines;
+mod step;
+mod tallier;
+mod turn;
+mod verdict;
+
+pub use engine_fault::EngineFault;
+pub use file_fault::FileFault;
+pub use judging::check;
+pub use laws::runs_are_determined;
+pub use report_lines::write_report;
+pub use runner::run;
+pub use settings_file::read_settings;
+pub use sink::{Sink, flush_past_signals, write_past_signals};
+pub use source::{Source, read_past_signals};
+pub use tallier::stats;
+
+#[cfg(test)]
+mod tests;

@@ -1,0 +1,80 @@
+ghost use Rattle.std.specs.Prelude.{◌≡◌, ℕ, ◌<◌, ◌≤◌, List, length, take, is_err, Err, IfOk, IfErr, IfSome};
+ghost use Rattle.std.specs.Io.KnownBytes.{Consumes, IsAtEnd, Keeps};
+ghost use Rattle.pool_settings.specs.Ranges.{IsInRange};
+ghost use Rattle.pool_engines.specs.SettingsFile.{TakesAtMost, IsAnswered, IsJudged, is_unread};
+ghost use Rattle.pool_engines.specs.Faults.{IsTold};
+
+use crate::file_fault::FileFault;
+use crate::incoming::read_behind;
+use crate::source::Source;
+use pool_settings::Settings;
+use std::alloc::{AllocError, Global};
+use std::str;
+
+/// How many bytes a settings file has at most.
+const LIMIT: usize = 1_048_576;
+
+/// Reads the settings that a file says, of which it reads at most 1,048,577 bytes.
+///
+/// # Errors
+///
+/// `OutOfMemory` before anything is read, and `Read` where the reader fails. Then `TooLong` for more
+/// than 1,048,576 bytes, `NotUtf8` for bytes that aren't text, and `Text` for what
+/// [`Settings::from_text`] refuses, want of memory included.
+pub fn read_settings<R: Source>(alloc: Global, reader: &mut R) -> Result<Settings, FileFault>
+    ensures read { TakesAtMost 1048577 (R.remaining reader.old) (R.remaining reader.new) }
+    ensures answer { IfSome (R.remaining reader.old) (λ bytes. IsAnswered bytes result) }
+    ensures in_range { IfOk result IsInRange }
+    ensures unread { result ≡ Err FileFault.OutOfMemory
+        → Keeps (R.remaining reader.old) (R.remaining reader.new) }
+    ensures told { IsTold (is_unread result) (R.may_have_failed reader.old) (R.may_have_failed reader.new) }
+{
+    let mut buffer = match buffer(alloc) {
+        Ok(buffer) => buffer,
+        Err(_) => return Err(FileFault::OutOfMemory),
+    };
+    let count = fill(&mut buffer, reader)?;
+    judge(alloc, &buffer[..count])
+}
+
+/// Room for the longest settings file, and for one byte that is too many.
+fn buffer(alloc: Global) -> Result<Vec<u8>, AllocError>
+    ensures { IfOk result (λ buffer. length buffer.items ≡ 1048577) }
+{
+    vec![in alloc; 0; LIMIT + 1]
+}
+
+/// Reads into the buffer until it is full or the reader at its end, and tells how many bytes came.
+fn fill<R: Source>(buffer: &mut [u8], reader: &mut R) -> Result<usize, FileFault>
+    ensures length { length buffer.new ≡ length buffer.old }
+    ensures ok { IfOk result (λ count. (count ≤ length buffer.new)
+        × Consumes (R.remaining reader.old) (R.remaining reader.new) (take count buffer.new)
+        × (count < length buffer.new → IsAtEnd (R.remaining reader.new))) }
+    ensures err { IfErr result (λ fault. (fault ≡ FileFault.Read)
+        × TakesAtMost (length buffer.old) (R.remaining reader.old) (R.remaining reader.new)) }
+    ensures told { IsTold (is_err result) (R.may_have_failed reader.old) (R.may_have_failed reader.new) }
+{
+    let mut count = 0;
+    while count < buffer.len() {
+        match read_behind(buffer, count, reader) {
+            Ok(0) => return Ok(count),
+            Ok(more) => count += more,
+            Err(_) => return Err(FileFault::Read),
+        }
+    }
+    Ok(count)
+}
+
+/// What the bytes of a file say, if they aren't too many.
+fn judge(alloc: Global, bytes: &[u8]) -> Result<Settings, FileFault>
+    ensures judged { IsJudged bytes.now result }
+    ensures in_range { IfOk result IsInRange }
+{
+    if bytes.len() > LIMIT {
+        return Err(FileFault::TooLong);
+    }
+    match str::from_utf8(bytes) {
+        Ok(text) => Settings::from_text(alloc, text).map_err(FileFault::Text),
+        Err(_) => Err(FileFault::NotUtf8),
+    }
+}

@@ -1,0 +1,113 @@
+ghost use Rattle.std.specs.Prelude.{◌≢◌, ◌<◌, true, length, IfOk, IfErr};
+ghost use Rattle.std.specs.Io.{WritesAtMost};
+ghost use Rattle.std.specs.Io.KnownBytes.{Keeps, WriteAppends};
+ghost use Rattle.std.specs.IoError.{error_kind};
+
+use std::io;
+use std::io::{ErrorKind, Stdout, Write};
+
+/// A writer that engines write to. Contracts see whether it has failed, where that is known. A writer
+/// that takes none of some bytes has failed.
+///
+/// Of a writer of which it isn't known, as of standard output, `may_have_failed` is always true, and
+/// [`write_past_signals`] and [`flush_past_signals`] are its `write_some` and `flush_all`.
+pub trait Sink: Write {
+    ghost use Rattle.std.specs.Prelude.{◌<◌, Bool, length, is_err, IfOk};
+    ghost use Rattle.std.specs.Io.{WritesAtMost};
+    ghost use Rattle.std.specs.Io.KnownBytes.{WriteAppends, Keeps};
+    ghost use Rattle.pool_engines.specs.Faults.{IsTold};
+
+    /// Whether a write or a flush may have failed.
+    ghost may_have_failed: { Self → Bool };
+
+    /// Writes as `write` does, and again where a signal interrupts it.
+    ///
+    /// # Errors
+    ///
+    /// Where a write failed, or took none of some bytes. None is then taken.
+    fn write_some(&mut self, bytes: &[u8]) -> io::Result<usize>
+        ensures bound { WritesAtMost result bytes.now }
+        ensures bytes { WriteAppends (Self.contents self.old) (Self.contents self.new) result bytes.now }
+        ensures some { IfOk result (λ count. 0 < length bytes.now → 0 < count) }
+        ensures told { IsTold (is_err result) (may_have_failed self.old) (may_have_failed self.new) };
+
+    /// Flushes as `flush` does, and again where a signal interrupts it.
+    ///
+    /// # Errors
+    ///
+    /// Where a flush failed.
+    fn flush_all(&mut self) -> io::Result<()>
+        ensures bytes { Keeps (Self.contents self.old) (Self.contents self.new) }
+        ensures told { IsTold (is_err result) (may_have_failed self.old) (may_have_failed self.new) };
+}
+
+impl Sink for Vec<u8> {
+    ghost may_have_failed = { λ _. true };
+
+    fn write_some(&mut self, bytes: &[u8]) -> io::Result<usize> {
+        write_past_signals(self, bytes)
+    }
+
+    fn flush_all(&mut self) -> io::Result<()> {
+        flush_past_signals(self)
+    }
+}
+
+impl Sink for Stdout {
+    ghost may_have_failed = { λ _. true };
+
+    fn write_some(&mut self, bytes: &[u8]) -> io::Result<usize> {
+        write_past_signals(self, bytes)
+    }
+
+    fn flush_all(&mut self) -> io::Result<()> {
+        flush_past_signals(self)
+    }
+}
+
+/// Writes as `write` does, and again where a signal interrupts it, 2^64 - 1 times at most.
+///
+/// # Errors
+///
+/// Where a write failed, or took none of some bytes, and after the last try.
+pub fn write_past_signals<W: Write>(writer: &mut W, bytes: &[u8]) -> io::Result<usize>
+    ensures bound { WritesAtMost result bytes.now }
+    ensures bytes { WriteAppends (W.contents writer.old) (W.contents writer.new) result bytes.now }
+    ensures some { IfOk result (λ count. 0 < length bytes.now → 0 < count) }
+    ensures retried { IfErr result (λ fault. error_kind fault ≢ ErrorKind.Interrupted) }
+{
+    for _ in 0..u64::MAX {
+        match writer.write(bytes) {
+            Ok(0) if !bytes.is_empty() => return Err(ErrorKind::WriteZero.into()),
+            Ok(count) => return Ok(count),
+            Err(fault) => {
+                if fault.kind() != ErrorKind::Interrupted {
+                    return Err(fault);
+                }
+            }
+        }
+    }
+    Err(ErrorKind::TimedOut.into())
+}
+
+/// Flushes as `flush` does, and again where a signal interrupts it, 2^64 - 1 times at most.
+///
+/// # Errors
+///
+/// Where a flush failed, and after the last try.
+pub fn flush_past_signals<W: Write>(writer: &mut W) -> io::Result<()>
+    ensures bytes { Keeps (W.contents writer.old) (W.contents writer.new) }
+    ensures retried { IfErr result (λ fault. error_kind fault ≢ ErrorKind.Interrupted) }
+{
+    for _ in 0..u64::MAX {
+        match writer.flush() {
+            Ok(()) => return Ok(()),
+            Err(fault) => {
+                if fault.kind() != ErrorKind::Interrupted {
+                    return Err(fault);
+                }
+            }
+        }
+    }
+    Err(ErrorKind::TimedOut.into())
+}
