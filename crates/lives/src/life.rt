@@ -2,20 +2,25 @@ ghost use Rattle.std.specs.Prelude.{◌≡◌, is_some};
 ghost use Rattle.pool_journal.specs.Carrying.{carries};
 
 use crate::dice::Dice;
+use crate::reopening::{VALUE, cut_again, opened_again};
 use pool_core::{Core, StepFault};
-use pool_journal::{Answer, Entry, Input, Outcome};
+use pool_journal::{Answer, Entry, Input, Outcome, Segment};
 use pool_settings::Settings;
 use std::alloc::{AllocError, Global};
 
-/// How many steps a life tries.
-const STEPS: u64 = 80;
+/// How many steps a life tries before its pool is opened anew, and as many after it.
+const HALF: u64 = 40;
+
+/// The moment at which all that was begun is finished.
+const END: u64 = 80;
 
 /// How often a step is tried that wants memory.
 const TRIES: u64 = 3;
 
-/// A pool, as long as it lives.
+/// A pool, as long as it lives, with what it did before it was opened anew.
 #[derive(Drop)]
 pub struct Life {
+    before: Option<Segment>,
     core: Core<u64>,
     limit: u64,
     drawn: u64,
@@ -26,7 +31,7 @@ pub struct Life {
 fn value_of(input: Input) -> Option<u64>
     ensures { is_some result ≡ carries input }
 {
-    if input.carries() { Some(7) } else { None }
+    if input.carries() { Some(VALUE) } else { None }
 }
 
 fn open(alloc: Global, settings: Settings) -> Result<Core<u64>, AllocError> {
@@ -53,20 +58,33 @@ impl Life {
             ..Settings::default()
         };
         let mut life = Life {
+            before: None,
             core: open(alloc, settings)?,
             limit,
             drawn: 0,
             closed: false,
         };
-        life.try_steps(limit);
+        let mut dice = Dice::new(limit);
+        life.try_steps(&mut dice, 0);
+        life.open_anew(alloc, settings)?;
+        life.try_steps(&mut dice, HALF);
         life.finish_objects();
         life.close();
         life.clear();
         Ok(life)
     }
 
-    pub fn journal(&self) -> &[Entry] {
-        self.core.journal()
+    /// Whether another life has the same entries, before its pool was opened anew and after it.
+    pub fn is_same(&self, other: &Life) -> bool {
+        self.entries_before() == other.entries_before()
+            && self.core.journal() == other.core.journal()
+    }
+
+    fn entries_before(&self) -> &[Entry] {
+        match &self.before {
+            Some(segment) => segment.entries.as_slice(),
+            None => &[],
+        }
     }
 
     /// Whether the pool is closed, and nothing is owed: each place was given back.
@@ -97,9 +115,16 @@ impl Life {
         answer
     }
 
-    fn try_steps(&mut self, seed: u64) {
-        let mut dice = Dice::new(seed);
-        for at in 0..STEPS {
+    /// Cuts the journal, and goes on with a pool that is opened from what it came to.
+    fn open_anew(&mut self, alloc: Global, settings: Settings) -> Result<(), AllocError> {
+        self.before = Some(cut_again(alloc, &mut self.core)?);
+        self.core = opened_again(alloc, settings, &mut self.core)?;
+        Ok(())
+    }
+
+    fn try_steps(&mut self, dice: &mut Dice, from: u64) {
+        for number in 0..HALF {
+            let at = from.saturating_add(number);
             let input = dice.input(at, self.drawn.saturating_sub(1));
             self.step(at, input);
         }
@@ -109,49 +134,49 @@ impl Life {
     fn finish_objects(&mut self) {
         for id in 0..self.drawn {
             self.step(
-                STEPS,
+                END,
                 Input::Ready {
                     id,
                     outcome: Outcome::ActivateFailed,
                 },
             );
             self.step(
-                STEPS,
+                END,
                 Input::Added {
                     id,
                     outcome: Outcome::PassivateFailed,
                 },
             );
-            self.step(STEPS, Input::GiveBack { id });
+            self.step(END, Input::GiveBack { id });
             self.step(
-                STEPS,
+                END,
                 Input::Park {
                     id,
                     outcome: Outcome::TestFailed,
                 },
             );
             self.step(
-                STEPS,
+                END,
                 Input::Tested {
                     id,
                     outcome: Outcome::TestFailed,
                 },
             );
-            self.step(STEPS, Input::Destroyed { id });
+            self.step(END, Input::Destroyed { id });
         }
     }
 
     fn close(&mut self) {
         if !self.closed {
-            self.step(STEPS, Input::Close);
+            self.step(END, Input::Close);
         }
     }
 
     /// Destroys the idle objects.
     fn clear(&mut self) {
         for _ in 0..self.limit {
-            match self.step(STEPS, Input::ClearNext) {
-                Some(Answer::DestroyIdle(id)) => self.step(STEPS, Input::Destroyed { id }),
+            match self.step(END, Input::ClearNext) {
+                Some(Answer::DestroyIdle(id)) => self.step(END, Input::Destroyed { id }),
                 _ => return,
             };
         }

@@ -1,11 +1,13 @@
 //! A test program: lives pools to the last lines of their journals, in many ways, and then finishes all that was begun.
 //!
-//! Each life is lived twice. A step that wants memory is taken again, so that the two are the same also where an allocation
-//! was refused in one of them. For each limit of the journal a line tells what was found.
+//! In the midst of each life the journal is cut, and the pool opened anew from what it came to. Each life is lived twice. What
+//! wants memory, a step, the cut or the opening, is tried again, so that the two are the same also where an allocation was
+//! refused in one of them. For each limit of the journal a line tells what was found.
 #![tactic(auto)]
 
 mod dice;
 mod life;
+mod reopening;
 
 use crate::life::Life;
 use std::alloc::AllocError;
@@ -20,7 +22,7 @@ fn verdict(rt: &HostRuntime, limit: u64) -> Result<&'static str, AllocError> {
     let other = Life::lived(rt.alloc(), limit)?;
     Ok(if !one.is_finished() || !other.is_finished() {
         "something is left"
-    } else if one.journal() != other.journal() {
+    } else if !one.is_same(&other) {
         "the two differ"
     } else {
         "finished, the same twice"
