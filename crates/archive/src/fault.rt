@@ -1,0 +1,37 @@
+use std::alloc::{AllocError, AllocFailed};
+use std::io;
+
+/// What ends the work early.
+#[derive(Clone, Copy, Debug)]
+pub enum Fault {
+    /// One argument is wanted, the folder of the archive.
+    NoFolder,
+    Settings,
+    NotOpened,
+    NotBorrowed,
+    NotTakenBack,
+    NotMaintained,
+    NotClosed,
+    CallerMissing,
+    /// The system told no time, made no thread or wrote no file: maybe since there is an archive in the folder already.
+    System,
+    OutOfMemory,
+}
+
+impl From<io::Error> for Fault {
+    fn from(_: io::Error) -> Fault {
+        Fault::System
+    }
+}
+
+impl From<AllocError> for Fault {
+    fn from(_: AllocError) -> Fault {
+        Fault::OutOfMemory
+    }
+}
+
+impl<T: Drop> From<AllocFailed<T>> for Fault {
+    fn from(_: AllocFailed<T>) -> Fault {
+        Fault::OutOfMemory
+    }
+}

@@ -1,0 +1,83 @@
+// What a worker does.
+use crate::Connections;
+use crate::archive::Archive;
+use crate::connections::Connection;
+use crate::fault::Fault;
+use pool_shared::{AddFault, BorrowFault, Caller, Lent, Room};
+use std::sync::Wait;
+
+/// How many requests each worker answers.
+const REQUESTS: u32 = 500;
+
+/// After how many of them it looks after the pool.
+const SPAN: u32 = 50;
+
+/// How often a borrow is tried for which there was no room in the journal.
+const TRIES: u32 = 100;
+
+/// How many requests a worker answered, and how many entries it wrote to files.
+#[derive(Clone, Copy)]
+pub struct Tally {
+    pub answered: u64,
+    pub archived: u64,
+}
+
+// Borrows a connection. Where the journal has no room for that, it is archived. Other workers may have filled it again by the next try.
+fn borrow<B: Room, R: Wait>(
+    rt: &R,
+    archive: &Archive<'_>,
+    pool: &Connections<B>,
+    me: &mut Caller<B>,
+    tally: &mut Tally,
+) -> Result<Lent<Connection>, Fault> {
+    for _ in 0..TRIES {
+        match pool.borrow(rt, me) {
+            Ok(connection) => return Ok(connection),
+            Err(BorrowFault::JournalFull) => {
+                let count = archive.take_in(rt, pool, me)?;
+                tally.archived = tally.archived.saturating_add(count);
+            }
+            Err(_) => return Err(Fault::NotBorrowed),
+        }
+    }
+    Err(Fault::NotBorrowed)
+}
+
+// Maintains the pool, and archives its journal. Maintenance that finds no room in the journal is left to who comes next.
+fn look_after<B: Room, R: Wait>(
+    rt: &R,
+    archive: &Archive<'_>,
+    pool: &Connections<B>,
+    me: &mut Caller<B>,
+) -> Result<u64, Fault> {
+    match pool.maintain(rt, me) {
+        Ok(()) | Err(AddFault::JournalFull) => archive.take_in(rt, pool, me),
+        Err(_) => Err(Fault::NotMaintained),
+    }
+}
+
+/// Answers requests, each over a connection that is borrowed for it, and looks after the pool now and then.
+pub fn work<B: Room, R: Wait>(
+    rt: &R,
+    archive: &Archive<'_>,
+    pool: &Connections<B>,
+    me: Caller<B>,
+) -> Result<(Caller<B>, Tally), Fault> {
+    let mut me = me;
+    let mut tally = Tally {
+        answered: 0,
+        archived: 0,
+    };
+    for request in 0..REQUESTS {
+        if request % SPAN == SPAN - 1 {
+            let count = look_after(rt, archive, pool, &mut me)?;
+            tally.archived = tally.archived.saturating_add(count);
+        }
+        let mut connection = borrow(rt, archive, pool, &mut me, &mut tally)?;
+        connection.value_mut().ask();
+        tally.answered = tally.answered.saturating_add(1);
+        pool.give_back(rt, &mut me, connection)
+            .map_err(|_| Fault::NotTakenBack)?;
+    }
+    Ok((me, tally))
+}
