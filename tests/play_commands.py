@@ -5,7 +5,7 @@ play_commands.py POOL  The last line is 'N passed, M failed'.
 
 A block is what a page indents by four spaces, and the man page's section of examples. Each must be of commands, which are run one after the other with the repository's examples at
 hand, the lines of a journal, which must be legal with the default settings, cut into segments or not, the form of a line, or the kit's name.
-The command ./check is not run, since it runs this. Blocks of Rust are held against the sources by check_readme.py.
+The command ./check is not run, since it runs this, nor are tools/, since it has built the programs. Blocks of Rust are held against the sources by check_readme.py.
 """
 
 import pathlib
@@ -15,7 +15,7 @@ import sys
 import tempfile
 
 TOP = pathlib.Path(__file__).resolve().parent.parent
-COMMAND = re.compile(r"(\./pool|\./check|pool|crates/\S+|\(cd) ")
+COMMAND = re.compile(r"(\./pool|\./check|pool|crates/\S+|\(cd|mkdir|python3 tools/\S+) ")
 ENTRY = re.compile(r"\d+ \d+ .* = ")
 BASE = re.compile(r"pool-journal 2 |\d+ (readying|adding|lent|returning|idle|testing|destroying) ")
 FORM = "<caller> <at> <input>"
@@ -42,7 +42,7 @@ class Place:
     def fault_of_command(self, line):
         """Why a command is not as the page says, if it isn't."""
         words = line.partition("#")[0].strip()
-        if words == "./check":
+        if words == "./check" or words.startswith("python3 tools/"):
             return None
         if words.startswith("pool"):
             words = "./" + words
@@ -51,25 +51,40 @@ class Place:
         wanted = (2,) if words.startswith("(cd") else (0,)
         return None if done.returncode in wanted else f"status {done.returncode}: {done.stderr.strip()}"
 
-    def fault_of_journal(self, lines):
-        """Why lines are no legal journal, if they aren't."""
-        (self.folder / "shown").write_text("".join(line + "\n" for line in lines))
+    def fault_of_journal(self, segments):
+        """Why segments are no legal journal, if they aren't."""
         (self.folder / "defaults.toml").write_text("")
-        done = subprocess.run(["./pool", "check", "defaults.toml", "shown"], cwd=self.folder, capture_output=True, text=True)
-        return None if done.stdout == f"legal {len(lines)}\n" else done.stdout + done.stderr
+        names = [f"segment{number}" for number in range(len(segments))]
+        for name, lines in zip(names, segments):
+            (self.folder / name).write_text("".join(line + "\n" for line in lines))
+        done = subprocess.run(["./pool", "check", "defaults.toml", *names], cwd=self.folder, capture_output=True, text=True)
+        count = sum(bool(ENTRY.match(line)) for lines in segments for line in lines)
+        return None if done.stdout == f"legal {count}\n" else done.stdout + done.stderr
 
     def faults_of_page(self, page):
         """What is tried of a page, each with its fault, if it has one."""
-        entries = []
+        shown = []
         for block in blocks(page):
             if all(COMMAND.match(line + " ") for line in block):
                 yield from ((line, self.fault_of_command(line)) for line in block)
             elif all(ENTRY.match(line) or BASE.match(line) for line in block):
-                entries += [line for line in block if ENTRY.match(line)]
+                shown += block
             elif block not in ([FORM], [kit()]):
                 yield block[0], "neither a command nor a journal"
-        if entries:
-            yield entries[0], self.fault_of_journal(entries)
+        for segments in journals(shown):
+            yield segments[0][0], self.fault_of_journal(segments)
+
+
+def journals(lines):
+    """The journals whose lines these are, each as its segments: one begins with the first line, and where a segment says that it does."""
+    found = []
+    for line in lines:
+        if not found or line.startswith("pool-journal 2 0 "):
+            found.append([[]])
+        elif line.startswith("pool-journal 2 "):
+            found[-1].append([])
+        found[-1][-1].append(line)
+    return found
 
 
 def kit():

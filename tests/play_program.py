@@ -89,7 +89,7 @@ WRONG_ARGUMENTS = [
     "play", "replay", "journal", "settings", "counts", "run ", " run", "ru", "nonsense", "RUN", "", "-", "--", "-x", "--version", "-V", "version",
     "run", "check", "Help", "--help=run", "-help", "run help",
     "run defaults.toml", "check defaults.toml", "run defaults.toml plain.script more", "run missing missing missing",
-    "check defaults.toml plain.journal more", "run -x defaults.toml plain.script", "run --settings defaults.toml plain.script",
+    "check defaults.toml plain.journal -x", "check defaults.toml plain.journal missing -- missing", "run -x defaults.toml plain.script", "run --settings defaults.toml plain.script",
     "run defaults.toml --script=plain.script", "-- run defaults.toml plain.script", "-q run defaults.toml plain.script",
     "defaults.toml plain.script", "run run", "run --", "run -- defaults.toml",
     "stats", "STATS plain.journal", "stats plain.journal more", "stats defaults.toml plain.journal",
@@ -332,6 +332,46 @@ def play_settings_faults(play):
         play.expect(["check", settings, "missing.journal"], b"", *fault(told))
 
 
+# A journal of five entries in two segments.
+FIRST_SEGMENT = b"0 0 borrow 0 = make 0\n0 0 ready 0 good = lent\n0 0 return 0 = check\n0 0 park 0 good = parked\n"
+
+SECOND_SEGMENT = b"pool-journal 2 4 1 open none 0 0 0 1\n0 idle 3 0 0 0 old\n0 0 borrow 0 = take 0\n"
+
+# What is answered to segments, one after the other.
+SEGMENTS = [
+    ([FIRST_SEGMENT, SECOND_SEGMENT], (b"legal 5\n", b"", 0)),
+    ([SECOND_SEGMENT], (b"illegal base 0\n", b"", 1)),
+    ([b"", FIRST_SEGMENT, SECOND_SEGMENT], (b"legal 5\n", b"", 0)),
+    ([b"pool-journal 2 0 0 open none 0 0 0 0\n" + FIRST_SEGMENT, SECOND_SEGMENT], (b"legal 5\n", b"", 0)),
+    ([FIRST_SEGMENT, SECOND_SEGMENT.replace(b"none", b"0")], (b"illegal base 1\n", b"", 1)),
+    ([FIRST_SEGMENT, SECOND_SEGMENT.replace(b"idle 3", b"idle 4")], (b"illegal base 1\n", b"", 1)),
+    ([FIRST_SEGMENT, SECOND_SEGMENT.replace(b"idle 3", b"idle 03")], (b"", b"pool: line 2: bad number\n", 3)),
+    ([FIRST_SEGMENT, SECOND_SEGMENT.replace(b"take 0", b"make 1")], (b"illegal 4 take 0\n", b"", 1)),
+    ([FIRST_SEGMENT, b""], (b"illegal base 1\n", b"", 1)),
+    ([FIRST_SEGMENT, FIRST_SEGMENT], (b"illegal base 1\n", b"", 1)),
+    ([FIRST_SEGMENT, SECOND_SEGMENT, SECOND_SEGMENT], (b"illegal base 2\n", b"", 1)),
+    ([b"pool-journal 2 4 1 open"], (b"", b"pool: line 1: truncated\n", 3)),
+    ([b"pool-journal 2 4 1 open\n"], (b"", b"pool: line 1: not a line\n", 3)),
+    ([b"pool-journal 3\n"], (b"", b"pool: line 1: not a line\n", 3)),
+    ([FIRST_SEGMENT, SECOND_SEGMENT + b"x\n"], (b"", b"pool: line 4: not a line\n", 3)),
+]
+
+
+def play_segments(play):
+    """A journal in several files is judged as one; of a file by itself the statistics are those of its entries."""
+    for texts, wanted in SEGMENTS:
+        names = [f"segment{index}" for index in range(len(texts))]
+        for name, text in zip(names, texts):
+            (play.folder / name).write_bytes(text)
+        play.expect(["check", "defaults.toml", *names], *wanted)
+        play.expect(["check", "--", "defaults.toml", *names], *wanted)
+        play.expect(["check", "defaults.toml", names[0], "--", *names[1:]], *wanted)
+    (play.folder / "second").write_bytes(SECOND_SEGMENT)
+    names = b"borrowed returned created destroyed evicted borrowtestfailed reclaimed longest total".split()
+    play.expect(["stats", "second"], b"".join(name + b" 0\n" for name in names), b"", 0)
+    play.expect(["check", "defaults.toml", "second", "missing"], b"", *fault("cannot open missing"))
+
+
 def play_stream_faults(play):
     begun = FILES["plain.script"][:15], PLAIN_LIFE[:24]
     for name, told in LINE_FAULTS.items():
@@ -420,6 +460,7 @@ def main(pool):
         play_load_faults(play)
         play_wrong_arguments(play)
         play_settings_faults(play)
+        play_segments(play)
         play_stream_faults(play)
         play_paths(play)
         play_defaults(play)

@@ -29,6 +29,19 @@ def libraries():
     return {crate: [name for name in names if name in uses] for crate, names in uses.items()}
 
 
+def size(crate):
+    """The bytes of a crate's code and proofs, by which the time that its proofs take is guessed."""
+    return sum(path.stat().st_size for ending in ("rt", "antt") for path in (TOP / "crates" / crate).rglob(f"*.{ending}"))
+
+
+def longest_ways(uses):
+    """For each crate how much is to be proved, one after the other, from it up to the topmost that stands on it."""
+    ways = {}
+    for crate in sorted(uses, key=lambda name: -len(below(name, uses))):
+        ways[crate] = size(crate) + max((ways[user] for user in uses if crate in uses[user]), default=0)
+    return ways
+
+
 def below(crate, uses):
     """All that a crate stands on, itself included."""
     return {crate}.union(*(below(name, uses) for name in uses[crate]))
@@ -43,7 +56,9 @@ class Work:
             sys.exit(f"{program}: no crate of this repository")
         self.program = program
         self.built = TOP / "crates" / program / "out" / program
-        self.waiting = {crate: set(uses[crate]) for crate in below(program, uses)}
+        wanted = below(program, uses)
+        self.waiting = {crate: set(uses[crate]) for crate in wanted}
+        self.ways = longest_ways({crate: uses[crate] for crate in wanted})
         self.total = len(self.waiting)
         self.running = {}
         self.done = set()
@@ -69,12 +84,15 @@ class Work:
 
     def start(self):
         """Starts what stands on nothing that isn't built, and tells whether there was some of it."""
-        ready = sorted(crate for crate, uses in self.waiting.items() if uses <= self.done)
-        share = max(1, (os.cpu_count() or 1) // max(1, len(ready) + len(self.running)))
-        for crate in ready:
+        ready = sorted((crate for crate, uses in self.waiting.items() if uses <= self.done), key=lambda crate: -self.ways[crate])
+        processors, side_by_side = os.cpu_count() or 1, len(ready) + len(self.running)
+        share = max(1, processors // max(1, side_by_side))
+        # What the most stands on gets what is over.
+        shares = [max(1, processors - share * (side_by_side - 1)), *[share] * len(ready)]
+        for crate, jobs in zip(ready, shares):
             del self.waiting[crate]
             log = tempfile.TemporaryFile("w+")
-            self.running[crate] = subprocess.Popen(self.words(crate, share), cwd=TOP / "crates" / crate, stdin=subprocess.DEVNULL, stdout=log, stderr=log), log
+            self.running[crate] = subprocess.Popen(self.words(crate, jobs), cwd=TOP / "crates" / crate, stdin=subprocess.DEVNULL, stdout=log, stderr=log), log
         return bool(ready)
 
     def collect(self):

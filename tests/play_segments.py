@@ -1,0 +1,185 @@
+#!/usr/bin/env python3
+"""Judges journals that were cut into segments by the program, and compares its verdicts with what is wanted.
+
+    play_segments.py POOL FOLDER CASES..
+
+- In FOLDER, for files NAME.toml, NAME.0.journal, NAME.1.journal, .. and NAME.verdict: `POOL check NAME.toml NAME.0.journal ..` must answer
+  what the verdict says: a line with the status, and then what it writes, to standard error where the status is 3, else to standard
+  output. For each NAME.N.stats the same of `POOL stats NAME.N.journal`.
+- Each legal journal NAME.journal of the folders CASES, whose script has no NAME.err, is cut before each of its entries, into as many
+  segments of one entry; `check` over all of them must find it legal. It is cut at three places besides, and one of the segments is left
+  out, repeated or exchanged with the next: the verdict must be that of tests/pool_model.py.
+- Three segments are damaged: in each place a byte is changed, dropped or doubled; the verdict must be the model's.
+- `check` over a thousand segments must take no more memory than over the longest of them alone, with a tenth and 256 KiB for what
+  differs from run to run.
+
+Prints each verdict that differs, and in the end the line 'N passed, M failed'.
+"""
+
+import concurrent.futures
+import os
+import pathlib
+import subprocess
+import sys
+import tempfile
+
+from play_damaged import Chance, journal_by_chance
+from pool_model import cut_at, settings_of, verdict_of_segments
+
+# The most segments that are handed to one run.
+MOST_SEGMENTS = 400
+
+THREE = [
+    b"""pool-journal 2 0 0 open none 0 0 0 0
+0 10 borrow 10 = make 0
+0 11 ready 0 good = lent
+0 15 return 0 = check
+0 16 park 0 good = parked
+""",
+    b"""pool-journal 2 4 1 open none 0 0 0 1
+0 idle 3 16 11 11 old
+0 20 evictnext = keptidle 0
+0 21 borrow 21 = take 0
+1 22 add = make 1
+""",
+    b"""pool-journal 2 7 2 open 3 0 0 0 2
+0 readying 3 16 11 11 old
+1 adding 0 0 0 0 new
+1 23 added 1 good = parked
+0 24 ready 0 activatefail = destroy
+0 25 close = count 1
+""",
+]
+
+
+def wanted_of(verdict):
+    """What the program must write, to standard output and to standard error, and its status."""
+    if verdict.startswith(b"pool: "):
+        return b"", verdict, 3
+    return verdict, b"", 0 if verdict.startswith(b"legal") else 1
+
+
+def stated(path):
+    """What a file says that begins with a line for the status."""
+    status, _, text = path.read_bytes().partition(b"\n")
+    return (b"", text, 3) if status == b"3" else (text, b"", int(status))
+
+
+def differing(name, command, wanted):
+    done = subprocess.run(command, capture_output=True, timeout=60, stdin=subprocess.DEVNULL)
+    got = done.stdout, done.stderr, done.returncode
+    return None if got == wanted else f"{name}: wanted {wanted}, got {got}"
+
+
+def judged(pool, name, settings, segments, verdict):
+    """What differs where the segments, written to files, are judged."""
+    with tempfile.TemporaryDirectory() as room:
+        paths = [pathlib.Path(room) / str(index) for index in range(len(segments))]
+        for path, text in zip(paths, segments):
+            path.write_bytes(text)
+        return differing(name, [pool, "check", settings, *paths], wanted_of(verdict))
+
+
+def of_folder(pool, folder):
+    for verdict in sorted(folder.glob("*.verdict")):
+        segments = sorted(folder.glob(f"{verdict.stem}.*.journal"), key=lambda path: int(path.suffixes[0][1:]))
+        command = [pool, "check", verdict.with_suffix(".toml"), *segments]
+        yield lambda name=verdict, command=command: differing(name, command, stated(name))
+    for stats in sorted(folder.glob("*.stats")):
+        yield lambda name=stats: differing(name, [pool, "stats", name.with_suffix(".journal")], stated(name))
+
+
+def ways(segments, chance):
+    """The segments as they are, and with one lost, where others are left, repeated, or exchanged with the next."""
+    at = chance.below(len(segments))
+    yield "cut", segments
+    if len(segments) > 1:
+        yield "one lost", segments[:at] + segments[at + 1 :]
+    yield "one repeated", segments[: at + 1] + segments[at:]
+    yield "two exchanged", segments[:at] + segments[at : at + 2][::-1] + segments[at + 2 :]
+
+
+def of_journal(pool, settings, path, chance):
+    read = settings_of(settings.read_text())
+    text = path.read_bytes()
+    count = text.count(b"\n")
+    step = max(1, count // MOST_SEGMENTS)
+    every = cut_at(read, text, set(range(1, count, step)))
+    yield lambda: judged(pool, f"{path}, cut everywhere", settings, every, b"legal %d\n" % count)
+    some = cut_at(read, text, {1 + chance.below(max(1, count)) for _ in range(3)})
+    for how, segments in ways(some, chance):
+        yield lambda how=how, segments=segments: judged(
+            pool, f"{path}, {how}", settings, segments, verdict_of_segments(read, segments)
+        )
+
+
+def of_cases(pool, folders):
+    chance = Chance(7)
+    for folder in folders:
+        for path in sorted(folder.glob("*.journal")):
+            settings = path.with_suffix(".toml")
+            if settings.exists() and not path.with_suffix(".err").exists():
+                yield from of_journal(pool, settings, path, chance)
+
+
+def damaged(text, at, chance):
+    """The text with the byte at this place changed, dropped and doubled."""
+    byte = bytes([chance.one_of(b"0123456789 =\nabcdefghijklmnopqrstuvwxyz\x00\x7f\xff")])
+    yield text[:at] + byte + text[at + 1 :]
+    yield text[:at] + text[at + 1 :]
+    yield text[: at + 1] + text[at:]
+
+
+def of_damage(pool, settings):
+    read, chance = settings_of(pathlib.Path(settings).read_text()), Chance(11)
+    for index, text in enumerate(THREE):
+        for at in range(len(text)):
+            for changed in damaged(text, at, chance):
+                segments = [*THREE[:index], changed, *THREE[index + 1 :]]
+                yield lambda name=f"segment {index}, byte {at}", segments=segments: judged(
+                    pool, name, settings, segments, verdict_of_segments(read, segments)
+                )
+
+
+def peak(command):
+    """The most memory that a run took, in KiB, and whether it ended well."""
+    started = subprocess.Popen(command, stdout=subprocess.DEVNULL, stdin=subprocess.DEVNULL)
+    _, status, used = os.wait4(started.pid, 0)
+    return used.ru_maxrss, status == 0
+
+
+def of_memory(pool, settings):
+    """A thousand segments of 50 entries, and the first of them alone."""
+    read = settings_of(pathlib.Path(settings).read_text())
+    segments = cut_at(read, journal_by_chance(read, 50_000), set(range(50, 50_000, 50)))
+    with tempfile.TemporaryDirectory() as room:
+        paths = [pathlib.Path(room) / str(index) for index in range(len(segments))]
+        for path, text in zip(paths, segments):
+            path.write_bytes(text)
+        (all_took, all_well), (one_took, one_well) = peak([pool, "check", settings, *paths]), peak([pool, "check", settings, paths[0]])
+    if not (all_well and one_well) or all_took > one_took * 1.1 + 256:
+        return f"memory: {len(segments)} segments took {all_took} KiB, one took {one_took} KiB"
+    return None
+
+
+def main(pool, folder, *cases):
+    found, passed = [], 0
+    with tempfile.NamedTemporaryFile("w", suffix=".toml") as defaults:
+        trials = [
+            *of_folder(pool, pathlib.Path(folder)),
+            *of_cases(pool, map(pathlib.Path, cases)),
+            *of_damage(pool, defaults.name),
+            lambda: of_memory(pool, defaults.name),
+        ]
+        with concurrent.futures.ThreadPoolExecutor(os.cpu_count()) as workers:
+            for told in workers.map(lambda trial: trial(), trials):
+                passed += told is None
+                found += [told] if told else []
+    for told in found:
+        print(told)
+    print(f"{passed} passed, {len(found)} failed")
+    return 1 if found or passed < 100 else 0
+
+
+if __name__ == "__main__":
+    sys.exit(main(*sys.argv[1:]))
