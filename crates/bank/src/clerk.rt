@@ -1,7 +1,6 @@
 // What a clerk does all day.
 use crate::Bank;
-use crate::accounts::Order;
-use crate::clock::OfficeClock;
+use crate::books::Order;
 use crate::fault::Fault;
 use pool_shared::{Caller, Room};
 use std::sync::Wait;
@@ -9,22 +8,22 @@ use std::sync::Wait;
 /// How many orders each clerk carries out.
 const ORDERS: u32 = 25;
 
-/// How long a clerk is away who forgot a connection, in milliseconds: longer than an object may be lent.
-const ABSENCE: u64 = 300;
-
 /// What goes wrong with an order.
 #[derive(Clone, Copy, PartialEq, Eq)]
 enum Mishap {
     /// The connection breaks before it.
-    Breaks,
+    BreaksBefore,
+    /// The connection breaks after it, and is given back.
+    BreaksAfter,
     /// The clerk forgets the connection after it.
     Forgets,
 }
 
 fn mishap_of(clerk: u32, number: u32) -> Option<Mishap> {
     match (clerk, number) {
-        (0, 10) => Some(Mishap::Breaks),
+        (0, 10) => Some(Mishap::BreaksBefore),
         (1, 20) => Some(Mishap::Forgets),
+        (2, 5) => Some(Mishap::BreaksAfter),
         _ => None,
     }
 }
@@ -40,8 +39,8 @@ fn order_of(clerk: u32) -> Order {
     }
 }
 
-// Borrows a connection and carries an order out over it. The answer is whether the connection held: a broken one is
-// destroyed, and the order is still to be carried out.
+// Borrows a connection, carries an order out over it, and hands it back. The answer is whether the order was carried out:
+// a connection over which it wasn't is destroyed, and nothing of the order is left.
 fn try_order<B: Room, R: Wait>(
     rt: &R,
     bank: &Bank<B>,
@@ -50,7 +49,7 @@ fn try_order<B: Room, R: Wait>(
     mishap: Option<Mishap>,
 ) -> Result<bool, Fault> {
     let mut link = bank.borrow(rt, me).map_err(|_| Fault::NotBorrowed)?;
-    if mishap == Some(Mishap::Breaks) {
+    if mishap == Some(Mishap::BreaksBefore) {
         link.value_mut().break_down();
     }
     if link.value_mut().carry_out(order).is_err() {
@@ -60,33 +59,27 @@ fn try_order<B: Room, R: Wait>(
     }
     if mishap == Some(Mishap::Forgets) {
         drop(link);
-    } else {
-        bank.give_back(rt, me, link)
-            .map_err(|_| Fault::NotTakenBack)?;
+        return Ok(true);
     }
+    if mishap == Some(Mishap::BreaksAfter) {
+        link.value_mut().break_down();
+    }
+    bank.give_back(rt, me, link)
+        .map_err(|_| Fault::NotTakenBack)?;
     Ok(true)
 }
 
-/// Carries out all orders of a clerk. Who forgot a connection maintains the pool after an absence: until then nobody gets one.
-pub fn work<B: Room, R: Wait>(
-    rt: &R,
-    bank: &Bank<B>,
-    clock: OfficeClock<'_>,
-    me: Caller<B>,
-) -> Result<Caller<B>, Fault> {
+/// Carries out all orders of a clerk, each over a connection that is borrowed for it. An order whose connection breaks is carried
+/// out over another.
+pub fn work<B: Room, R: Wait>(rt: &R, bank: &Bank<B>, me: Caller<B>) -> Result<Caller<B>, Fault> {
     let mut me = me;
     let clerk = me.number();
+    let order = order_of(clerk);
     for number in 0..ORDERS {
-        let (order, mishap) = (order_of(clerk), mishap_of(clerk, number));
-        if !try_order(rt, bank, &mut me, order, mishap)?
+        if !try_order(rt, bank, &mut me, order, mishap_of(clerk, number))?
             && !try_order(rt, bank, &mut me, order, None)?
         {
             return Err(Fault::NotCarriedOut);
-        }
-        if mishap == Some(Mishap::Forgets) {
-            clock.pass(ABSENCE);
-            bank.maintain(rt, &mut me)
-                .map_err(|_| Fault::NotMaintained)?;
         }
     }
     Ok(me)

@@ -1,25 +1,35 @@
+// Moments, by the system's clock.
 use pool_shared::Clock;
-use std::sync::atomic::{AtomicU64, Ordering};
+use std::time::{Duration, Instant};
+use std::{io, thread};
 
-/// A clock that goes on by a millisecond at each reading, so that nothing depends on how fast the machine is.
+/// Tells the milliseconds since it was started.
 #[derive(Clone, Copy)]
-pub struct OfficeClock<'a> {
-    moment: &'a AtomicU64,
+pub struct OfficeClock {
+    rt: HostRuntime,
+    started: Instant,
 }
 
-impl<'a> OfficeClock<'a> {
-    pub fn new(moment: &'a AtomicU64) -> OfficeClock<'a> {
-        OfficeClock { moment }
+impl OfficeClock {
+    pub fn start(rt: &HostRuntime) -> io::Result<OfficeClock> {
+        Ok(OfficeClock {
+            rt: *rt,
+            started: Instant::now(rt)?,
+        })
     }
 
-    /// Lets so many milliseconds pass.
+    /// Waits for so many milliseconds.
     pub fn pass(&self, millis: u64) {
-        self.moment.fetch_add(millis, Ordering::SeqCst);
+        thread::sleep(&self.rt, Duration::from_millis(millis));
     }
 }
 
-impl Clock for OfficeClock<'_> {
+impl Clock for OfficeClock {
+    /// Where the system tells no time it is moment 0: a pool takes moments that go back.
     fn now(&self) -> u64 {
-        self.moment.fetch_add(1, Ordering::SeqCst)
+        match self.started.elapsed(&self.rt) {
+            Ok(elapsed) => u64::try_from(elapsed.as_millis()).unwrap_or(u64::MAX),
+            Err(_) => 0,
+        }
     }
 }

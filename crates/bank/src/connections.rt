@@ -1,45 +1,36 @@
 // The connections that the pool lends, and how they are opened, tested and closed.
-use crate::accounts::{self, Order};
+use crate::books::{self, BOOKS, Book, Order};
 use pool_shared::Factory;
-use sqlite::{Connection, Error, ErrorCode, File, FileStore};
+use sqlite::{Error, ErrorCode};
 use std::cell::RefCell;
 
-/// A connection to the bank's database. It stands in a cell, since a test has it by a shared reference, and runs a query.
+/// A connection to one of the books. It stands in a cell, since a test has it by a shared reference, and runs a query.
 #[derive(Drop)]
 pub struct Link {
-    connection: RefCell<Connection<FileStore<File>>>,
+    book: RefCell<Book>,
 }
 
 impl Link {
     /// Carries an order out. Where it fails, nothing has changed.
     pub fn carry_out(&mut self, order: Order) -> Result<(), Error> {
-        accounts::carry_out(self.connection.get_mut(), order)
+        books::carry_out(self.book.get_mut(), order)
     }
 
-    /// Breaks the connection, for the example: from now on it refuses each statement that reads a row.
+    /// Breaks the connection, for the example.
     pub fn break_down(&mut self) {
-        self.connection.get_mut().set_step_limit(Some(0));
-    }
-
-    // Whether it still answers.
-    fn answers(&self) -> bool {
-        match self.connection.try_borrow_mut() {
-            Ok(mut connection) => accounts::total(&mut connection).is_ok(),
-            Err(_) => false,
-        }
+        books::break_down(self.book.get_mut());
     }
 }
 
-/// Opens connections to the database at a path.
+/// Opens connections to the books.
 #[derive(Clone, Copy)]
 pub struct Opener {
     rt: HostRuntime,
-    path: &'static str,
 }
 
 impl Opener {
-    pub fn new(rt: &HostRuntime, path: &'static str) -> Opener {
-        Opener { rt: *rt, path }
+    pub fn new(rt: &HostRuntime) -> Opener {
+        Opener { rt: *rt }
     }
 }
 
@@ -58,11 +49,20 @@ impl Factory<Link, Error> for Opener {
 
     ghost from_passivate = { λ error. ⊤ };
 
+    /// Opens the first book that isn't open. There is one, since the pool has as many places as there are books.
     fn make(&self, _id: u64) -> Result<Link, Error> {
-        let connection = Connection::open(&self.rt, self.path)?;
-        Ok(Link {
-            connection: RefCell::new(connection),
-        })
+        for path in BOOKS {
+            match books::open(&self.rt, path) {
+                Ok(book) => {
+                    return Ok(Link {
+                        book: RefCell::new(book),
+                    });
+                }
+                Err(Error::SqliteFailure(ErrorCode::DatabaseBusy)) => {}
+                Err(error) => return Err(error),
+            }
+        }
+        Err(Error::SqliteFailure(ErrorCode::DatabaseBusy))
     }
 
     fn activate(&self, _link: &mut Link) -> Result<(), Error> {
@@ -71,20 +71,22 @@ impl Factory<Link, Error> for Opener {
 
     /// Runs a query.
     fn validate(&self, link: &Link) -> bool {
-        link.answers()
+        match link.book.try_borrow_mut() {
+            Ok(mut book) => books::answers(&mut book),
+            Err(_) => false,
+        }
     }
 
     /// A connection that is left in a transaction isn't kept.
     fn passivate(&self, link: &mut Link) -> Result<(), Error> {
-        if link.connection.get_mut().is_autocommit() {
+        if books::is_settled(link.book.get_mut()) {
             Ok(())
         } else {
             Err(Error::SqliteFailure(ErrorCode::TransactionState))
         }
     }
 
-    /// Closes it. What was committed is kept, also where that fails.
     fn destroy(&self, link: Link) {
-        let _ = link.connection.into_inner().close();
+        let _ = books::close(link.book.into_inner());
     }
 }

@@ -14,8 +14,7 @@ pub enum Fault {
     NotClosed,
     CallerMissing,
     Database(Error),
-    NotJudged,
-    NotPrinted,
+    System,
     OutOfMemory,
 }
 
@@ -27,7 +26,7 @@ impl From<Error> for Fault {
 
 impl From<io::Error> for Fault {
     fn from(_: io::Error) -> Fault {
-        Fault::NotPrinted
+        Fault::System
     }
 }
 

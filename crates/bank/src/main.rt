@@ -1,49 +1,49 @@
-//! An example: four clerks carry out orders over a pool of connections to one SQLite database.
+//! An example: four clerks share a pool of connections to SQLite databases.
 //!
-//! The kit's SQLite keeps a database file for one connection at a time, so the pool has one place, and the clerks wait in it for
-//! their turn. In the course of the day the connection of one clerk breaks, and another forgets the one that it
-//! borrowed; for each a new one is opened. In the evening the accounts are added up, and the pool's journal is judged.
-//! It leaves the files `bank.db` and `bank.journal` in the folder that it runs in.
+//! Here SQLite keeps a database file for one connection at a time. So the bank has three books, each a file, and the pool
+//! three places; a clerk's order is a transaction in whichever book the borrowed connection is to, and what an account holds is the
+//! sum over the books. In the course of the day one connection breaks in use, one breaks and is given back, and one is forgotten by the
+//! clerk who borrowed it. The first is seen by its holder, the second by the test of the next borrow, and the third by the manager's
+//! maintenance in the evening, which also opens a new one in its place. Then the accounts are added up.
+//!
+//! It leaves the books and `bank.journal` in the folder that it runs in.
 #![tactic(auto)]
 
 ghost use Rattle.std.specs.Prelude.{◌≡◌};
 
-mod accounts;
+mod books;
 mod clerk;
 mod clock;
 mod connections;
 mod fault;
-mod judging;
 
+use books::{BOOKS, Book};
 use clerk::work;
 use clock::OfficeClock;
 use connections::{Link, Opener};
 use fault::Fault;
-use judging::{is_legal, text_of};
 use pool_core::Core;
+use pool_journal::print_entry;
 use pool_settings::Settings;
 use pool_shared::{Room, SharedPool, Site};
-use sqlite::{Connection, Error};
+use sqlite::Error;
 use std::alloc::Global;
 use std::marker::Brand;
 use std::sync::Wait;
-use std::sync::atomic::AtomicU64;
 use std::thread::Threads;
 use std::{fs, thread};
 
 /// How the pool is to behave.
-const SETTINGS: &str = "maxTotal = 1
+const SETTINGS: &str = "maxTotal = 3
+minIdle = 3
+lifo = false
+maxWaitMillis = 60000
 testOnBorrow = true
 
 [abandoned]
 removeAbandonedOnMaintenance = true
 removeAbandonedTimeoutMillis = 200
 ";
-
-/// The database, and the log that SQLite keeps beside it.
-const DATABASE: &str = "bank.db";
-
-const DATABASE_LOG: &str = "bank.db-wal";
 
 /// Where the pool's journal is written, for `pool check`, `pool stats` and `journal_picture`.
 const JOURNAL: &str = "bank.journal";
@@ -53,8 +53,11 @@ const NUMBER: u64 = 1;
 
 const CLERKS: u32 = 4;
 
+/// How long the bank is closed before the evening, in milliseconds: longer than a connection may be lent.
+const PAUSE: u64 = 250;
+
 /// The pool of connections.
-type Bank<'a, B> = SharedPool<Link, Error, Opener, OfficeClock<'a>, B>;
+type Bank<B> = SharedPool<Link, Error, Opener, OfficeClock, B>;
 
 // A day at the bank, with a caller for each clerk and one for the manager. `B` stands for this one pool: so the check
 // knows that the callers are its own.
@@ -64,7 +67,7 @@ fn day<B: Room + Send + Sync, R: Threads + Wait + Sync>(
     site: Site,
     settings: Settings,
     opener: Opener,
-    clock: OfficeClock<'_>,
+    clock: OfficeClock,
 ) -> Result<Core<Link>, Fault>
     requires { (site ≡ B.table) × (settings ≡ B.settings) × (5 ≡ B.callers) }
 {
@@ -79,12 +82,15 @@ fn day<B: Room + Send + Sync, R: Threads + Wait + Sync>(
         clock,
     ).map_err(|_| Fault::NotOpened)?;
     let mut manager = callers.pop().ok_or(Fault::CallerMissing)?;
+    bank.maintain(rt, &mut manager)
+        .map_err(|_| Fault::NotMaintained)?;
 
     let mut back = Vec::new(alloc);
-    for clerk in thread::map_vec(rt, callers, &|me| work(rt, &bank, clock, me))? {
+    for clerk in thread::map_vec(rt, callers, &|me| work(rt, &bank, me))? {
         back.push(clerk?)?;
     }
 
+    clock.pass(PAUSE);
     bank.maintain(rt, &mut manager)
         .map_err(|_| Fault::NotMaintained)?;
     bank.close(rt, &mut manager).map_err(|_| Fault::NotClosed)?;
@@ -92,54 +98,78 @@ fn day<B: Room + Send + Sync, R: Threads + Wait + Sync>(
     bank.finish(rt, back).map_err(|_| Fault::CallerMissing)
 }
 
-// A new database, with its accounts.
+// New books, with the accounts in each.
 fn found(rt: &HostRuntime) -> Result<(), Fault> {
-    let _ = fs::remove_file(rt, DATABASE);
-    let _ = fs::remove_file(rt, DATABASE_LOG);
-    let mut connection = Connection::open(rt, DATABASE)?;
-    accounts::found(&mut connection)?;
-    connection.close()?;
+    for path in BOOKS {
+        let log = format!(in rt.alloc(); "{path}-wal")?;
+        let _ = fs::remove_file(rt, path);
+        let _ = fs::remove_file(rt, log.as_str());
+        let mut book = books::open(rt, path)?;
+        books::found(&mut book)?;
+        books::close(book)?;
+    }
     Ok(())
+}
+
+// All books, opened.
+fn open_all(rt: &HostRuntime) -> Result<Vec<Book>, Fault> {
+    let mut all = Vec::new(rt.alloc());
+    for path in BOOKS {
+        all.push(books::open(rt, path)?)?;
+    }
+    Ok(all)
+}
+
+// What an account holds by all books.
+fn balance(all: &mut [Book], account: i64) -> Result<i64, Error> {
+    let mut sum = 0i64;
+    for book in all {
+        sum = sum.saturating_add(books::balance(book, account)?);
+    }
+    Ok(sum)
 }
 
 // What the accounts hold in the end.
 fn tell_accounts(rt: &HostRuntime) -> Result<(), Fault> {
-    let mut connection = Connection::open(rt, DATABASE)?;
+    let mut all = open_all(rt)?;
+    let mut total = 0i64;
     for account in 0..i64::from(CLERKS) {
-        let balance = accounts::balance(&mut connection, account)?;
+        let balance = balance(all.as_mut_slice(), account)?;
+        total = total.saturating_add(balance);
         println!(rt; "account {account}: {balance}")?;
     }
-    println!(rt; "all accounts: {}", accounts::total(&mut connection)?)?;
-    connection.close()?;
+    println!(rt; "all accounts: {total}")?;
     Ok(())
 }
 
-// What the pool did, by its counts and its journal.
-fn tell_pool(rt: &HostRuntime, settings: Settings, core: &Core<Link>) -> Result<(), Fault> {
+// What the pool did, by its counts.
+fn tell_pool(rt: &HostRuntime, core: &Core<Link>) -> Result<(), Fault> {
     let counts = core.counts();
     let still_open = counts.idle + counts.lent + counts.reserved;
     println!(rt; "connections opened: {}", counts.created)?;
     println!(rt; "connections forgotten: {}", counts.reclaimed)?;
     println!(rt; "connections still open: {still_open}")?;
-    let journal = text_of(rt.alloc(), core.journal())?;
-    fs::write(rt, JOURNAL, &journal)?;
-    let verdict = if is_legal(rt.alloc(), settings, &journal)? {
-        "legal"
-    } else {
-        "illegal"
-    };
-    println!(rt; "the journal: {verdict}")?;
+    Ok(())
+}
+
+// Writes the pool's journal.
+fn write_journal(rt: &HostRuntime, core: &Core<Link>) -> Result<(), Fault> {
+    let mut text = Vec::new(rt.alloc());
+    for entry in core.journal() {
+        print_entry(entry, &mut text)?;
+    }
+    fs::write(rt, JOURNAL, &text)?;
     Ok(())
 }
 
 fn main(rt: HostRuntime) -> Result<(), Fault> {
+    let settings = Settings::from_text(rt.alloc(), SETTINGS).map_err(|_| Fault::Settings)?;
     found(&rt)?;
     let site = Site::new(rt.alloc())?;
-    let settings = Settings::from_text(rt.alloc(), SETTINGS).map_err(|_| Fault::Settings)?;
-    let opener = Opener::new(&rt, DATABASE);
-    let moment = AtomicU64::new(0);
-    let clock = OfficeClock::new(&moment);
+    let opener = Opener::new(&rt);
+    let clock = OfficeClock::start(&rt)?;
     let core = day::<Brand, _>(&rt, rt.alloc(), site, settings, opener, clock)?;
     tell_accounts(&rt)?;
-    tell_pool(&rt, settings, &core)
+    tell_pool(&rt, &core)?;
+    write_journal(&rt, &core)
 }
