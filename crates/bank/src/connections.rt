@@ -1,24 +1,34 @@
 // The connections that the pool lends, and how they are opened, tested and closed.
-use crate::books::{self, BOOKS, Book, Order};
+use crate::books::{BOOKS, Book, Order};
 use pool_shared::Factory;
 use sqlite::{Error, ErrorCode};
 use std::cell::RefCell;
 
 /// A connection to one of the books. It stands in a cell, since a test has it by a shared reference, and runs a query.
-#[derive(Drop)]
 pub struct Link {
     book: RefCell<Book>,
+}
+
+impl Drop for Link {
+    fn drop(self) {
+        let Link { book: _ } = self;
+    }
 }
 
 impl Link {
     /// Carries an order out. Where it fails, nothing has changed.
     pub fn carry_out(&mut self, order: Order) -> Result<(), Error> {
-        books::carry_out(self.book.get_mut(), order)
+        self.book.get_mut().carry_out(order)
     }
 
     /// Breaks the connection, for the example.
     pub fn break_down(&mut self) {
-        books::break_down(self.book.get_mut());
+        self.book.get_mut().break_down();
+    }
+
+    fn close(self) -> Result<(), Error> {
+        let Link { book } = self;
+        book.into_inner().close()
     }
 }
 
@@ -52,7 +62,7 @@ impl Factory<Link, Error> for Opener {
     /// Opens the first book that isn't open. There is one, since the pool has as many places as there are books.
     fn make(&self, _id: u64) -> Result<Link, Error> {
         for path in BOOKS {
-            match books::open(&self.rt, path) {
+            match Book::open(&self.rt, path) {
                 Ok(book) => {
                     return Ok(Link {
                         book: RefCell::new(book),
@@ -72,21 +82,16 @@ impl Factory<Link, Error> for Opener {
     /// Runs a query.
     fn validate(&self, link: &Link) -> bool {
         match link.book.try_borrow_mut() {
-            Ok(mut book) => books::answers(&mut book),
+            Ok(mut book) => book.balance(0).is_ok(),
             Err(_) => false,
         }
     }
 
-    /// A connection that is left in a transaction isn't kept.
-    fn passivate(&self, link: &mut Link) -> Result<(), Error> {
-        if books::is_settled(link.book.get_mut()) {
-            Ok(())
-        } else {
-            Err(Error::SqliteFailure(ErrorCode::TransactionState))
-        }
+    fn passivate(&self, _link: &mut Link) -> Result<(), Error> {
+        Ok(())
     }
 
     fn destroy(&self, link: Link) {
-        let _ = books::close(link.book.into_inner());
+        let _ = link.close();
     }
 }

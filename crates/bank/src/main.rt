@@ -104,9 +104,9 @@ fn found(rt: &HostRuntime) -> Result<(), Fault> {
         let log = format!(in rt.alloc(); "{path}-wal")?;
         let _ = fs::remove_file(rt, path);
         let _ = fs::remove_file(rt, log.as_str());
-        let mut book = books::open(rt, path)?;
-        books::found(&mut book)?;
-        books::close(book)?;
+        let mut book = Book::open(rt, path)?;
+        book.found()?;
+        book.close()?;
     }
     Ok(())
 }
@@ -115,7 +115,7 @@ fn found(rt: &HostRuntime) -> Result<(), Fault> {
 fn open_all(rt: &HostRuntime) -> Result<Vec<Book>, Fault> {
     let mut all = Vec::new(rt.alloc());
     for path in BOOKS {
-        all.push(books::open(rt, path)?)?;
+        all.push(Book::open(rt, path)?)?;
     }
     Ok(all)
 }
@@ -124,7 +124,7 @@ fn open_all(rt: &HostRuntime) -> Result<Vec<Book>, Fault> {
 fn balance(all: &mut [Book], account: i64) -> Result<i64, Error> {
     let mut sum = 0i64;
     for book in all {
-        sum = sum.saturating_add(books::balance(book, account)?);
+        sum = sum.saturating_add(book.balance(account)?);
     }
     Ok(sum)
 }
