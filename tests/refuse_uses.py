@@ -27,6 +27,11 @@ CASES = pathlib.Path(__file__).resolve().parent / "cases"
 
 EACH = 4
 
+# Journals that were cut, of which every EACH_CUT-th is checked.
+SEGMENTS = CASES / "7-cut"
+
+EACH_CUT = 4
+
 # Longer scripts take the same allocations, and more time.
 LONGEST = 20_000
 
@@ -108,8 +113,24 @@ def uses_of_cases():
         text = journal.read_bytes()
         yield Use(["run", str(settings), str(script)], (text, b"", 0))
         yield Use(["check", str(settings), str(journal)], (b"legal %d\n" % text.count(b"\n"), b"", 0))
-    for statistics in sorted(CASES.glob("*/*.stats"))[::EACH]:
+    for statistics in sorted(path for path in CASES.glob("*/*.stats") if path.parent != SEGMENTS)[::EACH]:
         yield Use(["stats", str(statistics.with_suffix(".journal"))], (statistics.read_bytes(), b"", 0))
+
+
+def stated(path):
+    """What a file says that begins with a line for the status."""
+    status, _, text = path.read_bytes().partition(b"\n")
+    return (b"", text, 3) if status == b"3" else (text, b"", int(status))
+
+
+def uses_of_segments():
+    """Checks of journals in several files, and the statistics of every EACH-th segment."""
+    for verdict in sorted(SEGMENTS.glob("*.verdict"))[::EACH_CUT]:
+        segments = sorted(SEGMENTS.glob(f"{verdict.stem}.*.journal"), key=lambda path: int(path.suffixes[0][1:]))
+        if segments:
+            yield Use(["check", str(verdict.with_suffix(".toml")), *map(str, segments)], stated(verdict))
+    for statistics in sorted(SEGMENTS.glob("*.stats"))[::EACH]:
+        yield Use(["stats", str(statistics.with_suffix(".journal"))], stated(statistics))
 
 
 def is_refused(use, answer):
@@ -161,7 +182,7 @@ def main(pool):
         for name, text in FILES.items():
             (refuser.folder / name).write_bytes(text)
         with concurrent.futures.ThreadPoolExecutor(os.cpu_count()) as workers:
-            for right, wrong in workers.map(refuser.runs, [*uses(), *uses_of_cases()]):
+            for right, wrong in workers.map(refuser.runs, [*uses(), *uses_of_cases(), *uses_of_segments()]):
                 passed, failed = passed + right, failed + len(wrong)
                 for told in wrong:
                     print(told)
