@@ -5,7 +5,8 @@ play_commands.py POOL  The last line is 'N passed, M failed'.
 
 A block is what a page indents by four spaces, and the man page's section of examples. Each must be of commands, which are run one after the other with the repository's examples at
 hand, the lines of a journal, which must be legal with the default settings, cut into segments or not, the form of a line, or the kit's name.
-The command ./check is not run, since it runs this, nor are tools/, since it has built the programs. Blocks of Rust are held against the sources by check_readme.py.
+The command ./check is not run, since it runs this, nor are tools/, since it has built the programs: there must be such a tool and crate. Blocks of
+Rust are held against the sources by check_readme.py, and names by check_names.py.
 """
 
 import pathlib
@@ -42,8 +43,11 @@ class Place:
     def fault_of_command(self, line):
         """Why a command is not as the page says, if it isn't."""
         words = line.partition("#")[0].strip()
-        if words == "./check" or words.startswith("python3 tools/"):
+        if words == "./check":
             return None
+        if words.startswith("python3 tools/"):
+            _, tool, crate = words.split()
+            return None if (TOP / tool).is_file() and (TOP / "crates" / crate).is_dir() else "no such tool or crate"
         if words.startswith("pool"):
             words = "./" + words
         done = subprocess.run(["bash", "-c", words], cwd=self.folder, capture_output=True, text=True, stdin=subprocess.DEVNULL)

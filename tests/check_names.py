@@ -1,0 +1,169 @@
+#!/usr/bin/env python3
+"""Sees that what README.md and docs/ name is there.
+
+check_names.py  The last line is 'N passed, M failed'.
+
+Each file, folder and heading that a page names or links to exists; each single name between backquotes is a word of some source, and a method
+belongs to its type; each definition of a table that says in which file it stands is declared there; and each clause that docs/proved.md
+names is one of its crate.
+"""
+
+import functools
+import pathlib
+import re
+import sys
+
+TOP = pathlib.Path(__file__).resolve().parent.parent
+PAGES = [TOP / "README.md", *sorted((TOP / "docs").glob("*.md"))]
+# Names of other libraries, some by their beginnings; and what a page names because it is not there.
+FOREIGN = re.compile(r"(get|list|log|use|add|prepare|evictor|timeBetween|max)[A-Z]\w*$|\w+ObjectPool$|DestroyMode$|Millis$|IsPartitionPoint-from_clause$")
+ABSENT = {"proofs/Phrases.antt", "src/phrases.rt", "OnNone"}
+PLACEHOLDER = re.compile(r"[A-Z]*NAME|[<*]|X_")
+FILE = re.compile(r"[\w./-]*(?:/|\.(?:antt|rt|py|md|toml|txt|c|rs|svg|script))[\w./-]*$")
+NAME = re.compile(r"[^\W\d]\w*(?:-\w+)*$")
+OWNED = re.compile(r"[^\W\d]\w*::\w+$")
+DECLARED = r"^(?:(?:abbrev|unfoldable|record|data|pub|mod) )+%s\b"
+SAID = r"\b(?:ensures|ghost|pub (?:trait|struct|enum|fn)|pub\(crate\) fn) %s\b"
+
+
+@functools.cache
+def sources():
+    """The text of each source, by its path."""
+    found = [path for end in ("rt", "antt", "toml") for path in TOP.glob(f"crates/*/**/*.{end}") if "out" not in path.relative_to(TOP).parts]
+    for pattern in ("tests/*.*", "bench/*", "tools/*", "docs/*.py", "examples/*", "pool", "check", "crates.txt"):
+        found += [path for path in TOP.glob(pattern) if path.is_file() and path != pathlib.Path(__file__).resolve()]
+    return {path: path.read_text() for path in found}
+
+
+@functools.cache
+def words():
+    text = "\n".join(sources().values())
+    return {*re.findall(r"[^\W\d]\w*", text), *re.findall(r"[^\W\d]\w*(?:-\w+)+", text)}
+
+
+def is_file(named, crate):
+    """Whether a path is one from the top, from crates/, from the crate that a paragraph is about, else from any, or a file of definitions."""
+    if (TOP / named).exists() or (TOP / "crates" / named).exists():
+        return True
+    if crate and named.startswith(("src/", "specs/", "proofs/")):
+        return (TOP / "crates" / crate / named).exists()
+    return any((TOP / "crates").glob(f"*/{named}" if "/" in named else f"*/*/{named}"))
+
+
+def is_owned(owner, name):
+    """Whether a function stands in the file of its type or in the file of tests that has the owner's name, or a type in its crate."""
+    code = {path: text for path, text in sources().items() if path.suffix == ".rt"}
+    if (TOP / "crates" / owner).exists():
+        return any(re.search(rf"\b(?:struct|enum|trait) {name}\b", text) for path, text in code.items() if path.is_relative_to(TOP / "crates" / owner))
+    return any(
+        (path.stem == owner or re.search(rf"\b(?:impl|trait)\b.*\b{owner}\b", text)) and re.search(rf"\bfn {name}\b", text)
+        for path, text in code.items()
+    )
+
+
+def fault_of_name(token, crate):
+    """Why a name between backquotes is none, if it isn't. Of several words only files are looked at."""
+    if PLACEHOLDER.search(token) or token in ABSENT or FOREIGN.match(token):
+        return None
+    if " " in token:
+        return next((f"no file {word}" for word in token.split(" ") if FILE.match(word) and not is_file(word, crate)), None)
+    if FILE.match(token):
+        return None if is_file(token, crate) else "no such file"
+    if OWNED.match(token):
+        return None if is_owned(*token.split("::")) else "no such function or type"
+    return "in no source" if NAME.match(token) and token not in words() else None
+
+
+def paragraphs(page):
+    """The paragraphs of a page without its code, each with the crate that it or one before it is about. The first columns of tables about other
+    libraries are left out."""
+    text = re.sub(r"^```.*?^```$", "", page.read_text(), flags=re.MULTILINE | re.DOTALL)
+    crate = None
+    for paragraph in text.split("\n\n"):
+        about = re.match(r"\*\*`(\w+)`\*\*", paragraph)
+        crate = about[1] if about else None if paragraph.startswith("#") else crate
+        if page.name in ("from-commons-pool.md", "differences.md"):
+            paragraph = re.sub(r"^\|[^|]*\|", "|", paragraph, flags=re.MULTILINE)
+        yield paragraph, crate
+
+
+def check_mentions(page):
+    for paragraph, crate in paragraphs(page):
+        for token in re.findall(r"`([^`\n]+)`", paragraph):
+            yield token, fault_of_name(token, crate)
+
+
+def check_links(page):
+    text = page.read_text()
+    headings = {re.sub(r"[^\w -]", "", line.lstrip("# ")).lower().replace(" ", "-") for line in re.findall(r"^#+ .*$", text, flags=re.MULTILINE)}
+    for target in re.findall(r"\]\(([^)]+)\)", text):
+        there = target[1:] in headings if target.startswith("#") else (page.parent / target).exists()
+        yield target, None if there else "leads nowhere"
+
+
+def tables(page):
+    """The rows of each table of a page, by the names of its columns."""
+    columns = None
+    for line in page.read_text().splitlines():
+        cells = [cell.strip() for cell in re.split(r"(?<!\\)\|", line)[1:-1]]
+        if not cells:
+            columns = None
+        elif columns is None:
+            columns = cells
+        elif not set(line) <= set("|- "):
+            yield dict(zip(columns, cells))
+
+
+def backquoted(cell):
+    return re.findall(r"`([^`]+)`", cell)
+
+
+def check_definitions(page):
+    """Each name of a row is declared in a file that the row, or 'the same' of one before it, says."""
+    files = []
+    for row in tables(page):
+        if "Stands in" in row:
+            names, stands = backquoted(row["Name"]), backquoted(row["Stands in"])
+        elif "Row" in row:
+            names, *stands = backquoted(row["Row"])
+            names = [names]
+        else:
+            continue
+        if stands:
+            folders = [TOP / "crates", *(file.parent for file in files), *(TOP / "crates").glob("*/specs")]
+            files = [next((folder / name for folder in folders if (folder / name).exists()), TOP) for name in stands]
+        text = "\n".join(file.read_text() for file in files if file.is_file())
+        for name in names:
+            yield name, None if re.search(DECLARED % re.escape(name), text, re.MULTILINE) else f"not declared in {' '.join(stands) or 'the same'}"
+
+
+def check_clauses(page):
+    """Each name in brackets, behind what is said of a crate, is a clause, a function or a definition of it."""
+    for paragraph, crate in paragraphs(page):
+        folder = TOP / "crates" / (crate or "")
+        text = "\n".join(text for path, text in sources().items() if crate and path.is_relative_to(folder))
+        for token in re.findall(r"`(\w+)`", " ".join(re.findall(r"\(([^()]*)\)", paragraph)) if crate else ""):
+            said = re.search(SAID % token, text) or re.search(DECLARED % token, text, re.MULTILINE) or (TOP / "crates" / token).exists()
+            yield token, None if said else f"no clause of {crate}"
+
+
+def main():
+    passed, failed = 0, 0
+    checks = [(check, page) for page in PAGES for check in (check_mentions, check_links)]
+    checks += [(check_definitions, TOP / "docs/definitions.md"), (check_definitions, TOP / "docs/sharing.md"), (check_clauses, TOP / "docs/proved.md")]
+    for check, page in checks:
+        found = list(check(page))
+        for named, fault in found:
+            passed += not fault
+            failed += bool(fault)
+            if fault:
+                print(f"{page.name}: {named}: {fault}")
+        if not found and check not in (check_links, check_mentions):
+            failed += 1
+            print(f"{page.name}: nothing for {check.__name__}")
+    print(f"{passed} passed, {failed} failed")
+    return 1 if failed else 0
+
+
+if __name__ == "__main__":
+    sys.exit(main())
