@@ -118,7 +118,7 @@ impl Life {
     /// Cuts the journal, and goes on with a pool that is opened from what it came to.
     fn open_anew(&mut self, alloc: Global, settings: Settings) -> Result<(), AllocError> {
         self.before = Some(cut_again(alloc, &mut self.core)?);
-        self.core = opened_again(alloc, settings, &mut self.core)?;
+        self.core = opened_again(alloc, settings, &self.core)?;
         Ok(())
     }
 

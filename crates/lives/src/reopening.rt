@@ -1,10 +1,13 @@
 use pool_core::Core;
-use pool_journal::{Base, Phase, Segment};
+use pool_journal::{Base, LineFault, Phase, Segment, print_base, read_base};
 use pool_settings::Settings;
 use std::alloc::{AllocError, Global};
 
 /// The value of each object.
 pub const VALUE: u64 = 7;
+
+/// What stands before the text of a base.
+const FRONT: &[u8] = b"a base\n";
 
 /// Cuts a journal, again where memory is wanting.
 pub fn cut_again(alloc: Global, core: &mut Core<u64>) -> Result<Segment, AllocError> {
@@ -36,14 +39,63 @@ fn is_same(one: &Base, other: &Base) -> bool {
     one.head() == other.head() && one.records.as_slice() == other.records.as_slice()
 }
 
-/// A pool that goes on from what one has come to that was just cut. It is tried again where memory is wanting, with the base
-/// and the values that come back.
+// A text with what stands in front.
+fn front_again(alloc: Global) -> Result<Vec<u8>, AllocError> {
+    match Vec::from_slice(alloc, FRONT) {
+        Ok(text) => Ok(text),
+        Err(_) => Vec::from_slice(alloc, FRONT),
+    }
+}
+
+// The text of what a pool goes on from, behind the front. It is printed again where memory is wanting, behind the text as it was.
+fn text_again(alloc: Global, core: &Core<u64>) -> Result<Vec<u8>, AllocError> {
+    let mut text = front_again(alloc)?;
+    if !core.journal().is_empty() {
+        return Err(AllocError);
+    }
+    if print_base(core.base(), &mut text).is_err() {
+        if text.as_slice() != FRONT {
+            return Err(AllocError);
+        }
+        print_base(core.base(), &mut text)?;
+    }
+    Ok(text)
+}
+
+// Reads the base that is all of a text, again where memory is wanting.
+fn read_again(alloc: Global, text: &[u8]) -> Result<Base, AllocError> {
+    let read = match read_base(alloc, text) {
+        Err(LineFault::OutOfMemory) => read_base(alloc, text),
+        read => read,
+    };
+    match read {
+        Ok((base, length)) if length == text.len() => Ok(base),
+        _ => Err(AllocError),
+    }
+}
+
+// What a pool goes on from that was just cut, read from its text.
+fn base_again(alloc: Global, core: &Core<u64>) -> Result<Base, AllocError> {
+    let text = text_again(alloc, core)?;
+    let Some(lines) = text.get(FRONT.len()..) else {
+        return Err(AllocError);
+    };
+    let base = read_again(alloc, lines)?;
+    if is_same(&base, core.base()) {
+        Ok(base)
+    } else {
+        Err(AllocError)
+    }
+}
+
+/// A pool that goes on from what one has come to that was just cut, as it is read from its text. It is tried again where memory is
+/// wanting, with the base and the values that come back.
 pub fn opened_again(
     alloc: Global,
     settings: Settings,
-    core: &mut Core<u64>,
+    core: &Core<u64>,
 ) -> Result<Core<u64>, AllocError> {
-    let base = cut_again(alloc, core)?.base;
+    let base = base_again(alloc, core)?;
     let values = values_again(alloc, &base)?;
     match Core::from_base(alloc, settings, base, values) {
         Ok(opened) => Ok(opened),
