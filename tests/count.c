@@ -3,7 +3,7 @@
  *     cc -O1 -shared -fPIC -o count.so tests/count.c -ldl
  *     COUNTED=FILE LD_PRELOAD=./count.so PROGRAM ..
  *
- * Where the program ends by _exit the FILE has a line 'NAME NUMBER' for each of:
+ * When the program has ended, by exit or _exit, the FILE has a line 'NAME NUMBER' for each of:
  *
  * - allocations, the calls of malloc, realloc, aligned_alloc and posix_memalign;
  * - most, the most bytes that were held at one time, as malloc_usable_size tells them;
@@ -92,7 +92,8 @@ ssize_t write(int file, const void *bytes, size_t size) {
 
 #define TELL(name) fprintf(file, #name " %ld\n", told.name)
 
-static void tell(void) {
+/* The destructors run at exit. */
+__attribute__((destructor)) static void tell(void) {
   typeof(counted) told = counted;
   const char *path = getenv("COUNTED");
   FILE *file = path ? fopen(path, "w") : NULL;
@@ -110,7 +111,7 @@ static void tell(void) {
   fclose(file);
 }
 
-/* The program ends by this call, and so by no destructor. */
+/* A program that ends by this call runs no destructor. */
 void _exit(int status) {
   REAL(void, "_exit", int);
   tell();

@@ -1,11 +1,14 @@
 #!/usr/bin/env python3
 """Counts what the program asks of the system, and compares it with what the data need.
 
-    count_work.py POOL
+    count_work.py POOL TALLY
 
 POOL is the program. Its allocations, the bytes that it holds, its reads and its writes are counted by a preloaded library
 (tests/count.c, built with the C compiler that CC names, or cc). Allocations and bytes must be within a quarter of what is said
 below of lists and their elements; reads and writes within bounds that follow from the size of the buffers.
+
+TALLY is the test program crates/tally, which cuts a pool of up to 100,000 objects, reads the base that tests/pool_model.py tells, compares
+and prints it, and opens a pool from it, which goes on as the model does. The allocations of each of these calls are counted.
 
 Prints each number that is out of its bounds, and in the end the line 'N passed, M failed'.
 """
@@ -16,6 +19,8 @@ import subprocess
 import sys
 import tempfile
 
+from many_objects import segments_of
+from pool_model import settings_of
 from preloading import preloaded
 
 # The buffer for what comes, that for what waits to be written, and the longest line. At most so many bytes less are read at once.
@@ -37,15 +42,26 @@ OBJECT = (7 + 2 + 3) * 8 + 3 * 8
 # A list has room for so many at first, and for twice as many each time that it is full.
 FIRST = 4
 
+# A list of bytes has room for so many at first.
+BYTES = 8
+
 # What an idle object still needs of the journal: it is taken away, and its place is freed.
 OWED = 2
+
+# How many objects stand at least in a node of the map of those in the queue, and at most.
+NODE = 7, 15
+
+# The calls of TALLY, in their order.
+CALLS = ["step", "cut", "read", "print", "open", "goon"]
+
+NO_LIMITS = "journalLimit = 4294967296\nmaxTotal = -1\nmaxIdle = -1\n"
 
 NAMES = "borrowed returned created destroyed evicted borrowtestfailed reclaimed longest total".split()
 
 
-def room(count):
+def room(count, first=FIRST):
     """For how many elements a list with so many has room, and how often it has grown."""
-    held, growths = FIRST, 0
+    held, growths = first, 0
     while held < count:
         held, growths = 2 * held, growths + 1
     return (held, growths) if count else (0, -1)
@@ -90,7 +106,7 @@ class Counter:
         self.library, self.file = preloaded("count", folder), folder / "counted"
         self.passed = self.failed = 0
         self.environment = {"LD_PRELOAD": str(self.library), "COUNTED": str(self.file)}
-        (folder / "settings.toml").write_text("journalLimit = 4294967296\nmaxTotal = -1\nmaxIdle = -1\n")
+        (folder / "settings.toml").write_text(NO_LIMITS)
 
     def expect(self, name, number, least, most):
         if least <= number <= most:
@@ -174,16 +190,76 @@ def play_endless(counter):
     counter.endless("a full journal", ["run", "small.toml", "/dev/stdin"], b"", b"0 0 borrow 0\n", full)
 
 
-def main(pool):
+def growths(count, first=FIRST):
+    """How often memory is asked for a list with so many elements that are appended one by one."""
+    return 1 + room(count, first)[1]
+
+
+def counts_of(pool):
+    """The counts of a pool of the model, as TALLY tells them."""
+    phases = [held.phase for held in pool.objects.values()]
+    idle, lent = (sum(phase in named for phase in phases) for named in (("idle", "testing"), ("lent",)))
+    ended = pool.destroyed, pool.evicted, pool.reclaimed
+    return b"opened %d %d %d %d %d %d %d %d\n" % (pool.position, idle, lent, len(phases) - idle - lent, pool.drawn, *ended)
+
+
+def allocations_of_calls(counter, tally, name, texts, wanted):
+    """How many allocations each call takes behind the one before it, by its word, where TALLY is given these texts of a journal and
+    of a segment; once it has made them all it must tell what is wanted."""
+    for file, text in zip(["journal", "segment"], texts):
+        (counter.folder / file).write_bytes(text)
+    found, before = {}, 0
+    for call in CALLS:
+        command = [tally, "settings.toml", "journal", "segment", call]
+        done = subprocess.run(command, cwd=counter.folder, env=counter.environment, capture_output=True, timeout=60)
+        allocations = counter.counted()["allocations"]
+        found[call], before = allocations - before, allocations
+    counter.expect(f"{name}: right answers {done}", int((done.stdout, done.stderr, done.returncode) == (wanted, b"", 0)), 1, 1)
+    return found
+
+
+def play_uses(counter, tally):
+    """A cut of many entries without an object takes one list, that of the entries that are owed."""
+    uses = b"".join(b"7 %d use %d = refused notlent\n" % (i, i) for i in range(300_000))
+    texts = uses, b"pool-journal 2 300000 0 open none 0 0 0 0\n"
+    found = allocations_of_calls(counter, tally, "300,000 uses", texts, b"opened 300000 0 0 0 0 0 0 0\n")
+    counter.expect("a cut of 300,000 uses: allocations", found["cut"], 1, 1)
+
+
+def play_objects(counter, tally, objects):
+    """A cut takes that list and one of the objects' records, for however many objects and entries."""
+    segments, pool = segments_of(settings_of(NO_LIMITS), objects)
+    (_, first), (_, second), (base, rest) = segments
+    name = f"{objects} objects"
+    found = allocations_of_calls(counter, tally, name, (first + second, base + rest), counts_of(pool))
+    counter.expect(f"a cut of {name}: allocations", found["cut"], 2, 2)
+    counter.expect(f"{name}, read: allocations", found["read"], growths(objects), growths(objects))
+    # A list of bytes has more room from the first on, where more than one is appended.
+    counter.expect(f"{name}, printed: allocations", found["print"], growths(len(base), BYTES) - 2, growths(len(base), BYTES))
+    # The values that are handed in; the neighbours, the entries that are owed, the objects, their ids, and the map of the queue.
+    queued = base.count(b" idle ")
+    lists = growths(queued) + growths(objects) + 3
+    least, most = NODE
+    counter.expect(f"{name}, opened: allocations", found["open"], lists + -(-queued // most), lists + 1 + queued // least)
+
+
+def play_cuts(counter, tally):
+    play_uses(counter, tally)
+    for objects in (1, 100, 10_000, 100_000):
+        play_objects(counter, tally, objects)
+
+
+def main(pool, tally):
     with tempfile.TemporaryDirectory() as made:
         counter = Counter(str(pathlib.Path(pool).resolve()), pathlib.Path(made))
         for script in scripts():
             for command in ("run", "check", "stats"):
                 counter.play(script, command)
         play_endless(counter)
+        play_cuts(counter, str(pathlib.Path(tally).resolve()))
     print(f"{counter.passed} passed, {counter.failed} failed")
     return 1 if counter.failed else 0
 
 
 if __name__ == "__main__":
-    sys.exit(main(sys.argv[1]))
+    sys.exit(main(*sys.argv[1:]))

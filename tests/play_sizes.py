@@ -1,10 +1,11 @@
 #!/usr/bin/env python3
-"""Plays the program on journals, pools, settings texts, keys and loads of all sizes, and sees that it gives up on none.
+"""Plays the program on journals, pools, bases, settings texts, keys and loads of all sizes, and sees that it gives up on none.
 
     play_sizes.py POOL
 
 POOL is the program. Sizes are spread from 1 to the limit, or to 1,200,000 lines, 100,000 objects, and 300,000 rounds of a load, with the
-numbers about each power of 2 for texts and keys. What must be answered is known for each size without playing.
+numbers about each power of 2 for texts and keys. What must be answered is known for each size without playing. Bases are those of
+tests/pool_model.py.
 
 Prints each case that differs, and in the end the line 'N passed, M failed'.
 """
@@ -15,11 +16,17 @@ import subprocess
 import sys
 import tempfile
 
+from many_objects import segments_of
+from pool_model import settings_of
+
 LONGEST_TEXT = 1_048_576
 
 LINES = [1, 2, 10, 100, 1_000, 4_096, 10_000, 65_535, 65_536, 65_537, 100_001, 300_000, 1_048_577, 1_200_000]
 
 OBJECTS = [1, 2, 9, 100, 1_023, 1_025, 2_001, 4_097, 10_000, 32_769, 65_537, 100_000]
+
+# The objects of a base.
+RECORDS = [2, 9, 1_025, 10_000, 100_000]
 
 # Workers, and rounds of each.
 LOADS = [(1, 1), (1, 16_385), (1, 300_000), (2, 65_537), (4, 40_000), (7, 2_049), (100, 257), (1_023, 20)]
@@ -90,6 +97,22 @@ def play_objects(play):
         play.expect(f"stats: {count} objects", ["stats", "journal"], (lent % count, b"", 0))
 
 
+def play_bases(play):
+    play.put("limits.toml", NO_LIMITS.encode())
+    files = ["first", "second", "third"]
+    for count in RECORDS:
+        segments, pool = segments_of(settings_of(NO_LIMITS), count)
+        for name, (base, entries) in zip(files, segments):
+            play.put(name, base + entries)
+        check = ["check", "limits.toml"]
+        play.expect(f"bases of {count} objects", [*check, *files], (b"legal %d\n" % pool.position, b"", 0))
+        play.expect(f"a base of {count} objects, one lost", [*check, "first", "third"], (b"illegal base 1\n", b"", 1))
+        # The last record says that its object is new.
+        base, entries = segments[2]
+        play.put("third", base.removesuffix(b"old\n") + b"new\n" + entries)
+        play.expect(f"a base of {count} objects, changed at its end", [*check, *files], (b"illegal base 2\n", b"", 1))
+
+
 def play_loads(play):
     play.put("limits.toml", NO_LIMITS.encode())
     for workers, rounds in LOADS:
@@ -142,7 +165,7 @@ def played(pool, part):
 
 
 def main(pool):
-    parts = [play_lines, play_objects, play_loads, play_settings, play_keys]
+    parts = [play_lines, play_objects, play_bases, play_loads, play_settings, play_keys]
     with concurrent.futures.ThreadPoolExecutor(len(parts)) as workers:
         found = list(workers.map(lambda part: played(pool, part), parts))
     passed, failed = (sum(numbers) for numbers in zip(*found))

@@ -37,7 +37,8 @@ fn next_pool(
     opened_anew(alloc, settings, core)
 }
 
-fn take_step(core: &mut Core<u64>, entry: &Entry) -> Result<(), Fault> {
+/// Takes the step of an entry, which is answered as the entry says.
+pub fn take_step(core: &mut Core<u64>, entry: &Entry) -> Result<(), Fault> {
     let value = value_of(entry.input);
     match core.step(entry.caller, entry.at, entry.input, value) {
         Ok((answer, _)) if answer == entry.answer => Ok(()),
@@ -65,8 +66,8 @@ fn opened_anew(alloc: Global, settings: Settings, core: Core<u64>) -> Result<Cor
     }
 }
 
-// The values of the idle objects, each its id.
-fn values_of(alloc: Global, base: &Base) -> Result<Vec<(u64, u64)>, AllocError> {
+/// The values of the idle objects, each its id.
+pub fn values_of(alloc: Global, base: &Base) -> Result<Vec<(u64, u64)>, AllocError> {
     let mut values = Vec::new(alloc);
     for known in base.records.as_slice() {
         if known.phase == Phase::Idle {

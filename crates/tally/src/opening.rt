@@ -1,0 +1,134 @@
+use crate::cutting::{take_step, values_of};
+use crate::{Fault, entries_of};
+use pool_core::Core;
+use pool_journal::{Base, Entry, print_base, read_base};
+use pool_settings::Settings;
+use pool_stats::Counts;
+use std::alloc::Global;
+
+/// The calls by which a pool comes to one that goes on with a segment, in their order.
+#[derive(Clone, Copy)]
+pub enum Call {
+    /// `Core::step`, with the entries of a journal.
+    Step,
+    /// `Core::cut`.
+    Cut,
+    /// `read_base`, of the segment's text.
+    Read,
+    /// `print_base`, of what the pool came to.
+    Print,
+    /// `Core::from_base`, of what was read.
+    Open,
+    /// `Core::step`, with the entries of the segment.
+    GoOn,
+}
+
+impl Call {
+    /// The call that a word names.
+    pub fn named(word: &str) -> Option<Call> {
+        match word {
+            "step" => Some(Call::Step),
+            "cut" => Some(Call::Cut),
+            "read" => Some(Call::Read),
+            "print" => Some(Call::Print),
+            "open" => Some(Call::Open),
+            "goon" => Some(Call::GoOn),
+            _ => None,
+        }
+    }
+}
+
+/// The counts of the pool to which the calls up to the last one lead, from one that takes the steps of the entries to one that goes on
+/// with the segment of which this is the text.
+///
+/// # Errors
+///
+/// A step is refused or answered otherwise than its entry says, the cut hands out anything but the entries, what they come to isn't
+/// what is read of the segment or isn't printed as it stands there, or no pool is opened from it.
+pub fn opened_counts(
+    alloc: Global,
+    settings: Settings,
+    entries: &[Entry],
+    text: &[u8],
+    last: Call,
+) -> Result<Counts, Fault> {
+    let mut core = Core::open(alloc, settings)?;
+    take_steps(&mut core, entries)?;
+    if matches!(last, Call::Step) {
+        return Ok(core.counts());
+    }
+    take_cut(alloc, &mut core, entries)?;
+    if matches!(last, Call::Cut) {
+        return Ok(core.counts());
+    }
+    let (base, length) = read(alloc, &core, text)?;
+    if matches!(last, Call::Read) {
+        return Ok(core.counts());
+    }
+    print(alloc, &core, text, length)?;
+    if matches!(last, Call::Print) {
+        return Ok(core.counts());
+    }
+    let mut core = open(alloc, settings, base)?;
+    if matches!(last, Call::GoOn) {
+        go_on(alloc, &mut core, text, length)?;
+    }
+    Ok(core.counts())
+}
+
+fn take_steps(core: &mut Core<u64>, entries: &[Entry]) -> Result<(), Fault> {
+    for entry in entries {
+        take_step(core, entry)?;
+    }
+    Ok(())
+}
+
+// Cuts the journal, which hands out these entries.
+fn take_cut(alloc: Global, core: &mut Core<u64>, entries: &[Entry]) -> Result<(), Fault> {
+    let segment = core.cut(alloc)?;
+    if segment.entries.as_slice() == entries {
+        Ok(())
+    } else {
+        Err(Fault::SegmentDiffers)
+    }
+}
+
+// The base with which a text begins, and the length of its lines. It is what the pool came to.
+fn read(alloc: Global, core: &Core<u64>, text: &[u8]) -> Result<(Base, usize), Fault> {
+    let (base, length) = read_base(alloc, text).map_err(|_| Fault::JournalUnread)?;
+    let due = core.base();
+    if base.head() == due.head() && base.records.as_slice() == due.records.as_slice() {
+        Ok((base, length))
+    } else {
+        Err(Fault::BaseDiffers)
+    }
+}
+
+// Prints what a pool came to, whose journal is empty. A text begins so, up to this length.
+fn print(alloc: Global, core: &Core<u64>, text: &[u8], length: usize) -> Result<(), Fault> {
+    if !core.journal().is_empty() {
+        return Err(Fault::SegmentDiffers);
+    }
+    let mut printed = Vec::new(alloc);
+    print_base(core.base(), &mut printed)?;
+    if text.get(..length) == Some(printed.as_slice()) {
+        Ok(())
+    } else {
+        Err(Fault::BaseDiffers)
+    }
+}
+
+// A pool that goes on from a base, with the id of each idle object for its value.
+fn open(alloc: Global, settings: Settings, base: Base) -> Result<Core<u64>, Fault> {
+    let values = values_of(alloc, &base)?;
+    Core::from_base(alloc, settings, base, values).map_err(|_| Fault::BaseRefused)
+}
+
+// Takes the steps of the entries that stand behind this length in a text.
+fn go_on(alloc: Global, core: &mut Core<u64>, text: &[u8], length: usize) -> Result<(), Fault> {
+    let Some(lines) = text.get(length..) else {
+        return Err(Fault::JournalUnread);
+    };
+    let entries = entries_of(alloc, lines)?;
+    take_steps(core, &entries)
+}
