@@ -20,7 +20,7 @@ import tempfile
 from refuse_memory import Program
 
 ONE_OF = 6
-CALLS = {"SharedPool::open", "borrow", "add", "fill", "maintain", "journal_copy"}
+CALLS = {"SharedPool::open", "borrow", "add", "fill", "maintain", "journal_copy", "cut"}
 
 
 def run(program, settings):

@@ -6,12 +6,12 @@ use crate::judging::Played;
 use crate::marks::{Mark, tells};
 use crate::refusals::{Call, Refusals};
 use crate::things::{Fickle, Thing, Ticking};
-use pool_journal::Entry;
+use pool_journal::{Entry, Segment};
 use pool_shared::{
     AddFault, BorrowFault, Caller, Lent, PoolFault, ReturnFault, Returned, Room, SharedPool,
 };
 use std::alloc::{AllocError, Global};
-use std::sync::Wait;
+use std::sync::{Mutex, Wait};
 
 pub type Pool<'a, B> = SharedPool<Thing, (), Fickle<'a>, Ticking, B>;
 
@@ -20,6 +20,9 @@ const CALLS: u32 = 2_000;
 
 /// How many marks a caller makes at most: three a call, one for each object that it still holds, and one for the end.
 const MARKS: usize = 8_001;
+
+/// The segments that were cut, in their order. Who holds the lock knows that nobody else cuts.
+pub type Segments = Mutex<Vec<Segment>>;
 
 /// What callers do in a pool that has nothing to lend.
 #[derive(Clone, Copy, PartialEq, Eq)]
@@ -32,7 +35,7 @@ pub enum Manner {
 
 /// A caller with what it holds, and what it did.
 #[derive(Drop)]
-pub struct Player<B: Room> {
+pub struct Player<'a, B: Room> {
     me: Caller<B>,
     marks: Vec<Mark>,
     forgotten: u64,
@@ -42,16 +45,18 @@ pub struct Player<B: Room> {
     dice: Dice,
     manner: Manner,
     held: Vec<Lent<Thing>>,
+    segments: &'a Segments,
 }
 
-impl<B: Room> Player<B> {
+impl<'a, B: Room> Player<'a, B> {
     /// It takes all the memory of its own at once.
     pub fn new(
         alloc: Global,
         me: Caller<B>,
         seed: u64,
         manner: Manner,
-    ) -> Result<Player<B>, AllocError> {
+        segments: &'a Segments,
+    ) -> Result<Player<'a, B>, AllocError> {
         let dice = Dice::new(
             seed.wrapping_mul(1_000)
                 .wrapping_add(u64::from(me.number())),
@@ -70,6 +75,7 @@ impl<B: Room> Player<B> {
             dice,
             manner,
             held,
+            segments,
         })
     }
 
@@ -88,6 +94,26 @@ impl<B: Room> Player<B> {
         Err(Fault::Starved)
     }
 
+    // Notes of a call that wanted memory how far it began, which the journal tells.
+    fn find_begun(
+        &mut self,
+        segments: &[Segment],
+        stored: &[Entry],
+        begun: &[Mark],
+    ) -> Result<(), Fault> {
+        let number = self.me.number();
+        if tells(segments, stored, number, &self.marks) {
+            return Ok(());
+        }
+        for mark in begun {
+            self.mark(*mark)?;
+            if tells(segments, stored, number, &self.marks) {
+                return Ok(());
+            }
+        }
+        Err(Fault::Untold)
+    }
+
     // A call wanted memory. The journal tells all that was done before, and of this call no more than how it begins.
     fn look_back<R: Wait>(
         &mut self,
@@ -97,18 +123,9 @@ impl<B: Room> Player<B> {
         begun: &[Mark],
     ) -> Result<(), Fault> {
         self.refusals.note(call);
-        let journal = self.copy(rt, pool)?;
-        let number = self.me.number();
-        if tells(&journal, number, &self.marks) {
-            return Ok(());
-        }
-        for mark in begun {
-            self.mark(*mark)?;
-            if tells(&journal, number, &self.marks) {
-                return Ok(());
-            }
-        }
-        Err(Fault::Untold)
+        let segments = self.segments.lock(rt);
+        let stored = self.copy(rt, pool)?;
+        self.find_begun(&segments, &stored, begun)
     }
 
     // One of the objects that it holds, by chance.
@@ -288,6 +305,26 @@ impl<B: Room> Player<B> {
         }
     }
 
+    // Cuts the journal, and keeps what was cut, if there was memory.
+    fn keep_cut<R: Wait>(&mut self, rt: &R, pool: &Pool<B>) -> Result<bool, Fault> {
+        let mut segments = self.segments.lock(rt);
+        match pool.cut(rt, self.alloc, &mut self.me) {
+            Ok(segment) => {
+                segments.push(segment)?;
+                Ok(true)
+            }
+            Err(_) => Ok(false),
+        }
+    }
+
+    fn cut<R: Wait>(&mut self, rt: &R, pool: &Pool<B>) -> Result<(), Fault> {
+        if self.keep_cut(rt, pool)? {
+            Ok(())
+        } else {
+            self.look_back(rt, pool, Call::Cut, &[])
+        }
+    }
+
     // A call with an object that it holds. With none it borrows one.
     fn call_with_one<R: Wait>(&mut self, rt: &R, pool: &Pool<B>) -> Result<(), Fault> {
         let Some(lent) = self.pick() else {
@@ -306,6 +343,7 @@ impl<B: Room> Player<B> {
         match self.dice.roll(3_000) {
             0 => self.close(rt, pool),
             1..=500 => self.clear(rt, pool),
+            501..=1_000 => self.cut(rt, pool),
             _ => {
                 let _counts = pool.counts(rt, &mut self.me);
                 Ok(())
@@ -372,6 +410,7 @@ impl<B: Room> Player<B> {
             dice: _,
             manner: _,
             held: _,
+            segments: _,
         } = self;
         let played = Played {
             number: me.number(),

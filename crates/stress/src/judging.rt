@@ -1,12 +1,13 @@
 // What is found of a pool once all have played. What wants memory is tried again.
 use crate::TRIES;
+use crate::again::goes_on;
 use crate::fault::Fault;
 use crate::marks::{Mark, tells};
 use crate::refusals::Refusals;
 use crate::things::{Tally, Thing};
 use pool_core::Core;
 use pool_engines::{EngineFault, check};
-use pool_journal::{Entry, print_entry};
+use pool_journal::{Entry, Segment, print_entry};
 use pool_settings::Settings;
 use std::alloc::Global;
 use std::fmt;
@@ -20,6 +21,8 @@ const VERDICT: usize = 256;
 pub enum Verdict {
     Legal,
     Illegal,
+    /// A segment doesn't go on from what those before it came to.
+    BasesDiffer,
     /// The journal doesn't tell what a caller did.
     CallsDiffer,
     /// An object that was made is nowhere.
@@ -33,6 +36,7 @@ impl Display for Verdict {
         f.write_str(match self {
             Verdict::Legal => "legal",
             Verdict::Illegal => "illegal",
+            Verdict::BasesDiffer => "the bases differ",
             Verdict::CallsDiffer => "the calls differ",
             Verdict::ObjectsLost => "objects are lost",
             Verdict::ObjectsHeld => "objects are held",
@@ -60,6 +64,13 @@ fn print(entry: &Entry, text: &mut Vec<u8>) -> Result<(), Fault> {
     Err(Fault::Starved)
 }
 
+fn print_all(entries: &[Entry], text: &mut Vec<u8>) -> Result<(), Fault> {
+    for entry in entries {
+        print(entry, text)?;
+    }
+    Ok(())
+}
+
 // What the engine of `pool check` says of a journal's text.
 fn judge_text(alloc: Global, settings: Settings, text: &[u8]) -> Result<bool, Fault> {
     let mut verdict = Vec::new(alloc);
@@ -70,14 +81,20 @@ fn judge_text(alloc: Global, settings: Settings, text: &[u8]) -> Result<bool, Fa
     })
 }
 
-// Whether a pool with these settings gives just these answers.
-fn is_legal(alloc: Global, settings: Settings, journal: &[Entry]) -> Result<bool, Fault> {
+// The text of a journal of which these segments were cut and these entries are stored.
+fn text_of(alloc: Global, segments: &[Segment], stored: &[Entry]) -> Result<Vec<u8>, Fault> {
     let mut text = Vec::new(alloc);
-    for entry in journal {
-        print(entry, &mut text)?;
+    for segment in segments {
+        print_all(segment.entries.as_slice(), &mut text)?;
     }
+    print_all(stored, &mut text)?;
+    Ok(text)
+}
+
+// Whether a pool with these settings gives just the answers of a journal's text.
+fn is_legal(alloc: Global, settings: Settings, text: &[u8]) -> Result<bool, Fault> {
     for _ in 0..TRIES {
-        match judge_text(alloc, settings, text.as_slice()) {
+        match judge_text(alloc, settings, text) {
             Err(Fault::OutOfMemory) => {}
             judged => return judged,
         }
@@ -86,15 +103,15 @@ fn is_legal(alloc: Global, settings: Settings, journal: &[Entry]) -> Result<bool
 }
 
 // Whether a journal tells what each caller did, in its order.
-fn tells_all(journal: &[Entry], all: &[Played]) -> bool {
-    all.iter()
-        .all(|played| tells(journal, played.number, &played.marks))
+fn tells_all(segments: &[Segment], stored: &[Entry], all: &[Played]) -> bool {
+    all.iter().all(|played| tells(segments, stored, played.number, &played.marks))
 }
 
-/// What is found of a pool, which ended so after all this was done, and of the objects.
+/// What is found of a pool, which ended so after all this was done and these segments were cut, and of the objects.
 pub fn judge(
     alloc: Global,
     settings: Settings,
+    segments: &[Segment],
     core: &Core<Thing>,
     all: &[Played],
     tally: &Tally,
@@ -104,11 +121,14 @@ pub fn judge(
         played.end?;
         forgotten = forgotten.saturating_add(played.forgotten);
     }
-    let journal = core.journal();
+    let stored = core.journal();
     let counts = core.counts();
-    Ok(if !is_legal(alloc, settings, journal)? {
+    let text = text_of(alloc, segments, stored)?;
+    Ok(if !is_legal(alloc, settings, &text)? {
         Verdict::Illegal
-    } else if !tells_all(journal, all) {
+    } else if !goes_on(alloc, settings, segments, core)? {
+        Verdict::BasesDiffer
+    } else if !tells_all(segments, stored, all) {
         Verdict::CallsDiffer
     } else if !tally.leaves(forgotten.saturating_add(counts.idle)) {
         Verdict::ObjectsLost

@@ -1,13 +1,15 @@
 //! A test program: four threads call a shared pool by chance, over a factory that fails by chance.
 //!
-//! For each seed the journal is judged by the engine of `pool check`, what each thread did is compared with what the journal
-//! tells of it, and the objects are counted. A line tells what was found, and nothing in it depends on how the threads run, nor
+//! They also cut its journal, and keep the segments. For each seed the journal, in its segments and what is stored, is judged by
+//! the engine of `pool check` and by a pool that is cut where it was, what each thread did is compared with what the journal tells
+//! of it, and the objects are counted. A line tells what was found, and nothing in it depends on how the threads run, nor
 //! on which allocations are refused: a call that wants memory isn't made again, but the journal is compared then, too; what
 //! is done before and after all calls is tried again. Standard error tells how many calls of each kind wanted memory.
 #![tactic(auto)]
 
 ghost use Rattle.std.specs.Prelude.{◌≡◌};
 
+mod again;
 mod calling;
 mod dice;
 mod fault;
@@ -16,7 +18,7 @@ mod marks;
 mod refusals;
 mod things;
 
-use calling::{Manner, Player, Pool};
+use calling::{Manner, Player, Pool, Segments};
 use fault::Fault;
 use judging::{Verdict, judge};
 use pool_settings::Settings;
@@ -24,7 +26,7 @@ use pool_shared::{Caller, OpenFault, Room, Site};
 use refusals::{CALLS, Call, Refusals};
 use std::alloc::Global;
 use std::marker::Brand;
-use std::sync::Wait;
+use std::sync::{Mutex, Wait};
 use std::thread::Threads;
 use std::{io, thread};
 use things::{Fickle, Tally, Ticking};
@@ -32,6 +34,9 @@ use things::{Fickle, Tally, Ticking};
 const SEEDS: u64 = 20;
 
 const CALLERS: u32 = 4;
+
+/// How many segments there is memory for at most: one for each call that the callers make.
+const CUTS: usize = 8_000;
 
 /// How often something is tried that has to be, where it wants memory.
 const TRIES: u32 = 10_000;
@@ -77,15 +82,16 @@ fn waiting() -> Settings {
 }
 
 // The players with these callers.
-fn players_of<B: Room>(
+fn players_of<'a, B: Room>(
     alloc: Global,
     callers: Vec<Caller<B>>,
     seed: u64,
     manner: Manner,
-) -> Result<Vec<Player<B>>, Fault> {
+    segments: &'a Segments,
+) -> Result<Vec<Player<'a, B>>, Fault> {
     let mut players = Vec::new(alloc);
     for me in callers {
-        players.push(Player::new(alloc, me, seed, manner)?)?;
+        players.push(Player::new(alloc, me, seed, manner, segments)?)?;
     }
     Ok(players)
 }
@@ -110,7 +116,10 @@ fn play<B: Room + Send + Sync, R: Threads + Wait + Sync>(
         refusals.note(Call::Open);
     }
     let (pool, callers) = opened?;
-    let mut players = players_of(alloc, callers, seed, manner)?;
+    let mut room = Vec::new(alloc);
+    room.reserve(CUTS)?;
+    let segments: Segments = Mutex::new(room);
+    let mut players = players_of(alloc, callers, seed, manner, &segments)?;
     let mut back = Vec::new(alloc);
     back.reserve(CALLERS as usize)?;
     let mut all = Vec::new(alloc);
@@ -129,7 +138,8 @@ fn play<B: Room + Send + Sync, R: Threads + Wait + Sync>(
         all.push(played).map_err(|_| Fault::Starved)?;
     }
     let core = pool.finish(rt, back).map_err(|_| Fault::CallerMissing)?;
-    judge(alloc, settings, &core, all.as_slice(), tally)
+    let segments = segments.into_inner();
+    judge(alloc, settings, &segments, &core, all.as_slice(), tally)
 }
 
 // Plays on a new site.

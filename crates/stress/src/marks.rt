@@ -1,5 +1,6 @@
 // What a caller knows of its calls, and what a journal tells of them.
-use pool_journal::{Answer, Entry, Input, Outcome, When};
+use pool_journal::{Answer, Entry, Input, Outcome, Segment, When};
+use std::slice::Iter;
 
 /// A call that began, or what it came to.
 #[derive(Clone, Copy, Debug, PartialEq, Eq)]
@@ -68,10 +69,9 @@ fn mark_of(entry: &Entry) -> Option<Mark> {
     }
 }
 
-/// Whether a journal tells just this of the calls of one caller.
-pub fn tells(journal: &[Entry], caller: u32, marks: &[Mark]) -> bool {
-    let mut left = marks.iter();
-    for entry in journal {
+// Whether entries tell of the calls of one caller what comes next. What they tell is taken.
+fn tells_next(entries: &[Entry], caller: u32, left: &mut Iter<Mark>) -> bool {
+    for entry in entries {
         if entry.caller == caller {
             if let Some(mark) = mark_of(entry) {
                 if left.next() != Some(&mark) {
@@ -80,5 +80,16 @@ pub fn tells(journal: &[Entry], caller: u32, marks: &[Mark]) -> bool {
             }
         }
     }
-    left.next().is_none()
+    true
+}
+
+/// Whether a journal, of which these segments were cut and these entries are stored, tells just this of the calls of one caller.
+pub fn tells(segments: &[Segment], stored: &[Entry], caller: u32, marks: &[Mark]) -> bool {
+    let mut left = marks.iter();
+    for segment in segments {
+        if !tells_next(segment.entries.as_slice(), caller, &mut left) {
+            return false;
+        }
+    }
+    tells_next(stored, caller, &mut left) && left.next().is_none()
 }

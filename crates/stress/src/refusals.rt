@@ -20,10 +20,11 @@ pub enum Call {
     Clear,
     Close,
     JournalCopy,
+    Cut,
 }
 
 /// All of them, each at its place.
-pub const CALLS: [Call; 13] = [
+pub const CALLS: [Call; 14] = [
     Call::Open,
     Call::Borrow,
     Call::GiveBack,
@@ -37,11 +38,12 @@ pub const CALLS: [Call; 13] = [
     Call::Clear,
     Call::Close,
     Call::JournalCopy,
+    Call::Cut,
 ];
 
 impl Call {
     fn place(self) -> usize
-        ensures { result < 13 }
+        ensures { result < 14 }
     {
         match self {
             Call::Open => 0,
@@ -57,6 +59,7 @@ impl Call {
             Call::Clear => 10,
             Call::Close => 11,
             Call::JournalCopy => 12,
+            Call::Cut => 13,
         }
     }
 }
@@ -77,6 +80,7 @@ impl Display for Call {
             Call::Clear => "clear",
             Call::Close => "close",
             Call::JournalCopy => "journal_copy",
+            Call::Cut => "cut",
         })
     }
 }
@@ -84,12 +88,12 @@ impl Display for Call {
 /// How often each call wanted memory.
 #[derive(Clone, Copy, Debug)]
 pub struct Refusals {
-    counts: [u64; 13],
+    counts: [u64; 14],
 }
 
 impl Refusals {
     pub fn none() -> Refusals {
-        Refusals { counts: [0; 13] }
+        Refusals { counts: [0; 14] }
     }
 
     pub fn of(&self, call: Call) -> u64 {
