@@ -54,26 +54,35 @@ pub fn opened_counts(
 ) -> Result<Counts, Fault> {
     let mut core = Core::open(alloc, settings)?;
     take_steps(&mut core, entries)?;
-    if matches!(last, Call::Step) {
+    if !matches!(last, Call::Step) {
+        take_cut(alloc, &mut core, entries)?;
+    }
+    match last {
+        Call::Step | Call::Cut => Ok(core.counts()),
+        _ => counts_behind_cut(alloc, settings, &core, text, last),
+    }
+}
+
+// The counts to which the calls behind the cut lead.
+fn counts_behind_cut(
+    alloc: Global,
+    settings: Settings,
+    core: &Core<u64>,
+    text: &[u8],
+    last: Call,
+) -> Result<Counts, Fault> {
+    let (base, length) = read(alloc, core, text)?;
+    if !matches!(last, Call::Read) {
+        print(alloc, core, text, length)?;
+    }
+    if matches!(last, Call::Read | Call::Print) {
         return Ok(core.counts());
     }
-    take_cut(alloc, &mut core, entries)?;
-    if matches!(last, Call::Cut) {
-        return Ok(core.counts());
-    }
-    let (base, length) = read(alloc, &core, text)?;
-    if matches!(last, Call::Read) {
-        return Ok(core.counts());
-    }
-    print(alloc, &core, text, length)?;
-    if matches!(last, Call::Print) {
-        return Ok(core.counts());
-    }
-    let mut core = open(alloc, settings, base)?;
+    let mut opened = open(alloc, settings, base)?;
     if matches!(last, Call::GoOn) {
-        go_on(alloc, &mut core, text, length)?;
+        go_on(alloc, &mut opened, text, length)?;
     }
-    Ok(core.counts())
+    Ok(opened.counts())
 }
 
 fn take_steps(core: &mut Core<u64>, entries: &[Entry]) -> Result<(), Fault> {
