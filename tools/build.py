@@ -1,5 +1,6 @@
 #!/usr/bin/env python3
-"""Proves and builds a program of the repository, with the libraries that it stands on: those that don't stand on one another side by side.
+"""Proves and builds a program of the repository, or a static library, with the libraries that it stands on: those that don't stand on one
+another side by side.
 
     tools/build.py PROGRAM
 
@@ -9,6 +10,7 @@ where it failed, and the status is then 1. What was built before and hasn't chan
 
 import os
 import pathlib
+import re
 import subprocess
 import sys
 import tempfile
@@ -27,6 +29,11 @@ def libraries():
         if colon:
             uses[head.split()[0]] = names.split()
     return {crate: [name for name in names if name in uses] for crate, names in uses.items()}
+
+
+def is_static(crate):
+    """Whether a crate is a static library."""
+    return any(line.split()[:2] == [crate, "staticlib"] for line in re.split(r"[\n:]", (TOP / "crates.txt").read_text()))
 
 
 def size(crate):
@@ -55,7 +62,8 @@ class Work:
         if program not in uses:
             sys.exit(f"{program}: no crate of this repository")
         self.program = program
-        self.built = TOP / "crates" / program / "out" / program
+        self.is_static = is_static(program)
+        self.built = TOP / "crates" / program / "out" / (f"lib{program}.a" if self.is_static else program)
         wanted = below(program, uses)
         self.waiting = {crate: set(uses[crate]) for crate in wanted}
         self.ways = longest_ways({crate: uses[crate] for crate in wanted})
@@ -72,7 +80,7 @@ class Work:
 
     def words(self, crate, share):
         """The command that builds a crate."""
-        if crate != self.program:
+        if crate != self.program or self.is_static:
             return ["rt", "lib", "--jobs", str(share)]
         # A program that is given no input ends at once, with a status of its own, so that to run it builds it.
         self.built.unlink(missing_ok=True)

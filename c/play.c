@@ -1,0 +1,373 @@
+/* Plays a script on the C library, as the program `pool` plays it, and looks at all that the library tells.
+ *
+ *     play SETTINGS SCRIPT [REFUSED]
+ *
+ * Writes the journal to standard output. The object with the id n has a token of its own, and where a token comes out it must be that of
+ * the object, and must come out where the answer says so and nowhere else. What is answered must be what the entry's line says. After each step the numbers of steps that the library tells must
+ * be the same, and what is told of a refusal must be true of it. It ends with status 0; or with status 3 and a line on standard
+ * error for settings or a script that can't be taken, as `pool` has it, but without the name of a key; or with status 4 where
+ * something was told wrongly.
+ *
+ * With a number REFUSED the allocation of that number is refused to the library, and what was refused for want of memory is
+ * tried again. It ends with status 5 where there were not so many. It is linked with --wrap=malloc and --wrap=realloc. */
+#include <inttypes.h>
+#include <stdio.h>
+#include <stdlib.h>
+#include <string.h>
+
+#include "zuphinka.h"
+
+enum { WRONG = 4, FAULT = 3, FEW = 5, WORDS = 6 };
+
+static uint64_t allocations, refused;
+
+void *__real_malloc(size_t size);
+void *__real_realloc(void *block, size_t size);
+void *__wrap_malloc(size_t size);
+void *__wrap_realloc(void *block, size_t size);
+
+void *__wrap_malloc(size_t size) { return ++allocations == refused ? NULL : __real_malloc(size); }
+
+void *__wrap_realloc(void *block, size_t size) { return ++allocations == refused ? NULL : __real_realloc(block, size); }
+
+static void check(bool holds, const char *what) {
+  if (holds) return;
+  fprintf(stderr, "play: %s\n", what);
+  exit(WRONG);
+}
+
+static void fault(const char *what) {
+  fflush(stdout);
+  fprintf(stderr, "pool: %s\n", what);
+  exit(FAULT);
+}
+
+static void fault_at(unsigned long line, const char *what) {
+  char text[64];
+  snprintf(text, sizeof text, "line %lu: %s", line, what);
+  fault(text);
+}
+
+/* The token of an object, which nobody follows. */
+static void *token(uint64_t id) { return (void *)(uintptr_t)(16 * id + 1); }
+
+/* ---- a line of a script */
+
+static const struct {
+  const char *word;
+  uint32_t code;
+  bool number, outcome;
+} inputs[] = {
+    {"borrow", ZUPHINKA_BORROW, true, false},
+    {"ready", ZUPHINKA_READY, true, true},
+    {"return", ZUPHINKA_RETURN, true, false},
+    {"park", ZUPHINKA_PARK, true, true},
+    {"invalidate", ZUPHINKA_INVALIDATE, true, false},
+    {"use", ZUPHINKA_USE, true, false},
+    {"add", ZUPHINKA_ADD, false, false},
+    {"fill", ZUPHINKA_FILL, false, false},
+    {"added", ZUPHINKA_ADDED, true, true},
+    {"evict", ZUPHINKA_EVICT, false, false},
+    {"evictnext", ZUPHINKA_EVICT_NEXT, false, false},
+    {"tested", ZUPHINKA_TESTED, true, true},
+    {"reclaimnext", ZUPHINKA_RECLAIM_NEXT, false, false},
+    {"clear", ZUPHINKA_CLEAR, false, false},
+    {"clearnext", ZUPHINKA_CLEAR_NEXT, false, false},
+    {"destroyed", ZUPHINKA_DESTROYED, true, false},
+    {"close", ZUPHINKA_CLOSE, false, false},
+};
+
+static const char *const outcomes[] = {"good", "makefail", "createfail", "activatefail", "testfail", "passivatefail"};
+
+static bool read_number(const char *word, uint64_t most, uint64_t *number) {
+  *number = 0;
+  if (!*word || (*word == '0' && word[1])) return false;
+  for (; *word; word++) {
+    if (*word < '0' || *word > '9') return false;
+    uint64_t digit = (uint64_t)(*word - '0');
+    if (*number > (most - digit) / 10) return false;
+    *number = 10 * *number + digit;
+  }
+  return true;
+}
+
+static bool read_outcome(const char *word, uint32_t *outcome) {
+  for (size_t n = 0; n < sizeof outcomes / sizeof *outcomes; n++) {
+    if (strcmp(word, outcomes[n]) == 0) {
+      *outcome = (uint32_t)(ZUPHINKA_GOOD + n);
+      return true;
+    }
+  }
+  return false;
+}
+
+static bool read_reclaim(const char *word, uint32_t *input) {
+  *input = strcmp(word, "borrow") == 0 ? ZUPHINKA_RECLAIM_ON_BORROW : ZUPHINKA_RECLAIM_FOR_MAINTENANCE;
+  return strcmp(word, "borrow") == 0 || strcmp(word, "maintain") == 0;
+}
+
+static bool read_input(char *words[], size_t count, struct zuphinka_request *request) {
+  if (strcmp(words[0], "reclaim") == 0) return count == 2 && read_reclaim(words[1], &request->input);
+  for (size_t n = 0; n < sizeof inputs / sizeof *inputs; n++) {
+    if (strcmp(words[0], inputs[n].word) != 0) continue;
+    request->input = inputs[n].code;
+    if (count != 1u + inputs[n].number + inputs[n].outcome) return false;
+    if (inputs[n].number && !read_number(words[1], UINT64_MAX, &request->number)) return false;
+    return !inputs[n].outcome || read_outcome(words[2], &request->outcome);
+  }
+  return false;
+}
+
+/* Cuts a line without its line feed at each space. */
+static bool read_request(char *line, struct zuphinka_request *request) {
+  char *words[WORDS];
+  size_t count = 0;
+  for (char *word = line; word; count++) {
+    if (count == WORDS) return false;
+    words[count] = word;
+    word = strchr(word, ' ');
+    if (word) *word++ = 0;
+  }
+  uint64_t caller;
+  *request = (struct zuphinka_request){0};
+  if (count < 3 || !read_number(words[0], UINT32_MAX, &caller) || !read_number(words[1], UINT64_MAX, &request->at)) return false;
+  request->caller = (uint32_t)caller;
+  return read_input(words + 2, count - 2, request);
+}
+
+/* ---- what the library tells */
+
+struct state {
+  uint64_t steps, room;
+  struct zuphinka_counts counts;
+};
+
+static struct state state_of(struct zuphinka *pool) {
+  struct state state;
+  memset(&state, 0, sizeof state);
+  check(zuphinka_steps(pool, &state.steps) == ZUPHINKA_DONE, "the steps aren't told");
+  check(zuphinka_room(pool, &state.room) == ZUPHINKA_DONE, "the room isn't told");
+  check(zuphinka_counts(pool, &state.counts) == ZUPHINKA_DONE, "the counts aren't told");
+  check(state.counts.steps == state.steps, "two numbers of steps");
+  check(state.counts.created ==
+            state.counts.idle + state.counts.lent + state.counts.reserved + state.counts.destroyed + state.counts.reclaimed,
+        "the counts don't add up");
+  return state;
+}
+
+static bool is_keeping(uint32_t answer) { return answer == ZUPHINKA_PARKED || answer == ZUPHINKA_KEPT; }
+
+static bool is_giving(uint32_t answer) {
+  return answer == ZUPHINKA_TAKE || answer == ZUPHINKA_TEST || answer == ZUPHINKA_DESTROY_IDLE;
+}
+
+static bool is_finishing(uint32_t answer, uint32_t input) {
+  return is_keeping(answer) || answer == ZUPHINKA_LENT || answer == ZUPHINKA_CHECK || answer == ZUPHINKA_DESTROY ||
+         answer == ZUPHINKA_DESTROY_IDLE || answer == ZUPHINKA_FREED || answer == ZUPHINKA_RECLAIMED ||
+         (answer == ZUPHINKA_COUNT && input == ZUPHINKA_CLOSE);
+}
+
+static bool is_carrying(const struct zuphinka_request *request) {
+  bool carries = request->input == ZUPHINKA_PARK || request->input == ZUPHINKA_ADDED || request->input == ZUPHINKA_TESTED;
+  return carries && request->outcome == ZUPHINKA_GOOD;
+}
+
+/* The token that comes out is that of the idle object, or the one that was handed in and isn't kept. */
+static void check_token(const struct zuphinka_request *request, const struct zuphinka_reply *reply) {
+  bool comes = is_giving(reply->answer) || (is_carrying(request) && !is_keeping(reply->answer));
+  check(reply->has_object == comes, "a token comes out where none should, or none where one should");
+  if (!comes)
+    check(!reply->object, "a token where none comes out");
+  else
+    check(reply->object == token(is_giving(reply->answer) ? reply->number : request->number), "the token of another object");
+}
+
+/* Takes a step; what has no memory has changed nothing, finishes nothing, and is tried again. */
+static uint32_t step(struct zuphinka *pool, const struct zuphinka_request *request, struct zuphinka_reply *reply) {
+  struct state before = state_of(pool);
+  struct zuphinka_reply untouched;
+  memset(&untouched, 0x5a, sizeof untouched);
+  memcpy(reply, &untouched, sizeof untouched);
+  uint32_t status = zuphinka_step(pool, request, reply);
+  struct state after = state_of(pool);
+  if (status == ZUPHINKA_DONE) {
+    check(after.steps == before.steps + 1, "a step without an entry");
+    check_token(request, reply);
+    return status;
+  }
+  check(memcmp(&before, &after, sizeof before) == 0, "a refused step that changed the pool");
+  check(memcmp(reply, &untouched, sizeof untouched) == 0, "a refused step that has a reply");
+  if (status != ZUPHINKA_OUT_OF_MEMORY) return status;
+  check(refused != 0, "memory was wanting");
+  status = zuphinka_step(pool, request, reply);
+  if (status == ZUPHINKA_DONE) check(!is_finishing(reply->answer, request->input), "a step that finishes was refused");
+  return status;
+}
+
+static const struct {
+  const char *word;
+  bool number;
+} answers[] = {[ZUPHINKA_TAKE] = {"take", true},
+               [ZUPHINKA_MAKE] = {"make", true},
+               [ZUPHINKA_WAIT] = {"wait", false},
+               [ZUPHINKA_EXHAUSTED] = {"exhausted", false},
+               [ZUPHINKA_TIMED_OUT] = {"timeout", false},
+               [ZUPHINKA_LENT] = {"lent", false},
+               [ZUPHINKA_CHECK] = {"check", false},
+               [ZUPHINKA_PARKED] = {"parked", false},
+               [ZUPHINKA_KEPT] = {"kept", false},
+               [ZUPHINKA_KEPT_IDLE] = {"keptidle", true},
+               [ZUPHINKA_DESTROY] = {"destroy", false},
+               [ZUPHINKA_DESTROY_IDLE] = {"destroyidle", true},
+               [ZUPHINKA_TEST] = {"test", true},
+               [ZUPHINKA_FREED] = {"freed", false},
+               [ZUPHINKA_GONE] = {"gone", false},
+               [ZUPHINKA_NOTED] = {"noted", false},
+               [ZUPHINKA_COUNT] = {"count", true},
+               [ZUPHINKA_RECLAIMED] = {"reclaimed", true},
+               [ZUPHINKA_NOTHING] = {"nothing", false},
+               [ZUPHINKA_ENOUGH] = {"enough", false},
+               [ZUPHINKA_NO_PLACE] = {"noplace", false},
+               [ZUPHINKA_REFUSED] = {"refused", false}};
+
+static const char *const causes[] = {[ZUPHINKA_CLOSED] = " closed",
+                                     [ZUPHINKA_NOT_LENT] = " notlent",
+                                     [ZUPHINKA_NOT_HELD] = " notheld",
+                                     [ZUPHINKA_BAD_OUTCOME] = " badoutcome"};
+
+/* The reply says what the line of its entry ends in. */
+static void check_answer(const struct zuphinka_reply *reply, const char *line, uint64_t size) {
+  char end[64], number[32] = "";
+  check(reply->answer >= ZUPHINKA_TAKE && reply->answer <= ZUPHINKA_REFUSED, "a code of an answer that is none");
+  check(reply->cause <= ZUPHINKA_BAD_OUTCOME && (reply->cause != 0) == (reply->answer == ZUPHINKA_REFUSED), "a cause that is none");
+  if (answers[reply->answer].number)
+    snprintf(number, sizeof number, " %" PRIu64, reply->number);
+  else
+    check(!reply->number, "a number where none is answered");
+  int length = snprintf(end, sizeof end, " = %s%s%s\n", answers[reply->answer].word, number, reply->cause ? causes[reply->cause] : "");
+  check(length > 0 && (uint64_t)length < size && memcmp(line + size - length, end, (size_t)length) == 0, "a reply that isn't that of the line");
+}
+
+static void write_line(struct zuphinka *pool, uint64_t position, const struct zuphinka_reply *reply) {
+  char line[ZUPHINKA_LONGEST_LINE], other[ZUPHINKA_LONGEST_LINE];
+  uint64_t size = 0, told = 0;
+  memset(line, 'x', sizeof line);
+  memset(other, 'x', sizeof other);
+  uint32_t status = zuphinka_line(pool, position, line, sizeof line, &size);
+  if (status == ZUPHINKA_OUT_OF_MEMORY) {
+    check(refused != 0 && size == 0 && memcmp(line, other, sizeof line) == 0, "a refused line that has a text");
+    status = zuphinka_line(pool, position, line, sizeof line, &size);
+  }
+  check(status == ZUPHINKA_DONE && size > 0 && size <= sizeof line && line[size - 1] == '\n', "no line of an entry");
+  check(memcmp(line + size, other, sizeof line - size) == 0, "a line that writes behind its end");
+  check_answer(reply, line, size);
+  status = zuphinka_line(pool, position, other, size - 1, &told);
+  if (status == ZUPHINKA_OUT_OF_MEMORY) status = zuphinka_line(pool, position, other, size - 1, &told);
+  check(status == ZUPHINKA_NO_ROOM && told == size && other[0] == 'x', "a line that has no room");
+  fwrite(line, 1, size, stdout);
+}
+
+/* ---- the run */
+
+static char *read_file(const char *path, size_t *length) {
+  FILE *file = fopen(path, "rb");
+  if (!file) fault("cannot open a file");
+  static char chunk[4096];
+  char *bytes = __real_malloc(1);
+  *length = 0;
+  for (size_t more; (more = fread(chunk, 1, sizeof chunk, file)) > 0; *length += more) {
+    bytes = __real_realloc(bytes, *length + more + 1);
+    memcpy(bytes + *length, chunk, more);
+  }
+  fclose(file);
+  bytes[*length] = 0;
+  return bytes;
+}
+
+static void open_pool(struct zuphinka *pool, const char *path) {
+  static const char *const words[] = {[ZUPHINKA_NOT_TEXT] = "settings: not TOML",
+                                      [ZUPHINKA_NOT_TOML] = "settings: not TOML",
+                                      [ZUPHINKA_UNKNOWN_KEY] = "settings: unknown key",
+                                      [ZUPHINKA_WRONG_TYPE] = "settings: wrong type",
+                                      [ZUPHINKA_OUT_OF_RANGE] = "settings: out of range"};
+  size_t length;
+  char *text = read_file(path, &length);
+  uint32_t status = zuphinka_open(pool, text, length);
+  if (status == ZUPHINKA_OUT_OF_MEMORY) {
+    check(refused != 0 && !pool->at, "a refused pool that is open");
+    status = zuphinka_open(pool, text, length);
+  }
+  if (status == ZUPHINKA_DONE) check(zuphinka_open(pool, text, length) == ZUPHINKA_ALREADY_OPEN, "a pool that is opened twice");
+  free(text);
+  if (status == ZUPHINKA_DONE) return;
+  check(!pool->at, "a refused pool that is open");
+  check(status >= ZUPHINKA_NOT_TEXT && status <= ZUPHINKA_OUT_OF_RANGE, "a status of settings that is none");
+  fault(words[status]);
+}
+
+/* An empty handle has a status for each call. */
+static void check_empty(struct zuphinka *pool) {
+  struct zuphinka_request request = {.input = ZUPHINKA_ADD};
+  struct zuphinka_reply reply = {0};
+  struct zuphinka_counts counts = {0};
+  uint64_t number = 7;
+  char text[1] = {'x'};
+  check(zuphinka_step(pool, &request, &reply) == ZUPHINKA_NOT_OPEN && !reply.answer, "a step of no pool");
+  check(zuphinka_counts(pool, &counts) == ZUPHINKA_NOT_OPEN && !counts.steps, "counts of no pool");
+  check(zuphinka_steps(pool, &number) == ZUPHINKA_NOT_OPEN && number == 7, "steps of no pool");
+  check(zuphinka_room(pool, &number) == ZUPHINKA_NOT_OPEN && number == 7, "room of no pool");
+  check(zuphinka_line(pool, 0, text, 1, &number) == ZUPHINKA_NOT_OPEN && number == 7 && text[0] == 'x', "a line of no pool");
+  zuphinka_drop(pool);
+  check(!pool->at, "a pool from nothing");
+}
+
+/* Codes that are none are refused, and change nothing. */
+static void check_codes(struct zuphinka *pool) {
+  const struct zuphinka_request requests[] = {{.input = 0},
+                                              {.input = ZUPHINKA_CLOSE + 1},
+                                              {.input = ZUPHINKA_READY},
+                                              {.input = ZUPHINKA_PARK, .outcome = ZUPHINKA_PASSIVATE_FAILED + 1}};
+  struct state before = state_of(pool);
+  for (size_t n = 0; n < sizeof requests / sizeof *requests; n++) {
+    struct zuphinka_reply reply = {0};
+    check(zuphinka_step(pool, &requests[n], &reply) == ZUPHINKA_BAD_REQUEST && !reply.answer, "a bad request that is answered");
+  }
+  struct state after = state_of(pool);
+  check(memcmp(&before, &after, sizeof before) == 0, "a bad request that changed the pool");
+}
+
+static void play(struct zuphinka *pool, char *script) {
+  unsigned long line = 1;
+  for (char *at = script; *at; line++) {
+    char *end = strchr(at, '\n');
+    struct zuphinka_request request;
+    struct zuphinka_reply reply;
+    if (!end) fault_at(line, "truncated");
+    *end = 0;
+    if (!read_request(at, &request)) fault_at(line, "not a line");
+    if (is_carrying(&request)) request.object = token(request.number);
+    uint32_t status = step(pool, &request, &reply);
+    if (status == ZUPHINKA_JOURNAL_FULL) fault_at(line, "journal full");
+    check(status == ZUPHINKA_DONE, "a step that isn't taken");
+    write_line(pool, line - 1, &reply);
+    at = end + 1;
+  }
+  uint64_t size = 7;
+  char text[1];
+  check(zuphinka_line(pool, line - 1, text, 1, &size) == ZUPHINKA_NO_ENTRY && size == 7, "a line of no entry");
+}
+
+int main(int count, char **arguments) {
+  struct zuphinka pool = {0};
+  if (count < 3 || count > 4 || (count == 4 && !read_number(arguments[3], UINT64_MAX, &refused))) fault("wrong arguments");
+  check_empty(&pool);
+  open_pool(&pool, arguments[1]);
+  check_codes(&pool);
+  size_t length;
+  char *script = read_file(arguments[2], &length);
+  play(&pool, script);
+  free(script);
+  zuphinka_drop(&pool);
+  check_empty(&pool);
+  return refused > allocations ? FEW : 0;
+}

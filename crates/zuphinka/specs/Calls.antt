@@ -1,0 +1,131 @@
+-- What the calls from C come to.
+use Rattle.std.specs.Prelude.{◌≡◌, ℕ, ◌+◌, ◌<◌, ◌≤◌, true, false, if◌then◌else◌, List, [], ◌∷◌, ◌++◌, length, drop, slice_get, Option, Some, None, IsSomeAnd, Ok, Err, IsUtf8}
+use Rattle.pool_settings.specs.Answer.{settings_of_text, IsAnswer}
+use Rattle.pool_settings.specs.declared.fault.SettingsFault.{SettingsFault}
+use Rattle.pool_journal.specs.Base.{empty_base, closed_from, records_from}
+use Rattle.pool_journal.specs.Carrying.{carries}
+use Rattle.pool_journal.specs.Text.{line}
+use Rattle.pool_journal.specs.declared.answer.Answer.{Answer}
+use Rattle.pool_journal.specs.declared.entry.Entry.{Entry}
+use Rattle.pool_journal.specs.declared.input.Input.{Input}
+use Rattle.pool_places.specs.Shelf.{records_in}
+use Rattle.pool_core.specs.Core.{Answered}
+use Rattle.pool_core.specs.Finishing.{finishes}
+use Rattle.pool_core.specs.Fits.{FitsFrom, IsTooLongFrom, owed_from, limit_from}
+use Rattle.pool_core.specs.Kept.{KeepsIdleFrom}
+use Rattle.pool_core.specs.Legal.{IsLegalFrom, entry_due_from}
+use Rattle.pool_core.specs.Pool.{Pool}
+use Rattle.pool_core.specs.ReplyFrom.{reply_from}
+use Rattle.pool_core.specs.Steps.{keeps_value}
+use Rattle.zuphinka.specs.Codes.{input_of, reply_of}
+use Rattle.zuphinka.specs.Status.{status_code, fault_status}
+use Rattle.zuphinka.specs.declared.status.Status.{Status}
+use Rattle.zuphinka.specs.declared.status.Status.TheVariants.{Done, NotOpen, AlreadyOpen, OutOfMemory, JournalFull, BadRequest, NoEntry, NoRoom, NotText}
+use Rattle.zuphinka.specs.declared.request.Request.{Request}
+use Rattle.zuphinka.specs.declared.reply.Reply.{Reply}
+
+-- what a handle has: a pool, or none
+abbrev pub Held : Type 0
+Held = Option (Pool ℕ)
+
+-- the code is that of a status, of which so much holds
+abbrev pub Came : ℕ → (Status → Type 0) → Type 0
+Came code P = (s : Status) × (code ≡ status_code s) × P s
+
+-- ---- open
+
+-- the pool is new, with the settings that the text says
+pub record Opened (text : List ℕ) (pool : Pool ℕ) : Type 0 where
+  pub settings : settings_of_text text ≡ Ok pool.settings
+  pub base : pool.base ≡ empty_base
+  pub journal : pool.journal ≡ []
+  pub places : pool.places ≡ []
+
+-- the text has a fault, its first; but want of memory may stand in place of each answer
+abbrev pub HasFault : List ℕ → Status → Type 0
+HasFault text s = (fault : SettingsFault) × (s ≡ fault_status fault) × IsAnswer text (Err fault)
+
+-- what opening an empty handle comes to
+abbrev pub OpensTo : List ℕ → Held → Status → Type 0
+OpensTo text new Done = IsSomeAnd new (Opened text)
+OpensTo text new NotText = ¬ (IsUtf8 text) × (new ≡ None)
+OpensTo text new s = HasFault text s × (new ≡ None)
+
+abbrev pub Opens : List ℕ → Held → Held → Status → Type 0
+Opens text None new s = OpensTo text new s
+Opens text (Some pool) new s = (s ≡ AlreadyOpen) × (new ≡ Some pool)
+
+-- ---- step
+
+-- the token that is handed in: the request's, exactly where the input carries one
+abbrev pub handed_in : Request → Input → Option ℕ
+handed_in q input = if carries input then Some q.object else None
+
+-- what holds of a pool after each step
+pub record IsSound (pool : Pool ℕ) : Type 0 where
+  pub legal : IsLegalFrom pool.settings pool.base pool.journal
+  pub objects : records_in pool.places ≡ records_from pool.base pool.journal
+  pub values : KeepsIdleFrom pool.base pool.journal pool.places
+  pub fits : FitsFrom pool.settings pool.base pool.journal
+
+-- the pool took the step, and the reply tells its answer and the token that comes out; once closed it makes no object idle
+pub record Took (q : Request) (old new : Pool ℕ) (told : Reply) (input : Input) : Type 0 where
+  pub answer : Answer
+  pub out : Option ℕ
+  pub answered : Answered q.caller q.at input (handed_in q input) old new answer out
+  pub tells : told ≡ reply_of answer out
+  pub closed : closed_from old.base old.journal ≡ true → keeps_value answer ≡ false
+  pub sound : IsSound new
+
+-- the journal with the entry that is due
+abbrev pub grown : Request → Pool ℕ → Input → List Entry
+grown q old input = old.journal ++ entry_due_from old.settings old.base old.journal q.caller q.at input ∷ []
+
+-- what a step of an open pool comes to
+abbrev pub StepsTo : Request → Pool ℕ → Pool ℕ → Reply → Reply → Status → Type 0
+StepsTo q old new before after Done = IsSomeAnd (input_of q) (Took q old new after)
+StepsTo q old new before after BadRequest = (input_of q ≡ None) × (new ≡ old) × (after ≡ before)
+StepsTo q old new before after JournalFull =
+    IsSomeAnd (input_of q) (λ input. IsTooLongFrom old.settings old.base (grown q old input)) × (new ≡ old) × (after ≡ before)
+StepsTo q old new before after OutOfMemory =
+    IsSomeAnd (input_of q) (λ input. FitsFrom old.settings old.base (grown q old input)) × (new ≡ old) × (after ≡ before)
+StepsTo q old new before after _ = ⊥
+
+abbrev pub Steps : Request → Held → Held → Reply → Reply → Status → Type 0
+Steps q None new before after s = (s ≡ NotOpen) × (new ≡ None) × (after ≡ before)
+Steps q (Some old) new before after s = IsSomeAnd new (λ pool. StepsTo q old pool before after s)
+
+-- the answer that is due finishes what was begun
+abbrev pub IsFinishing : Request → Pool ℕ → Type 0
+IsFinishing q old = IsSomeAnd (input_of q) (λ input. finishes (reply_from old.settings old.base old.journal q.at input) input ≡ true)
+
+-- ---- reads
+
+-- where there is a pool, what is read of it is told; else nothing is
+abbrev pub Reads : {A : Type 0} → (Pool ℕ → A → Type 0) → Held → Held → A → A → ℕ → Type 0
+Reads P None new before after code = (code ≡ status_code NotOpen) × (new ≡ None) × (after ≡ before)
+Reads P (Some pool) new before after code = (code ≡ status_code Done) × (new ≡ Some pool) × P pool after
+
+-- how many entries the journal has
+abbrev pub TellsSteps : Pool ℕ → ℕ → Type 0
+TellsSteps pool n = n ≡ length pool.journal
+
+-- how many more fit, beside those that are owed
+abbrev pub TellsRoom : Pool ℕ → ℕ → Type 0
+TellsRoom pool n = n + (length pool.journal + owed_from pool.base pool.journal) ≡ limit_from pool.settings pool.base
+
+-- ---- line
+
+-- what reading the text of an entry comes to
+abbrev pub LineTo : List Entry → ℕ → List ℕ → List ℕ → ℕ → ℕ → Status → Type 0
+LineTo J k before after n m Done =
+    IsSomeAnd (slice_get J k) (λ e. (length (line e) ≤ length before) × (after ≡ line e ++ drop (length (line e)) before) × (m ≡ length (line e)))
+LineTo J k before after n m NoRoom =
+    IsSomeAnd (slice_get J k) (λ e. (length before < length (line e)) × (after ≡ before) × (m ≡ length (line e)))
+LineTo J k before after n m NoEntry = (slice_get J k ≡ None) × (after ≡ before) × (m ≡ n)
+LineTo J k before after n m OutOfMemory = (after ≡ before) × (m ≡ n)
+LineTo J k before after n m _ = ⊥
+
+abbrev pub Lines : ℕ → Held → Held → List ℕ → List ℕ → ℕ → ℕ → Status → Type 0
+Lines k None new before after n m s = (s ≡ NotOpen) × (new ≡ None) × (after ≡ before) × (m ≡ n)
+Lines k (Some pool) new before after n m s = (new ≡ Some pool) × LineTo pool.journal k before after n m s

@@ -1,0 +1,5 @@
+pub mod Calls
+pub mod Codes
+pub mod Counting
+pub mod Holding
+pub mod Status
