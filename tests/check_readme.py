@@ -1,10 +1,10 @@
 #!/usr/bin/env python3
 """Sees that the code that README.md shows is code that is compiled.
 
-    check_readme.py README CRATE..
+    check_readme.py README FOLDER..
 
-Each piece of a block of Rust in README, up to a line '..' that leaves something out, must stand in one file of a crate's src/ as it
-is, but for how far it is indented. Prints each piece that doesn't, and in the end the line 'N passed, M failed'.
+Each piece of a block of Rust or C in README, up to a line '..' that leaves something out, must stand in one file of a crate's src/, or in a
+file in C of a folder, as it is, but for how far it is indented. Prints each piece that doesn't, and in the end the line 'N passed, M failed'.
 """
 
 import pathlib
@@ -12,7 +12,7 @@ import re
 import sys
 import textwrap
 
-BLOCK = re.compile(r"^```rust\n(.*?)^```$", re.MULTILINE | re.DOTALL)
+BLOCK = re.compile(r"^```(?:rust|c)\n(.*?)^```$", re.MULTILINE | re.DOTALL)
 
 
 def plain(text):
@@ -27,15 +27,15 @@ def pieces(readme):
                 yield textwrap.dedent(piece.strip("\n"))
 
 
-def main(readme, crates):
-    sources = [plain(file.read_text()) for crate in crates for file in pathlib.Path(crate).glob("src/*.rt")]
+def main(readme, folders):
+    sources = [plain(file.read_text()) for folder in folders for kind in ("src/*.rt", "*.c") for file in pathlib.Path(folder).glob(kind)]
     passed, failed = 0, 0
     for piece in pieces(pathlib.Path(readme).read_text()):
         if any(plain(piece) in source for source in sources):
             passed += 1
         else:
             failed += 1
-            print(f"no crate has this piece of {readme}:\n{piece}\n")
+            print(f"no file has this piece of {readme}:\n{piece}\n")
     if passed + failed == 0:
         print(f"{readme} shows no code")
         failed = 1
