@@ -6,7 +6,7 @@ ghost use Rattle.zuphinka.specs.Holding.{holds, pool_code};
 use crate::parts::Parts;
 use pool_core::Core;
 use std::alloc::Global;
-use std::marker::Model;
+use std::marker::{Model, Send};
 use std::mem;
 use std::ptr::null_mut;
 
@@ -20,6 +20,16 @@ pub struct Handle {
 
 impl Model for Handle {
     ghost also_owns = { λ h. holds h.alloc h.at h.core };
+}
+
+// C may call from another thread than before, where the host orders the calls.
+unsafe impl Send for Handle {}
+
+// A value that another thread may have.
+fn sendable<T: Send>(value: T) -> T
+    ensures { result ≡ value }
+{
+    value
 }
 
 impl Handle {
@@ -73,7 +83,7 @@ impl Handle {
         requires empty { self.old.core ≡ None }
         ensures put { self.new.core ≡ Some core.value }
     {
-        let before = mem::replace(self, Handle::from_parts(Parts::of(core)));
+        let before = mem::replace(self, sendable(Handle::from_parts(Parts::of(core))));
         if let Some(parts) = before.into_parts() {
             drop(parts.into_box());
         }
