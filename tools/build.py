@@ -88,7 +88,8 @@ class Work:
 
     def is_built(self, crate, status):
         """Whether a build that ended with this status did what it should."""
-        return self.built.exists() if crate == self.program else status == 0
+        is_program = crate == self.program and not self.is_static
+        return self.built.exists() if is_program else status == 0
 
     def start(self):
         """Starts what stands on nothing that isn't built, and tells whether there was some of it."""
