@@ -174,7 +174,7 @@ _Static_assert(sizeof(struct zuphinka_request) == 40 && sizeof(struct zuphinka_r
  *
  * ZUPHINKA_DONE; ZUPHINKA_ALREADY_OPEN, and the pool is as it was; ZUPHINKA_NOT_TEXT, ZUPHINKA_NOT_TOML, ZUPHINKA_UNKNOWN_KEY,
  * ZUPHINKA_WRONG_TYPE or ZUPHINKA_OUT_OF_RANGE, the first fault of the text, and the handle is still empty; ZUPHINKA_OUT_OF_MEMORY,
- * which may stand in place of each but ZUPHINKA_ALREADY_OPEN and ZUPHINKA_NOT_TEXT, and the handle is still empty.
+ * which may stand in place of each but ZUPHINKA_ALREADY_OPEN, and the handle is still empty.
  */
 uint32_t zuphinka_open(struct zuphinka *pool, const char *settings, size_t length);
 
@@ -208,8 +208,8 @@ uint32_t zuphinka_room(struct zuphinka *pool, uint64_t *room);
  * tells its size. The rest of the buffer is as it was. ZUPHINKA_LONGEST_LINE bytes are always enough.
  *
  * ZUPHINKA_DONE; ZUPHINKA_NO_ROOM, where `length` is less than the size, which is told, and the buffer is as it was. Else both
- * are as they were: ZUPHINKA_NOT_OPEN; ZUPHINKA_NO_ENTRY, where the journal isn't as long; ZUPHINKA_OUT_OF_MEMORY, in place of
- * ZUPHINKA_DONE or ZUPHINKA_NO_ROOM.
+ * are as they were: ZUPHINKA_NOT_OPEN; ZUPHINKA_NO_ENTRY, where the journal isn't as long; ZUPHINKA_OUT_OF_MEMORY, which may
+ * stand in place of each but ZUPHINKA_NOT_OPEN.
  */
 uint32_t zuphinka_line(struct zuphinka *pool, uint64_t position, char *text, size_t length, uint64_t *size);
 
