@@ -1,0 +1,211 @@
+//! The proved core, over its C library. All code that is `unsafe` stands here.
+
+use crate::step::{Answer, Cause, Counts, Input, Outcome, StepFault, When};
+use crate::sys;
+
+/// A core. It is its handle's only owner, and each call has it by itself, since it takes `&mut self`: these are the rules of
+/// `zuphinka.h`. Tokens are numbers to it, and are never followed.
+pub(crate) struct Core {
+    handle: sys::Handle,
+}
+
+// SAFETY: the library has no state but what the handle leads to, and wants one call of a handle at a time, from any thread.
+unsafe impl Send for Core {}
+
+/// Why no core was opened.
+#[derive(Clone, Copy, Debug, PartialEq, Eq)]
+pub(crate) enum OpenFault {
+    OutOfMemory,
+    /// The settings aren't taken; the status says why.
+    Settings(u32),
+}
+
+impl Core {
+    /// A core with an empty journal, and these settings in TOML.
+    pub fn open(settings: &str) -> Result<Core, OpenFault> {
+        let mut handle = sys::Handle::EMPTY;
+        // SAFETY: the handle is empty, and the text has so many bytes.
+        let status =
+            unsafe { sys::zuphinka_open(&mut handle, settings.as_ptr().cast(), settings.len()) };
+        match status {
+            sys::DONE => Ok(Core { handle }),
+            sys::OUT_OF_MEMORY => Err(OpenFault::OutOfMemory),
+            status => Err(OpenFault::Settings(status)),
+        }
+    }
+
+    /// One step, and its entry. The token that is handed in, with the inputs that carry one, comes out again unless its
+    /// object keeps it.
+    pub fn step(
+        &mut self,
+        caller: u32,
+        at: u64,
+        input: Input,
+        token: Option<u64>,
+    ) -> Result<(Answer, Option<u64>), StepFault> {
+        let mut request = request_of(input);
+        request.caller = caller;
+        request.at = at;
+        request.object = token.unwrap_or(0) as usize;
+        let mut reply = sys::Reply::default();
+        // SAFETY: the handle is this core's, and the three are apart.
+        match unsafe { sys::zuphinka_step(&mut self.handle, &request, &mut reply) } {
+            sys::DONE => Ok((
+                answer_of(&reply),
+                reply.has_object.then_some(reply.object as u64),
+            )),
+            sys::JOURNAL_FULL => Err(StepFault::JournalFull),
+            sys::OUT_OF_MEMORY => Err(StepFault::OutOfMemory),
+            status => unreachable!("a step came to status {status}"),
+        }
+    }
+
+    pub fn counts(&mut self) -> Counts {
+        let mut counts = sys::Counts::default();
+        // SAFETY: the handle is this core's.
+        let status = unsafe { sys::zuphinka_counts(&mut self.handle, &mut counts) };
+        debug_assert_eq!(status, sys::DONE);
+        Counts {
+            steps: counts.steps,
+            idle: counts.idle,
+            lent: counts.lent,
+            reserved: counts.reserved,
+            created: counts.created,
+            destroyed: counts.destroyed,
+            evicted: counts.evicted,
+            reclaimed: counts.reclaimed,
+        }
+    }
+
+    /// How many entries the journal has.
+    pub fn steps(&mut self) -> u64 {
+        let mut steps = 0;
+        // SAFETY: the handle is this core's.
+        let status = unsafe { sys::zuphinka_steps(&mut self.handle, &mut steps) };
+        debug_assert_eq!(status, sys::DONE);
+        steps
+    }
+
+    /// How many entries more fit into the journal, beside those that are owed.
+    pub fn room(&mut self) -> u64 {
+        let mut room = 0;
+        // SAFETY: the handle is this core's.
+        let status = unsafe { sys::zuphinka_room(&mut self.handle, &mut room) };
+        debug_assert_eq!(status, sys::DONE);
+        room
+    }
+
+    /// Appends the line of the entry at a position, from 0, with its line feed: whether there is one.
+    ///
+    /// # Errors
+    ///
+    /// There was no memory, and the text is as it was.
+    pub fn line(&mut self, position: u64, text: &mut Vec<u8>) -> Result<bool, StepFault> {
+        let (mut line, mut size) = ([0u8; sys::LONGEST_LINE], 0);
+        // SAFETY: the handle is this core's, the buffer has so many bytes, and all are apart.
+        let status = unsafe {
+            let start = line.as_mut_ptr().cast();
+            sys::zuphinka_line(&mut self.handle, position, start, line.len(), &mut size)
+        };
+        match status {
+            sys::DONE => {
+                text.extend_from_slice(&line[..size as usize]);
+                Ok(true)
+            }
+            sys::NO_ENTRY => Ok(false),
+            sys::OUT_OF_MEMORY => Err(StepFault::OutOfMemory),
+            status => unreachable!("a line came to status {status}"),
+        }
+    }
+}
+
+impl Drop for Core {
+    fn drop(&mut self) {
+        // SAFETY: the handle is this core's, and is not used again.
+        unsafe { sys::zuphinka_drop(&mut self.handle) }
+    }
+}
+
+/// What an input asks for, by the library's codes.
+fn request_of(input: Input) -> sys::Request {
+    let plain = |input, number| (input, number, 0);
+    let told = |input, number, outcome| (input, number, outcome_code(outcome));
+    let (input, number, outcome) = match input {
+        Input::Borrow { began } => plain(sys::BORROW, began),
+        Input::Ready { id, outcome } => told(sys::READY, id, outcome),
+        Input::GiveBack { id } => plain(sys::RETURN, id),
+        Input::Park { id, outcome } => told(sys::PARK, id, outcome),
+        Input::Invalidate { id } => plain(sys::INVALIDATE, id),
+        Input::Use { id } => plain(sys::USE, id),
+        Input::Add => plain(sys::ADD, 0),
+        Input::Fill => plain(sys::FILL, 0),
+        Input::Added { id, outcome } => told(sys::ADDED, id, outcome),
+        Input::Evict => plain(sys::EVICT, 0),
+        Input::EvictNext => plain(sys::EVICT_NEXT, 0),
+        Input::Tested { id, outcome } => told(sys::TESTED, id, outcome),
+        Input::Reclaim { on: When::Borrow } => plain(sys::RECLAIM_ON_BORROW, 0),
+        Input::Reclaim { on: When::Maintain } => plain(sys::RECLAIM_FOR_MAINTENANCE, 0),
+        Input::ReclaimNext => plain(sys::RECLAIM_NEXT, 0),
+        Input::Clear => plain(sys::CLEAR, 0),
+        Input::ClearNext => plain(sys::CLEAR_NEXT, 0),
+        Input::Destroyed { id } => plain(sys::DESTROYED, id),
+        Input::Close => plain(sys::CLOSE, 0),
+    };
+    sys::Request {
+        at: 0,
+        number,
+        object: 0,
+        caller: 0,
+        input,
+        outcome,
+    }
+}
+
+fn outcome_code(outcome: Outcome) -> u32 {
+    match outcome {
+        Outcome::Good => sys::GOOD,
+        Outcome::MakeFailed => sys::MAKE_FAILED,
+        Outcome::CreateTestFailed => sys::CREATE_TEST_FAILED,
+        Outcome::ActivateFailed => sys::ACTIVATE_FAILED,
+        Outcome::TestFailed => sys::TEST_FAILED,
+        Outcome::PassivateFailed => sys::PASSIVATE_FAILED,
+    }
+}
+
+fn answer_of(reply: &sys::Reply) -> Answer {
+    match reply.answer {
+        sys::TAKE => Answer::Take(reply.number),
+        sys::MAKE => Answer::Make(reply.number),
+        sys::WAIT => Answer::Wait,
+        sys::EXHAUSTED => Answer::Exhausted,
+        sys::TIMED_OUT => Answer::TimedOut,
+        sys::LENT => Answer::Lent,
+        sys::CHECK => Answer::Check,
+        sys::PARKED => Answer::Parked,
+        sys::KEPT => Answer::Kept,
+        sys::KEPT_IDLE => Answer::KeptIdle(reply.number),
+        sys::DESTROY => Answer::Destroy,
+        sys::DESTROY_IDLE => Answer::DestroyIdle(reply.number),
+        sys::TEST => Answer::Test(reply.number),
+        sys::FREED => Answer::Freed,
+        sys::GONE => Answer::Gone,
+        sys::NOTED => Answer::Noted,
+        sys::COUNT => Answer::Count(reply.number),
+        sys::RECLAIMED => Answer::Reclaimed(reply.number),
+        sys::NOTHING => Answer::Nothing,
+        sys::ENOUGH => Answer::Enough,
+        sys::NO_PLACE => Answer::NoPlace,
+        sys::REFUSED => Answer::Refused(cause_of(reply.cause)),
+        code => unreachable!("a step has answer {code}"),
+    }
+}
+
+fn cause_of(code: u32) -> Cause {
+    match code {
+        sys::CLOSED => Cause::Closed,
+        sys::NOT_LENT => Cause::NotLent,
+        sys::NOT_HELD => Cause::NotHeld,
+        sys::BAD_OUTCOME => Cause::BadOutcome,
+        code => unreachable!("a step has cause {code}"),
+    }
+}

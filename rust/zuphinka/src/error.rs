@@ -1,0 +1,141 @@
+use crate::step::StepFault;
+use std::{error, fmt};
+
+/// Why a call of a pool didn't do what it was asked for. `E` is the manager's error.
+///
+/// What is left after each stands at the calls; none leaves an object without an owner, or a place taken for nothing.
+#[derive(Clone, Copy, Debug, PartialEq, Eq, Hash)]
+#[non_exhaustive]
+pub enum Error<E> {
+    /// All objects are lent, no place is free, and the call or the settings say not to wait.
+    Exhausted,
+    /// All objects were lent, and no place was free, for as long as the call or the settings say.
+    TimedOut,
+    /// The pool is closed.
+    Closed,
+    /// The journal has no room for the entry and all that would be owed after it, within `journalLimit`.
+    JournalFull,
+    /// There was no memory for the entry or for the object's place.
+    OutOfMemory,
+    /// The manager made no object, for this.
+    Make(E),
+    /// The manager didn't activate a new object, for this.
+    Activate(E),
+    /// The manager didn't passivate a new object, for this.
+    Passivate(E),
+    /// A new object didn't pass the test of `testOnCreate`.
+    CreateTest,
+    /// A new object didn't pass the test of `testOnBorrow`.
+    BorrowTest,
+}
+
+impl<E> Error<E> {
+    /// The manager's own error, where it is one.
+    pub fn into_manager_error(self) -> Option<E> {
+        match self {
+            Error::Make(error) | Error::Activate(error) | Error::Passivate(error) => Some(error),
+            _ => None,
+        }
+    }
+}
+
+impl<E> From<StepFault> for Error<E> {
+    fn from(fault: StepFault) -> Error<E> {
+        match fault {
+            StepFault::JournalFull => Error::JournalFull,
+            StepFault::OutOfMemory => Error::OutOfMemory,
+        }
+    }
+}
+
+impl<E: fmt::Display> fmt::Display for Error<E> {
+    fn fmt(&self, f: &mut fmt::Formatter<'_>) -> fmt::Result {
+        match self {
+            Error::Exhausted => f.write_str("all objects of the pool are lent"),
+            Error::TimedOut => f.write_str("timed out waiting for an object of the pool"),
+            Error::Closed => f.write_str("the pool is closed"),
+            Error::JournalFull => f.write_str("the journal of the pool is full"),
+            Error::OutOfMemory => f.write_str("out of memory"),
+            Error::Make(error) => write!(f, "an object could not be made: {error}"),
+            Error::Activate(error) => write!(f, "a new object could not be activated: {error}"),
+            Error::Passivate(error) => write!(f, "a new object could not be passivated: {error}"),
+            Error::CreateTest => f.write_str("a new object did not pass its test"),
+            Error::BorrowTest => {
+                f.write_str("a new object did not pass its test before it was lent")
+            }
+        }
+    }
+}
+
+impl<E: error::Error + 'static> error::Error for Error<E> {
+    fn source(&self) -> Option<&(dyn error::Error + 'static)> {
+        match self {
+            Error::Make(error) | Error::Activate(error) | Error::Passivate(error) => Some(error),
+            _ => None,
+        }
+    }
+}
+
+/// Why there is no pool.
+#[derive(Clone, Debug, PartialEq, Eq)]
+#[non_exhaustive]
+pub enum OpenError {
+    /// The settings can't be taken.
+    Settings(SettingsError),
+    /// There was no memory.
+    OutOfMemory,
+}
+
+/// Why settings can't be taken. A key is named as in a settings file, one of the table `abandoned` as `abandoned.<key>`.
+#[derive(Clone, Debug, PartialEq, Eq)]
+#[non_exhaustive]
+pub enum SettingsError {
+    /// The text has more than 1,048,576 bytes.
+    TooLong,
+    /// The text is no TOML document at this line; lines count from 1.
+    NotToml(u64),
+    /// There is no such setting.
+    UnknownKey(String),
+    /// The value of this key is neither a number nor `true` or `false`, or not the one that it takes.
+    WrongType(String),
+    /// The number of this key is out of its range.
+    OutOfRange(String),
+}
+
+impl From<SettingsError> for OpenError {
+    fn from(error: SettingsError) -> OpenError {
+        OpenError::Settings(error)
+    }
+}
+
+impl fmt::Display for OpenError {
+    fn fmt(&self, f: &mut fmt::Formatter<'_>) -> fmt::Result {
+        match self {
+            OpenError::Settings(error) => write!(f, "settings: {error}"),
+            OpenError::OutOfMemory => f.write_str("out of memory"),
+        }
+    }
+}
+
+impl error::Error for OpenError {
+    fn source(&self) -> Option<&(dyn error::Error + 'static)> {
+        match self {
+            OpenError::Settings(error) => Some(error),
+            OpenError::OutOfMemory => None,
+        }
+    }
+}
+
+impl fmt::Display for SettingsError {
+    fn fmt(&self, f: &mut fmt::Formatter<'_>) -> fmt::Result {
+        match self {
+            SettingsError::TooLong => f.write_str("too long"),
+            SettingsError::NotToml(line) => write!(f, "not TOML at line {line}"),
+            SettingsError::UnknownKey(key) => write!(f, "unknown key {}", key.escape_debug()),
+            SettingsError::WrongType(key) => write!(f, "wrong type {}", key.escape_debug()),
+            SettingsError::OutOfRange(key) => write!(f, "out of range {}", key.escape_debug()),
+        }
+    }
+}
+
+impl error::Error for SettingsError {}

@@ -1,0 +1,80 @@
+//! An object pool for threads, round the proved core of Zuphinka.
+//!
+//! **Proved** is each step of the core: what it answers, which entry it appends to the journal, and that a step that finishes
+//! what was begun is never refused. In every legal journal no more than `maxTotal` objects are present, none is lent to two at once, and
+//! none that was made is lost. **Not proved** is this crate: its lock, its sections (which steps a call takes, and what it does
+//! with the objects between them), its waits and wakes, and the binding of the C library. They are tested. But **the journal of a
+//! run can be judged**: `pool check SETTINGS JOURNAL` says whether the answers on which all calls of this very run went were those
+//! that the definitions say are due.
+//!
+//! A [`Manager`] makes objects; a [`Pool`] lends them, as [`Pooled`] guards that give them back when they are dropped.
+//!
+//! ```
+//! use zuphinka::{Manager, Pool};
+//!
+//! struct Buffers;
+//!
+//! impl Manager for Buffers {
+//!     type Object = Vec<u8>;
+//!     type Error = std::convert::Infallible;
+//!
+//!     fn make(&self, _id: u64) -> Result<Vec<u8>, Self::Error> {
+//!         Ok(Vec::with_capacity(1 << 16))
+//!     }
+//!
+//!     fn passivate(&self, buffer: &mut Vec<u8>) -> Result<(), Self::Error> {
+//!         buffer.clear();
+//!         Ok(())
+//!     }
+//! }
+//!
+//! let pool = Pool::builder().max_total(4).build(Buffers)?;
+//! std::thread::scope(|scope| {
+//!     for text in ["one", "two", "three"] {
+//!         let pool = &pool;
+//!         scope.spawn(move || pool.get().unwrap().extend_from_slice(text.as_bytes()));
+//!     }
+//! });
+//! assert_eq!(pool.counts().lent, 0);
+//! pool.close();
+//! pool.journal(std::io::stdout())?;
+//! # Ok::<(), Box<dyn std::error::Error>>(())
+//! ```
+//!
+//! The journal is kept in memory, and has at most `journalLimit` entries, 1,000,000 where nothing else is set. A borrow and a
+//! return are four. **A pool whose journal is full lends nothing more**: set the limit by how long the pool is to live
+//! ([`Builder::journal_limit`]), and look at [`Pool::room`].
+//!
+//! Build the C library first, by `rt lib` in `crates/zuphinka`; `build.rs` says where else it may lie.
+#![warn(missing_docs)]
+#![deny(unsafe_op_in_unsafe_fn)]
+
+mod builder;
+mod callers;
+mod core;
+mod desk;
+mod error;
+mod hand;
+mod journal;
+mod keeping;
+mod kept;
+mod lending;
+mod manager;
+mod pool;
+mod pooled;
+mod settings;
+mod shared;
+mod step;
+mod sys;
+mod toml;
+
+pub use builder::Builder;
+pub use callers::caller_number;
+pub use error::{Error, OpenError, SettingsError};
+pub use keeping::{Addition, Eviction, Maintenance};
+pub use lending::{Returned, Touched};
+pub use manager::Manager;
+pub use pool::Pool;
+pub use pooled::Pooled;
+pub use settings::Abandoned;
+pub use step::Counts;

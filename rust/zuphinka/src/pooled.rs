@@ -1,0 +1,96 @@
+use crate::error::Error;
+use crate::lending::{Returned, Touched};
+use crate::manager::Manager;
+use crate::shared::Shared;
+use std::fmt;
+use std::ops::{Deref, DerefMut};
+use std::sync::Arc;
+use std::thread;
+
+/// An object that is lent. It is used through this guard, which gives it back when it is dropped, from whatever thread.
+///
+/// A guard that is dropped while its thread panics invalidates its object, since nobody knows in what state it is.
+///
+/// It keeps the pool alive. What a guard can do besides is called as `Pooled::id(&guard)`, so that no method of the object is
+/// hidden.
+pub struct Pooled<M: Manager> {
+    pool: Arc<Shared<M>>,
+    id: u64,
+    object: Option<M::Object>,
+}
+
+const LENT: &str = "a guard has its object until it is dropped";
+
+impl<M: Manager> Pooled<M> {
+    pub(crate) fn new(pool: Arc<Shared<M>>, id: u64, object: M::Object) -> Pooled<M> {
+        Pooled {
+            pool,
+            id,
+            object: Some(object),
+        }
+    }
+
+    /// The id of the object, as the journal has it.
+    pub fn id(this: &Pooled<M>) -> u64 {
+        this.id
+    }
+
+    /// Gives the object back, as a drop does, and says what became of it.
+    pub fn give_back(mut this: Pooled<M>) -> Returned {
+        let object = this.object.take().expect(LENT);
+        this.pool.give_back(this.id, object)
+    }
+
+    /// Gives the object back as one that can't be used any more: it is destroyed.
+    pub fn invalidate(mut this: Pooled<M>) -> Returned {
+        let object = this.object.take().expect(LENT);
+        this.pool.invalidate(this.id, object)
+    }
+
+    /// Notes that the object is used, so that it doesn't count as abandoned.
+    ///
+    /// # Errors
+    ///
+    /// [`Error::JournalFull`] and [`Error::OutOfMemory`]: it isn't noted, and the object is still lent.
+    pub fn touch(this: &Pooled<M>) -> Result<Touched, Error<M::Error>> {
+        this.pool.touch(this.id)
+    }
+}
+
+impl<M: Manager> Deref for Pooled<M> {
+    type Target = M::Object;
+
+    fn deref(&self) -> &M::Object {
+        self.object.as_ref().expect(LENT)
+    }
+}
+
+impl<M: Manager> DerefMut for Pooled<M> {
+    fn deref_mut(&mut self) -> &mut M::Object {
+        self.object.as_mut().expect(LENT)
+    }
+}
+
+impl<M: Manager> Drop for Pooled<M> {
+    fn drop(&mut self) {
+        if let Some(object) = self.object.take() {
+            if thread::panicking() {
+                self.pool.invalidate(self.id, object);
+            } else {
+                self.pool.give_back(self.id, object);
+            }
+        }
+    }
+}
+
+impl<M: Manager> fmt::Debug for Pooled<M>
+where
+    M::Object: fmt::Debug,
+{
+    fn fmt(&self, f: &mut fmt::Formatter<'_>) -> fmt::Result {
+        f.debug_struct("Pooled")
+            .field("id", &self.id)
+            .field("object", &self.object)
+            .finish()
+    }
+}

@@ -1,0 +1,872 @@
+//! What each call of a pool does, what it asks of the manager, and what it leaves.
+
+mod common;
+
+use common::{assert_legal, journal_of};
+use std::panic::{self, AssertUnwindSafe};
+use std::sync::atomic::{AtomicU64, Ordering};
+use std::sync::{mpsc, Arc, Mutex};
+use std::thread;
+use std::time::{Duration, Instant};
+use zuphinka::{
+    caller_number, Abandoned, Addition, Builder, Error, Manager, OpenError, Pool, Pooled, Returned,
+    SettingsError, Touched,
+};
+
+/// A moment that tests set, in milliseconds.
+#[derive(Clone, Default)]
+struct Clock(Arc<AtomicU64>);
+
+impl Clock {
+    fn set(&self, moment: u64) {
+        self.0.store(moment, Ordering::SeqCst);
+    }
+
+    fn told(&self) -> impl Fn() -> u64 {
+        let moment = Arc::clone(&self.0);
+        move || moment.load(Ordering::SeqCst)
+    }
+}
+
+/// Makes widgets, which know their ids. It writes down what it is called for, and fails or panics where it is told to.
+#[derive(Clone, Default)]
+struct Maker {
+    calls: Arc<Mutex<Vec<String>>>,
+    failing: Arc<Mutex<Vec<&'static str>>>,
+    panicking: Arc<Mutex<Vec<&'static str>>>,
+    dropped: Arc<Mutex<Vec<u64>>>,
+}
+
+#[derive(Debug)]
+struct Widget {
+    id: u64,
+    dropped: Arc<Mutex<Vec<u64>>>,
+}
+
+impl Drop for Widget {
+    fn drop(&mut self) {
+        self.dropped.lock().unwrap().push(self.id);
+    }
+}
+
+#[derive(Debug, PartialEq)]
+struct Broken(&'static str);
+
+impl std::fmt::Display for Broken {
+    fn fmt(&self, f: &mut std::fmt::Formatter<'_>) -> std::fmt::Result {
+        write!(f, "{} is broken", self.0)
+    }
+}
+
+impl std::error::Error for Broken {}
+
+fn take_out(list: &Mutex<Vec<&'static str>>, name: &str) -> bool {
+    let mut list = list.lock().unwrap();
+    let place = list.iter().position(|one| *one == name);
+    place.map(|place| list.remove(place)).is_some()
+}
+
+impl Maker {
+    /// The next call of this name fails.
+    fn fail(&self, name: &'static str) {
+        self.failing.lock().unwrap().push(name);
+    }
+
+    /// The next call of this name panics.
+    fn panic(&self, name: &'static str) {
+        self.panicking.lock().unwrap().push(name);
+    }
+
+    fn done(&self, name: &'static str, id: u64) -> Result<(), Broken> {
+        self.calls.lock().unwrap().push(format!("{name} {id}"));
+        if take_out(&self.panicking, name) {
+            panic!("{name} panics");
+        }
+        match take_out(&self.failing, name) {
+            true => Err(Broken(name)),
+            false => Ok(()),
+        }
+    }
+
+    /// The calls since it was asked last.
+    fn calls(&self) -> Vec<String> {
+        std::mem::take(&mut *self.calls.lock().unwrap())
+    }
+
+    /// The widgets that were dropped since it was asked last.
+    fn dropped(&self) -> Vec<u64> {
+        std::mem::take(&mut *self.dropped.lock().unwrap())
+    }
+}
+
+impl Manager for Maker {
+    type Object = Widget;
+    type Error = Broken;
+
+    fn make(&self, id: u64) -> Result<Widget, Broken> {
+        self.done("make", id)?;
+        Ok(Widget {
+            id,
+            dropped: Arc::clone(&self.dropped),
+        })
+    }
+
+    fn activate(&self, widget: &mut Widget) -> Result<(), Broken> {
+        self.done("activate", widget.id)
+    }
+
+    fn validate(&self, widget: &mut Widget) -> bool {
+        self.done("validate", widget.id).is_ok()
+    }
+
+    fn passivate(&self, widget: &mut Widget) -> Result<(), Broken> {
+        self.done("passivate", widget.id)
+    }
+
+    fn destroy(&self, widget: Widget) {
+        self.done("destroy", widget.id).unwrap();
+    }
+}
+
+/// A pool with a clock that stands still, and its manager.
+fn pool_with(change: impl FnOnce(Builder<Maker>) -> Builder<Maker>) -> (Pool<Maker>, Maker, Clock) {
+    let (maker, clock) = (Maker::default(), Clock::default());
+    let builder = change(Pool::builder().clock(clock.told()));
+    (builder.build(maker.clone()).unwrap(), maker, clock)
+}
+
+fn all_tests(builder: Builder<Maker>) -> Builder<Maker> {
+    builder
+        .test_on_create(true)
+        .test_on_borrow(true)
+        .test_on_return(true)
+        .test_while_idle(true)
+}
+
+/// The journal without callers, moments and what is the same in each line.
+fn steps_of(pool: &Pool<Maker>) -> Vec<String> {
+    let journal = journal_of(pool);
+    journal
+        .lines()
+        .map(|line| line.splitn(3, ' ').nth(2).unwrap().to_owned())
+        .collect()
+}
+
+#[test]
+fn a_journal_is_as_the_readme_shows_it() {
+    let (pool, maker, clock) = pool_with(|builder| builder);
+    clock.set(10);
+    let widget = pool.get().unwrap();
+    clock.set(15);
+    assert_eq!(Pooled::give_back(widget), Returned::Parked);
+    let me = caller_number();
+    let wanted = format!(
+        "{me} 10 borrow 10 = make 0\n{me} 10 ready 0 good = lent\n{me} 15 return 0 = check\n{me} 15 park 0 good = parked\n"
+    );
+    assert_eq!(journal_of(&pool), wanted);
+    assert_eq!(maker.calls(), ["make 0", "activate 0", "passivate 0"]);
+    assert_legal(&pool);
+}
+
+#[test]
+fn each_thread_stands_under_its_own_number() {
+    let (pool, ..) = pool_with(|builder| builder);
+    let me = caller_number();
+    let (other, widget) = thread::scope(|scope| {
+        let lend = || (caller_number(), pool.get().unwrap());
+        scope.spawn(lend).join().unwrap()
+    });
+    drop(widget);
+    assert_ne!(me, other);
+    let journal = journal_of(&pool);
+    let callers: Vec<u32> = journal
+        .lines()
+        .map(|line| line.split(' ').next().unwrap().parse().unwrap())
+        .collect();
+    assert_eq!(callers, [other, other, me, me]);
+}
+
+#[test]
+fn the_last_or_the_first_parked_is_lent() {
+    for (lifo, wanted) in [(true, 1), (false, 0)] {
+        let (pool, ..) = pool_with(|builder| builder.lifo(lifo));
+        let (first, second) = (pool.get().unwrap(), pool.get().unwrap());
+        drop(first);
+        drop(second);
+        assert_eq!(Pooled::id(&pool.get().unwrap()), wanted);
+    }
+}
+
+#[test]
+fn tests_come_where_they_are_set() {
+    let (pool, maker, _) = pool_with(all_tests);
+    drop(pool.get().unwrap());
+    assert_eq!(
+        maker.calls(),
+        [
+            "make 0",
+            "validate 0",
+            "activate 0",
+            "validate 0",
+            "validate 0",
+            "passivate 0"
+        ]
+    );
+    drop(pool.get().unwrap());
+    assert_eq!(
+        maker.calls(),
+        ["activate 0", "validate 0", "validate 0", "passivate 0"]
+    );
+    let run = pool.evict().unwrap();
+    assert_eq!((run.examined, run.destroyed), (1, 0));
+    assert_eq!(maker.calls(), ["activate 0", "validate 0", "passivate 0"]);
+    assert_eq!(pool.add().unwrap(), Addition::Idle);
+    assert_eq!(maker.calls(), ["make 1", "validate 1", "passivate 1"]);
+    assert_legal(&pool);
+}
+
+#[test]
+fn an_exhausted_pool_refuses() {
+    let (pool, ..) = pool_with(|builder| builder.max_total(1));
+    let _held = pool.get().unwrap();
+    assert_eq!(pool.try_get().unwrap_err(), Error::Exhausted);
+    assert_eq!(
+        pool.get_timeout(Duration::ZERO).unwrap_err(),
+        Error::TimedOut
+    );
+    let (start, short) = (Instant::now(), Duration::from_millis(30));
+    assert_eq!(pool.get_timeout(short).unwrap_err(), Error::TimedOut);
+    assert!(start.elapsed() >= short);
+    assert_legal(&pool);
+
+    let (pool, ..) = pool_with(|builder| builder.max_total(1).block_when_exhausted(false));
+    let _held = pool.get().unwrap();
+    assert_eq!(pool.get().unwrap_err(), Error::Exhausted);
+    assert_eq!(
+        pool.get_timeout(Duration::from_secs(60)).unwrap_err(),
+        Error::Exhausted
+    );
+
+    let (pool, ..) = pool_with(|builder| builder.max_total(1).max_wait(Duration::ZERO));
+    let _held = pool.get().unwrap();
+    assert_eq!(pool.get().unwrap_err(), Error::TimedOut);
+    assert_eq!(pool.try_get().unwrap_err(), Error::Exhausted);
+}
+
+#[test]
+fn a_wait_is_as_long_as_the_settings_say() {
+    let maker = Maker::default();
+    let short = Duration::from_millis(40);
+    let pool = Pool::builder()
+        .max_total(1)
+        .max_wait(short)
+        .build(maker)
+        .unwrap();
+    let _held = pool.get().unwrap();
+    let start = Instant::now();
+    assert_eq!(pool.get().unwrap_err(), Error::TimedOut);
+    // Moments are whole milliseconds.
+    assert!(start.elapsed() >= short - Duration::from_millis(1));
+    assert_eq!(
+        pool.get_timeout(Duration::from_secs(60)).unwrap_err(),
+        Error::TimedOut
+    );
+    let journal = journal_of(&pool);
+    let answers: Vec<_> = journal
+        .lines()
+        .map(|line| line.rsplit(" = ").next().unwrap())
+        .collect();
+    assert_eq!(
+        answers,
+        ["make 0", "lent", "wait", "timeout", "wait", "timeout"]
+    );
+    assert_legal(&pool);
+}
+
+/// Lets a thread wait in a call, and then does something: what the call came to.
+fn while_waiting<R: Send>(
+    pool: &Pool<Maker>,
+    call: impl FnOnce() -> R + Send,
+    act: impl FnOnce(),
+) -> R {
+    thread::scope(|scope| {
+        let waiting = scope.spawn(call);
+        while !journal_of(pool).ends_with("wait\n") {
+            thread::yield_now();
+        }
+        act();
+        waiting.join().unwrap()
+    })
+}
+
+#[test]
+fn a_waiter_is_woken_by_what_it_waits_for() {
+    let waits = [None, Some(Duration::from_secs(60))];
+    for wait in waits {
+        let (pool, maker, _) = pool_with(|builder| builder.max_total(1));
+        let call = || match wait {
+            None => pool.get().map(|widget| Pooled::id(&widget)),
+            Some(time) => pool.get_timeout(time).map(|widget| Pooled::id(&widget)),
+        };
+        let held = pool.get().unwrap();
+        assert_eq!(while_waiting(&pool, call, || drop(held)), Ok(0));
+
+        let held = pool.get().unwrap();
+        let invalidated = || assert_eq!(pool.invalidate(held), Returned::Destroyed);
+        assert_eq!(while_waiting(&pool, call, invalidated), Ok(1));
+
+        let held = pool.get().unwrap();
+        maker.fail("passivate");
+        assert_eq!(while_waiting(&pool, call, || drop(held)), Ok(2));
+
+        let held = pool.get().unwrap();
+        let closed = || assert_eq!(pool.close(), 0);
+        assert_eq!(while_waiting(&pool, call, closed), Err(Error::Closed));
+        drop(held);
+        assert_eq!(maker.dropped(), [0, 1, 2]);
+        assert_legal(&pool);
+    }
+}
+
+#[test]
+fn a_waiter_is_woken_by_a_removal() {
+    let abandoned = Abandoned {
+        on_maintenance: true,
+        timeout: Duration::from_millis(100),
+        ..Abandoned::default()
+    };
+    let (pool, maker, clock) = pool_with(|builder| builder.max_total(1).abandoned(abandoned));
+    let held = pool.get().unwrap();
+    let get = || pool.get().map(|widget| Pooled::id(&widget));
+    let removed = || {
+        assert_eq!(pool.reclaim().unwrap(), 0);
+        clock.set(100);
+        assert_eq!(pool.reclaim().unwrap(), 1);
+    };
+    assert_eq!(while_waiting(&pool, get, removed), Ok(1));
+    assert_eq!(Pooled::touch(&held).unwrap(), Touched::Gone);
+    assert_eq!(held.id, 0);
+    assert_eq!(Pooled::give_back(held), Returned::Gone);
+    assert_eq!(maker.dropped(), [0]);
+    assert_legal(&pool);
+}
+
+#[test]
+fn a_use_puts_a_removal_off() {
+    let abandoned = Abandoned {
+        on_borrow: true,
+        timeout: Duration::from_millis(100),
+        ..Abandoned::default()
+    };
+    let (pool, _, clock) = pool_with(|builder| builder.max_total(2).abandoned(abandoned));
+    let (used, unused) = (pool.get().unwrap(), pool.get().unwrap());
+    clock.set(60);
+    assert_eq!(Pooled::touch(&used).unwrap(), Touched::Noted);
+    clock.set(100);
+    assert_eq!(pool.get().unwrap().id, 2);
+    assert_eq!(Pooled::invalidate(unused), Returned::Gone);
+    assert_eq!(Pooled::give_back(used), Returned::Parked);
+    assert_eq!(pool.counts().reclaimed, 1);
+    assert_legal(&pool);
+}
+
+#[test]
+fn a_new_object_that_fails_is_destroyed() {
+    let (pool, maker, _) = pool_with(|builder| all_tests(builder).max_total(1));
+    maker.fail("make");
+    assert_eq!(pool.get().unwrap_err(), Error::Make(Broken("make")));
+    maker.fail("validate");
+    assert_eq!(pool.get().unwrap_err(), Error::CreateTest);
+    maker.fail("activate");
+    assert_eq!(pool.get().unwrap_err(), Error::Activate(Broken("activate")));
+    assert_eq!(
+        maker.calls(),
+        [
+            "make 0",
+            "make 1",
+            "validate 1",
+            "destroy 1",
+            "make 2",
+            "validate 2",
+            "activate 2",
+            "destroy 2"
+        ]
+    );
+    maker.fail("make");
+    assert_eq!(pool.add().unwrap_err(), Error::Make(Broken("make")));
+    maker.fail("validate");
+    assert_eq!(pool.add().unwrap_err(), Error::CreateTest);
+    maker.fail("passivate");
+    assert_eq!(
+        pool.add().unwrap_err(),
+        Error::Passivate(Broken("passivate"))
+    );
+    assert_eq!(
+        maker.calls(),
+        [
+            "make 3",
+            "make 4",
+            "validate 4",
+            "destroy 4",
+            "make 5",
+            "validate 5",
+            "passivate 5",
+            "destroy 5"
+        ]
+    );
+    assert_eq!(maker.dropped(), [1, 2, 4, 5]);
+    let counts = pool.counts();
+    assert_eq!(
+        (counts.created, counts.destroyed, counts.reserved),
+        (6, 6, 0)
+    );
+    assert_legal(&pool);
+}
+
+#[test]
+fn a_new_object_that_fails_its_second_test_is_destroyed() {
+    let (pool, maker, _) = pool_with(|builder| builder.test_on_borrow(true));
+    maker.fail("validate");
+    assert_eq!(pool.get().unwrap_err(), Error::BorrowTest);
+    assert_eq!(
+        maker.calls(),
+        ["make 0", "activate 0", "validate 0", "destroy 0"]
+    );
+    assert_eq!(
+        steps_of(&pool),
+        [
+            "borrow 0 = make 0",
+            "ready 0 testfail = destroy",
+            "destroyed 0 = freed"
+        ]
+    );
+    assert_legal(&pool);
+}
+
+#[test]
+fn an_idle_object_that_fails_makes_way_for_another() {
+    let (pool, maker, _) = pool_with(|builder| builder.test_on_borrow(true));
+    for _ in 0..2 {
+        pool.add().unwrap();
+    }
+    maker.calls();
+    maker.fail("activate");
+    maker.fail("validate");
+    assert_eq!(pool.get().unwrap().id, 2);
+    let wanted = [
+        "activate 1",
+        "destroy 1",
+        "activate 0",
+        "validate 0",
+        "destroy 0",
+        "make 2",
+        "activate 2",
+        "validate 2",
+        "passivate 2",
+    ];
+    assert_eq!(maker.calls(), wanted);
+    assert_legal(&pool);
+}
+
+#[test]
+fn what_comes_back_broken_is_destroyed() {
+    let (pool, maker, _) = pool_with(|builder| builder.test_on_return(true));
+    for name in ["validate", "passivate"] {
+        let widget = pool.get().unwrap();
+        maker.fail(name);
+        assert_eq!(Pooled::give_back(widget), Returned::Destroyed);
+    }
+    assert_eq!(maker.dropped(), [0, 1]);
+    assert_eq!(pool.counts().destroyed, 2);
+    assert_legal(&pool);
+}
+
+#[test]
+fn no_more_are_idle_than_may_be() {
+    let (pool, maker, _) = pool_with(|builder| builder.max_idle(1));
+    let (first, second) = (pool.get().unwrap(), pool.get().unwrap());
+    assert_eq!(Pooled::give_back(first), Returned::Parked);
+    assert_eq!(Pooled::give_back(second), Returned::Destroyed);
+    assert_eq!(maker.dropped(), [1]);
+    assert_legal(&pool);
+}
+
+#[test]
+fn additions_and_fills_go_as_far_as_there_are_places() {
+    let (pool, ..) = pool_with(|builder| builder.max_total(3).min_idle(2));
+    assert_eq!(pool.fill().unwrap(), 2);
+    assert_eq!(pool.fill().unwrap(), 0);
+    assert_eq!(pool.add().unwrap(), Addition::Idle);
+    assert_eq!(pool.add().unwrap(), Addition::NoPlace);
+    assert_eq!(pool.counts().idle, 3);
+    assert_eq!(pool.close(), 3);
+    assert_eq!(pool.add().unwrap_err(), Error::Closed);
+    assert_eq!(pool.evict().unwrap_err(), Error::Closed);
+    assert_eq!(pool.fill().unwrap(), 0);
+    assert_legal(&pool);
+}
+
+#[test]
+fn an_eviction_destroys_what_is_idle_for_too_long_or_fails() {
+    let settings = |builder: Builder<Maker>| {
+        builder
+            .min_evictable_idle(Duration::from_millis(50))
+            .tests_per_eviction_run(-1)
+            .test_while_idle(true)
+    };
+    let (pool, maker, clock) = pool_with(settings);
+    pool.add().unwrap();
+    clock.set(30);
+    for _ in 0..3 {
+        pool.add().unwrap();
+    }
+    clock.set(60);
+    for name in ["activate", "validate", "passivate"] {
+        maker.fail(name);
+    }
+    maker.calls();
+    let run = pool.evict().unwrap();
+    assert_eq!((run.examined, run.destroyed), (4, 4));
+    let wanted = [
+        "destroy 0",
+        "activate 1",
+        "destroy 1",
+        "activate 2",
+        "validate 2",
+        "destroy 2",
+        "activate 3",
+        "validate 3",
+        "passivate 3",
+        "destroy 3",
+    ];
+    assert_eq!(maker.calls(), wanted);
+    assert_eq!(pool.counts().evicted, 4);
+    assert_legal(&pool);
+}
+
+#[test]
+fn maintenance_evicts_and_reclaims_and_fills() {
+    let abandoned = Abandoned {
+        on_maintenance: true,
+        timeout: Duration::from_millis(100),
+        ..Abandoned::default()
+    };
+    let settings = |builder: Builder<Maker>| {
+        builder
+            .min_idle(2)
+            .min_evictable_idle(Duration::from_millis(50))
+            .abandoned(abandoned)
+    };
+    let (pool, _, clock) = pool_with(settings);
+    let _forgotten = pool.get().unwrap();
+    pool.add().unwrap();
+    clock.set(100);
+    let done = pool.maintain().unwrap();
+    assert_eq!(
+        (
+            done.eviction.examined,
+            done.eviction.destroyed,
+            done.reclaimed,
+            done.filled
+        ),
+        (1, 1, 1, 2)
+    );
+    pool.close();
+    assert_eq!(pool.maintain().unwrap_err(), Error::Closed);
+    assert_legal(&pool);
+}
+
+#[test]
+fn a_clear_destroys_what_is_idle() {
+    let (pool, maker, _) = pool_with(|builder| builder);
+    let held = pool.get().unwrap();
+    pool.add().unwrap();
+    pool.add().unwrap();
+    assert_eq!(pool.clear().unwrap(), 2);
+    assert_eq!(pool.clear().unwrap(), 0);
+    assert_eq!(maker.dropped(), [1, 2]);
+    drop(held);
+    assert_eq!(pool.get().unwrap().id, 0);
+    assert_legal(&pool);
+}
+
+#[test]
+fn a_closed_pool_lends_nothing_and_keeps_nothing() {
+    let (pool, maker, _) = pool_with(|builder| builder);
+    let held = pool.get().unwrap();
+    pool.add().unwrap();
+    assert_eq!(pool.close(), 1);
+    assert_eq!(pool.close(), 0);
+    assert_eq!(pool.get().unwrap_err(), Error::Closed);
+    assert_eq!(pool.try_get().unwrap_err(), Error::Closed);
+    assert_eq!(Pooled::give_back(held), Returned::Destroyed);
+    assert_eq!(maker.dropped(), [1, 0]);
+    assert_legal(&pool);
+}
+
+#[test]
+fn a_pool_that_nobody_has_is_closed() {
+    let (pool, maker, _) = pool_with(|builder| builder);
+    let other = pool.clone();
+    let held = pool.get().unwrap();
+    pool.add().unwrap();
+    drop(pool);
+    other.add().unwrap();
+    drop(other);
+    assert_eq!(held.id, 0);
+    assert!(maker.dropped().is_empty());
+    maker.calls();
+    drop(held);
+    assert_eq!(
+        maker.calls(),
+        ["passivate 0", "destroy 1", "destroy 2", "destroy 0"]
+    );
+    assert_eq!(maker.dropped(), [1, 2, 0]);
+}
+
+#[test]
+fn an_object_goes_back_from_any_thread() {
+    let (pool, ..) = pool_with(|builder| builder.max_total(1));
+    let (hand, take) = mpsc::channel();
+    let other = thread::spawn(move || {
+        let widget: Pooled<Maker> = take.recv().unwrap();
+        Pooled::give_back(widget)
+    });
+    hand.send(pool.get().unwrap()).unwrap();
+    assert_eq!(other.join().unwrap(), Returned::Parked);
+    assert_eq!(pool.try_get().unwrap().id, 0);
+    assert_legal(&pool);
+}
+
+fn panics<R>(call: impl FnOnce() -> R) -> bool {
+    panic::catch_unwind(AssertUnwindSafe(call)).is_err()
+}
+
+#[test]
+fn what_a_panicking_thread_holds_is_destroyed() {
+    let (pool, maker, _) = pool_with(|builder| builder);
+    let widget = pool.get().unwrap();
+    maker.calls();
+    assert!(panics(move || {
+        let _held = widget;
+        panic!("the holder panics");
+    }));
+    assert_eq!(maker.calls(), ["destroy 0"]);
+    assert_eq!(
+        steps_of(&pool)[2..],
+        ["invalidate 0 = destroy", "destroyed 0 = freed"]
+    );
+    assert_legal(&pool);
+}
+
+#[test]
+fn a_manager_that_panics_costs_its_object_only() {
+    for name in ["make", "validate", "activate", "passivate", "destroy"] {
+        let (pool, maker, _) = pool_with(|builder| all_tests(builder).max_total(1));
+        maker.panic(name);
+        match name {
+            "passivate" => {
+                let widget = pool.get().unwrap();
+                assert!(panics(|| drop(widget)));
+            }
+            "destroy" => {
+                pool.add().unwrap();
+                assert!(panics(|| pool.clear()));
+            }
+            _ => assert!(panics(|| pool.get())),
+        }
+        let dropped = maker.dropped();
+        assert_eq!(dropped.len(), usize::from(name != "make"), "{name}");
+        let counts = pool.counts();
+        assert_eq!(
+            (counts.idle, counts.lent, counts.reserved),
+            (0, 0, 0),
+            "{name}"
+        );
+        assert_eq!(pool.try_get().unwrap().id, 1, "{name}");
+        assert_legal(&pool);
+    }
+    for name in ["make", "validate", "passivate"] {
+        let (pool, maker, _) = pool_with(|builder| all_tests(builder).max_total(1));
+        maker.panic(name);
+        assert!(panics(|| pool.add()));
+        assert_eq!(pool.add().unwrap(), Addition::Idle, "{name}");
+        assert_legal(&pool);
+    }
+    for name in ["activate", "validate", "passivate"] {
+        let (pool, maker, _) = pool_with(|builder| builder.test_while_idle(true).max_total(1));
+        pool.add().unwrap();
+        maker.panic(name);
+        assert!(panics(|| pool.evict()));
+        assert_eq!(maker.dropped(), [0]);
+        assert_eq!(pool.add().unwrap(), Addition::Idle, "{name}");
+        assert_legal(&pool);
+    }
+}
+
+#[test]
+fn a_full_journal_takes_back_and_closes() {
+    let (pool, maker, _) = pool_with(|builder| builder.journal_limit(12));
+    let held = pool.get().unwrap();
+    fill_journal(&pool);
+    assert_eq!(pool.get().unwrap_err(), Error::JournalFull);
+    assert_eq!(pool.add().unwrap_err(), Error::JournalFull);
+    assert_eq!(pool.fill().unwrap_err(), Error::JournalFull);
+    assert_eq!(pool.evict().unwrap_err(), Error::JournalFull);
+    assert_eq!(pool.clear().unwrap_err(), Error::JournalFull);
+    assert_eq!(pool.reclaim().unwrap_err(), Error::JournalFull);
+    assert_eq!(Pooled::touch(&held).unwrap_err(), Error::JournalFull);
+    assert_eq!(Pooled::give_back(held), Returned::Parked);
+    assert_eq!(pool.close(), 1);
+    assert_eq!(pool.close(), 0);
+    assert_eq!(maker.dropped(), [0]);
+    assert!(journal_of(&pool).lines().count() <= 12);
+    assert_legal(&pool);
+}
+
+/// Makes entries that change nothing, until there is no room for more.
+fn fill_journal(pool: &Pool<Maker>) {
+    while pool.room() > 0 {
+        assert_eq!(pool.reclaim(), Ok(0));
+    }
+}
+
+#[test]
+fn all_who_wait_hear_of_a_full_journal() {
+    let (pool, ..) = pool_with(|builder| builder.max_total(1).journal_limit(12));
+    let held = pool.get().unwrap();
+    thread::scope(|scope| {
+        let wait = || scope.spawn(|| pool.get().map(|_| ()));
+        let waiting = [wait(), wait()];
+        while journal_of(&pool)
+            .lines()
+            .filter(|line| line.ends_with("wait"))
+            .count()
+            < 2
+        {
+            thread::yield_now();
+        }
+        fill_journal(&pool);
+        drop(held);
+        for waiter in waiting {
+            assert_eq!(waiter.join().unwrap(), Err(Error::JournalFull));
+        }
+    });
+    assert_legal(&pool);
+}
+
+#[test]
+fn a_drain_goes_on_where_the_last_ended() {
+    let (pool, ..) = pool_with(|builder| builder);
+    let mut text = Vec::new();
+    assert_eq!(pool.drain_journal(&mut text).unwrap(), 0);
+    drop(pool.get().unwrap());
+    assert_eq!(pool.drain_journal(&mut text).unwrap(), 4);
+    assert_eq!(pool.drain_journal(&mut text).unwrap(), 0);
+    for _ in 0..300 {
+        drop(pool.get().unwrap());
+    }
+    assert_eq!(pool.drain_journal(&mut text).unwrap(), 1_200);
+    assert_eq!(String::from_utf8(text).unwrap(), journal_of(&pool));
+}
+
+#[test]
+fn a_drain_that_fails_loses_nothing() {
+    /// Takes so many bytes.
+    struct Narrow(usize, Vec<u8>);
+    impl std::io::Write for Narrow {
+        fn write(&mut self, bytes: &[u8]) -> std::io::Result<usize> {
+            if self.1.len() + bytes.len() > self.0 {
+                return Err(std::io::ErrorKind::StorageFull.into());
+            }
+            self.1.extend_from_slice(bytes);
+            Ok(bytes.len())
+        }
+        fn flush(&mut self) -> std::io::Result<()> {
+            Ok(())
+        }
+    }
+    let (pool, ..) = pool_with(|builder| builder);
+    for _ in 0..200 {
+        drop(pool.get().unwrap());
+    }
+    let journal = journal_of(&pool);
+    let mut narrow = Narrow(journal.len() / 2, Vec::new());
+    assert!(pool.drain_journal(&mut narrow).is_err());
+    assert!(!narrow.1.is_empty());
+    pool.drain_journal(&mut narrow.1).unwrap();
+    assert_eq!(String::from_utf8(narrow.1).unwrap(), journal);
+}
+
+#[test]
+fn settings_out_of_range_open_nothing() {
+    let opened = |builder: Builder<Maker>| builder.build(Maker::default()).map(|_| ());
+    let refused = |key: &str| {
+        Err(OpenError::Settings(SettingsError::OutOfRange(
+            key.to_owned(),
+        )))
+    };
+    let long = Duration::from_millis((1 << 53) + 1);
+    assert_eq!(
+        opened(Pool::builder().journal_limit(0)),
+        refused("journalLimit")
+    );
+    assert_eq!(
+        opened(Pool::builder().journal_limit(u64::MAX)),
+        refused("journalLimit")
+    );
+    assert_eq!(
+        opened(Pool::builder().max_total(1 << 31)),
+        refused("maxTotal")
+    );
+    assert_eq!(
+        opened(Pool::builder().max_idle(u32::MAX)),
+        refused("maxIdle")
+    );
+    assert_eq!(
+        opened(Pool::builder().min_idle(1 << 31)),
+        refused("minIdle")
+    );
+    assert_eq!(
+        opened(Pool::builder().max_wait(long)),
+        refused("maxWaitMillis")
+    );
+    assert_eq!(
+        opened(Pool::builder().min_evictable_idle(Duration::MAX)),
+        refused("minEvictableIdleMillis")
+    );
+    let abandoned = Abandoned {
+        timeout: long,
+        ..Abandoned::default()
+    };
+    assert_eq!(
+        opened(Pool::builder().abandoned(abandoned)),
+        refused("abandoned.removeAbandonedTimeoutMillis")
+    );
+    assert_eq!(
+        opened(
+            Pool::builder()
+                .max_total(None)
+                .max_wait(None)
+                .max_idle(None)
+        ),
+        Ok(())
+    );
+}
+
+#[test]
+fn errors_say_what_happened() {
+    let error = Error::Make(Broken("it"));
+    assert_eq!(
+        error.to_string(),
+        "an object could not be made: it is broken"
+    );
+    assert_eq!(
+        std::error::Error::source(&error).unwrap().to_string(),
+        "it is broken"
+    );
+    assert_eq!(error.into_manager_error(), Some(Broken("it")));
+    assert_eq!(Error::<Broken>::Closed.to_string(), "the pool is closed");
+    let unknown = OpenError::from(SettingsError::UnknownKey("a\nb".to_owned()));
+    assert_eq!(unknown.to_string(), "settings: unknown key a\\nb");
+}

@@ -1,0 +1,144 @@
+//! Settings in TOML, held against the cases that say what the program answers, whose answers come from outside.
+
+mod common;
+
+use common::top;
+use std::fs;
+use zuphinka::{Manager, OpenError, Pool, SettingsError};
+
+/// Makes numbers.
+struct Numbers;
+
+impl Manager for Numbers {
+    type Object = u64;
+    type Error = ();
+
+    fn make(&self, id: u64) -> Result<u64, ()> {
+        Ok(id)
+    }
+}
+
+/// The settings of a pool that is opened with a text: all of them, in TOML.
+fn settings_of(text: &str) -> Result<String, SettingsError> {
+    match Pool::builder().settings(text)?.build(Numbers) {
+        Ok(pool) => Ok(pool.settings()),
+        Err(OpenError::Settings(error)) => Err(error),
+        Err(error) => panic!("{error}"),
+    }
+}
+
+/// What the program says of settings that it doesn't take, or `ok`.
+fn line_of(settings: &Result<String, SettingsError>) -> String {
+    match settings {
+        Ok(_) => "ok\n".to_owned(),
+        Err(SettingsError::NotToml(_)) => "pool: settings: not TOML\n".to_owned(),
+        Err(error) => format!("pool: settings: {error}\n"),
+    }
+}
+
+#[test]
+fn settings_are_taken_and_refused_as_the_cases_say() {
+    let folder = top().join("tests/cases/settings");
+    let (mut seen, mut no_text) = (0, 0);
+    for file in fs::read_dir(folder).unwrap() {
+        let path = file.unwrap().path();
+        if path.extension().map_or(true, |end| end != "toml") {
+            continue;
+        }
+        let wanted = fs::read_to_string(path.with_extension("answer")).unwrap();
+        match String::from_utf8(fs::read(&path).unwrap()) {
+            Ok(text) => assert_eq!(
+                line_of(&settings_of(&text)),
+                wanted,
+                "{}:\n{text}",
+                path.display()
+            ),
+            // No text at all is handed to the crate then.
+            Err(_) => no_text += usize::from(wanted == "pool: settings: not TOML\n"),
+        }
+        seen += 1;
+    }
+    assert!(
+        seen > 100 && no_text < 10,
+        "{seen} cases, of which {no_text} are no text"
+    );
+}
+
+#[test]
+fn the_example_with_all_settings_has_the_defaults() {
+    let text = fs::read_to_string(top().join("examples/settings.toml")).unwrap();
+    assert_eq!(settings_of(&text), settings_of(""));
+    assert_eq!(settings_of(""), Ok(Pool::new(Numbers).unwrap().settings()));
+}
+
+const USUAL: &str = "\
+blockWhenExhausted = false
+journalLimit = 4096
+lifo = true
+maxIdle = -1
+maxTotal = 1000
+maxWaitMillis = 8
+minEvictableIdleMillis = 1800000
+minIdle = 5
+numTestsPerEvictionRun = -2
+softMinEvictableIdleMillis = -1
+testOnBorrow = false
+testOnCreate = false
+testOnReturn = false
+testWhileIdle = true
+[abandoned]
+removeAbandonedOnBorrow = true
+removeAbandonedOnMaintenance = false
+removeAbandonedTimeoutMillis = 15
+";
+
+#[test]
+fn each_form_of_toml_is_read() {
+    let first = "# a comment\r\n\tjournalLimit=0x1_000 # another\n\"maxTo\\u0074al\" = 1_000\n'maxIdle' = -1\n";
+    let second = "maxWaitMillis = 0o10\nminIdle = 0b1_01\nnumTestsPerEvictionRun = -2\nblockWhenExhausted = false\n";
+    let third = "testWhileIdle = true\n";
+    let tables = [
+        "[abandoned]\nremoveAbandonedOnBorrow = true\nremoveAbandonedTimeoutMillis = +15",
+        "[ \"abandoned\" ] # a table\n\nremoveAbandonedTimeoutMillis = 0xF\nremoveAbandonedOnBorrow = true\n",
+        "abandoned = { removeAbandonedOnBorrow = true , removeAbandonedTimeoutMillis = 15 }\n",
+        "abandoned.removeAbandonedOnBorrow = true\nabandoned . 'removeAbandonedTimeoutMillis' = 15\n",
+    ];
+    for table in tables {
+        let text = [first, second, third, table].concat();
+        assert_eq!(settings_of(&text).as_deref(), Ok(USUAL), "{text}");
+    }
+}
+
+#[test]
+fn a_text_that_is_no_toml_is_told_with_its_line() {
+    let cases = [
+        ("maxTotal = 1\nmaxTotal = 2", 2),
+        ("maxTotal = 1 maxIdle = 2", 1),
+        ("\n\nmaxTotal", 3),
+        ("maxTotal = 1_", 1),
+        ("maxTotal = 99999999999999999999", 1),
+        ("abandoned = {}\n[abandoned]", 2),
+        ("[abandoned]\n[abandoned]", 2),
+        ("abandoned.removeAbandonedOnBorrow = true\n[abandoned]", 2),
+        ("lifo = tru", 1),
+        ("lifo = true\rmaxIdle = 1", 1),
+        ("\"maxTotal = 1", 1),
+        ("abandoned = { removeAbandonedOnBorrow = true, }", 1),
+        ("x = \"\\q\"", 1),
+        ("x = [1, 2", 1),
+    ];
+    for (text, line) in cases {
+        assert_eq!(
+            settings_of(text),
+            Err(SettingsError::NotToml(line)),
+            "{text}"
+        );
+    }
+}
+
+#[test]
+fn a_text_that_is_too_long_is_refused() {
+    let comment = "#".repeat((1 << 20) - 1) + "\n";
+    assert!(settings_of(&comment).is_ok());
+    assert_eq!(settings_of(&(comment + "\n")), Err(SettingsError::TooLong));
+}

@@ -1,0 +1,612 @@
+//! Four threads call a pool by chance, over a manager that fails and panics by chance, with 20 seeds.
+//!
+//! Each object that was made is dropped once, the program `pool` finds the journal legal, what each thread did stands in it in
+//! its order, all that was drained is the journal, and no object is left anywhere.
+
+mod common;
+
+use common::{journal_of, judge};
+use std::collections::HashSet;
+use std::panic::{self, AssertUnwindSafe};
+use std::sync::atomic::{AtomicU64, Ordering};
+use std::sync::{Arc, Mutex};
+use std::thread;
+use std::time::Duration;
+use zuphinka::{caller_number, Abandoned, Error, Manager, Pool, Pooled};
+
+const SEEDS: u64 = 20;
+const THREADS: u64 = 4;
+const CALLS: u32 = 2_000;
+
+/// One call of the manager in so many fails.
+const FAILS_OF: u64 = 12;
+/// One in so many panics, where it may.
+const PANICS_OF: u64 = 40;
+/// Before one in so many the thread lets others run.
+const YIELDS_OF: u64 = 50;
+
+/// Numbers that look like chance, and are the same in each run.
+struct Dice(u64);
+
+impl Dice {
+    /// A number below `sides`.
+    fn roll(&mut self, sides: u64) -> u64 {
+        self.0 = self
+            .0
+            .wrapping_mul(6_364_136_223_846_793_005)
+            .wrapping_add(1_442_695_040_888_963_407);
+        (self.0 >> 33) % sides
+    }
+}
+
+/// How often each object was dropped, by the order in which they were made.
+type Drops = Mutex<Vec<u32>>;
+
+struct Thing {
+    number: usize,
+    drops: Arc<Drops>,
+    is_awake: bool,
+}
+
+impl Drop for Thing {
+    fn drop(&mut self) {
+        self.drops.lock().unwrap()[self.number] += 1;
+    }
+}
+
+/// A manager whose calls fail by chance, each by its number.
+struct Fickle {
+    seed: u64,
+    calls: AtomicU64,
+    drops: Arc<Drops>,
+    panics: bool,
+}
+
+#[derive(Debug)]
+struct Failed;
+
+impl Fickle {
+    /// Whether a call fails.
+    fn fails(&self) -> bool {
+        let call = self.calls.fetch_add(1, Ordering::Relaxed);
+        let mut dice = Dice(self.seed.wrapping_add(call));
+        if dice.roll(YIELDS_OF) == 0 {
+            thread::yield_now();
+        }
+        let fails = dice.roll(FAILS_OF) == 0;
+        if self.panics && dice.roll(PANICS_OF) == 0 {
+            panic!("by chance");
+        }
+        fails
+    }
+
+    fn done(&self) -> Result<(), Failed> {
+        if self.fails() {
+            Err(Failed)
+        } else {
+            Ok(())
+        }
+    }
+}
+
+impl Manager for Fickle {
+    type Object = Thing;
+    type Error = Failed;
+
+    fn make(&self, _id: u64) -> Result<Thing, Failed> {
+        self.done()?;
+        let mut drops = self.drops.lock().unwrap();
+        drops.push(0);
+        Ok(Thing {
+            number: drops.len() - 1,
+            drops: Arc::clone(&self.drops),
+            is_awake: false,
+        })
+    }
+
+    fn activate(&self, thing: &mut Thing) -> Result<(), Failed> {
+        self.done()?;
+        assert!(!thing.is_awake, "what is kept is passive");
+        thing.is_awake = true;
+        Ok(())
+    }
+
+    fn validate(&self, _thing: &mut Thing) -> bool {
+        !self.fails()
+    }
+
+    fn passivate(&self, thing: &mut Thing) -> Result<(), Failed> {
+        self.done()?;
+        thing.is_awake = false;
+        Ok(())
+    }
+
+    fn destroy(&self, thing: Thing) {
+        drop(thing);
+        if self.panics {
+            self.fails();
+        }
+    }
+}
+
+/// What threads do in a pool that has nothing to lend.
+#[derive(Clone, Copy, PartialEq)]
+enum Manner {
+    /// They are refused. They may hold several objects, and hand some to others.
+    Refused,
+    /// They wait without limit, and hold one object at most.
+    Waiting,
+    /// They wait for a short time by the clock, or not at all. They may hold several objects, and hand some to others.
+    Hasty,
+}
+
+impl Manner {
+    fn of(seed: u64) -> Manner {
+        match seed % 3 {
+            0 => Manner::Waiting,
+            1 => Manner::Refused,
+            _ => Manner::Hasty,
+        }
+    }
+
+    fn open(self, manager: Fickle) -> Pool<Fickle> {
+        let abandoned = |timeout| Abandoned {
+            on_borrow: true,
+            on_maintenance: true,
+            timeout: Duration::from_millis(timeout),
+        };
+        let moment = AtomicU64::new(0);
+        let ticking = move || moment.fetch_add(1, Ordering::Relaxed);
+        let builder = Pool::builder()
+            .min_idle(1)
+            .test_on_borrow(true)
+            .test_while_idle(true);
+        let builder = match self {
+            Manner::Refused => builder
+                .clock(ticking)
+                .max_total(4)
+                .max_idle(2)
+                .block_when_exhausted(false)
+                .test_on_create(true)
+                .test_on_return(true)
+                .min_evictable_idle(Duration::from_millis(40))
+                .tests_per_eviction_run(2)
+                .abandoned(abandoned(200)),
+            Manner::Waiting => builder
+                .clock(ticking)
+                .max_total(1)
+                .lifo(false)
+                .min_evictable_idle(Duration::from_millis(40))
+                .soft_min_evictable_idle(Duration::from_millis(20))
+                .tests_per_eviction_run(-1)
+                .abandoned(abandoned(60)),
+            Manner::Hasty => builder
+                .max_total(3)
+                .max_wait(Duration::from_millis(2))
+                .min_evictable_idle(Duration::from_millis(1))
+                .abandoned(abandoned(3)),
+        };
+        builder.build(manager).unwrap()
+    }
+}
+
+/// A call that began, or what it came to.
+#[derive(Clone, Copy, Debug, PartialEq, Eq)]
+enum Mark {
+    Borrows,
+    /// A borrow was given this object.
+    Lent(u64),
+    /// A borrow was answered that there is nothing for it.
+    Denied,
+    /// A borrow ended its wait, or was denied at that very moment.
+    GivesUp,
+    GivesBack(u64),
+    Invalidates(u64),
+    Uses(u64),
+    Adds,
+    /// A fill found enough, or no place for more.
+    Filled,
+    Evicts,
+    Reclaims,
+    Clears,
+    Closes,
+}
+
+/// What a line says of its caller's calls.
+fn mark_of(words: &[&str]) -> Option<Mark> {
+    let id = || words[1].parse().unwrap();
+    match words {
+        ["borrow", _, "=", "exhausted" | "timeout" | "refused", ..] => Some(Mark::Denied),
+        ["ready", _, "good", ..] => Some(Mark::Lent(id())),
+        ["fill", "=", "enough" | "noplace"] => Some(Mark::Filled),
+        ["return", ..] => Some(Mark::GivesBack(id())),
+        ["invalidate", ..] => Some(Mark::Invalidates(id())),
+        ["use", ..] => Some(Mark::Uses(id())),
+        ["add", ..] => Some(Mark::Adds),
+        ["evict", ..] => Some(Mark::Evicts),
+        ["reclaim", "borrow", ..] => Some(Mark::Borrows),
+        ["reclaim", "maintain", ..] => Some(Mark::Reclaims),
+        ["clear", ..] => Some(Mark::Clears),
+        ["close", ..] => Some(Mark::Closes),
+        _ => None,
+    }
+}
+
+/// What a journal tells of the calls of one caller.
+fn told(journal: &str, caller: u32) -> Vec<Mark> {
+    let caller = caller.to_string();
+    let lines = journal
+        .lines()
+        .map(|line| line.split(' ').collect::<Vec<_>>());
+    lines
+        .filter(|words| words[0] == caller)
+        .filter_map(|words| mark_of(&words[2..]))
+        .collect()
+}
+
+/// Whether a journal tells this of the calls of one caller. That it gave up stands nowhere.
+fn tells(told: &[Mark], marks: &[Mark]) -> bool {
+    let mut left = told.iter().peekable();
+    let as_told = marks.iter().all(|mark| match mark {
+        Mark::GivesUp => {
+            left.next_if_eq(&&Mark::Denied);
+            true
+        }
+        _ => left.next() == Some(mark),
+    });
+    as_told && left.next().is_none()
+}
+
+/// What the threads share.
+struct Table {
+    pool: Pool<Fickle>,
+    manner: Manner,
+    /// Objects that one hands to another.
+    handed: Mutex<Vec<Pooled<Fickle>>>,
+    drained: Mutex<Vec<u8>>,
+    is_calm: bool,
+}
+
+/// A thread that calls by chance, and writes down what it did.
+struct Player<'a> {
+    table: &'a Table,
+    dice: Dice,
+    held: Vec<Pooled<Fickle>>,
+    marks: Vec<Mark>,
+}
+
+/// What a call came to, or nothing where the manager panicked in it.
+fn caught<R>(call: impl FnOnce() -> R) -> Option<R> {
+    panic::catch_unwind(AssertUnwindSafe(call)).ok()
+}
+
+impl<'a> Player<'a> {
+    fn new(table: &'a Table, seed: u64) -> Player<'a> {
+        Player {
+            table,
+            dice: Dice(seed),
+            held: Vec::new(),
+            marks: Vec::new(),
+        }
+    }
+
+    fn pool(&self) -> &'a Pool<Fickle> {
+        &self.table.pool
+    }
+
+    fn borrow(&mut self) {
+        let (pool, manner) = (self.pool(), self.table.manner);
+        if manner == Manner::Waiting && !self.held.is_empty() {
+            return;
+        }
+        self.marks.push(Mark::Borrows);
+        let how = if manner == Manner::Hasty {
+            self.dice.roll(3)
+        } else {
+            0
+        };
+        let lent = caught(|| match how {
+            0 => pool.get(),
+            1 => pool.try_get(),
+            _ => pool.get_timeout(Duration::from_micros(300)),
+        });
+        match lent {
+            Some(Ok(object)) => {
+                assert!(object.is_awake, "what is lent is active");
+                self.marks.push(Mark::Lent(Pooled::id(&object)));
+                self.held.push(object);
+            }
+            Some(Err(Error::Exhausted | Error::TimedOut)) if how > 0 => {
+                self.marks.push(Mark::GivesUp)
+            }
+            Some(Err(Error::Closed | Error::Exhausted | Error::TimedOut)) => {
+                self.marks.push(Mark::Denied)
+            }
+            Some(Err(Error::JournalFull | Error::OutOfMemory)) => {
+                panic!("there is room and memory")
+            }
+            Some(Err(_)) | None => {}
+        }
+    }
+
+    /// One of the objects that it holds, by chance.
+    fn pick(&mut self) -> Option<Pooled<Fickle>> {
+        let count = self.held.len() as u64;
+        (count > 0).then(|| self.held.swap_remove(self.dice.roll(count) as usize))
+    }
+
+    fn give_back(&mut self, object: Pooled<Fickle>) {
+        self.marks.push(Mark::GivesBack(Pooled::id(&object)));
+        if self.dice.roll(2) == 0 {
+            caught(|| Pooled::give_back(object));
+        } else {
+            caught(|| drop(object));
+        }
+    }
+
+    fn invalidate(&mut self, object: Pooled<Fickle>) {
+        self.marks.push(Mark::Invalidates(Pooled::id(&object)));
+        let pool = self.pool();
+        caught(|| pool.invalidate(object));
+    }
+
+    /// It panics while it holds an object.
+    fn stumble(&mut self, object: Pooled<Fickle>) {
+        if self.table.is_calm {
+            self.marks.push(Mark::Invalidates(Pooled::id(&object)));
+            caught(move || {
+                let _held = object;
+                panic!("by chance");
+            });
+        } else {
+            self.give_back(object);
+        }
+    }
+
+    fn touch(&mut self, object: Pooled<Fickle>) {
+        self.marks.push(Mark::Uses(Pooled::id(&object)));
+        Pooled::touch(&object).unwrap();
+        self.held.push(object);
+    }
+
+    fn hand_on(&mut self, object: Pooled<Fickle>) {
+        if self.table.manner == Manner::Waiting {
+            self.held.push(object);
+            return;
+        }
+        let mut handed = self.table.handed.lock().unwrap();
+        handed.push(object);
+        let other = self.dice.roll(handed.len() as u64) as usize;
+        self.held.push(handed.swap_remove(other));
+    }
+
+    /// A call with an object that it holds. With none it borrows one.
+    fn call_with_one(&mut self) {
+        let Some(object) = self.pick() else {
+            return self.borrow();
+        };
+        match self.dice.roll(16) {
+            0..=9 => self.give_back(object),
+            10 => self.stumble(object),
+            11..=12 => self.invalidate(object),
+            13..=14 => self.touch(object),
+            _ => self.hand_on(object),
+        }
+    }
+
+    fn fill(&mut self) {
+        let pool = self.pool();
+        if let Some(Ok(_)) = caught(|| pool.fill()) {
+            self.marks.push(Mark::Filled);
+        }
+    }
+
+    fn evict(&mut self) {
+        self.marks.push(Mark::Evicts);
+        let pool = self.pool();
+        caught(|| pool.evict());
+    }
+
+    fn reclaim(&mut self) {
+        self.marks.push(Mark::Reclaims);
+        self.pool().reclaim().unwrap();
+    }
+
+    /// Maintains the pool, in one call where no manager panics.
+    fn maintain(&mut self) {
+        if !self.table.is_calm {
+            self.evict();
+            self.reclaim();
+            self.fill();
+            return;
+        }
+        self.marks.push(Mark::Evicts);
+        match self.pool().maintain() {
+            Ok(_) => self.marks.extend([Mark::Reclaims, Mark::Filled]),
+            Err(Error::Closed) => {}
+            Err(_) => self.marks.push(Mark::Reclaims),
+        }
+    }
+
+    fn close(&mut self) {
+        self.marks.push(Mark::Closes);
+        let pool = self.pool();
+        caught(|| pool.close());
+    }
+
+    fn drain(&mut self) {
+        let mut drained = self.table.drained.lock().unwrap();
+        self.pool().drain_journal(&mut *drained).unwrap();
+    }
+
+    /// A call that is made seldom. A pool is closed now and then.
+    fn call_seldom(&mut self) {
+        let pool = self.pool();
+        match self.dice.roll(3_000) {
+            0 => self.close(),
+            1..=500 => {
+                self.marks.push(Mark::Clears);
+                caught(|| pool.clear());
+            }
+            501..=600 => self.drain(),
+            _ => {
+                let counts = pool.counts();
+                assert!(counts.idle + counts.lent + counts.reserved <= 4);
+            }
+        }
+    }
+
+    fn call(&mut self) {
+        let pool = self.pool();
+        match self.dice.roll(24) {
+            0..=7 => self.borrow(),
+            8..=16 => self.call_with_one(),
+            17 => {
+                self.marks.push(Mark::Adds);
+                caught(|| pool.add());
+            }
+            18 => self.fill(),
+            19 => self.evict(),
+            20 => self.reclaim(),
+            21 => self.maintain(),
+            _ => self.call_seldom(),
+        }
+    }
+
+    /// Makes all its calls, and gives back what it holds. Its number, and what it did.
+    fn play(mut self) -> (u32, Vec<Mark>) {
+        for _ in 0..CALLS {
+            self.call();
+        }
+        while let Some(object) = self.held.pop() {
+            self.give_back(object);
+        }
+        (caller_number(), self.marks)
+    }
+}
+
+/// Plays with a seed: how many objects there were, and the journal.
+fn play(seed: u64) -> (usize, String) {
+    let drops = Arc::new(Drops::default());
+    let (manner, panics) = (Manner::of(seed), seed % 4 == 0);
+    let manager = Fickle {
+        seed,
+        calls: AtomicU64::new(0),
+        drops: Arc::clone(&drops),
+        panics,
+    };
+    let table = Table {
+        pool: manner.open(manager),
+        manner,
+        handed: Mutex::default(),
+        drained: Mutex::default(),
+        is_calm: !panics,
+    };
+    let played: Vec<_> = thread::scope(|scope| {
+        let start = |number| {
+            let player = Player::new(&table, seed * 1_000 + number);
+            scope.spawn(move || player.play())
+        };
+        let players: Vec<_> = (0..THREADS).map(start).collect();
+        players
+            .into_iter()
+            .map(|player| player.join().unwrap())
+            .collect()
+    });
+    let Table {
+        pool,
+        handed,
+        drained,
+        ..
+    } = table;
+    for object in handed.into_inner().unwrap() {
+        caught(|| drop(object));
+    }
+    while caught(|| pool.close()).is_none() || pool.counts().idle > 0 {
+        caught(|| pool.clear());
+    }
+    let counts = pool.counts();
+    assert_eq!(
+        (counts.idle, counts.lent, counts.reserved),
+        (0, 0, 0),
+        "seed {seed}"
+    );
+    assert_eq!(
+        counts.created,
+        counts.destroyed + counts.reclaimed,
+        "seed {seed}"
+    );
+
+    let journal = journal_of(&pool);
+    let verdict = judge(&pool.settings(), journal.as_bytes());
+    assert_eq!(
+        verdict,
+        format!("legal {}\n", journal.lines().count()),
+        "seed {seed}"
+    );
+    for (caller, marks) in played {
+        let told = told(&journal, caller);
+        assert!(
+            tells(&told, &marks),
+            "seed {seed}, caller {caller}: {told:?} isn't {marks:?}"
+        );
+    }
+    let mut drained = drained.into_inner().unwrap();
+    pool.drain_journal(&mut drained).unwrap();
+    assert_eq!(String::from_utf8(drained).unwrap(), journal, "seed {seed}");
+
+    drop(pool);
+    let drops = drops.lock().unwrap();
+    assert!(
+        drops.iter().all(|times| *times == 1),
+        "seed {seed}: {drops:?}"
+    );
+    (drops.len(), journal)
+}
+
+/// Each answer that comes in these pools.
+const ANSWERS: [&str; 21] = [
+    "take",
+    "make",
+    "wait",
+    "exhausted",
+    "timeout",
+    "lent",
+    "check",
+    "parked",
+    "kept",
+    "destroy",
+    "destroyidle",
+    "test",
+    "freed",
+    "gone",
+    "noted",
+    "count",
+    "reclaimed",
+    "nothing",
+    "enough",
+    "noplace",
+    "refused",
+];
+
+#[test]
+fn objects_are_dropped_once_and_journals_are_legal() {
+    let told = panic::take_hook();
+    panic::set_hook(Box::new(move |panicked| {
+        if panicked.payload().downcast_ref::<&str>() != Some(&"by chance") {
+            told(panicked);
+        }
+    }));
+    let (mut objects, mut journals) = (0, String::new());
+    for seed in 1..=SEEDS {
+        let (more, journal) = play(seed);
+        objects += more;
+        journals += &journal;
+    }
+    assert!(objects > 1_000, "there were {objects} objects only");
+    let answers: HashSet<_> = journals
+        .lines()
+        .filter_map(|line| line.split(" = ").nth(1)?.split(' ').next())
+        .collect();
+    assert_eq!(answers, HashSet::from(ANSWERS));
+}

@@ -1,0 +1,118 @@
+#!/usr/bin/env python3
+"""Builds the Rust crate in rust/zuphinka, and sees that its tests pass and its examples do what they say.
+
+    check_rust.py POOL
+
+POOL is the program. The crate's tests are cargo's: those in its files, in tests/ and in its pages. The journal of the example `servers` is
+judged by the program; what the example `settings` writes of a file must be what Python reads there; and the example `pairs`
+must make as many entries as its rounds are. Where there is no cargo, all of it is left out.
+
+Prints what fails, and in the end the line 'N passed, M failed'.
+"""
+
+import os
+import pathlib
+import re
+import shutil
+import subprocess
+import sys
+import tempfile
+import tomllib
+
+TOP = pathlib.Path(__file__).resolve().parent.parent
+CRATE = TOP / "rust/zuphinka"
+RESULT = re.compile(r"^test result: \w+\. (\d+) passed; (\d+) failed;", flags=re.MULTILINE)
+# A run that takes longer hangs.
+LONGEST = 1200
+WORKERS, ROUNDS = 4, 20_000
+
+
+def cargo(environment, *words):
+    command = ["cargo", *words, "--offline"]
+    return subprocess.run(command, cwd=CRATE, env=environment, capture_output=True, text=True, timeout=LONGEST)
+
+
+def run_tests(environment):
+    """How many tests passed and failed, where one more failed if cargo says so of none."""
+    done = cargo(environment, "test", "--no-fail-fast")
+    counts = [(int(passed), int(failed)) for passed, failed in RESULT.findall(done.stdout)]
+    passed, failed = (sum(column) for column in zip(*counts)) if counts else (0, 0)
+    if done.returncode or not passed:
+        print(done.stdout + done.stderr)
+        failed = failed or 1
+    return passed, failed
+
+
+def built_examples(environment):
+    """The folder with the examples, once they are built."""
+    done = cargo(environment, "build", "--release", "--examples")
+    if done.returncode:
+        raise SystemExit(f"{done.stderr}\n0 passed, 1 failed")
+    target = environment.get("CARGO_TARGET_DIR", CRATE / "target")
+    return pathlib.Path(target) / "release/examples"
+
+
+def check_servers(servers, pool):
+    """The journal of the example, judged by the program with the settings that the example has."""
+    with tempfile.NamedTemporaryFile() as journal:
+        done = subprocess.run([servers], stdout=journal, stderr=subprocess.PIPE, text=True, timeout=LONGEST)
+        entries = pathlib.Path(journal.name).read_bytes().count(b"\n")
+        judged = subprocess.run([pool, "check", CRATE / "examples/servers.toml", journal.name], capture_output=True, text=True)
+    right = (done.returncode, judged.stdout) == (0, f"legal {entries}\n") and entries > 0
+    yield None if right else f"servers: status {done.returncode}, {done.stderr!r}; {entries} entries, {judged.stdout + judged.stderr!r}"
+
+
+def defaults():
+    text = (TOP / "examples/settings.toml").read_text()
+    abandoned = re.sub(r"^#(?=\[abandoned\]$|\w+ = )", "", text, flags=re.MULTILINE)
+    return tomllib.loads(text), tomllib.loads(abandoned)["abandoned"]
+
+
+def check_settings(settings):
+    """What the example writes of each file that can be taken, and what Python reads there."""
+    plain, abandoned = defaults()
+    taken = [path for path in sorted((TOP / "tests/cases/settings").glob("*.toml")) if path.with_suffix(".answer").read_bytes() == b"ok\n"]
+    for path in [*sorted((TOP / "examples").glob("*.toml")), *taken]:
+        wanted = plain | tomllib.loads(path.read_text())
+        if "abandoned" in wanted:
+            wanted["abandoned"] = abandoned | wanted["abandoned"]
+        done = subprocess.run([settings, path], capture_output=True, text=True)
+        same = done.returncode == 0 and tomllib.loads(done.stdout) == wanted
+        yield None if same else f"settings {path}: {done.stdout + done.stderr!r}"
+
+
+def check_pairs(pairs):
+    """Four entries a round where nobody waits, and two more for each object and one for the close in the end."""
+    with tempfile.NamedTemporaryFile("w", suffix=".toml") as file:
+        file.write(f"maxTotal = {WORKERS}\nmaxIdle = {WORKERS}\n")
+        file.flush()
+        for clock in [], ["instant"]:
+            command = [pairs, file.name, str(WORKERS), str(ROUNDS), *clock]
+            done = subprocess.run(command, capture_output=True, text=True, timeout=LONGEST)
+            told = dict(line.split() for line in done.stdout.splitlines())
+            created, destroyed, steps = (int(told.get(name, -1)) for name in ("created", "destroyed", "steps"))
+            right = 1 <= created <= WORKERS and destroyed == created and steps == 4 * WORKERS * ROUNDS + 2 * created + 1
+            yield None if right and told["refused"] == "0" else f"pairs {clock}: {done.stdout + done.stderr!r}"
+
+
+def main(pool):
+    if shutil.which("cargo") is None:
+        print("rust/zuphinka is left out, since there is no cargo here")
+        print("0 passed, 0 failed")
+        return 0
+    environment = os.environ | {"ZUPHINKA_POOL": str(pathlib.Path(pool).resolve())}
+    passed, failed = run_tests(environment)
+    examples = built_examples(environment)
+    for check in check_servers(examples / "servers", pool), check_settings(examples / "settings"), check_pairs(examples / "pairs"):
+        for fault in check:
+            if fault is None:
+                passed += 1
+            else:
+                failed += 1
+                print(fault)
+    print(f"{passed} passed, {failed} failed")
+    return 1 if failed else 0
+
+
+if __name__ == "__main__":
+    sys.exit(main(*sys.argv[1:]))
