@@ -12,6 +12,7 @@ thread_local! {
 ///
 /// Threads are numbered from 0, in the order in which they first ask for their numbers or call a pool. After 2^32 of them
 /// the numbers begin again.
+#[inline]
 pub fn caller_number() -> u32 {
     NUMBER.with(|number| *number)
 }

@@ -36,6 +36,7 @@ impl Core {
 
     /// One step, and its entry. The token that is handed in, with the inputs that carry one, comes out again unless its
     /// object keeps it.
+    #[inline]
     pub fn step(
         &mut self,
         caller: u32,
@@ -127,6 +128,7 @@ impl Drop for Core {
 }
 
 /// What an input asks for, by the library's codes.
+#[inline]
 fn request_of(input: Input) -> sys::Request {
     let plain = |input, number| (input, number, 0);
     let told = |input, number, outcome| (input, number, outcome_code(outcome));
@@ -172,6 +174,7 @@ fn outcome_code(outcome: Outcome) -> u32 {
     }
 }
 
+#[inline]
 fn answer_of(reply: &sys::Reply) -> Answer {
     match reply.answer {
         sys::TAKE => Answer::Take(reply.number),

@@ -17,6 +17,7 @@ pub(crate) enum Clock {
 }
 
 impl Clock {
+    #[inline]
     fn now(&self) -> u64 {
         match self {
             Clock::Since(start) => start.elapsed().as_millis() as u64,
