@@ -1,6 +1,6 @@
-//! Finds what is linked: the C library of the core, `libzuphinka.a`, in the folder that ZUPHINKA_LIB names or else where `rt lib`
-//! builds it, in `crates/zuphinka/out` of this repository; and HEAP, by which the core allocates, the file that ZUPHINKA_HEAP names or
-//! else the one that `tools/heap.py` of this repository prints.
+//! Finds what is linked: the C library of the core, `libzuphinka.a`, in the folder that ZUPHINKA_LIB names or else in
+//! `crates/zuphinka/out` of this repository; and the file by which it allocates, the one that ZUPHINKA_HEAP names or else
+//! `c/liblibc_c.a` of the kit whose guide `rt doc` names.
 
 use std::path::{Path, PathBuf};
 use std::process::Command;
@@ -26,12 +26,12 @@ fn link() -> Result<(), String> {
     let folder = named("ZUPHINKA_LIB").unwrap_or_else(|| top.join("crates/zuphinka/out"));
     take(&folder.join("libzuphinka.a"), "zuphinka").map_err(|fault| {
         format!(
-            "{fault}. Build it by `rt lib` in crates/zuphinka, or name its folder in ZUPHINKA_LIB."
+            "{fault}. Build it by `python3 tools/build.py zuphinka`, or name its folder in ZUPHINKA_LIB."
         )
     })?;
-    let heap = named("ZUPHINKA_HEAP").map_or_else(|| heap_by(&top.join("tools/heap.py")), Ok)?;
+    let heap = named("ZUPHINKA_HEAP").map_or_else(heap_of_kit, Ok)?;
     take(&heap, "zuphinka_heap")
-        .map_err(|fault| format!("{fault}. Name the file of the heap in ZUPHINKA_HEAP."))
+        .map_err(|fault| format!("{fault}. Name the kit's liblibc_c.a in ZUPHINKA_HEAP."))
 }
 
 /// Links a copy of an archive under a name.
@@ -45,17 +45,11 @@ fn take(archive: &Path, name: &str) -> Result<(), String> {
     Ok(())
 }
 
-/// The file that the script prints.
-fn heap_by(script: &Path) -> Result<PathBuf, String> {
-    println!("cargo:rerun-if-changed={}", script.display());
-    let told = Command::new("python3").arg(script).output();
-    let told = told.map_err(|error| format!("python3: {error}"))?;
-    if !told.status.success() {
-        let fault = String::from_utf8_lossy(&told.stderr).trim().to_owned();
-        return Err(format!(
-            "{} failed: {fault}. Name the file of the heap in ZUPHINKA_HEAP.",
-            script.display()
-        ));
-    }
-    Ok(PathBuf::from(String::from_utf8_lossy(&told.stdout).trim()))
+fn heap_of_kit() -> Result<PathBuf, String> {
+    let told = Command::new("rt").arg("doc").output();
+    let told = told.map_err(|error| {
+        format!("rt: {error}. Put the kit's command on the PATH, or name its liblibc_c.a in ZUPHINKA_HEAP.")
+    })?;
+    let guide = String::from_utf8_lossy(&told.stdout).trim().to_owned();
+    Ok(Path::new(&guide).with_file_name("c").join("liblibc_c.a"))
 }

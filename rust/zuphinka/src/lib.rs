@@ -45,7 +45,7 @@
 //! return are four. **A pool whose journal is full lends nothing more**: set the limit by how long the pool is to live
 //! ([`Builder::journal_limit`]), and look at [`Pool::room`].
 //!
-//! Build the C library first, by `rt lib` in `crates/zuphinka`; `build.rs` says where else it may lie.
+//! Build the C library first, by `python3 tools/build.py zuphinka`; `build.rs` says where else it may lie.
 #![warn(missing_docs)]
 #![deny(unsafe_op_in_unsafe_fn)]
 
