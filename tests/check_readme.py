@@ -4,7 +4,7 @@
     check_readme.py README FOLDER..
 
 Each piece of a block of Rust or C in README, up to a line '..' that leaves something out, must stand in one file of a crate's src/, or in a
-file in C of a folder, as it is, but for how far it is indented. Prints each piece that doesn't, and in the end the line 'N passed, M failed'.
+file in C or Rust of a folder, as it is, but for how far it is indented. Prints each piece that doesn't, and in the end the line 'N passed, M failed'.
 """
 
 import pathlib
@@ -28,7 +28,7 @@ def pieces(readme):
 
 
 def main(readme, folders):
-    sources = [plain(file.read_text()) for folder in folders for kind in ("src/*.rt", "*.c") for file in pathlib.Path(folder).glob(kind)]
+    sources = [plain(file.read_text()) for folder in folders for kind in ("src/*.rt", "*.c", "*.rs") for file in pathlib.Path(folder).glob(kind)]
     passed, failed = 0, 0
     for piece in pieces(pathlib.Path(readme).read_text()):
         if any(plain(piece) in source for source in sources):

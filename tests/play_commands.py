@@ -6,7 +6,7 @@ play_commands.py POOL  The last line is 'N passed, M failed'.
 A block is what a page indents by four spaces, and the man page's section of examples. Each must be of commands, which are run one after the other with the repository's examples at
 hand, the lines of a journal, which must be legal with the default settings, cut into segments or not, the form of a line, or the kit's name.
 The command ./check is not run, since it runs this, nor are tools/, since it has built the programs: there must be such a tool and crate. Blocks of
-Rust are held against the sources by check_readme.py, and names by check_names.py.
+Rust are held against the sources by check_readme.py, and names by check_names.py. Cargo's commands are left out where no cargo runs.
 """
 
 import pathlib
@@ -16,7 +16,7 @@ import sys
 import tempfile
 
 TOP = pathlib.Path(__file__).resolve().parent.parent
-COMMAND = re.compile(r"(\./pool|\./check|pool|crates/\S+|\(cd|mkdir|python3 tools/\S+) ")
+COMMAND = re.compile(r"(\./pool|\./check|pool|crates/\S+|\(cd|mkdir|python3 tools/\S+|cc|\./plain_life|cargo) ")
 ENTRY = re.compile(r"\d+ \d+ .* = ")
 BASE = re.compile(r"pool-journal 2 |\d+ (readying|adding|lent|returning|idle|testing|destroying) ")
 FORM = "<caller> <at> <input>"
@@ -31,14 +31,23 @@ def blocks(page):
         yield [line[4:] for line in block.splitlines()]
 
 
+def runs_cargo():
+    """Whether there is a cargo, with a toolchain."""
+    try:
+        return subprocess.run(["cargo", "--version"], capture_output=True).returncode == 0
+    except OSError:
+        return False
+
+
 class Place:
     """A folder in which the commands find what they name."""
 
     def __init__(self, folder, pool):
         self.folder = pathlib.Path(folder)
-        for name in ("examples", "crates"):
+        for name in ("examples", "crates", "c", "rust"):
             (self.folder / name).symlink_to(TOP / name)
         (self.folder / "pool").symlink_to(pool)
+        self.runs_cargo = runs_cargo()
 
     def fault_of_command(self, line):
         """Why a command is not as the page says, if it isn't."""
@@ -48,6 +57,8 @@ class Place:
         if words.startswith("python3 tools/"):
             _, tool, crate = words.split()
             return None if (TOP / tool).is_file() and (TOP / "crates" / crate).is_dir() else "no such tool or crate"
+        if words.startswith("cargo") and not self.runs_cargo:
+            return None
         if words.startswith("pool"):
             words = "./" + words
         done = subprocess.run(["bash", "-c", words], cwd=self.folder, capture_output=True, text=True, stdin=subprocess.DEVNULL)
