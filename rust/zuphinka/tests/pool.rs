@@ -731,27 +731,60 @@ fn fill_journal(pool: &Pool<Maker>) {
     }
 }
 
+/// Lets two threads wait, and then does something: what their borrows came to.
+fn while_two_wait(pool: &Pool<Maker>, act: impl FnOnce()) -> [Result<u64, Error<Broken>>; 2] {
+    thread::scope(|scope| {
+        let wait = || scope.spawn(|| pool.get().map(|widget| widget.id));
+        let waiting = [wait(), wait()];
+        let waits = |journal: String| {
+            journal
+                .lines()
+                .filter(|line| line.ends_with("wait"))
+                .count()
+        };
+        while waits(journal_of(pool)) < 2 {
+            thread::yield_now();
+        }
+        act();
+        waiting.map(|waiter| waiter.join().unwrap())
+    })
+}
+
+#[test]
+fn all_who_wait_hear_of_a_close() {
+    let (pool, ..) = pool_with(|builder| builder.max_total(1));
+    let held = pool.get().unwrap();
+    let came = while_two_wait(&pool, || assert_eq!(pool.close(), 0));
+    assert_eq!(came, [Err(Error::Closed), Err(Error::Closed)]);
+    assert_eq!(Pooled::give_back(held), Returned::Destroyed);
+    assert_legal(&pool);
+}
+
 #[test]
 fn all_who_wait_hear_of_a_full_journal() {
     let (pool, ..) = pool_with(|builder| builder.max_total(1).journal_limit(12));
     let held = pool.get().unwrap();
-    thread::scope(|scope| {
-        let wait = || scope.spawn(|| pool.get().map(|_| ()));
-        let waiting = [wait(), wait()];
-        while journal_of(&pool)
-            .lines()
-            .filter(|line| line.ends_with("wait"))
-            .count()
-            < 2
-        {
-            thread::yield_now();
-        }
+    let came = while_two_wait(&pool, || {
         fill_journal(&pool);
         drop(held);
-        for waiter in waiting {
-            assert_eq!(waiter.join().unwrap(), Err(Error::JournalFull));
-        }
     });
+    assert_eq!(came, [Err(Error::JournalFull), Err(Error::JournalFull)]);
+    assert_legal(&pool);
+}
+
+#[test]
+fn who_is_woken_for_nothing_makes_no_entry() {
+    let (pool, ..) = pool_with(|builder| builder.max_total(1));
+    let held = pool.get().unwrap();
+    assert_eq!(while_two_wait(&pool, || drop(held)), [Ok(0), Ok(0)]);
+    let journal = journal_of(&pool);
+    assert_eq!(
+        journal
+            .lines()
+            .filter(|line| line.ends_with("wait"))
+            .count(),
+        2
+    );
     assert_legal(&pool);
 }
 
