@@ -486,7 +486,9 @@ fn no_more_are_idle_than_may_be() {
     let (pool, maker, _) = pool_with(|builder| builder.max_idle(1));
     let (first, second) = (pool.get().unwrap(), pool.get().unwrap());
     assert_eq!(Pooled::give_back(first), Returned::Parked);
+    maker.calls();
     assert_eq!(Pooled::give_back(second), Returned::Destroyed);
+    assert_eq!(maker.calls(), ["passivate 1", "destroy 1"]);
     assert_eq!(maker.dropped(), [1]);
     assert_legal(&pool);
 }
@@ -599,7 +601,9 @@ fn a_closed_pool_lends_nothing_and_keeps_nothing() {
     assert_eq!(pool.close(), 0);
     assert_eq!(pool.get().unwrap_err(), Error::Closed);
     assert_eq!(pool.try_get().unwrap_err(), Error::Closed);
+    maker.calls();
     assert_eq!(Pooled::give_back(held), Returned::Destroyed);
+    assert_eq!(maker.calls(), ["passivate 0", "destroy 0"]);
     assert_eq!(maker.dropped(), [1, 0]);
     assert_legal(&pool);
 }
