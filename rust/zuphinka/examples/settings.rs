@@ -7,7 +7,7 @@ use std::error::Error;
 use std::{env, fs};
 use zuphinka::{Manager, Pool};
 
-/// Makes nothing worth.
+/// A manager that is never asked for an object.
 struct Nothing;
 
 impl Manager for Nothing {

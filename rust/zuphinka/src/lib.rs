@@ -78,3 +78,8 @@ pub use pool::Pool;
 pub use pooled::Pooled;
 pub use settings::Abandoned;
 pub use step::Counts;
+
+/// The code that the README shows.
+#[cfg(doctest)]
+#[doc = include_str!("../README.md")]
+struct Readme;
