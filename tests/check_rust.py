@@ -4,8 +4,9 @@
     check_rust.py POOL
 
 POOL is the program. The crate's tests are cargo's: those in its files, in tests/ and in its pages. The journal of the example `servers` is
-judged by the program; what the example `settings` writes of a file must be what Python reads there; and the example `pairs`
-must make as many entries as its rounds are. Where no cargo runs, all of it is left out.
+judged by the program; what the example `settings` writes of a file must be what Python reads there; the example `pairs` must make as many
+entries as its rounds are; and the codes, the fields and the functions of `src/sys.rs` must be those of `c/zuphinka.h`. Where no
+cargo runs, all of it is left out.
 
 Prints what fails, and in the end the line 'N passed, M failed'.
 """
@@ -88,6 +89,26 @@ def check_settings(settings):
         yield None if same else f"settings {path}: {done.stdout + done.stderr!r}"
 
 
+def check_binding():
+    """The codes and the longest line, the fields of each struct in their order, and the functions with how many parameters they have."""
+    header, binding = (TOP / "c/zuphinka.h").read_text(), (CRATE / "src/sys.rs").read_text()
+    header = re.sub(r"/\*.*?\*/", "", header, flags=re.DOTALL)
+    codes = {name: int(code) for name, code in re.findall(r"\bZUPHINKA_(\w+)(?: =)? (\d+)\b", header)}
+    for name, code in re.findall(r"^pub const (\w+): \w+ = (\d+);$", binding, flags=re.MULTILINE):
+        yield None if codes.get(name) == int(code) else f"{name} is {code}, in the header {codes.get(name)}"
+    fields = {name: re.findall(r"(\w+);", body) for name, body in re.findall(r"struct zuphinka(\w*) \{(.*?)\};", header, flags=re.DOTALL)}
+    for name, body in re.findall(r"^pub struct (\w+) \{\n(.*?)^\}", binding, flags=re.MULTILINE | re.DOTALL):
+        found = re.findall(r"(\w+): ", body)
+        wanted = fields.get("" if name == "Handle" else f"_{name.lower()}")
+        yield None if found == wanted else f"{name} has {found}, in the header {wanted}"
+    counts = [
+        {name: words.rstrip(" ,\n").count(",") for name, words in re.findall(r"\b(zuphinka_\w+)\((.*?)\)(?: -> u32)?;", text, flags=re.DOTALL)}
+        for text in (header, binding)
+    ]
+    for name, count in counts[1].items():
+        yield None if counts[0].get(name) == count else f"{name} has other parameters than in the header"
+
+
 def check_pairs(pairs):
     """Four entries a round where nobody waits, and two more for each object and one for the close in the end."""
     with tempfile.NamedTemporaryFile("w", suffix=".toml") as file:
@@ -110,7 +131,8 @@ def main(pool):
     environment = os.environ | {"ZUPHINKA_POOL": str(pathlib.Path(pool).resolve())}
     passed, failed = run_tests(environment)
     examples = built_examples(environment)
-    for check in check_servers(examples / "servers", pool), check_settings(examples / "settings"), check_pairs(examples / "pairs"):
+    checks = [check_servers(examples / "servers", pool), check_settings(examples / "settings"), check_pairs(examples / "pairs"), check_binding()]
+    for check in checks:
         for fault in check:
             if fault is None:
                 passed += 1
