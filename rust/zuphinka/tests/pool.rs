@@ -152,6 +152,13 @@ fn steps_of(pool: &Pool<Maker>) -> Vec<String> {
         .collect()
 }
 
+/// The steps that tell of a failure.
+fn failures_of(pool: &Pool<Maker>) -> Vec<String> {
+    let mut steps = steps_of(pool);
+    steps.retain(|step| step.contains("fail"));
+    steps
+}
+
 #[test]
 fn a_journal_is_as_the_readme_shows_it() {
     let (pool, maker, clock) = pool_with(|builder| builder);
@@ -166,6 +173,24 @@ fn a_journal_is_as_the_readme_shows_it() {
     assert_eq!(journal_of(&pool), wanted);
     assert_eq!(maker.calls(), ["make 0", "activate 0", "passivate 0"]);
     assert_legal(&pool);
+}
+
+#[test]
+fn moments_are_milliseconds_since_the_pool_was_opened() {
+    let before = Instant::now();
+    let pool = Pool::new(Maker::default()).unwrap();
+    let opened = Instant::now();
+    thread::sleep(Duration::from_millis(20));
+    let least = opened.elapsed().as_millis();
+    pool.add().unwrap();
+    let most = before.elapsed().as_millis();
+    for line in journal_of(&pool).lines() {
+        let moment: u128 = line.split(' ').nth(1).unwrap().parse().unwrap();
+        assert!(
+            (least..=most).contains(&moment),
+            "{line}: not from {least} to {most}"
+        );
+    }
 }
 
 #[test]
@@ -346,7 +371,9 @@ fn a_waiter_is_woken_by_a_removal() {
     assert_eq!(while_waiting(&pool, get, removed), Ok(1));
     assert_eq!(Pooled::touch(&held).unwrap(), Touched::Gone);
     assert_eq!(held.id, 0);
+    maker.calls();
     assert_eq!(Pooled::give_back(held), Returned::Gone);
+    assert_eq!(maker.calls(), ["destroy 0"]);
     assert_eq!(maker.dropped(), [0]);
     assert_legal(&pool);
 }
@@ -465,6 +492,13 @@ fn an_idle_object_that_fails_makes_way_for_another() {
         "passivate 2",
     ];
     assert_eq!(maker.calls(), wanted);
+    assert_eq!(
+        failures_of(&pool),
+        [
+            "ready 1 activatefail = destroy",
+            "ready 0 testfail = destroy"
+        ]
+    );
     assert_legal(&pool);
 }
 
@@ -478,6 +512,13 @@ fn what_comes_back_broken_is_destroyed() {
     }
     assert_eq!(maker.dropped(), [0, 1]);
     assert_eq!(pool.counts().destroyed, 2);
+    assert_eq!(
+        failures_of(&pool),
+        [
+            "park 0 testfail = destroy",
+            "park 1 passivatefail = destroy"
+        ]
+    );
     assert_legal(&pool);
 }
 
@@ -543,6 +584,12 @@ fn an_eviction_destroys_what_is_idle_for_too_long_or_fails() {
     ];
     assert_eq!(maker.calls(), wanted);
     assert_eq!(pool.counts().evicted, 4);
+    let wanted = [
+        "tested 1 activatefail = destroy",
+        "tested 2 testfail = destroy",
+        "tested 3 passivatefail = destroy",
+    ];
+    assert_eq!(failures_of(&pool), wanted);
     assert_legal(&pool);
 }
 
