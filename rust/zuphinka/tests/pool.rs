@@ -308,6 +308,11 @@ fn a_wait_is_as_long_as_the_settings_say() {
     assert_legal(&pool);
 }
 
+/// Leaves a thread that has made its entry the time to fall asleep.
+fn fall_asleep() {
+    thread::sleep(Duration::from_millis(30));
+}
+
 /// Lets a thread wait in a call, and then does something: what the call came to.
 fn while_waiting<R: Send>(
     pool: &Pool<Maker>,
@@ -319,6 +324,7 @@ fn while_waiting<R: Send>(
         while !journal_of(pool).ends_with("wait\n") {
             thread::yield_now();
         }
+        fall_asleep();
         act();
         waiting.join().unwrap()
     })
@@ -796,6 +802,7 @@ fn while_two_wait(pool: &Pool<Maker>, act: impl FnOnce()) -> [Result<u64, Error<
         while waits(journal_of(pool)) < 2 {
             thread::yield_now();
         }
+        fall_asleep();
         act();
         waiting.map(|waiter| waiter.join().unwrap())
     })
