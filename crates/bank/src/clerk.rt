@@ -1,0 +1,92 @@
+// What a clerk does all day.
+use crate::Bank;
+use crate::books::Order;
+use crate::connections::Connected;
+use crate::fault::Fault;
+use pool_shared::{Caller, Factory, Room};
+use sqlite::Error;
+use std::sync::Wait;
+
+/// How many orders each clerk carries out.
+const ORDERS: u32 = 25;
+
+/// What goes wrong with an order.
+#[derive(Clone, Copy, PartialEq, Eq)]
+enum Mishap {
+    /// The connection breaks before it.
+    BreaksBefore,
+    /// The connection breaks after it, and is given back.
+    BreaksAfter,
+    /// The clerk forgets the connection after it.
+    Forgets,
+}
+
+fn mishap_of(clerk: u32, number: u32) -> Option<Mishap> {
+    match (clerk, number) {
+        (0, 10) => Some(Mishap::BreaksBefore),
+        (1, 20) => Some(Mishap::Forgets),
+        (2, 5) => Some(Mishap::BreaksAfter),
+        _ => None,
+    }
+}
+
+// A deposit of 10 on the account with the clerk's number, of which the clerk's number and 1 go on to the next account.
+fn order_of(clerk: u32) -> Order {
+    let account = i64::from(clerk % 4);
+    Order {
+        account,
+        deposit: 10,
+        other: (account + 1) % 4,
+        transfer: account + 1,
+    }
+}
+
+// Borrows a connection, carries an order out over it, and hands it back. The answer is whether the order was carried out:
+// a connection over which it wasn't is destroyed, and nothing of the order is left.
+fn try_order<L: Connected, F: Factory<L, Error> + Drop, B: Room, R: Wait>(
+    rt: &R,
+    bank: &Bank<L, F, B>,
+    me: &mut Caller<B>,
+    order: Order,
+    mishap: Option<Mishap>,
+) -> Result<bool, Fault> {
+    let mut link = bank.borrow(rt, me).map_err(|_| Fault::NotBorrowed)?;
+    if mishap == Some(Mishap::BreaksBefore) {
+        link.value_mut().break_down();
+    }
+    if link.value_mut().carry_out(order).is_err() {
+        bank.invalidate(rt, me, link)
+            .map_err(|_| Fault::NotTakenBack)?;
+        return Ok(false);
+    }
+    if mishap == Some(Mishap::Forgets) {
+        drop(link);
+        return Ok(true);
+    }
+    if mishap == Some(Mishap::BreaksAfter) {
+        link.value_mut().break_down();
+    }
+    bank.give_back(rt, me, link)
+        .map_err(|_| Fault::NotTakenBack)?;
+    Ok(true)
+}
+
+/// Carries out all orders of a clerk, each over a connection that is borrowed for it. An order whose connection breaks is carried
+/// out over another.
+pub fn work<L: Connected, F: Factory<L, Error> + Drop, B: Room, R: Wait>(
+    rt: &R,
+    bank: &Bank<L, F, B>,
+    me: Caller<B>,
+) -> Result<Caller<B>, Fault> {
+    let mut me = me;
+    let clerk = me.number();
+    let order = order_of(clerk);
+    for number in 0..ORDERS {
+        if !try_order(rt, bank, &mut me, order, mishap_of(clerk, number))?
+            && !try_order(rt, bank, &mut me, order, None)?
+        {
+            return Err(Fault::NotCarriedOut);
+        }
+    }
+    Ok(me)
+}

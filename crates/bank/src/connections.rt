@@ -1,0 +1,106 @@
+// The connections that the pool lends, and how they are opened, tested and closed.
+use crate::books::{BOOKS, Book, Order};
+use pool_shared::Factory;
+use sqlite::{Error, ErrorCode};
+use std::cell::RefCell;
+
+/// What a clerk asks of a connection.
+pub trait Connected: Send + Drop {
+    /// Carries an order out. Where it fails, nothing has changed.
+    fn carry_out(&mut self, order: Order) -> Result<(), Error>;
+
+    /// Breaks the connection, for the example.
+    fn break_down(&mut self);
+}
+
+/// A connection to one of the books. It stands in a cell, since a test has it by a shared reference, and runs a query.
+pub struct Link {
+    book: RefCell<Book>,
+}
+
+impl Drop for Link {
+    fn drop(self) {
+        let Link { book: _ } = self;
+    }
+}
+
+impl Connected for Link {
+    fn carry_out(&mut self, order: Order) -> Result<(), Error> {
+        self.book.get_mut().carry_out(order)
+    }
+
+    fn break_down(&mut self) {
+        self.book.get_mut().break_down();
+    }
+}
+
+impl Link {
+    fn close(self) -> Result<(), Error> {
+        let Link { book } = self;
+        book.into_inner().close()
+    }
+}
+
+/// Opens connections to the books.
+#[derive(Clone, Copy)]
+pub struct Opener {
+    rt: HostRuntime,
+}
+
+impl Opener {
+    pub fn new(rt: &HostRuntime) -> Opener {
+        Opener { rt: *rt }
+    }
+}
+
+impl Factory<Link, Error> for Opener {
+    ghost use Rattle.std.specs.Prelude.{⊤};
+
+    ghost active = { λ link. ⊤ };
+
+    ghost valid = { λ link. ⊤ };
+
+    ghost passive = { λ link. ⊤ };
+
+    ghost from_make = { λ error. ⊤ };
+
+    ghost from_activate = { λ error. ⊤ };
+
+    ghost from_passivate = { λ error. ⊤ };
+
+    /// Opens the first book that isn't open. There is one, since the pool has as many places as there are books.
+    fn make(&self, _id: u64) -> Result<Link, Error> {
+        for path in BOOKS {
+            match Book::open(&self.rt, path) {
+                Ok(book) => {
+                    return Ok(Link {
+                        book: RefCell::new(book),
+                    });
+                }
+                Err(Error::SqliteFailure(ErrorCode::DatabaseBusy)) => {}
+                Err(error) => return Err(error),
+            }
+        }
+        Err(Error::SqliteFailure(ErrorCode::DatabaseBusy))
+    }
+
+    fn activate(&self, _link: &mut Link) -> Result<(), Error> {
+        Ok(())
+    }
+
+    /// Runs a query.
+    fn validate(&self, link: &Link) -> bool {
+        match link.book.try_borrow_mut() {
+            Ok(mut book) => book.balance(0).is_ok(),
+            Err(_) => false,
+        }
+    }
+
+    fn passivate(&self, _link: &mut Link) -> Result<(), Error> {
+        Ok(())
+    }
+
+    fn destroy(&self, link: Link) {
+        let _ = link.close();
+    }
+}

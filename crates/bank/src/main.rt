@@ -1,0 +1,181 @@
+//! An example: four clerks share a pool of connections to SQLite databases.
+//!
+//! Here SQLite keeps a database file for one connection at a time. So the bank has three books, each a file, and the pool
+//! three places; a clerk's order is a transaction in whichever book the borrowed connection is to, and what an account holds is the
+//! sum over the books. In the course of the day one connection breaks in use, one breaks and is given back, and one is forgotten by the
+//! clerk who borrowed it. The first is seen by its holder, the second by the test of the next borrow, and the third by the manager's
+//! maintenance in the evening, which also opens a new one in its place. Then the accounts are added up.
+//!
+//! It leaves the books and `bank.journal` in the folder that it runs in.
+#![tactic(auto)]
+
+ghost use Rattle.std.specs.Prelude.{◌≡◌};
+
+mod books;
+mod clerk;
+mod clock;
+mod connections;
+mod fault;
+
+use books::{BOOKS, Book};
+use clerk::work;
+use clock::OfficeClock;
+use connections::{Connected, Link, Opener};
+use fault::Fault;
+use pool_core::Core;
+use pool_journal::print_entry;
+use pool_settings::Settings;
+use pool_shared::{Factory, Room, SharedPool, Site};
+use sqlite::Error;
+use std::alloc::Global;
+use std::marker::Brand;
+use std::sync::Wait;
+use std::thread::Threads;
+use std::{fs, thread};
+
+/// How the pool is to behave.
+const SETTINGS: &str = "maxTotal = 3
+minIdle = 3
+lifo = false
+maxWaitMillis = 60000
+testOnBorrow = true
+
+[abandoned]
+removeAbandonedOnMaintenance = true
+removeAbandonedTimeoutMillis = 200
+";
+
+/// Where the pool's journal is written, for `pool check`, `pool stats` and `journal_picture`.
+const JOURNAL: &str = "bank.journal";
+
+/// The number that tells this pool from others.
+const NUMBER: u64 = 1;
+
+const CLERKS: u32 = 4;
+
+/// How long the bank is closed before the evening, in milliseconds: longer than a connection may be lent.
+const PAUSE: u64 = 250;
+
+/// The pool of connections. Clerks work over connections of any type, so that the check looks only in `main` at what a connection to
+/// SQLite is made of: whether it may go from thread to thread.
+type Bank<L, F, B> = SharedPool<L, Error, F, OfficeClock, B>;
+
+// A day at the bank, with a caller for each clerk and one for the manager. `B` stands for this one pool: so the check
+// knows that the callers are its own.
+fn day<
+    L: Connected,
+    F: Factory<L, Error> + Send + Drop,
+    B: Room + Send + Sync,
+    R: Threads + Wait + Sync,
+>(
+    rt: &R,
+    alloc: Global,
+    site: Site,
+    settings: Settings,
+    opener: F,
+    clock: OfficeClock,
+) -> Result<Core<L>, Fault>
+    requires { (site ≡ B.table) × (settings ≡ B.settings) × (5 ≡ B.callers) }
+{
+    let (bank, mut callers) = Bank::<L, F, B>::open(
+        rt,
+        alloc,
+        site,
+        settings,
+        NUMBER,
+        CLERKS + 1,
+        opener,
+        clock,
+    ).map_err(|_| Fault::NotOpened)?;
+    let mut manager = callers.pop().ok_or(Fault::CallerMissing)?;
+    bank.maintain(rt, &mut manager)
+        .map_err(|_| Fault::NotMaintained)?;
+
+    let mut back = Vec::new(alloc);
+    for clerk in thread::map_vec(rt, callers, &|me| work(rt, &bank, me))? {
+        back.push(clerk?)?;
+    }
+
+    clock.pass(PAUSE);
+    bank.maintain(rt, &mut manager)
+        .map_err(|_| Fault::NotMaintained)?;
+    bank.close(rt, &mut manager).map_err(|_| Fault::NotClosed)?;
+    back.push(manager)?;
+    bank.finish(rt, back).map_err(|_| Fault::CallerMissing)
+}
+
+// New books, with the accounts in each.
+fn found(rt: &HostRuntime) -> Result<(), Fault> {
+    for path in BOOKS {
+        let log = format!(in rt.alloc(); "{path}-wal")?;
+        let _ = fs::remove_file(rt, path);
+        let _ = fs::remove_file(rt, log.as_str());
+        let mut book = Book::open(rt, path)?;
+        book.found()?;
+        book.close()?;
+    }
+    Ok(())
+}
+
+// All books, opened.
+fn open_all(rt: &HostRuntime) -> Result<Vec<Book>, Fault> {
+    let mut all = Vec::new(rt.alloc());
+    for path in BOOKS {
+        all.push(Book::open(rt, path)?)?;
+    }
+    Ok(all)
+}
+
+// What an account holds by all books.
+fn balance(all: &mut [Book], account: i64) -> Result<i64, Error> {
+    let mut sum = 0i64;
+    for book in all {
+        sum = sum.saturating_add(book.balance(account)?);
+    }
+    Ok(sum)
+}
+
+// What the accounts hold in the end.
+fn tell_accounts(rt: &HostRuntime) -> Result<(), Fault> {
+    let mut all = open_all(rt)?;
+    let mut total = 0i64;
+    for account in 0..i64::from(CLERKS) {
+        let balance = balance(all.as_mut_slice(), account)?;
+        total = total.saturating_add(balance);
+        println!(rt; "account {account}: {balance}")?;
+    }
+    println!(rt; "all accounts: {total}")?;
+    Ok(())
+}
+
+// What the pool did, by its counts.
+fn tell_pool(rt: &HostRuntime, core: &Core<Link>) -> Result<(), Fault> {
+    let counts = core.counts();
+    let still_open = counts.idle + counts.lent + counts.reserved;
+    println!(rt; "connections opened: {}", counts.created)?;
+    println!(rt; "connections forgotten: {}", counts.reclaimed)?;
+    println!(rt; "connections still open: {still_open}")?;
+    Ok(())
+}
+
+// Writes the pool's journal.
+fn write_journal(rt: &HostRuntime, core: &Core<Link>) -> Result<(), Fault> {
+    let mut text = Vec::new(rt.alloc());
+    for entry in core.journal() {
+        print_entry(entry, &mut text)?;
+    }
+    fs::write(rt, JOURNAL, &text)?;
+    Ok(())
+}
+
+fn main(rt: HostRuntime) -> Result<(), Fault> {
+    let settings = Settings::from_text(rt.alloc(), SETTINGS).map_err(|_| Fault::Settings)?;
+    found(&rt)?;
+    let site = Site::new(rt.alloc())?;
+    let opener = Opener::new(&rt);
+    let clock = OfficeClock::start(&rt)?;
+    let core = day::<Link, Opener, Brand, _>(&rt, rt.alloc(), site, settings, opener, clock)?;
+    tell_accounts(&rt)?;
+    tell_pool(&rt, &core)?;
+    write_journal(&rt, &core)
+}
