@@ -1,5 +1,5 @@
 -- Each present object is idle, lent or reserved.
-use Rattle.std.proofs.Common.{◌≡◌, ℕ, ◌+◌, Bool, true, if◌then◌else◌, List, [], ◌∷◌, length, refl, ap, sym, subst, ◌∙◌, arith}
+use Rattle.std.proofs.Common.{◌≡◌, ℕ, ◌+◌, Bool, true, if◌then◌else◌, List, [], ◌∷◌, length, refl, ◌∙◌, arith}
 use Rattle.std.specs.Prelude.{count_by}
 use Rattle.std.specs.List.{AllByRecursion}
 use Rattle.std.proofs.lemmas.Bool.{false≢true}
@@ -10,16 +10,13 @@ use Rattle.pool_journal.specs.Queue.{is_queued}
 use Rattle.pool_journal.specs.declared.record.Record.{Record}
 use Rattle.pool_journal.specs.declared.record.Phase.{Phase}
 use Rattle.pool_journal.specs.declared.record.Phase.TheVariants as phases
-use Rattle.pool_journal.specs.declared.entry.Entry.{Entry}
-use Rattle.pool_journal.specs.Base.{records_from, reach}
-use Rattle.pool_journal.specs.Segments.{ReachesFrom}
-use Rattle.pool_journal.specs.declared.base.Base.{Base}
-use Rattle.pool_journal.proofs.BaseFound.{each_present_from}
 use Rattle.pool_places.specs.declared.place.Place.{Place}
 use Rattle.pool_places.specs.Shelf.{records_in}
 use Rattle.pool_stats.specs.Counts.{is_lent, is_reserved}
 use Rattle.pool_stats.specs.declared.counts.Counts.{Counts}
-use Rattle.pool_core.specs.LawsFrom.{counts_from}
+use Rattle.pool_core.specs.LawsFrom.{counts_at}
+use Rattle.pool_core.specs.Stepper.{base_in}
+use Rattle.pool_core.specs.declared.state.State.{State}
 
 -- one, where the test holds
 abbrev pub one_if : Bool → ℕ
@@ -43,30 +40,24 @@ counted (r ∷ rs) all =
     omega (arith, is_one r.phase all.0, counted rs all.1, queued, lent, reserved)
 
 -- the objects of a pool are idle, lent or reserved
-pub whole : {T : Type 0} (b : Base) (J : List Entry) (ps : List (Place T)) (next : ℕ) → ReachesFrom b J (records_in ps) next
+pub counted_places : {T : Type 0} (ps : List (Place T)) → AllByRecursion (λ r. is_present r.phase ≡ true) (records_in ps)
     → count_by (λ r. is_queued r.phase) (records_in ps) + count_by (λ r. is_lent r.phase) (records_in ps) + count_by (λ r. is_reserved r.phase) (records_in ps) ≡ length ps
-whole b J ps next reaches = counted (records_in ps) (subst (AllByRecursion (λ r. is_present r.phase ≡ true)) (sym reaches.shown) (each_present_from b J)) ∙ length-map ps (λ p. p.known)
+counted_places ps here = counted (records_in ps) here ∙ length-map ps (λ p. p.known)
 
--- what is counted of the objects and of the entries are the counts of the base and the journal
-pub counts_are : {T : Type 0} (b : Base) (J : List Entry) (ps : List (Place T)) (next steps queued lent reserved destroyed evicted reclaimed : ℕ)
-    → ReachesFrom b J (records_in ps) next → steps ≡ b.first + length J
-    → queued ≡ count_by (λ r. is_queued r.phase) (records_in ps) → lent ≡ count_by (λ r. is_lent r.phase) (records_in ps) → queued + lent + reserved ≡ length ps
-    → destroyed ≡ (reach b J).destroyed → evicted ≡ (reach b J).evicted → reclaimed ≡ (reach b J).reclaimed
-    → ◌≡◌ {A = Counts} (record { steps = steps; idle = queued; lent = lent; reserved = reserved; created = next; destroyed = destroyed; evicted = evicted; reclaimed = reclaimed }) (counts_from b J)
-counts_are b J ps next steps queued lent reserved destroyed evicted reclaimed reaches steps_is queued_is lent_is sum destroyed_is evicted_is reclaimed_is = λ t.
+-- what is counted of the objects of a state and of what ended
+pub counts_in : {T : Type 0} (s : State T) (steps queued lent reserved : ℕ)
+    → queued ≡ count_by (λ r. is_queued r.phase) (records_in s.places.kept) → lent ≡ count_by (λ r. is_lent r.phase) (records_in s.places.kept)
+    → reserved ≡ count_by (λ r. is_reserved r.phase) (records_in s.places.kept)
+    → ◌≡◌ {A = Counts} (record { steps = steps; idle = queued; lent = lent; reserved = reserved; created = s.next; destroyed = s.ended.destroyed; evicted = s.ended.evicted; reclaimed = s.ended.reclaimed })
+    (counts_at (base_in s steps))
+counts_in s steps queued lent reserved queued_is lent_is reserved_is = λ t.
     record {
-      steps = steps_is t;
-      idle = (queued_is ∙ counted_in is_queued) t;
-      lent = (lent_is ∙ counted_in is_lent) t;
-      reserved = (reserved_here ∙ counted_in is_reserved) t;
-      created = reaches.next_is t;
-      destroyed = destroyed_is t;
-      evicted = evicted_is t;
-      reclaimed = reclaimed_is t;
+      steps = steps;
+      idle = queued_is t;
+      lent = lent_is t;
+      reserved = reserved_is t;
+      created = s.next;
+      destroyed = s.ended.destroyed;
+      evicted = s.ended.evicted;
+      reclaimed = s.ended.reclaimed;
     }
-  where
-    counted_in : (test : Phase → Bool) → count_by (λ r. test r.phase) (records_in ps) ≡ count_by (λ r. test r.phase) (records_from b J)
-    counted_in test = ap (count_by (λ (r : Record). test r.phase)) reaches.shown
-
-    reserved_here : reserved ≡ count_by (λ r. is_reserved r.phase) (records_in ps)
-    reserved_here = omega (arith, sum, whole b J ps next reaches, queued_is, lent_is)

@@ -1,24 +1,21 @@
-ghost use Rattle.std.specs.Prelude.{◌≡◌, ◌<◌, ◌+◌, ◌^◌, length};
-ghost use Rattle.pool_core.specs.LawsFrom.{counts_from};
-ghost use Rattle.pool_core.specs.Pool.{ended_at};
-ghost use Rattle.pool_journal.specs.Base.{reach};
-ghost use Rattle.pool_journal.specs.Segments.{ReachesFrom};
+ghost use Rattle.std.specs.Prelude.{◌≡◌, true};
+ghost use Rattle.std.specs.List.{AllByRecursion};
+ghost use Rattle.pool_core.specs.LawsFrom.{counts_at};
+ghost use Rattle.pool_core.specs.Stepper.{base_in};
+ghost use Rattle.pool_journal.specs.Journal.{is_present};
 ghost use Rattle.pool_places.specs.Shelf.{records_in};
 
 use crate::state::State;
-use pool_journal::{Base, Entry};
 use pool_stats::Counts;
 
-/// What the base and the entries behind it tell of, counted from what the pool keeps.
-pub(crate) fn counts_behind<T>(state: &State<T>, base: &Base, entries: &[Entry]) -> Counts
-    requires reaches { ReachesFrom base.now entries.now (records_in state.now.places.kept) state.now.next }
-    requires ended { state.now.ended ≡ ended_at (reach base.now entries.now) }
-    requires few { base.now.first + length entries.now < 2 ^ 63 }
-    ensures { result ≡ counts_from base.now entries.now }
+/// What so many entries tell of, counted from what the pool keeps.
+pub(crate) fn counts_behind<T>(state: &State<T>, steps: u64) -> Counts
+    requires here { AllByRecursion (λ r. is_present r.phase ≡ true) (records_in state.now.places.kept) }
+    ensures { result ≡ counts_at (base_in state.now steps) }
 {
     let places = state.places.counts();
     Counts {
-        steps: base.first + entries.len() as u64,
+        steps,
         idle: places.queue,
         lent: places.lent,
         reserved: places.present - places.queue - places.lent,
