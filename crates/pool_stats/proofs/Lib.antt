@@ -1,3 +1,4 @@
 pub mod Endings
 pub mod Talliers
 pub mod Times
+pub mod Runs

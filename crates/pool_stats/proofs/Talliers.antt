@@ -1,6 +1,5 @@
 -- What one more entry is counted as.
-use Rattle.std.proofs.Common.{◌≡◌, ℕ, ◌+◌, ◌<◌, ◌^◌, List, [], ◌∷◌, ◌++◌, length, take, get_or, refl, ap, ◌∙◌, arith}
-use Rattle.std.proofs.lemmas.List.{take_more, length-take-le}
+use Rattle.std.proofs.Common.{◌≡◌, ◌+◌, ◌<◌, ◌^◌, List, [], ◌∷◌, ◌++◌, length, refl, arith}
 use Rattle.std.proofs.lemmas.List.Sums.{count_by-le-length}
 use Rattle.pool_journal.specs.Journal.{is_lent_answer}
 use Rattle.pool_journal.specs.declared.entry.Entry.{Entry}
@@ -10,7 +9,7 @@ use Rattle.pool_stats.specs.Answers.{is_check, is_failing}
 use Rattle.pool_stats.specs.Tallied.{tally_of, tally_after, MayTally}
 use Rattle.pool_stats.proofs.Endings.{count_push, ended_of-push, ended_of-small}
 
-tally_of-push : (J : List Entry) (e : Entry) → tally_of (J ++ e ∷ []) ≡ tally_after e.answer e.input (tally_of J)
+pub tally_of-push : (J : List Entry) (e : Entry) → tally_of (J ++ e ∷ []) ≡ tally_after e.answer e.input (tally_of J)
 tally_of-push J e =
     rw (
       count_push (λ x. is_lent_answer x.answer) J e,
@@ -20,7 +19,7 @@ tally_of-push J e =
       ended_of-push J e,
     ) refl
 
-tally_of-small : (J : List Entry) → length J + 1 < 2 ^ 64 → MayTally (tally_of J)
+pub tally_of-small : (J : List Entry) → length J + 1 < 2 ^ 64 → MayTally (tally_of J)
 tally_of-small J few =
     record {
       borrowed = omega (arith, count_by-le-length (λ x. is_lent_answer x.answer) J);
@@ -29,10 +28,3 @@ tally_of-small J few =
       borrow_test_failed = omega (arith, count_by-le-length (λ x. is_failing x.answer x.input) J);
       ended = ended_of-small J few;
     }
-
-pub tally_more : (J : List Entry) (k : ℕ) (d : Entry) → k < length J
-    → tally_of (take (k + 1) J) ≡ tally_after (get_or J k d).answer (get_or J k d).input (tally_of (take k J))
-tally_more J k d lt = ap tally_of (take_more J k d lt) ∙ tally_of-push (take k J) (get_or J k d)
-
-pub may_tally : (J : List Entry) (k : ℕ) → k < length J → length J < 2 ^ 64 → MayTally (tally_of (take k J))
-may_tally J k lt few = tally_of-small (take k J) (omega (arith, length-take-le k J))

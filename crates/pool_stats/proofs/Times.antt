@@ -1,10 +1,10 @@
 -- What one more entry does to the lendings.
-use Rattle.std.proofs.Common.{◌≡◌, ℕ, ◌+◌, ◌-◌, ◌^◌, ◌<◌, if◌then◌else◌, Option, Some, None, List, [], ◌∷◌, ◌++◌, length, get_or}
+use Rattle.std.proofs.Common.{◌≡◌, ℕ, ◌+◌, ◌-◌, ◌^◌, if◌then◌else◌, Option, Some, None, List, [], ◌∷◌, ◌++◌, length}
 use Rattle.std.proofs.Common.{take, refl, ap, sym, ◌∙◌, arith, append-nil}
 use Rattle.std.specs.Prelude.{unwrap_or, filter_map, max, min}
 use Rattle.std.specs.List.{enumerate_from, AllByRecursion, cons_option}
 use Rattle.std.specs.Option.{option_map}
-use Rattle.std.proofs.lemmas.List.{take_more, take_at, take-append-le}
+use Rattle.std.proofs.lemmas.List.{take_at, take-append-le}
 use Rattle.std.proofs.lemmas.List.Elements.{filter_map-append}
 use Rattle.std.proofs.lemmas.List.Sums.{fold_push, sum_by-append}
 use Rattle.pool_journal.proofs.Latest.{latest_push_if, enumerate_from_push, numbers_below}
@@ -12,6 +12,7 @@ use Rattle.pool_journal.specs.Latest.{latest}
 use Rattle.pool_journal.specs.Journal.{is_of}
 use Rattle.pool_journal.specs.declared.entry.Entry.{Entry}
 use Rattle.pool_stats.specs.Lendings.{begun_by, ended_by, begun, time_since, time_ended, times}
+use Rattle.pool_stats.specs.Running.{Walked}
 use Rattle.pool_stats.specs.Statistics.{greatest, bounded_sum}
 
 begun_none : (i : ℕ) → begun i [] ≡ None
@@ -22,11 +23,6 @@ begun-push : (i : ℕ) (J : List Entry) (e : Entry) → begun i (J ++ e ∷ []) 
     (if is_of i (begun_by e.answer e.input) then Some e.at else begun i J)
 unfolding begun
 begun-push i J e = latest_push_if _ _ None J e
-
-begun_more : (J : List Entry) (k : ℕ) (d : Entry) → k < length J → (i : ℕ)
-    → begun i (take (k + 1) J) ≡ (if is_of i (begun_by (get_or J k d).answer (get_or J k d).input) then Some (get_or J k d).at else
-    begun i (take k J))
-begun_more J k d lt i = ap (begun i) (take_more J k d lt) ∙ begun-push i (take k J) (get_or J k d)
 
 -- two functions that agree on each element give the same
 filter_map_agree : {X Y : Type 0} (f g : X → Option Y) (xs : List X) → AllByRecursion (λ x. f x ≡ g x) xs
@@ -52,10 +48,6 @@ times-push J e =
     (omega arith)
     (λ k x below. ap (λ (K : List Entry). time_ended K x) (take-append-le k J (e ∷ []) (omega arith)))))
 
-times_more : (J : List Entry) (k : ℕ) (d : Entry) → k < length J → times (take (k + 1) J) ≡ times (take k J) ++ cons_option
-    (time_ended (take k J) (get_or J k d)) []
-times_more J k d lt = ap times (take_more J k d lt) ∙ times-push (take k J) (get_or J k d)
-
 -- one more number, if there is one
 greatest-push : (ns : List ℕ) (o : Option ℕ) → greatest (ns ++ cons_option o []) ≡ max (greatest ns) (unwrap_or o 0)
 greatest-push ns None = ap greatest (append-nil ns) ∙ omega arith
@@ -65,12 +57,6 @@ bounded_sum-push : (ns : List ℕ) (o : Option ℕ) → bounded_sum (ns ++ cons_
     (2 ^ 64 - 1)
 bounded_sum-push ns None = ap bounded_sum (append-nil ns) ∙ omega arith
 bounded_sum-push ns (Some n) = omega (arith, sum_by-append (λ (x : ℕ). x) ns (n ∷ []))
-
--- what a walk over the entries keeps, from the moments that it has noted
-pub record Walked (J : List Entry) (moments : ℕ → Option ℕ) (longest total : ℕ) : Type 0 where
-  pub begun_is : (i : ℕ) → moments i ≡ begun i J
-  pub longest_is : longest ≡ greatest (times J)
-  pub total_is : total ≡ bounded_sum (times J)
 
 pub walked_none : (moments : ℕ → Option ℕ) → ((i : ℕ) → moments i ≡ None) → Walked [] moments 0 0
 walked_none moments none =
@@ -86,27 +72,22 @@ same_time : (moments : ℕ → Option ℕ) (K : List Entry) (at : ℕ) (o : Opti
 same_time moments K at None same = refl
 same_time moments K at (Some i) same = ap (λ (m : Option ℕ). time_since m at) (same i)
 
-pub walked_more : (J : List Entry) (k : ℕ) (d : Entry) (moments noted : ℕ → Option ℕ) (longest total time longer more : ℕ)
-    → k < length J → Walked (take k J) moments longest total
-    → time ≡ unwrap_or (option_map (λ i. time_since (moments i) (get_or J k d).at)
-    (ended_by (get_or J k d).answer (get_or J k d).input)) 0
+pub walked_push : (J : List Entry) (e : Entry) (moments noted : ℕ → Option ℕ) (longest total time longer more : ℕ) → Walked J moments longest total
+    → time ≡ unwrap_or (option_map (λ i. time_since (moments i) e.at) (ended_by e.answer e.input)) 0
     → longer ≡ max longest time → more ≡ min (total + time) (2 ^ 64 - 1)
-    → ((i : ℕ) → noted i ≡ (if is_of i (begun_by (get_or J k d).answer (get_or J k d).input) then Some (get_or J k d).at else
-    moments i))
-    → Walked (take (k + 1) J) noted longer more
-walked_more J k d moments noted longest total time longer more lt so_far time_is longer_is more_is noted_is =
-    let e = get_or J k d in
-    let K = take k J in
-    let same : time ≡ unwrap_or (time_ended K e) 0 = time_is ∙ same_time moments K e.at (ended_by e.answer e.input) so_far.begun_is
+    → ((i : ℕ) → noted i ≡ (if is_of i (begun_by e.answer e.input) then Some e.at else moments i))
+    → Walked (J ++ e ∷ []) noted longer more
+walked_push J e moments noted longest total time longer more so_far time_is longer_is more_is noted_is =
+    let same : time ≡ unwrap_or (time_ended J e) 0 = time_is ∙ same_time moments J e.at (ended_by e.answer e.input) so_far.begun_is
     in
     record {
       begun_is = λ i. noted_is i ∙ ap (λ (m : Option ℕ). if is_of i (begun_by e.answer e.input) then Some e.at else m)
-          (so_far.begun_is i) ∙ sym (begun_more J k d lt i);
+          (so_far.begun_is i) ∙ sym (begun-push i J e);
       longest_is =
-          longer_is ∙ ap (λ (n : ℕ). max n time) so_far.longest_is ∙ ap (max (greatest (times K))) same
-          ∙ sym (greatest-push (times K) (time_ended K e)) ∙ ap greatest (sym (times_more J k d lt));
+          longer_is ∙ ap (λ (n : ℕ). max n time) so_far.longest_is ∙ ap (max (greatest (times J))) same
+          ∙ sym (greatest-push (times J) (time_ended J e)) ∙ ap greatest (sym (times-push J e));
       total_is =
           more_is ∙ ap (λ (n : ℕ). min (n + time) (2 ^ 64 - 1)) so_far.total_is
-          ∙ ap (λ (n : ℕ). min (bounded_sum (times K) + n) (2 ^ 64 - 1)) same
-          ∙ sym (bounded_sum-push (times K) (time_ended K e)) ∙ ap bounded_sum (sym (times_more J k d lt));
+          ∙ ap (λ (n : ℕ). min (bounded_sum (times J) + n) (2 ^ 64 - 1)) same
+          ∙ sym (bounded_sum-push (times J) (time_ended J e)) ∙ ap bounded_sum (sym (times-push J e));
     }

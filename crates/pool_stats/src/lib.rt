@@ -5,11 +5,13 @@ mod counting;
 mod counts;
 mod ended;
 mod lendings;
+mod running_tally;
 mod statistics;
 mod tally;
 
 pub use counts::Counts;
 pub use ended::Ended;
+pub use running_tally::RunningTally;
 pub use statistics::Statistics;
 
 #[cfg(test)]
