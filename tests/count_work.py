@@ -31,10 +31,6 @@ LINE = 256
 # The longest settings file with one byte more, for which there is room while it is read.
 SETTINGS = 1_048_577
 
-# An entry: the caller and the moment, an input (its kind, a number, an outcome) and an answer (its kind, a number), in words of
-# 8 bytes.
-ENTRY = 7 * 8
-
 # An object: the seven numbers and marks of its record, its value with the mark whether there is one, and its two links in the
 # queue, whose marks share a word; and its place in the index: its id, its key, and a mark.
 OBJECT = (7 + 2 + 3) * 8 + 3 * 8
@@ -44,9 +40,6 @@ FIRST = 4
 
 # A list of bytes has room for so many at first.
 BYTES = 8
-
-# What an idle object still needs of the journal: it is taken away, and its place is freed.
-OWED = 2
 
 # How many objects stand at least in a node of the map of those in the queue, and at most.
 NODE = 7, 15
@@ -69,32 +62,30 @@ def room(count, first=FIRST):
 
 @dataclasses.dataclass
 class Script:
-    """A script with its journal, of so many entries; in the end so many objects are idle."""
+    """A script with its journal; in the end so many objects are idle, and so many were lent."""
 
     name: str
     entries: list
     idle: int = 0
+    lent: int = 0
 
     def needs(self, command):
         """The allocations of a command on it, and the most bytes that are held."""
-        count = len(self.entries)
         words = {"run": 4, "check": 4, "stats": 3}[command]
         # Each word and the look for one more, the list of the words, and once more.
         allocations = words + 3
         if command == "stats":
-            held, growths = room(count)
-            return allocations + 2 + 1 + growths, ENTRY * held + 2 * BUFFER
-        # The settings' bytes, the document and its three keys; two buffers; the lists of entries, of objects and of their ids. In
-        # that of the entries there is room for what is owed too.
-        held, growths = room(max(FIRST, count + OWED * self.idle + 1))
+            # Two buffers, and a node of the map of the moments at which objects were lent.
+            return allocations + 2 + min(self.lent, 1), 2 * BUFFER
+        # The settings' bytes, the document and its three keys; two buffers; the lists of objects and of their ids. No entry is held.
         objects, more = room(self.idle)
-        allocations += 1 + 5 + 2 + (1 + growths) + 2 * (1 + more)
-        return allocations, max(ENTRY * held + OBJECT * objects + 2 * BUFFER, SETTINGS)
+        allocations += 1 + 5 + 2 + 2 * (1 + more)
+        return allocations, max(OBJECT * objects + 2 * BUFFER, SETTINGS)
 
 
 def scripts():
     life = ["0 10 borrow 10 = make 0", "0 11 ready 0 good = lent", "0 15 return 0 = check", "0 16 park 0 good = parked"]
-    yield Script("a short life", life, 1)
+    yield Script("a short life", life, 1, 1)
     yield Script("1,200,000 uses", [f"7 {i} use {i} = refused notlent" for i in range(1_200_000)])
     objects = [line for i in range(100_000) for line in (f"0 0 add = make {i}", f"0 1 added {i} good = parked")]
     yield Script("100,000 objects", objects, 100_000)

@@ -27,7 +27,7 @@ IsOwnFault Write = ⊥
 -- a line that is taken leaves fewer to be taken
 abbrev pub TakesOne : {E : Type 0} → (E → ℕ) → Result Turn EngineFault → E → E → Type 0
 TakesOne lines_left (Ok (Took count)) old new = lines_left new < lines_left old
-TakesOne lines_left (Ok Unfinished) old new = ⊤
+TakesOne lines_left (Ok Unfinished) old new = lines_left new ≡ lines_left old
 TakesOne lines_left (Ok Done) old new = ⊤
 TakesOne lines_left (Err fault) old new = ⊤
 
@@ -62,3 +62,11 @@ module _ {E F : Type 0} (settings : E → F) (taken told : E → List ℕ) (stan
     pub leaves : IsLeftAfter known left (taken engine)
     pub ended : ends engine rest result
     pub gave : Gives result engine held written waiting
+
+-- An engine of the type A is one of the type E with what it took, of the type P. There is something that it took, with which this is so
+abbrev pub HasPast : {A P E : Type 0} → (A → P → E) → (A → P → Type 0) → A → (E → Type 0) → Type 0
+HasPast {P} with_past keeps engine Is = (past : P) × keeps engine past × Is (with_past engine past)
+
+-- behind whatever it had taken and stood, it has taken what has to do with that
+abbrev pub Moves : {A P E : Type 0} → (A → P → E) → (A → P → Type 0) → (E → Type 0) → (E → E → Type 0) → A → A → Type 0
+Moves {P} with_past keeps stands Did old new = (past : P) → keeps old past → stands (with_past old past) → HasPast with_past keeps new (Did (with_past old past))

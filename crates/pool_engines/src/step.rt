@@ -1,20 +1,20 @@
-ghost use Rattle.std.specs.Prelude.{◌≡◌, ◌+◌, [], ◌∷◌, ◌++◌, ◌≤◌, length, is_some, IfOk, IfErr, OnOk, OnErr, MatchResult};
+ghost use Rattle.std.specs.Prelude.{◌≡◌, ◌+◌, is_some, IfErr, OnErr, MatchResult};
 ghost use Rattle.pool_journal.specs.Text.{IsRequest};
 ghost use Rattle.pool_journal.specs.Carrying.{carries};
 ghost use Rattle.pool_engines.specs.Made.{IsMadeFrom};
-ghost use Rattle.pool_engines.specs.Step.{Steps, Refuses};
+ghost use Rattle.pool_engines.specs.Step.{Answers, Refuses};
 ghost use Rattle.pool_engines.specs.Engine.{IsOwnFault};
-ghost use Rattle.pool_core.specs.Fits.{limit_from};
+ghost use Rattle.pool_core.specs.Stepper.{ForEach, pool_of};
 
 use crate::engine_fault::EngineFault;
-use pool_core::{Core, StepFault};
+use pool_core::{StepFault, Stepper};
 use pool_journal::{Entry, Input, Outcome, Request};
 
 /// The number of the line whose entry comes next.
-pub(crate) fn line_number(core: &Core<u64>) -> u64
-    ensures { result ≡ length core.now.journal + 1 }
+pub(crate) fn line_number(stepper: &Stepper<u64>) -> u64
+    ensures { result ≡ stepper.now.taken + 1 }
 {
-    core.journal().len() as u64 + 1
+    stepper.taken() + 1
 }
 
 /// The value that an input brings back: that of each object is its id.
@@ -33,29 +33,22 @@ fn value_of(input: &Input) -> Option<u64>
 }
 
 /// Takes the step that a request asks for, which stands in the line of this number, and answers its entry. On an
-/// error the core is as it was.
+/// error the pool is as it was.
 pub(crate) fn step(
-    core: &mut Core<u64>,
+    stepper: &mut Stepper<u64>,
     number: u64,
     request: &Request,
 ) -> Result<Entry, EngineFault>
-    requires made { IsMadeFrom core.old.settings core.old.base core.old.journal }
     requires asked { IsRequest request.now }
-    ensures stepped { MatchResult result
-        (Steps core.old core.new request.now)
-        (Refuses core.old number request.now) }
-    ensures err { OnErr result (core.new ≡ core.old) }
-    ensures within { OnOk result (length core.new.journal ≤ limit_from core.new.settings core.new.base) }
+    ensures stepped { ForEach stepper.old (λ b J. IsMadeFrom stepper.old.settings b J → MatchResult result
+        (Answers request.now b J stepper.old stepper.new)
+        (Refuses (pool_of stepper.old b J) number request.now)) }
+    ensures err { OnErr result (stepper.new ≡ stepper.old) }
     ensures own { IfErr result IsOwnFault }
 {
     let Request { caller, at, input } = *request;
-    match core.step(caller, at, input, value_of(&input)) {
-        Ok((answer, _)) => Ok(Entry {
-            caller,
-            at,
-            input,
-            answer,
-        }),
+    match stepper.step(caller, at, input, value_of(&input)) {
+        Ok((entry, _)) => Ok(entry),
         Err(StepFault::JournalFull(_)) => Err(EngineFault::Full(number)),
         Err(StepFault::OutOfMemory(_)) => Err(EngineFault::OutOfMemory),
     }

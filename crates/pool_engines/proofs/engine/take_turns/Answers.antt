@@ -1,7 +1,7 @@
-use Rattle.std.proofs.Common.{Ok, Err, length, ap, sym, ◌∙◌, arith}
+use Rattle.std.proofs.Common.{Ok, Err, length, refl, ap, sym, ◌∙◌, arith}
 use Rattle.std.proofs.lemmas.Bool.{false≢true}
 use Rattle.std.proofs.lemmas.Result.{err_from_is_err_and}
-use Rattle.pool_engines.proofs.Going.{Passes-ended, Passes-stopped, Passes-failed, Passes-finished, Going-took, Going-sent, Going-emptied, Going-filled, Going-kept, Going-same}
+use Rattle.pool_engines.proofs.Going.{Going-begun, Passes-ended, Passes-stopped, Passes-failed, Passes-finished, Going-took, Going-sent, Going-emptied, Going-filled, Going-kept, Going-same}
 use Rattle.pool_engines.proofs.Telling.{own_reads, own_writes, untold}
 use Rattle.pool_engines.specs.declared.engine_fault.EngineFault.TheVariants as faults
 use Rattle.pool_engines.proofs.engine.take_turns.Goals as goal
@@ -9,64 +9,73 @@ use Rattle.pool_engines.proofs.engine.take_turns.Goals as goal
 pub returns-in_err-count-clause-passed : goal.returns-in_err-count-clause-passed
 returns-in_err-count-clause-passed g c =
     let e = g.E.Engine in
-    let h = c.in_err-count.ensures.turned in
+    let i = c.loop-count.invariant in
+    let (past, keeps, h) = c.in_err-count.ensures.turned i.past i.keeps i.going.standing in
     let p = err_from_is_err_and c.from_residual.result c.from_residual.ensures.1 in
-    rw (p.1, p.2) (Passes-ended e.settings e.taken e.told e.stands e.is_partial e.ends c.args.engine.now _ _ _ c.loop-count.engine c.turn.new.self _ _ c.loop-count.incoming _ _ c.bytes.result.now c.loop-count.invariant.going c.bytes.ensures h.0 h.1 h.2)
+    rw (p.1, p.2) (past, keeps, Passes-ended e.settings e.taken e.told e.stands e.is_partial e.ends (e.with_past c.args.engine.now e.none) _ _ _ (e.with_past c.loop-count.engine i.past) (e.with_past c.turn.new.self past) _ _ c.loop-count.incoming _ _ c.bytes.result.now i.going c.bytes.ensures h.0 h.1 h.2)
 
 pub returns-in-Done-clause-passed : goal.returns-in-Done-clause-passed
 returns-in-Done-clause-passed g c =
     let e = g.E.Engine in
-    let h = rw c.in-Done.is at c.in_ok-count.ensures.turned in
-    Passes-ended e.settings e.taken e.told e.stands e.is_partial e.ends c.args.engine.now _ _ _ c.loop-count.engine c.turn.new.self _ _ c.loop-count.incoming _ _ c.bytes.result.now c.loop-count.invariant.going c.bytes.ensures h.0 h.1 h.2
+    let i = c.loop-count.invariant in
+    let (past, keeps, h) = (rw c.in-Done.is at c.in_ok-count.ensures.turned) i.past i.keeps i.going.standing in
+    (past, keeps, Passes-ended e.settings e.taken e.told e.stands e.is_partial e.ends (e.with_past c.args.engine.now e.none) _ _ _ (e.with_past c.loop-count.engine i.past) (e.with_past c.turn.new.self past) _ _ c.loop-count.incoming _ _ c.bytes.result.now i.going c.bytes.ensures h.0 h.1 h.2)
 
 pub returns-in_err-make_room-in-Took-clause-passed : goal.returns-in_err-make_room-in-Took-clause-passed
 returns-in_err-make_room-in-Took-clause-passed g c =
     let e = g.E.Engine in
-    let h = rw c.in-Took.is at c.in_ok-count.ensures.turned in
+    let i = c.loop-count.invariant in
+    let (past, keeps, h) = (rw c.in-Took.is at c.in_ok-count.ensures.turned) i.past i.keeps i.going.standing in
     let p = err_from_is_err_and c.from_residual-in_err-make_room-in-Took.result c.from_residual-in_err-make_room-in-Took.ensures.1 in
-    let going = Going-took e.settings e.taken e.told e.stands e.is_partial e.ends c.args.engine.now _ _ c.loop-count.engine c.turn.new.self _ _ c.loop-count.incoming _ _ c.bytes.result.now c.in-Took.count c.loop-count.invariant.going c.bytes.ensures h.0 h.2 h.3 in
-    rw (p.1, p.2, c.in_err-make_room-in-Took.ensures.fault) (Passes-failed e.settings e.taken e.told e.stands e.is_partial e.ends c.args.engine.now _ _ c.turn.new.self _ _ _ _ _ _ going c.in_err-make_room-in-Took.ensures.err (λ rest. g.met.E.Engine.stops_anywhere c.turn.new.self rest faults.Write h.0 tt))
+    let going = Going-took e.settings e.taken e.told e.stands e.is_partial e.ends (e.with_past c.args.engine.now e.none) _ _ (e.with_past c.loop-count.engine i.past) (e.with_past c.turn.new.self past) _ _ c.loop-count.incoming _ _ c.bytes.result.now c.in-Took.count i.going c.bytes.ensures h.0 h.2 h.3 in
+    rw (p.1, p.2, c.in_err-make_room-in-Took.ensures.fault) (past, keeps, Passes-failed e.settings e.taken e.told e.stands e.is_partial e.ends (e.with_past c.args.engine.now e.none) _ _ (e.with_past c.turn.new.self past) _ _ _ _ _ _ going c.in_err-make_room-in-Took.ensures.err (λ rest. g.met.E.Engine.stops_anywhere (e.with_past c.turn.new.self past) rest faults.Write h.0 tt))
 
 pub returns-in_err-hand_on-in-Unfinished-clause-passed : goal.returns-in_err-hand_on-in-Unfinished-clause-passed
 returns-in_err-hand_on-in-Unfinished-clause-passed g c =
     let e = g.E.Engine in
-    let h = rw c.in-Unfinished.is at c.in_ok-count.ensures.turned in
+    let i = c.loop-count.invariant in
+    let (past, keeps, h) = (rw c.in-Unfinished.is at c.in_ok-count.ensures.turned) i.past i.keeps i.going.standing in
     let p = err_from_is_err_and c.from_residual-in_err-hand_on-in-Unfinished.result c.from_residual-in_err-hand_on-in-Unfinished.ensures.1 in
-    let going = Going-same e.settings e.taken e.told e.stands e.is_partial e.ends c.args.engine.now _ _ c.loop-count.engine c.turn.new.self _ _ _ _ _ c.loop-count.invariant.going h.0 h.1 in
-    rw (p.1, p.2, c.in_err-hand_on-in-Unfinished.ensures.fault) (Passes-failed e.settings e.taken e.told e.stands e.is_partial e.ends c.args.engine.now _ _ c.turn.new.self _ _ _ _ _ _ going c.in_err-hand_on-in-Unfinished.ensures.err (λ rest. g.met.E.Engine.stops_anywhere c.turn.new.self rest faults.Write going.standing tt))
+    let going = Going-same e.settings e.taken e.told e.stands e.is_partial e.ends (e.with_past c.args.engine.now e.none) _ _ (e.with_past c.loop-count.engine i.past) (e.with_past c.turn.new.self past) _ _ _ _ _ i.going h.0 h.1 in
+    rw (p.1, p.2, c.in_err-hand_on-in-Unfinished.ensures.fault) (past, keeps, Passes-failed e.settings e.taken e.told e.stands e.is_partial e.ends (e.with_past c.args.engine.now e.none) _ _ (e.with_past c.turn.new.self past) _ _ _ _ _ _ going c.in_err-hand_on-in-Unfinished.ensures.err (λ rest. g.met.E.Engine.stops_anywhere (e.with_past c.turn.new.self past) rest faults.Write going.standing tt))
 
 pub returns-in_err-fill-in-Unfinished-clause-passed : goal.returns-in_err-fill-in-Unfinished-clause-passed
 returns-in_err-fill-in-Unfinished-clause-passed g c =
     let e = g.E.Engine in
-    let h = rw c.in-Unfinished.is at c.in_ok-count.ensures.turned in
+    let i = c.loop-count.invariant in
+    let (past, keeps, h) = (rw c.in-Unfinished.is at c.in_ok-count.ensures.turned) i.past i.keeps i.going.standing in
     let p = err_from_is_err_and c.from_residual-in_err-fill-in-Unfinished.result c.from_residual-in_err-fill-in-Unfinished.ensures.1 in
-    let going = Going-same e.settings e.taken e.told e.stands e.is_partial e.ends c.args.engine.now _ _ c.loop-count.engine c.turn.new.self _ _ _ _ _ c.loop-count.invariant.going h.0 h.1 in
+    let going = Going-same e.settings e.taken e.told e.stands e.is_partial e.ends (e.with_past c.args.engine.now e.none) _ _ (e.with_past c.loop-count.engine i.past) (e.with_past c.turn.new.self past) _ _ _ _ _ i.going h.0 h.1 in
     let ok = c.in_ok-hand_on-in-Unfinished.ensures.ok in
-    let given = Going-emptied e.settings e.taken e.told e.stands e.is_partial e.ends c.args.engine.now _ _ c.turn.new.self _ _ _ _ _ _ going ok.0 ok.1 in
-    let kept = Going-kept e.settings e.taken e.told e.stands e.is_partial e.ends c.args.engine.now _ _ c.turn.new.self _ _ _ _ _ given c.in_err-fill-in-Unfinished.ensures.err.1 in
-    rw (p.1, p.2, c.in_err-fill-in-Unfinished.ensures.fault) (Passes-stopped e.settings e.taken e.told e.stands e.is_partial e.ends c.args.engine.now _ _ _ c.turn.new.self _ _ _ _ kept (λ rest. g.met.E.Engine.stops_anywhere c.turn.new.self rest faults.Read going.standing tt))
+    let given = Going-emptied e.settings e.taken e.told e.stands e.is_partial e.ends (e.with_past c.args.engine.now e.none) _ _ (e.with_past c.turn.new.self past) _ _ _ _ _ _ going ok.0 ok.1 in
+    let kept = Going-kept e.settings e.taken e.told e.stands e.is_partial e.ends (e.with_past c.args.engine.now e.none) _ _ (e.with_past c.turn.new.self past) _ _ _ _ _ given c.in_err-fill-in-Unfinished.ensures.err.1 in
+    rw (p.1, p.2, c.in_err-fill-in-Unfinished.ensures.fault) (past, keeps, Passes-stopped e.settings e.taken e.told e.stands e.is_partial e.ends (e.with_past c.args.engine.now e.none) _ _ _ (e.with_past c.turn.new.self past) _ _ _ _ kept (λ rest. g.met.E.Engine.stops_anywhere (e.with_past c.turn.new.self past) rest faults.Read going.standing tt))
 
 pub returns-then-branch-eq0-clause-passed : goal.returns-then-branch-eq0-clause-passed
 returns-then-branch-eq0-clause-passed g c =
     let e = g.E.Engine in
-    let h = rw c.in-Unfinished.is at c.in_ok-count.ensures.turned in
-    let going = Going-same e.settings e.taken e.told e.stands e.is_partial e.ends c.args.engine.now _ _ c.loop-count.engine c.turn.new.self _ _ _ _ _ c.loop-count.invariant.going h.0 h.1 in
+    let i = c.loop-count.invariant in
+    let (past, keeps, h) = (rw c.in-Unfinished.is at c.in_ok-count.ensures.turned) i.past i.keeps i.going.standing in
+    let going = Going-same e.settings e.taken e.told e.stands e.is_partial e.ends (e.with_past c.args.engine.now e.none) _ _ (e.with_past c.loop-count.engine i.past) (e.with_past c.turn.new.self past) _ _ _ _ _ i.going h.0 h.1 in
     let ok = c.in_ok-hand_on-in-Unfinished.ensures.ok in
-    let given = Going-emptied e.settings e.taken e.told e.stands e.is_partial e.ends c.args.engine.now _ _ c.turn.new.self _ _ _ _ _ _ going ok.0 ok.1 in
+    let given = Going-emptied e.settings e.taken e.told e.stands e.is_partial e.ends (e.with_past c.args.engine.now e.none) _ _ (e.with_past c.turn.new.self past) _ _ _ _ _ _ going ok.0 ok.1 in
     let (more, count, grown, came) = c.in_ok-fill-in-Unfinished.ensures.more in
-    let filled = Going-filled e.settings e.taken e.told e.stands e.is_partial e.ends c.args.engine.now _ _ c.turn.new.self _ _ _ _ _ more _ given grown c.in_ok-fill-in-Unfinished.ensures.ahead came in
+    let filled = Going-filled e.settings e.taken e.told e.stands e.is_partial e.ends (e.with_past c.args.engine.now e.none) _ _ (e.with_past c.turn.new.self past) _ _ _ _ _ more _ given grown c.in_ok-fill-in-Unfinished.ensures.ahead came in
     let at_end = c.in_ok-fill-in-Unfinished.ensures.end (ap Ok c.if-branch-eq0.true) in
-    let f = c.finish.ensures.finished in
-    Passes-finished e.settings e.taken e.told e.stands e.is_partial e.ends c.args.engine.now _ _ c.finish.result c.turn.new.self c.finish.new.self _ _ _ _ _ c.bytes-then-branch-eq0.result.now filled c.bytes-then-branch-eq0.ensures at_end f.0 f.1 f.2
+    let (last, kept, f) = c.finish.ensures.finished past keeps going.standing in
+    (last, kept, Passes-finished e.settings e.taken e.told e.stands e.is_partial e.ends (e.with_past c.args.engine.now e.none) _ _ c.finish.result (e.with_past c.turn.new.self past) (e.with_past c.finish.new.self last) _ _ _ _ _ c.bytes-then-branch-eq0.result.now filled c.bytes-then-branch-eq0.ensures at_end f.0 f.1 f.2)
 
 pub loop-count-preserved-in_ok-make_room-in-Took : goal.loop-count-preserved-in_ok-make_room-in-Took
 loop-count-preserved-in_ok-make_room-in-Took g c =
     let e = g.E.Engine in
-    let h = rw c.in-Took.is at c.in_ok-count.ensures.turned in
-    let going = Going-took e.settings e.taken e.told e.stands e.is_partial e.ends c.args.engine.now _ _ c.loop-count.engine c.turn.new.self _ _ c.loop-count.incoming _ _ c.bytes.result.now c.in-Took.count c.loop-count.invariant.going c.bytes.ensures h.0 h.2 h.3 in
+    let i = c.loop-count.invariant in
+    let (past, keeps, h) = (rw c.in-Took.is at c.in_ok-count.ensures.turned) i.past i.keeps i.going.standing in
+    let going = Going-took e.settings e.taken e.told e.stands e.is_partial e.ends (e.with_past c.args.engine.now e.none) _ _ (e.with_past c.loop-count.engine i.past) (e.with_past c.turn.new.self past) _ _ c.loop-count.incoming _ _ c.bytes.result.now c.in-Took.count i.going c.bytes.ensures h.0 h.2 h.3 in
     let (sent, parts, given) = c.in_ok-make_room-in-Took.ensures.ok in
     rw c.drop_front.ensures (record {
-      going = Going-sent e.settings e.taken e.told e.stands e.is_partial e.ends c.args.engine.now _ _ c.turn.new.self _ _ _ _ _ _ sent going parts given;
+      past = past;
+      keeps = keeps;
+      going = Going-sent e.settings e.taken e.told e.stands e.is_partial e.ends (e.with_past c.args.engine.now e.none) _ _ (e.with_past c.turn.new.self past) _ _ _ _ _ _ sent going parts given;
       room = c.in_ok-make_room-in-Took.ensures.room;
       capacity = omega (arith, c.in_ok-make_room-in-Took.ensures.capacity, c.in_ok-count.ensures.room, c.loop-count.invariant.capacity);
       reads = c.loop-count.invariant.reads;
@@ -76,13 +85,16 @@ loop-count-preserved-in_ok-make_room-in-Took g c =
 pub loop-count-preserved : goal.loop-count-preserved
 loop-count-preserved g c =
     let e = g.E.Engine in
-    let h = rw c.in-Unfinished.is at c.in_ok-count.ensures.turned in
-    let going = Going-same e.settings e.taken e.told e.stands e.is_partial e.ends c.args.engine.now _ _ c.loop-count.engine c.turn.new.self _ _ _ _ _ c.loop-count.invariant.going h.0 h.1 in
+    let i = c.loop-count.invariant in
+    let (past, keeps, h) = (rw c.in-Unfinished.is at c.in_ok-count.ensures.turned) i.past i.keeps i.going.standing in
+    let going = Going-same e.settings e.taken e.told e.stands e.is_partial e.ends (e.with_past c.args.engine.now e.none) _ _ (e.with_past c.loop-count.engine i.past) (e.with_past c.turn.new.self past) _ _ _ _ _ i.going h.0 h.1 in
     let ok = c.in_ok-hand_on-in-Unfinished.ensures.ok in
-    let emptied = Going-emptied e.settings e.taken e.told e.stands e.is_partial e.ends c.args.engine.now _ _ c.turn.new.self _ _ _ _ _ _ going ok.0 ok.1 in
+    let emptied = Going-emptied e.settings e.taken e.told e.stands e.is_partial e.ends (e.with_past c.args.engine.now e.none) _ _ (e.with_past c.turn.new.self past) _ _ _ _ _ _ going ok.0 ok.1 in
     let (more, count, grown, came) = c.in_ok-fill-in-Unfinished.ensures.more in
     record {
-      going = Going-filled e.settings e.taken e.told e.stands e.is_partial e.ends c.args.engine.now _ _ c.turn.new.self _ _ _ _ _ more _ emptied grown c.in_ok-fill-in-Unfinished.ensures.ahead came;
+      past = past;
+      keeps = keeps;
+      going = Going-filled e.settings e.taken e.told e.stands e.is_partial e.ends (e.with_past c.args.engine.now e.none) _ _ (e.with_past c.turn.new.self past) _ _ _ _ _ more _ emptied grown c.in_ok-fill-in-Unfinished.ensures.ahead came;
       room = omega (arith, c.in_ok-hand_on-in-Unfinished.ensures.capacity, ap length ok.0, c.hand_on.new.waiting.ok.0, c.in_ok-count.ensures.room, c.loop-count.invariant.capacity);
       capacity = omega (arith, c.in_ok-hand_on-in-Unfinished.ensures.capacity, c.in_ok-count.ensures.room, c.loop-count.invariant.capacity);
       reads = c.in_ok-fill-in-Unfinished.ensures.told ∙ c.loop-count.invariant.reads;
@@ -157,3 +169,20 @@ returns-in_err-fill-in-Unfinished-clause-writer g c =
 
 pub returns-in_err-fill-in-Unfinished-clause-handed : goal.returns-in_err-fill-in-Unfinished-clause-handed
 returns-in_err-fill-in-Unfinished-clause-handed g c = λ told. c.in_ok-hand_on-in-Unfinished.ensures.ok.0
+
+pub loop-count-init : goal.loop-count-init
+loop-count-init g c =
+    let e = g.E.Engine in
+    let r = c.requires in
+    record {
+      past = e.none;
+      keeps = r.keeps;
+      going =
+          rw (r.none_came, r.none_waits)
+          (Going-begun e.settings e.taken e.told e.stands e.is_partial e.ends (e.with_past c.args.engine.now e.none) (g.R.Read.remaining c.args.reader.now)
+          (g.W.Write.contents c.args.writer.now) r.stands r.none_taken r.none_told);
+      room = omega (arith, r.room, ap length r.none_waits, c.args.waiting.now.ok.0);
+      capacity = r.room;
+      reads = refl;
+      writes = refl;
+    }

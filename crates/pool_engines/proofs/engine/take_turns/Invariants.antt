@@ -8,8 +8,10 @@ abbrev pub invariant-loop-count : goal.invariant-loop-count
 invariant-loop-count g l =
     let e = g.E.Engine in
     record {
-      going : Going e.settings e.taken e.told e.stands e.is_partial e.ends l.fn.engine (g.R.Read.remaining l.fn.reader) (g.W.Write.contents l.fn.writer)
-          l.engine (g.R.Read.remaining l.reader) (g.W.Write.contents l.writer) l.incoming l.waiting.items;
+      past : e.past;
+      keeps : e.keeps l.engine past;
+      going : Going e.settings e.taken e.told e.stands e.is_partial e.ends (e.with_past l.fn.engine e.none) (g.R.Read.remaining l.fn.reader)
+          (g.W.Write.contents l.fn.writer) (e.with_past l.engine past) (g.R.Read.remaining l.reader) (g.W.Write.contents l.writer) l.incoming l.waiting.items;
       room : HasRoom l.waiting;
       capacity : waiting_room ≤ vec_capacity l.waiting;
       reads : g.R.Source.may_have_failed l.reader ≡ g.R.Source.may_have_failed l.fn.reader;
