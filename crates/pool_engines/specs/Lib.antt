@@ -10,6 +10,7 @@ pub mod Files
 pub mod Check
 pub mod Checker
 pub mod Judging
+pub mod SideBySide
 pub mod SettingsFile
 pub mod StatisticsLines
 pub mod Stats
