@@ -10,21 +10,26 @@
 
 mod arguments;
 mod fault;
+mod files;
 mod help;
 mod progress;
 
 use arguments::{Task, task_of};
 use fault::Fault;
+use files::Files;
 use help::{USES, asks_for_help};
-use pool_load::{Gate, check, load, read_settings, run, stats, write_report};
+use pool_load::{
+    EngineFault, Gate, check, check_side_by_side, load, read_settings, run, stats, write_report,
+};
 use pool_settings::Settings;
 use progress::{Progress, Watched, Wiped};
-use std::env;
+use std::alloc::{AllocError, Global};
 use std::fs::File;
 use std::io::Write;
 use std::process::ExitCode;
 use std::sync::Wait;
 use std::thread::Threads;
+use std::{env, fs, thread};
 
 const ILLEGAL: u8 = 1;
 
@@ -64,7 +69,7 @@ fn perform<'a, R: Threads + Wait + Sync>(
                 first,
                 others,
             },
-        ) => check_journal(rt, settings, first, others),
+        ) => check_journal(rt, threads, settings, first, others),
         Some(Task::Stats { journal }) => tell_statistics(rt, journal),
         Some(
             Task::Load {
@@ -102,17 +107,103 @@ fn run_script<'a>(
     Ok(ExitCode::SUCCESS)
 }
 
-fn check_journal<'a>(
+fn check_journal<'a, R: Threads + Sync>(
     rt: &HostRuntime,
+    threads: &R,
     settings: &'a str,
     first: &'a str,
     others: &'a [String],
 ) -> Result<ExitCode, Fault<'a>> {
     let settings = settings_in(rt, settings)?;
+    let paths = paths_of(rt.alloc(), first, others)?;
+    let is_legal = match width(threads, rt, &paths) {
+        Some(width) => check_files(rt, threads, settings, &paths, width)?,
+        None => check_in_turn(rt, settings, &paths)?,
+    };
+    if is_legal {
+        Ok(ExitCode::SUCCESS)
+    } else {
+        Ok(ExitCode::from(ILLEGAL))
+    }
+}
+
+/// The paths of all files.
+fn paths_of<'a>(
+    alloc: Global,
+    first: &'a str,
+    others: &'a [String],
+) -> Result<Vec<&'a str>, AllocError> {
+    let mut paths = Vec::new(alloc);
+    paths.push(first)?;
+    for path in others {
+        paths.push(path.as_str())?;
+    }
+    Ok(paths)
+}
+
+/// How many files are judged side by side. None where they are judged in turn: where there is one alone or one processor, and
+/// where one is no regular file, which can be read once alone.
+fn width<R: Threads>(threads: &R, rt: &HostRuntime, paths: &[&str]) -> Option<usize> {
+    let processors = thread::available_parallelism(threads).ok()?.get();
+    if paths.len() < 2 || processors < 2 {
+        return None;
+    }
+    for path in paths {
+        if !is_regular(rt, path) {
+            return None;
+        }
+    }
+    Some(processors)
+}
+
+/// Whether there is a regular file at this path.
+fn is_regular(rt: &HostRuntime, path: &str) -> bool {
+    match fs::metadata(rt, path) {
+        Ok(metadata) => metadata.is_file(),
+        Err(_) => false,
+    }
+}
+
+/// Judges files side by side, as many at a time as `width` says.
+fn check_files<'a, R: Threads + Sync>(
+    rt: &HostRuntime,
+    threads: &R,
+    settings: Settings,
+    paths: &[&'a str],
+    width: usize,
+) -> Result<bool, Fault<'a>> {
+    let progress = Progress::of(rt);
+    for path in paths {
+        progress.expect(&open(rt, path)?);
+    }
+    let files = Files {
+        rt,
+        paths,
+        progress: &progress,
+    };
+    let mut out = Wiped {
+        out: rt.stdout(),
+        progress: &progress,
+    };
+    let judged = check_side_by_side(threads, rt.alloc(), settings, &files, width, &mut out);
+    progress.wipe();
+    if let Err(EngineFault::Read) = judged {
+        if let Some(lost) = files.first_lost() {
+            return Err(Fault::Unopened(lost));
+        }
+    }
+    Ok(judged?)
+}
+
+/// Judges files one after the other.
+fn check_in_turn<'a>(
+    rt: &HostRuntime,
+    settings: Settings,
+    paths: &[&'a str],
+) -> Result<bool, Fault<'a>> {
     let progress = Progress::of(rt);
     let mut files = Vec::new(rt.alloc());
-    watch(rt, first, &progress, &mut files)?;
-    for path in others {
+    for path in paths {
         watch(rt, path, &progress, &mut files)?;
     }
     let mut out = Wiped {
@@ -124,11 +215,7 @@ fn check_journal<'a>(
     if let Some(lost) = files.iter().find(|file| file.is_lost) {
         return Err(Fault::Unopened(lost.path));
     }
-    if judged? {
-        Ok(ExitCode::SUCCESS)
-    } else {
-        Ok(ExitCode::from(ILLEGAL))
-    }
+    Ok(judged?)
 }
 
 /// Opens the file at this path, and puts it behind the others. Where there are many, it is closed, and opened again once it

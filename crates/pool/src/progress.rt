@@ -2,83 +2,93 @@
 ghost use Rattle.std.specs.Prelude.{true};
 
 use pool_engines::{Sink, Source, flush_past_signals, read_past_signals, write_past_signals};
-use std::cell::Cell;
 use std::fs::File;
 use std::io;
 use std::io::{IsTerminal, Read, Stdout, Write};
-use std::time::{Duration, Instant};
+use std::sync::atomic::{AtomicBool, AtomicU64, Ordering};
+use std::time::Instant;
 
-/// For how many seconds nothing is told at first, and then between two times.
-const PERIOD: u64 = 1;
+/// For how many milliseconds nothing is told at first, and then between two times.
+const PERIOD: u64 = 1_000;
 
 /// What is told on standard error while files are read, where that is a terminal: how much of them was read so
-/// far. It is wiped before anything else is written.
+/// far. It is wiped before anything else is written. Threads that read may share it.
 #[derive(Drop)]
 pub(crate) struct Progress<'a> {
     rt: &'a HostRuntime,
     /// How many bytes the files have, as far as the system knows.
-    length: Cell<u64>,
-    read: Cell<u64>,
-    /// When it was last told, or the work began. None where nothing is told.
-    told: Cell<Option<Instant>>,
-    is_shown: Cell<bool>,
+    length: AtomicU64,
+    read: AtomicU64,
+    /// When the work began. None where nothing is told.
+    began: Option<Instant>,
+    /// How many milliseconds after that it was last told.
+    told: AtomicU64,
+    is_shown: AtomicBool,
 }
 
 impl<'a> Progress<'a> {
     /// Before the first file.
     pub fn of(rt: &'a HostRuntime) -> Progress<'a> {
-        let told = if rt.stderr().is_terminal() {
+        let began = if rt.stderr().is_terminal() {
             Instant::now(rt).ok()
         } else {
             None
         };
         Progress {
             rt,
-            length: Cell::new(0),
-            read: Cell::new(0),
-            told: Cell::new(told),
-            is_shown: Cell::new(false),
+            length: AtomicU64::new(0),
+            read: AtomicU64::new(0),
+            began,
+            told: AtomicU64::new(0),
+            is_shown: AtomicBool::new(false),
         }
     }
 
     /// Notes that a file will be read.
     pub fn expect(&self, file: &File) {
         let length = file.metadata().map_or(0, |metadata| metadata.len());
-        self.length.set(self.length.get().saturating_add(length));
+        self.length.fetch_add(length, Ordering::SeqCst);
     }
 
     /// Notes that so many bytes were read, and tells how far it is where that wasn't told for long.
     fn note(&self, count: usize) {
-        self.read.set(self.read.get().saturating_add(count as u64));
-        let Some(told) = self.told.get() else {
+        self.read.fetch_add(count as u64, Ordering::SeqCst);
+        let Some(began) = self.began else {
             return;
         };
         let Ok(now) = Instant::now(self.rt) else {
             return;
         };
-        if now.duration_since(told) >= Duration::from_secs(PERIOD) {
-            self.told.set(Some(now));
+        let passed = now.duration_since(began).as_millis() as u64;
+        let told = self.told.load(Ordering::SeqCst);
+        if passed >= told.saturating_add(PERIOD) && self.is_first_to_tell(told, passed) {
             self.show();
         }
     }
 
+    /// Notes that it is told so many milliseconds after the beginning, unless another thread has told it since.
+    fn is_first_to_tell(&self, told: u64, passed: u64) -> bool {
+        self.told
+            .compare_exchange(told, passed, Ordering::SeqCst, Ordering::SeqCst)
+            .is_ok()
+    }
+
     /// Tells how much was read, in millions of bytes. What can't be written is left out.
     fn show(&self) {
-        let read = self.read.get() / 1_000_000;
-        let length = self.length.get() / 1_000_000;
+        let read = self.read.load(Ordering::SeqCst) / 1_000_000;
+        let length = self.length.load(Ordering::SeqCst) / 1_000_000;
         let _ = if length == 0 || length < read {
             write!(self.rt.stderr(), "\rpool: {read} MB")
         } else {
             write!(self.rt.stderr(), "\rpool: {read} of {length} MB")
         };
-        self.is_shown.set(true);
+        self.is_shown.store(true, Ordering::SeqCst);
     }
 
     /// Wipes what was told.
     pub fn wipe(&self) {
-        if self.is_shown.get() {
+        if self.is_shown.swap(false, Ordering::SeqCst) {
             let _ = self.rt.stderr().write_all(b"\r\x1b[K");
-            self.is_shown.set(false);
         }
     }
 }

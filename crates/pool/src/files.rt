@@ -1,0 +1,47 @@
+//! Files that are judged side by side.
+ghost use Rattle.std.specs.Prelude.{map, None};
+
+use crate::progress::{Progress, Watched};
+use pool_load::Segments;
+use std::fs::File;
+use std::io;
+
+/// The files at these paths, each of which is opened when it is read, and as often as it is.
+#[derive(Drop)]
+pub(crate) struct Files<'a, 'r> {
+    pub rt: &'r HostRuntime,
+    pub paths: &'a [&'a str],
+    pub progress: &'a Progress<'r>,
+}
+
+impl<'a, 'r> Segments<Watched<'a, 'a, 'r>> for Files<'a, 'r> {
+    ghost files = { λ files. map (λ path. None) files.paths.now };
+
+    fn count(&self) -> usize {
+        self.paths.len()
+    }
+
+    fn open(&self, number: usize) -> io::Result<Watched<'a, 'a, 'r>> {
+        let path = self.paths[number];
+        let file = File::open(self.rt, path)?;
+        Ok(Watched {
+            rt: self.rt,
+            path,
+            file: Some(file),
+            is_lost: false,
+            progress: self.progress,
+        })
+    }
+}
+
+impl<'a> Files<'a, '_> {
+    /// The first of the files that can't be opened now.
+    pub fn first_lost(&self) -> Option<&'a str> {
+        for path in self.paths {
+            if File::open(self.rt, path).is_err() {
+                return Some(*path);
+            }
+        }
+        None
+    }
+}
