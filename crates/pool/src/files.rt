@@ -8,20 +8,20 @@ use std::io;
 
 /// The files at these paths, each of which is opened when it is read, and as often as it is.
 #[derive(Drop)]
-pub(crate) struct Files<'a, 'r> {
+pub(crate) struct Files<'a, 'p, 'r> {
     pub rt: &'r HostRuntime,
-    pub paths: &'a [&'a str],
-    pub progress: &'a Progress<'r>,
+    pub paths: &'p [&'a str],
+    pub progress: &'p Progress<'r>,
 }
 
-impl<'a, 'r> Segments<Watched<'a, 'a, 'r>> for Files<'a, 'r> {
+impl<'a, 'p, 'r> Segments<Watched<'a, 'p, 'r>> for Files<'a, 'p, 'r> {
     ghost files = { λ files. map (λ path. None) files.paths.now };
 
     fn count(&self) -> usize {
         self.paths.len()
     }
 
-    fn open(&self, number: usize) -> io::Result<Watched<'a, 'a, 'r>> {
+    fn open(&self, number: usize) -> io::Result<Watched<'a, 'p, 'r>> {
         let path = self.paths[number];
         let file = File::open(self.rt, path)?;
         Ok(Watched {
@@ -34,7 +34,7 @@ impl<'a, 'r> Segments<Watched<'a, 'a, 'r>> for Files<'a, 'r> {
     }
 }
 
-impl<'a> Files<'a, '_> {
+impl<'a> Files<'a, '_, '_> {
     /// The first of the files that can't be opened now.
     pub fn first_lost(&self) -> Option<&'a str> {
         for path in self.paths {

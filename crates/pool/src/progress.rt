@@ -8,8 +8,8 @@ use std::io::{IsTerminal, Read, Stdout, Write};
 use std::sync::atomic::{AtomicBool, AtomicU64, Ordering};
 use std::time::Instant;
 
-/// For how many milliseconds nothing is told at first, and then between two times.
-const PERIOD: u64 = 1_000;
+/// For how many seconds nothing is told at first, and then between two times.
+const PERIOD: u64 = 1;
 
 /// What is told on standard error while files are read, where that is a terminal: how much of them was read so
 /// far. It is wiped before anything else is written. Threads that read may share it.
@@ -21,7 +21,7 @@ pub(crate) struct Progress<'a> {
     read: AtomicU64,
     /// When the work began. None where nothing is told.
     began: Option<Instant>,
-    /// How many milliseconds after that it was last told.
+    /// How many seconds after that it was last told.
     told: AtomicU64,
     is_shown: AtomicBool,
 }
@@ -59,14 +59,14 @@ impl<'a> Progress<'a> {
         let Ok(now) = Instant::now(self.rt) else {
             return;
         };
-        let passed = now.duration_since(began).as_millis() as u64;
+        let passed = now.duration_since(began).as_secs();
         let told = self.told.load(Ordering::SeqCst);
         if passed >= told.saturating_add(PERIOD) && self.is_first_to_tell(told, passed) {
             self.show();
         }
     }
 
-    /// Notes that it is told so many milliseconds after the beginning, unless another thread has told it since.
+    /// Notes that it is told so many seconds after the beginning, unless another thread has told it since.
     fn is_first_to_tell(&self, told: u64, passed: u64) -> bool {
         self.told
             .compare_exchange(told, passed, Ordering::SeqCst, Ordering::SeqCst)

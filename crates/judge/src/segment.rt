@@ -1,0 +1,24 @@
+ghost use Rattle.std.specs.Prelude.{◌∷◌, [], None};
+
+use pool_engines::Segments;
+use std::fs::File;
+use std::io;
+
+/// The segment in the file at this path.
+#[derive(Drop)]
+pub(crate) struct OneSegment<'a> {
+    pub rt: &'a HostRuntime,
+    pub path: &'a str,
+}
+
+impl Segments<File> for OneSegment<'_> {
+    ghost files = { λ segment. None ∷ [] };
+
+    fn count(&self) -> usize {
+        1
+    }
+
+    fn open(&self, _number: usize) -> io::Result<File> {
+        File::open(self.rt, self.path)
+    }
+}
