@@ -10,8 +10,10 @@
   segments of one entry; `check` over all of them must find it legal. It is cut at three places besides, and one of the segments is left
   out, repeated or exchanged with the next: the verdict must be that of tests/pool_model.py.
 - Three segments are damaged: in each place a byte is changed, dropped or doubled; the verdict must be the model's.
-- `check` over a thousand segments must take no more memory than over the longest of them alone, with a tenth and 256 KiB for what
-  differs from run to run.
+- `check` over a thousand segments must take no more memory on one processor than over the longest of them alone, with a tenth and 256 KiB
+  for what differs from run to run; and on all no more than so many times what the longest takes beyond the program itself, and 512 KiB each.
+
+Each of the first and the third is judged on all processors, side by side, and on one, one after the other: the answers must be the same.
 
 Prints each verdict that differs, and in the end the line 'N passed, M failed'.
 """
@@ -65,26 +67,36 @@ def stated(path):
     return (b"", text, 3) if status == b"3" else (text, b"", int(status))
 
 
-def differing(name, command, wanted):
-    done = subprocess.run(command, capture_output=True, timeout=60, stdin=subprocess.DEVNULL)
+def on_one():
+    """Leaves one processor to the run, so that files are judged one after the other."""
+    os.sched_setaffinity(0, {min(os.sched_getaffinity(0))})
+
+
+def differing(name, command, wanted, on=None):
+    done = subprocess.run(command, capture_output=True, timeout=60, stdin=subprocess.DEVNULL, preexec_fn=on)
     got = done.stdout, done.stderr, done.returncode
     return None if got == wanted else f"{name}: wanted {wanted}, got {got}"
 
 
-def judged(pool, name, settings, segments, verdict):
+def differing_anyhow(name, command, wanted):
+    """What differs on all processors, or else on one."""
+    return differing(name, command, wanted) or differing(f"{name}, on one processor", command, wanted, on_one)
+
+
+def judged(pool, name, settings, segments, verdict, compare=differing):
     """What differs where the segments, written to files, are judged."""
     with tempfile.TemporaryDirectory() as room:
         paths = [pathlib.Path(room) / str(index) for index in range(len(segments))]
         for path, text in zip(paths, segments):
             path.write_bytes(text)
-        return differing(name, [pool, "check", settings, *paths], wanted_of(verdict))
+        return compare(name, [pool, "check", settings, *paths], wanted_of(verdict))
 
 
 def of_folder(pool, folder):
     for verdict in sorted(folder.glob("*.verdict")):
         segments = sorted(folder.glob(f"{verdict.stem}.*.journal"), key=lambda path: int(path.suffixes[0][1:]))
         command = [pool, "check", verdict.with_suffix(".toml"), *segments]
-        yield lambda name=verdict, command=command: differing(name, command, stated(name))
+        yield lambda name=verdict, command=command: differing_anyhow(name, command, stated(name))
     for stats in sorted(folder.glob("*.stats")):
         yield lambda name=stats: differing(name, [pool, "stats", name.with_suffix(".journal")], stated(name))
 
@@ -137,13 +149,13 @@ def of_damage(pool, settings):
             for changed in damaged(text, at, chance):
                 segments = [*THREE[:index], changed, *THREE[index + 1 :]]
                 yield lambda name=f"segment {index}, byte {at}", segments=segments: judged(
-                    pool, name, settings, segments, verdict_of_segments(read, segments)
+                    pool, name, settings, segments, verdict_of_segments(read, segments), differing_anyhow
                 )
 
 
-def peak(command):
+def peak(command, on=None):
     """The most memory that a run took, in KiB, and whether it ended well."""
-    started = subprocess.Popen(command, stdout=subprocess.DEVNULL, stdin=subprocess.DEVNULL)
+    started = subprocess.Popen(command, stdout=subprocess.DEVNULL, stdin=subprocess.DEVNULL, preexec_fn=on)
     _, status, used = os.wait4(started.pid, 0)
     return used.ru_maxrss, status == 0
 
@@ -156,9 +168,14 @@ def of_memory(pool, settings):
         paths = [pathlib.Path(room) / str(index) for index in range(len(segments))]
         for path, text in zip(paths, segments):
             path.write_bytes(text)
-        (all_took, all_well), (one_took, one_well) = peak([pool, "check", settings, *paths]), peak([pool, "check", settings, paths[0]])
-    if not (all_well and one_well) or all_took > one_took * 1.1 + 256:
-        return f"memory: {len(segments)} segments took {all_took} KiB, one took {one_took} KiB"
+        none = pathlib.Path(room) / "none"
+        none.write_bytes(b"")
+        least, longest = (peak([pool, "check", settings, path])[0] for path in (none, paths[0]))
+        (in_turn, is_well), (at_once, are_well) = (peak([pool, "check", settings, *paths], on) for on in (on_one, None))
+    processors = len(os.sched_getaffinity(0))
+    most = least + processors * (longest - least + 512)
+    if not (is_well and are_well) or in_turn > longest * 1.1 + 256 or at_once > most:
+        return f"memory: {len(segments)} segments took {in_turn} KiB in turn and {at_once} at once; one took {longest}, none {least}"
     return None
 
 
