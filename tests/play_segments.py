@@ -25,6 +25,7 @@ import subprocess
 import sys
 import tempfile
 
+from measuring import launcher
 from play_damaged import Chance, journal_by_chance
 from pool_model import cut_at, settings_of, verdict_of_segments
 
@@ -153,11 +154,11 @@ def of_damage(pool, settings):
                 )
 
 
-def peak(command, on=None):
+def peak(room, command, on=None):
     """The most memory that a run took, in KiB, and whether it ended well."""
-    started = subprocess.Popen(command, stdout=subprocess.DEVNULL, stdin=subprocess.DEVNULL, preexec_fn=on)
-    _, status, used = os.wait4(started.pid, 0)
-    return used.ru_maxrss, status == 0
+    note = pathlib.Path(room) / "peak"
+    done = subprocess.run([launcher(room), note, *command], stdout=subprocess.DEVNULL, stdin=subprocess.DEVNULL, preexec_fn=on)
+    return int(note.read_text()), done.returncode == 0
 
 
 def of_memory(pool, settings):
@@ -170,8 +171,8 @@ def of_memory(pool, settings):
             path.write_bytes(text)
         none = pathlib.Path(room) / "none"
         none.write_bytes(b"")
-        least, longest = (peak([pool, "check", settings, path])[0] for path in (none, paths[0]))
-        (in_turn, is_well), (at_once, are_well) = (peak([pool, "check", settings, *paths], on) for on in (on_one, None))
+        least, longest = (peak(room, [pool, "check", settings, path])[0] for path in (none, paths[0]))
+        (in_turn, is_well), (at_once, are_well) = (peak(room, [pool, "check", settings, *paths], on) for on in (on_one, None))
     processors = len(os.sched_getaffinity(0))
     most = least + processors * (longest - least + 512)
     if not (is_well and are_well) or in_turn > longest * 1.1 + 256 or at_once > most:
