@@ -4,7 +4,7 @@ use Rattle.pool_journal.specs.declared.entry.Entry.{Entry}
 use Rattle.pool_journal.specs.declared.input.Input.{Input}
 use Rattle.pool_settings.specs.declared.settings.Settings.{Settings}
 use Rattle.pool_core.specs.declared.step_fault.StepFault.{StepFault}
-use Rattle.pool_core.specs.declared.step_fault.StepFault.TheVariants.{JournalFull}
+use Rattle.pool_core.specs.declared.step_fault.StepFault.TheVariants.{JournalFull, OutOfMemory}
 use Rattle.pool_history.specs.Standings.{Standing}
 use Rattle.pool_desk.specs.Sections.{Refuses, IsFullFor}
 use Rattle.pool_shared.specs.Walks.{walked, AllDue, Walks}
@@ -50,3 +50,12 @@ pub full_for : {T : Type 0} (s : Settings) (input : Input) (f : StepFault T) (ou
 full_for {T} s input f out b c is refuses =
     let r : Refuses s input None (JournalFull out) b c = subst (λ (g : StepFault T). Refuses s input None g b c) is refuses in
     r.there.why.0
+
+-- a section to which nothing was handed was refused, with nothing to hand back
+pub full_plainly : {T : Type 0} (s : Settings) (input : Input) (f : StepFault T) (out : Option T) (b c : Standing) → f ≡ JournalFull out → Refuses s input None f b c → Refuses {T = T} s input None (JournalFull None) b c
+full_plainly {T} s input f out b c is refuses =
+    let r : Refuses s input None (JournalFull out) b c = subst (λ (g : StepFault T). Refuses s input None g b c) is refuses in
+    record { same = r.same; there = record { at = r.there.at; unfinished = r.there.unfinished; why = (r.there.why.0, refl) } }
+
+pub short_plainly : {T : Type 0} (s : Settings) (input : Input) (f : StepFault T) (b c : Standing) → Refuses s input None f b c → Refuses {T = T} s input None (OutOfMemory None) b c
+short_plainly s input f b c r = record { same = r.same; there = record { at = r.there.at; unfinished = r.there.unfinished; why = refl } }

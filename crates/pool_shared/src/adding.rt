@@ -7,9 +7,8 @@ ghost use Rattle.pool_desk.specs.Sections.{HasInHand};
 ghost use Rattle.pool_shared.specs.Walks.{EndsWithMade};
 ghost use Rattle.pool_shared.specs.Adds.{makes, gone, shelved, ending, Goes_on, AddRow, IsAddFaultFrom, IsWhyUnfit, IsFailure, IsPlaced, IsStocked};
 
-use crate::faults::{AddFault, Addition};
+use crate::faults::{AddFault, Addition, NoRoom};
 use crate::pool::SharedPool;
-use pool_core::StepFault;
 use pool_desk::{Clock, Factory};
 use pool_history::{Caller, Room};
 use pool_journal::{Answer, Cause, Input, Outcome};
@@ -54,8 +53,7 @@ impl<T: Drop, E: Drop, F: Factory<T, E> + Drop, C: Clock + Drop, B: Room> Shared
     {
         match self.carry_on(rt, me, Input::Added { id, outcome }) {
             Answer::Destroy => {
-                self.factory.destroy(value);
-                self.give_up(rt, me, id);
+                self.destroy_held(rt, me, id, value);
             }
             _ => unreachable!(),
         }
@@ -77,8 +75,7 @@ impl<T: Drop, E: Drop, F: Factory<T, E> + Drop, C: Clock + Drop, B: Room> Shared
                 Addition::Idle
             }
             Ok((Answer::Destroy, Some(value))) => {
-                self.factory.destroy(value);
-                self.give_up(rt, me, id);
+                self.destroy_held(rt, me, id, value);
                 Addition::Destroyed
             }
             Ok(_) => unreachable!(),
@@ -156,13 +153,13 @@ impl<T: Drop, E: Drop, F: Factory<T, E> + Drop, C: Clock + Drop, B: Room> Shared
         ensures row { AddRow B.settings result me.old me.new }
         ensures fault { IfErr result (IsAddFaultFrom F.from_make F.from_passivate) }
     {
-        match self.ask(rt, me, Input::Add, None) {
-            Ok((Answer::Make(id), _)) => self.stock(rt, me, id),
-            Ok((Answer::NoPlace, _)) => Ok(Addition::NoPlace),
-            Ok((Answer::Refused(Cause::Closed), _)) => Err(AddFault::Closed),
+        match self.ask_plainly(rt, me, Input::Add) {
+            Ok(Answer::Make(id)) => self.stock(rt, me, id),
+            Ok(Answer::NoPlace) => Ok(Addition::NoPlace),
+            Ok(Answer::Refused(Cause::Closed)) => Err(AddFault::Closed),
             Ok(_) => unreachable!(),
-            Err(StepFault::JournalFull(_)) => Err(AddFault::JournalFull),
-            Err(StepFault::OutOfMemory(_)) => Err(AddFault::OutOfMemory),
+            Err(NoRoom::JournalFull) => Err(AddFault::JournalFull),
+            Err(NoRoom::OutOfMemory) => Err(AddFault::OutOfMemory),
         }
     }
 }

@@ -124,6 +124,17 @@ impl<T: Drop, E: Drop, F: Factory<T, E> + Drop, C: Clock + Drop, B: Room> Shared
         }
     }
 
+    // The value of an object that must go is destroyed, and its place given up.
+    pub(crate) fn destroy_held<R: Wait>(&self, rt: &R, me: &mut Caller<B>, id: u64, value: T)
+        requires { (new : Bool) × HasInHand me.old id phases.Destroying new }
+        ensures goes { Goes B.settings me.old me.new }
+        ensures made { Makes (inputs.Destroyed id) answers.Freed me.old me.new }
+        ensures ends { Ends (inputs.Destroyed id) answers.Freed me.new }
+    {
+        self.factory.destroy(value);
+        self.give_up(rt, me, id);
+    }
+
     // An object did not get ready: it is destroyed.
     fn fail<R: Wait>(&self, rt: &R, me: &mut Caller<B>, id: u64, outcome: Outcome, value: T)
         requires { (new : Bool) × HasInHand me.old id phases.Readying new × IsFailure B.settings new outcome }
@@ -133,8 +144,7 @@ impl<T: Drop, E: Drop, F: Factory<T, E> + Drop, C: Clock + Drop, B: Room> Shared
     {
         match self.carry_on(rt, me, Input::Ready { id, outcome }) {
             Answer::Destroy => {
-                self.factory.destroy(value);
-                self.give_up(rt, me, id);
+                self.destroy_held(rt, me, id, value);
             }
             _ => unreachable!(),
         }

@@ -5,7 +5,7 @@ ghost use Rattle.pool_history.specs.Standings.{Goes, Knows};
 ghost use Rattle.pool_shared.specs.Walks.{EndsWithMade};
 ghost use Rattle.pool_shared.specs.Clears.{Sweeps, ClearRow, CloseRow};
 
-use crate::faults::PoolFault;
+use crate::faults::{NoRoom, PoolFault};
 use crate::pool::SharedPool;
 use pool_core::StepFault;
 use pool_desk::{Clock, Factory};
@@ -36,8 +36,7 @@ impl<T: Drop, E: Drop, F: Factory<T, E> + Drop, C: Clock + Drop, B: Room> Shared
         for taken in 0..count {
             match self.ask(rt, me, Input::ClearNext, None) {
                 Ok((Answer::DestroyIdle(id), Some(value))) => {
-                    self.factory.destroy(value);
-                    self.give_up(rt, me, id);
+                    self.destroy_held(rt, me, id, value);
                 }
                 Ok((Answer::Nothing, _)) => return Ok(taken),
                 Ok(_) => unreachable!(),
@@ -53,14 +52,14 @@ impl<T: Drop, E: Drop, F: Factory<T, E> + Drop, C: Clock + Drop, B: Room> Shared
         ensures goes { Goes B.settings me.old me.new }
         ensures row { ClearRow B.settings result me.old me.new }
     {
-        match self.ask(rt, me, Input::Clear, None) {
-            Ok((Answer::Count(count), _)) => match self.sweep(rt, me, count) {
+        match self.ask_plainly(rt, me, Input::Clear) {
+            Ok(Answer::Count(count)) => match self.sweep(rt, me, count) {
                 Ok(taken) => Ok(taken),
                 Err((_, fault)) => Err(fault),
             },
             Ok(_) => unreachable!(),
-            Err(StepFault::JournalFull(_)) => Err(PoolFault::JournalFull),
-            Err(StepFault::OutOfMemory(_)) => Err(PoolFault::OutOfMemory),
+            Err(NoRoom::JournalFull) => Err(PoolFault::JournalFull),
+            Err(NoRoom::OutOfMemory) => Err(PoolFault::OutOfMemory),
         }
     }
 
@@ -69,18 +68,18 @@ impl<T: Drop, E: Drop, F: Factory<T, E> + Drop, C: Clock + Drop, B: Room> Shared
         ensures goes { Goes B.settings me.old me.new }
         ensures row { CloseRow B.settings result me.old me.new }
     {
-        match self.ask(rt, me, Input::Close, None) {
-            Ok((Answer::Count(count), _)) => {
+        match self.ask_plainly(rt, me, Input::Close) {
+            Ok(Answer::Count(count)) => {
                 self.changed.notify_all();
                 match self.sweep(rt, me, count) {
                     Ok(taken) => Ok(taken),
                     Err((taken, _)) => Ok(taken),
                 }
             }
-            Ok((Answer::Nothing, _)) => Ok(0),
+            Ok(Answer::Nothing) => Ok(0),
             Ok(_) => unreachable!(),
-            Err(StepFault::JournalFull(_)) => Err(PoolFault::JournalFull),
-            Err(StepFault::OutOfMemory(_)) => Err(PoolFault::OutOfMemory),
+            Err(NoRoom::JournalFull) => Err(PoolFault::JournalFull),
+            Err(NoRoom::OutOfMemory) => Err(PoolFault::OutOfMemory),
         }
     }
 }

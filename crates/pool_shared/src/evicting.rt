@@ -8,7 +8,7 @@ ghost use Rattle.pool_shared.specs.declared.evicting.EvictRun.{EvictRun};
 ghost use Rattle.pool_shared.specs.declared.evicting.Fate.TheVariants as fates;
 ghost use Rattle.pool_shared.specs.Evicts.{examines, tests, none_yet, one_more, fared, after_test, after_one, Goes_on, IsStopped, EvictsFrom, EvictRow, IsFailedTest, IsUnfit};
 
-use crate::faults::PoolFault;
+use crate::faults::{NoRoom, PoolFault};
 use crate::pool::SharedPool;
 use pool_core::StepFault;
 use pool_desk::{Clock, Factory};
@@ -94,8 +94,7 @@ impl<T: Drop, E: Drop, F: Factory<T, E> + Drop, C: Clock + Drop, B: Room> Shared
     {
         match self.carry_on(rt, me, Input::Tested { id, outcome }) {
             Answer::Destroy => {
-                self.factory.destroy(value);
-                self.give_up(rt, me, id);
+                self.destroy_held(rt, me, id, value);
             }
             _ => unreachable!(),
         }
@@ -116,8 +115,7 @@ impl<T: Drop, E: Drop, F: Factory<T, E> + Drop, C: Clock + Drop, B: Room> Shared
                 Fate::Kept
             }
             Ok((Answer::Destroy, Some(value))) => {
-                self.factory.destroy(value);
-                self.give_up(rt, me, id);
+                self.destroy_held(rt, me, id, value);
                 Fate::Destroyed
             }
             Ok(_) => unreachable!(),
@@ -153,8 +151,7 @@ impl<T: Drop, E: Drop, F: Factory<T, E> + Drop, C: Clock + Drop, B: Room> Shared
         match self.ask(rt, me, Input::EvictNext, None) {
             Ok((Answer::KeptIdle(_), _)) => Ok(Some(Fate::Kept)),
             Ok((Answer::DestroyIdle(id), Some(value))) => {
-                self.factory.destroy(value);
-                self.give_up(rt, me, id);
+                self.destroy_held(rt, me, id, value);
                 Ok(Some(Fate::Destroyed))
             }
             Ok((Answer::Test(id), Some(value))) => Ok(Some(self.test(rt, me, id, value))),
@@ -201,12 +198,12 @@ impl<T: Drop, E: Drop, F: Factory<T, E> + Drop, C: Clock + Drop, B: Room> Shared
         ensures goes { Goes B.settings me.old me.new }
         ensures row { EvictRow B.settings result me.old me.new }
     {
-        match self.ask(rt, me, Input::Evict, None) {
-            Ok((Answer::Count(count), _)) => self.examine(rt, me, count),
-            Ok((Answer::Refused(Cause::Closed), _)) => Err(PoolFault::Closed),
+        match self.ask_plainly(rt, me, Input::Evict) {
+            Ok(Answer::Count(count)) => self.examine(rt, me, count),
+            Ok(Answer::Refused(Cause::Closed)) => Err(PoolFault::Closed),
             Ok(_) => unreachable!(),
-            Err(StepFault::JournalFull(_)) => Err(PoolFault::JournalFull),
-            Err(StepFault::OutOfMemory(_)) => Err(PoolFault::OutOfMemory),
+            Err(NoRoom::JournalFull) => Err(PoolFault::JournalFull),
+            Err(NoRoom::OutOfMemory) => Err(PoolFault::OutOfMemory),
         }
     }
 }

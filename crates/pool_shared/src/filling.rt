@@ -4,9 +4,8 @@ ghost use Rattle.pool_history.specs.Standings.{Goes};
 ghost use Rattle.pool_shared.specs.Adds.{IsAddFaultFrom};
 ghost use Rattle.pool_shared.specs.Fills.{Turns, FillRow};
 
-use crate::faults::{AddFault, Addition};
+use crate::faults::{AddFault, Addition, NoRoom};
 use crate::pool::SharedPool;
-use pool_core::StepFault;
 use pool_desk::{Clock, Factory};
 use pool_history::{Caller, Room};
 use pool_journal::{Answer, Input};
@@ -26,13 +25,13 @@ impl<T: Drop, E: Drop, F: Factory<T, E> + Drop, C: Clock + Drop, B: Room> Shared
         ensures few { OnOk result (length me.old.made + 1 < 2 ^ 64) }
         ensures fault { IfErr result (IsAddFaultFrom F.from_make F.from_passivate) }
     {
-        match self.ask(rt, me, Input::Fill, None) {
-            Ok((Answer::Make(id), _)) => self.stock(rt, me, id),
-            Ok((Answer::Enough, _)) => Ok(Addition::NoPlace),
-            Ok((Answer::NoPlace, _)) => Ok(Addition::NoPlace),
+        match self.ask_plainly(rt, me, Input::Fill) {
+            Ok(Answer::Make(id)) => self.stock(rt, me, id),
+            Ok(Answer::Enough) => Ok(Addition::NoPlace),
+            Ok(Answer::NoPlace) => Ok(Addition::NoPlace),
             Ok(_) => unreachable!(),
-            Err(StepFault::JournalFull(_)) => Err(AddFault::JournalFull),
-            Err(StepFault::OutOfMemory(_)) => Err(AddFault::OutOfMemory),
+            Err(NoRoom::JournalFull) => Err(AddFault::JournalFull),
+            Err(NoRoom::OutOfMemory) => Err(AddFault::OutOfMemory),
         }
     }
 

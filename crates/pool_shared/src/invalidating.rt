@@ -3,10 +3,9 @@ ghost use Rattle.std.specs.Prelude.{◌≡◌, IfErr};
 ghost use Rattle.pool_history.specs.Standings.{Goes};
 ghost use Rattle.pool_shared.specs.Invalidates.{InvalidateRow};
 
-use crate::faults::{ReturnFault, Returned};
+use crate::faults::{NoRoom, ReturnFault, Returned};
 use crate::lent::Lent;
 use crate::pool::SharedPool;
-use pool_core::StepFault;
 use pool_desk::{Clock, Factory};
 use pool_history::{Caller, Room};
 use pool_journal::{Answer, Cause, Input};
@@ -40,14 +39,13 @@ impl<T: Drop, E: Drop, F: Factory<T, E> + Drop, C: Clock + Drop, B: Room> Shared
         if lent.pool != self.number {
             return Err((ReturnFault::ForeignObject, lent));
         }
-        match self.ask(rt, me, Input::Invalidate { id: lent.id }, None) {
-            Ok((Answer::Destroy, _)) => {
+        match self.ask_plainly(rt, me, Input::Invalidate { id: lent.id }) {
+            Ok(Answer::Destroy) => {
                 let Lent { pool: _, id, value } = lent;
-                self.factory.destroy(value);
-                self.give_up(rt, me, id);
+                self.destroy_held(rt, me, id, value);
                 Ok(Returned::Destroyed)
             }
-            Ok((Answer::Gone, _)) => {
+            Ok(Answer::Gone) => {
                 let Lent {
                     pool: _,
                     id: _,
@@ -56,10 +54,10 @@ impl<T: Drop, E: Drop, F: Factory<T, E> + Drop, C: Clock + Drop, B: Room> Shared
                 self.factory.destroy(value);
                 Ok(Returned::Gone)
             }
-            Ok((Answer::Refused(Cause::NotLent), _)) => Err((ReturnFault::NotLent, lent)),
+            Ok(Answer::Refused(Cause::NotLent)) => Err((ReturnFault::NotLent, lent)),
             Ok(_) => unreachable!(),
-            Err(StepFault::JournalFull(_)) => Err((ReturnFault::JournalFull, lent)),
-            Err(StepFault::OutOfMemory(_)) => Err((ReturnFault::OutOfMemory, lent)),
+            Err(NoRoom::JournalFull) => Err((ReturnFault::JournalFull, lent)),
+            Err(NoRoom::OutOfMemory) => Err((ReturnFault::OutOfMemory, lent)),
         }
     }
 }

@@ -6,9 +6,8 @@ ghost use Rattle.pool_history.specs.Standings.{Goes, Knows};
 ghost use Rattle.pool_shared.specs.Walks.{EndsWithMade};
 ghost use Rattle.pool_shared.specs.Reclaims.{reclaims, ReclaimsFrom, ReclaimRow};
 
-use crate::faults::PoolFault;
+use crate::faults::{NoRoom, PoolFault};
 use crate::pool::SharedPool;
-use pool_core::StepFault;
 use pool_desk::{Clock, Factory};
 use pool_history::{Caller, Room};
 use pool_journal::{Answer, Input, When};
@@ -34,12 +33,12 @@ impl<T: Drop, E: Drop, F: Factory<T, E> + Drop, C: Clock + Drop, B: Room> Shared
         ensures row { (time : When) → ReclaimsFrom B.settings time (reclaims count 0) result me.old me.new }
     {
         for taken in 0..count {
-            match self.ask(rt, me, Input::ReclaimNext, None) {
-                Ok((Answer::Reclaimed(_), _)) => self.changed.notify_all(),
-                Ok((Answer::Nothing, _)) => return Ok(taken),
+            match self.ask_plainly(rt, me, Input::ReclaimNext) {
+                Ok(Answer::Reclaimed(_)) => self.changed.notify_all(),
+                Ok(Answer::Nothing) => return Ok(taken),
                 Ok(_) => unreachable!(),
-                Err(StepFault::JournalFull(_)) => return Err(PoolFault::JournalFull),
-                Err(StepFault::OutOfMemory(_)) => return Err(PoolFault::OutOfMemory),
+                Err(NoRoom::JournalFull) => return Err(PoolFault::JournalFull),
+                Err(NoRoom::OutOfMemory) => return Err(PoolFault::OutOfMemory),
             }
         }
         Ok(count)
@@ -55,11 +54,11 @@ impl<T: Drop, E: Drop, F: Factory<T, E> + Drop, C: Clock + Drop, B: Room> Shared
         ensures goes { Goes B.settings me.old me.new }
         ensures row { ReclaimRow B.settings on result me.old me.new }
     {
-        match self.ask(rt, me, Input::Reclaim { on }, None) {
-            Ok((Answer::Count(count), _)) => self.reclaim_some(rt, me, count),
+        match self.ask_plainly(rt, me, Input::Reclaim { on }) {
+            Ok(Answer::Count(count)) => self.reclaim_some(rt, me, count),
             Ok(_) => unreachable!(),
-            Err(StepFault::JournalFull(_)) => Err(PoolFault::JournalFull),
-            Err(StepFault::OutOfMemory(_)) => Err(PoolFault::OutOfMemory),
+            Err(NoRoom::JournalFull) => Err(PoolFault::JournalFull),
+            Err(NoRoom::OutOfMemory) => Err(PoolFault::OutOfMemory),
         }
     }
 

@@ -10,10 +10,9 @@ ghost use Rattle.pool_shared.specs.Walks.{EndsWithMade};
 ghost use Rattle.pool_shared.specs.Returns.{checks, done, MayComeOut, Goes_on, ReturnRow};
 ghost use Rattle.pool_shared.specs.declared.faults.Returned.TheVariants as returned;
 
-use crate::faults::{ReturnFault, Returned};
+use crate::faults::{NoRoom, ReturnFault, Returned};
 use crate::lent::Lent;
 use crate::pool::SharedPool;
-use pool_core::StepFault;
 use pool_desk::{Clock, Factory};
 use pool_history::{Caller, Room};
 use pool_journal::{Answer, Cause, Input, Outcome};
@@ -36,8 +35,7 @@ impl<T: Drop, E: Drop, F: Factory<T, E> + Drop, C: Clock + Drop, B: Room> Shared
     {
         match self.carry_on(rt, me, Input::Park { id, outcome }) {
             Answer::Destroy => {
-                self.factory.destroy(value);
-                self.give_up(rt, me, id);
+                self.destroy_held(rt, me, id, value);
             }
             _ => unreachable!(),
         }
@@ -58,8 +56,7 @@ impl<T: Drop, E: Drop, F: Factory<T, E> + Drop, C: Clock + Drop, B: Room> Shared
                 Returned::Parked
             }
             Ok((Answer::Destroy, Some(value))) => {
-                self.factory.destroy(value);
-                self.give_up(rt, me, id);
+                self.destroy_held(rt, me, id, value);
                 Returned::Destroyed
             }
             Ok(_) => unreachable!(),
@@ -103,12 +100,12 @@ impl<T: Drop, E: Drop, F: Factory<T, E> + Drop, C: Clock + Drop, B: Room> Shared
         if lent.pool != self.number {
             return Err((ReturnFault::ForeignObject, lent));
         }
-        match self.ask(rt, me, Input::GiveBack { id: lent.id }, None) {
-            Ok((Answer::Check, _)) => {
+        match self.ask_plainly(rt, me, Input::GiveBack { id: lent.id }) {
+            Ok(Answer::Check) => {
                 let Lent { pool: _, id, value } = lent;
                 Ok(self.check(rt, me, id, value))
             }
-            Ok((Answer::Gone, _)) => {
+            Ok(Answer::Gone) => {
                 let Lent {
                     pool: _,
                     id: _,
@@ -117,10 +114,10 @@ impl<T: Drop, E: Drop, F: Factory<T, E> + Drop, C: Clock + Drop, B: Room> Shared
                 self.factory.destroy(value);
                 Ok(Returned::Gone)
             }
-            Ok((Answer::Refused(Cause::NotLent), _)) => Err((ReturnFault::NotLent, lent)),
+            Ok(Answer::Refused(Cause::NotLent)) => Err((ReturnFault::NotLent, lent)),
             Ok(_) => unreachable!(),
-            Err(StepFault::JournalFull(_)) => Err((ReturnFault::JournalFull, lent)),
-            Err(StepFault::OutOfMemory(_)) => Err((ReturnFault::OutOfMemory, lent)),
+            Err(NoRoom::JournalFull) => Err((ReturnFault::JournalFull, lent)),
+            Err(NoRoom::OutOfMemory) => Err((ReturnFault::OutOfMemory, lent)),
         }
     }
 }

@@ -5,7 +5,7 @@ use Rattle.pool_shared.proofs.pool.SharedPool.examine_next.Goals as goal
 
 pub returns-in-Ok-DestroyIdle-Some-clause-walk : goal.returns-in-Ok-DestroyIdle-Some-clause-walk
 returns-in-Ok-DestroyIdle-Some-clause-walk g c left run some =
-    destroyed_idle c.in-Ok-DestroyIdle-Some.id left run _ _ _ _ some c.in-Ok-DestroyIdle-Some.field-0-0-is c.in-Ok-DestroyIdle-Some.ensures.made c.give_up.ensures.made
+    destroyed_idle c.in-Ok-DestroyIdle-Some.id left run _ _ _ _ some c.in-Ok-DestroyIdle-Some.field-0-0-is c.in-Ok-DestroyIdle-Some.ensures.made c.destroy_held.ensures.made
 
 pub returns-in-Ok-Test-Some-clause-walk : goal.returns-in-Ok-Test-Some-clause-walk
 returns-in-Ok-Test-Some-clause-walk g c left run some =

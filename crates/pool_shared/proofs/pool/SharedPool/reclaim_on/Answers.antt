@@ -1,6 +1,6 @@
 use Rattle.pool_shared.proofs.Removals.{removal}
 use Rattle.pool_shared.proofs.pool.SharedPool.reclaim_on.Goals as goal
 
-pub returns-in-Ok-Count-default-clause-row : goal.returns-in-Ok-Count-default-clause-row
-returns-in-Ok-Count-default-clause-row g c =
-    removal g.B.Room.settings c.args.on c.in-Ok-Count-default.count _ _ _ _ _ c.in-Ok-Count-default.field-0-0-is c.in-Ok-Count-default.ensures.made (c.reclaim_some.ensures.row c.args.on)
+pub returns-in-Ok-Count-clause-row : goal.returns-in-Ok-Count-clause-row
+returns-in-Ok-Count-clause-row g c =
+    removal g.B.Room.settings c.args.on c.in-Ok-Count.count _ _ _ _ _ c.in-Ok-Count.field-0-is c.in-Ok-Count.ensures.made (c.reclaim_some.ensures.row c.args.on)

@@ -1,4 +1,4 @@
-use Rattle.std.proofs.Common.{◌≡◌, ◌<◌, ◌-◌, refl, arith}
+use Rattle.std.proofs.Common.{ap, ◌≡◌, ◌<◌, ◌-◌, refl, arith}
 use Rattle.pool_journal.specs.declared.input.Input.TheVariants.{ReclaimNext}
 use Rattle.pool_shared.specs.Reclaims as removals
 use Rattle.pool_shared.specs.Reclaims.{reclaims}
@@ -6,6 +6,7 @@ use Rattle.pool_shared.proofs.Walking.{walk_none, ends_of}
 use Rattle.pool_shared.proofs.Sweeping.{goes_self, goes_then}
 use Rattle.pool_shared.proofs.Rowing.{full_for}
 use Rattle.pool_shared.proofs.Removals.{took_away, none_abandoned, all_taken, none_there, stopped}
+use Rattle.pool_shared.specs.Pools.{refusal}
 use Rattle.pool_shared.proofs.pool.SharedPool.reclaim_some.Goals as goal
 
 pub loop-taken-init : goal.loop-taken-init
@@ -22,15 +23,15 @@ loop-taken-preserved g c =
     let i = c.loop-taken.invariant in
     let some : 0 < i.left = omega (arith, i.all, c.loop-taken-test.true) in
     record {
-      goes = goes_then g.B.Room.settings c.args.me.now c.loop-taken.me c.ask.new.me i.goes c.in-Ok-Reclaimed-default.ensures.goes;
-      ends = (_, _, ends_of _ _ c.loop-taken.me c.ask.new.me c.in-Ok-Reclaimed-default.ensures.goes.number c.in-Ok-Reclaimed-default.ensures.made);
+      goes = goes_then g.B.Room.settings c.args.me.now c.loop-taken.me c.ask_plainly.new.me i.goes c.in-Ok-Reclaimed.ensures.goes;
+      ends = (_, _, ends_of _ _ c.loop-taken.me c.ask_plainly.new.me c.in-Ok-Reclaimed.ensures.goes.number c.in-Ok-Reclaimed.ensures.made);
       left = i.left - 1;
       all = omega (arith, i.all, some);
-      walk = λ time. took_away time c.args.count i.left c.loop-taken.taken _ _ _ _ _ some (i.walk time) c.in-Ok-Reclaimed-default.field-0-0-is c.in-Ok-Reclaimed-default.ensures.made;
+      walk = λ time. took_away time c.args.count i.left c.loop-taken.taken _ _ _ _ _ some (i.walk time) c.in-Ok-Reclaimed.field-0-is c.in-Ok-Reclaimed.ensures.made;
     }
 
-pub returns-in-Ok-Nothing-default-clause-goes : goal.returns-in-Ok-Nothing-default-clause-goes
-returns-in-Ok-Nothing-default-clause-goes g c = goes_then g.B.Room.settings c.args.me.now c.loop-taken.me c.ask.new.me c.loop-taken.invariant.goes c.in-Ok-Nothing-default.ensures.goes
+pub returns-in-Ok-Nothing-clause-goes : goal.returns-in-Ok-Nothing-clause-goes
+returns-in-Ok-Nothing-clause-goes g c = goes_then g.B.Room.settings c.args.me.now c.loop-taken.me c.ask_plainly.new.me c.loop-taken.invariant.goes c.in-Ok-Nothing.ensures.goes
 
 pub returns-clause-goes : goal.returns-clause-goes
 returns-clause-goes g c = c.loop-taken.invariant.goes
@@ -42,19 +43,19 @@ returns-clause-row g c time =
     let taken : c.loop-taken.taken ≡ c.args.count = omega (arith, i.all, none) in
     all_taken g.B.Room.settings time c.args.count i.left c.loop-taken.taken _ _ none taken (i.walk time) i.ends
 
-pub returns-in-Ok-Nothing-default-clause-row : goal.returns-in-Ok-Nothing-default-clause-row
-returns-in-Ok-Nothing-default-clause-row g c time =
+pub returns-in-Ok-Nothing-clause-row : goal.returns-in-Ok-Nothing-clause-row
+returns-in-Ok-Nothing-clause-row g c time =
     let i = c.loop-taken.invariant in
     let some : 0 < i.left = omega (arith, i.all, c.loop-taken-test.true) in
-    let ends = ends_of _ _ c.loop-taken.me c.ask.new.me c.in-Ok-Nothing-default.ensures.goes.number c.in-Ok-Nothing-default.ensures.made in
-    none_abandoned g.B.Room.settings time c.args.count i.left c.loop-taken.taken _ _ _ _ some (i.walk time) c.in-Ok-Nothing-default.field-0-0-is c.in-Ok-Nothing-default.ensures.made (_, _, ends)
+    let ends = ends_of _ _ c.loop-taken.me c.ask_plainly.new.me c.in-Ok-Nothing.ensures.goes.number c.in-Ok-Nothing.ensures.made in
+    none_abandoned g.B.Room.settings time c.args.count i.left c.loop-taken.taken _ _ _ _ some (i.walk time) c.in-Ok-Nothing.field-0-is c.in-Ok-Nothing.ensures.made (_, _, ends)
 
 pub returns-in-Err-JournalFull-clause-row : goal.returns-in-Err-JournalFull-clause-row
 returns-in-Err-JournalFull-clause-row g c time =
     let i = c.loop-taken.invariant in
     let some : 0 < i.left = omega (arith, i.all, c.loop-taken-test.true) in
     let refused = c.in-Err-JournalFull.ensures.refused in
-    stopped g.B.Room.settings time c.args.count i.left c.loop-taken.taken _ _ _ _ some (i.walk time) refused.same (full_for g.B.Room.settings ReclaimNext _ _ _ _ c.in-Err-JournalFull.field-0-is refused)
+    stopped g.B.Room.settings time c.args.count i.left c.loop-taken.taken _ _ _ _ some (i.walk time) refused.same (full_for g.B.Room.settings ReclaimNext _ _ _ _ (ap refusal c.in-Err-JournalFull.field-0-is) refused)
     (none_there g.B.Room.settings _ _ _ refused.there)
 
 pub returns-in-Err-OutOfMemory-clause-row : goal.returns-in-Err-OutOfMemory-clause-row
