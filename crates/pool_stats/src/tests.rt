@@ -1,4 +1,4 @@
-use crate::{Ended, Statistics};
+use crate::{Ended, RunningTally, Statistics};
 use pool_journal::{Answer, Entry, Input, Outcome, read_entry};
 use std::alloc::{AllocError, Global};
 use std::process::Abort;
@@ -62,6 +62,18 @@ const DESTROYED: &str = "0 0 borrow 0 = make 0\n\
     1 8 tested 4 good = destroy\n\
     1 9 ready 5 activatefail = destroy\n";
 
+// Object 0 is lent for 15 milliseconds, and then until a moment before that lending began. Object 1 is still lent.
+const LENT_AGAIN: &str = "0 0 borrow 0 = make 0\n\
+    0 10 ready 0 good = lent\n\
+    0 25 return 0 = check\n\
+    0 26 park 0 good = parked\n\
+    1 30 borrow 30 = take 0\n\
+    1 30 ready 0 good = lent\n\
+    0 28 borrow 28 = make 1\n\
+    0 29 ready 1 good = lent\n\
+    1 20 return 0 = check\n\
+    1 21 park 0 good = parked\n";
+
 /// The entries of a journal's text.
 fn entries_of(rt: &impl Abort, alloc: Global, text: &str) -> Result<Vec<Entry>, AllocError> {
     let mut entries = Vec::new(alloc);
@@ -106,6 +118,42 @@ fn statistics_of_journals(rt: HostRuntime) -> Result<(), Fail> {
     for (text, wanted) in cases {
         let entries = entries_of(&rt, rt.alloc(), text)?;
         let found = Statistics::of(rt.alloc(), &entries)?;
+        assert_eq!(rt; found, numbers(wanted), "at {text}");
+    }
+    Ok(())
+}
+
+// Tells a tally one entry more.
+fn tells(rt: &impl Abort, tally: &mut RunningTally, entry: &Entry) -> Result<(), AllocError> {
+    if tally.taken() < u64::MAX {
+        tally.take(entry)
+    } else {
+        panic!(rt; "too many entries")
+    }
+}
+
+// A tally that is told entries one by one has at each of them the statistics of all that it was told.
+fn told_of(rt: &impl Abort, alloc: Global, entries: &[Entry]) -> Result<Statistics, Fail> {
+    let mut tally = RunningTally::new(alloc);
+    let mut told = Vec::new(alloc);
+    for entry in entries {
+        tells(rt, &mut tally, entry)?;
+        told.push(*entry)?;
+        assert_eq!(rt; tally.taken(), told.len() as u64);
+        assert_eq!(rt; tally.statistics(), Statistics::of(alloc, &told)?);
+    }
+    Ok(tally.statistics())
+}
+
+#[test]
+fn told_one_by_one(rt: HostRuntime) -> Result<(), Fail> {
+    for (text, wanted) in [
+        (LENT_AGAIN, [3, 2, 2, 0, 0, 0, 0, 15, 15]),
+        (RECLAIMED, [1, 0, 1, 0, 0, 0, 1, 100, 100]),
+        (DESTROYED, [0, 0, 2, 2, 2, 1, 0, 0, 0]),
+    ] {
+        let entries = entries_of(&rt, rt.alloc(), text)?;
+        let found = told_of(&rt, rt.alloc(), &entries)?;
         assert_eq!(rt; found, numbers(wanted), "at {text}");
     }
     Ok(())

@@ -1,25 +1,19 @@
-// Clocks that tell what a trial wants.
+// The clock of the trials.
+use crate::turns::{Flag, Flags};
 use pool_shared::Clock;
-use std::sync::atomic::{AtomicU64, Ordering};
 
-/// A clock that always tells 0.
+/// A clock that always tells 0: where it has flags, it tells that it is read, and waits at the gate.
 #[derive(Drop)]
-pub struct Still;
+pub struct Still<'a> {
+    pub held: Option<&'a Flags>,
+}
 
-impl Clock for Still {
+impl Clock for Still<'_> {
     fn now(&self) -> u64 {
+        if let Some(flags) = self.held {
+            flags.set(Flag::Read);
+            flags.wait_at_the_gate();
+        }
         0
-    }
-}
-
-/// A clock that tells what it is set to.
-#[derive(Drop)]
-pub struct Hands<'a> {
-    pub moment: &'a AtomicU64,
-}
-
-impl Clock for Hands<'_> {
-    fn now(&self) -> u64 {
-        self.moment.load(Ordering::SeqCst)
     }
 }

@@ -4,7 +4,7 @@ ghost use Rattle.std.specs.Prelude.{◌≡◌};
 use crate::clocks::Still;
 use crate::openings::NUMBER;
 use pool_settings::Settings;
-use pool_shared::{Factory, Lent, Room, SharedPool, Site};
+use pool_shared::{Caller, Factory, Lent, Room, SharedPool, Site};
 use std::alloc::{AllocError, Global};
 use std::marker::Brand;
 use std::sync::Wait;
@@ -69,7 +69,7 @@ impl<'a> Factory<Counted<'a>, AllocError> for Counting<'a> {
     }
 }
 
-type Counts<'a, B> = SharedPool<Counted<'a>, AllocError, Counting<'a>, Still, B>;
+type Counts<'a, B> = SharedPool<Counted<'a>, AllocError, Counting<'a>, Still<'static>, B>;
 
 /// The orders in which the three are dropped.
 #[derive(Clone, Copy, Debug)]
@@ -126,6 +126,40 @@ fn drop_in_order<P: Drop, C: Drop, L: Drop>(order: Order, pool: P, callers: C, l
     }
 }
 
+// Borrows an object; none where none is lent.
+fn borrows<'a, B: Room, R: Wait>(
+    rt: &R,
+    pool: &Counts<'a, B>,
+    me: &mut Caller<B>,
+) -> Option<Lent<Counted<'a>>> {
+    pool.borrow(rt, me).ok()
+}
+
+// Gives an object back. Answers whether it was taken.
+fn gives_back<'a, B: Room, R: Wait>(
+    rt: &R,
+    pool: &Counts<'a, B>,
+    me: &mut Caller<B>,
+    lent: Lent<Counted<'a>>,
+) -> bool {
+    pool.give_back(rt, me, lent).is_ok()
+}
+
+// Borrows two objects, and gives one back.
+fn holds_one_of_two<'a, B: Room, R: Wait>(
+    rt: &R,
+    pool: &Counts<'a, B>,
+    me: &mut Caller<B>,
+) -> Option<Lent<Counted<'a>>> {
+    let lent = borrows(rt, pool, me)?;
+    let other = borrows(rt, pool, me)?;
+    if gives_back(rt, pool, me, other) {
+        Some(lent)
+    } else {
+        None
+    }
+}
+
 // A pool with an idle object and a lent one is dropped with them.
 fn drops<B: Room, R: Wait>(
     rt: &R,
@@ -138,13 +172,12 @@ fn drops<B: Room, R: Wait>(
     requires { (site ≡ B.table) × (settings ≡ B.settings) × (2 ≡ B.callers) }
 {
     let objects = Counting { alloc, present };
+    let clock = Still { held: None };
     let (pool, mut callers) = Counts::<B>::open(
-        rt, alloc, site, settings, NUMBER, 2, objects, Still,
+        rt, alloc, site, settings, NUMBER, 2, objects, clock,
     )?;
     let mut me = callers.pop().ok_or("a caller")?;
-    let lent = pool.borrow(rt, &mut me).ok().ok_or("an object")?;
-    let other = pool.borrow(rt, &mut me).ok().ok_or("an object")?;
-    pool.give_back(rt, &mut me, other).ok().ok_or("taken back")?;
+    let lent = holds_one_of_two(rt, &pool, &mut me).ok_or("an object")?;
     callers.push(me)?;
     drop_in_order(order, pool, callers, lent);
     Ok(())
@@ -172,13 +205,12 @@ fn finishes<B: Room, R: Wait>(
     requires { (site ≡ B.table) × (settings ≡ B.settings) × (1 ≡ B.callers) }
 {
     let objects = Counting { alloc, present };
+    let clock = Still { held: None };
     let (pool, mut callers) = Counts::<B>::open(
-        rt, alloc, site, settings, NUMBER, 1, objects, Still,
+        rt, alloc, site, settings, NUMBER, 1, objects, clock,
     )?;
     let mut me = callers.pop().ok_or("a caller")?;
-    let lent = pool.borrow(rt, &mut me).ok().ok_or("an object")?;
-    let other = pool.borrow(rt, &mut me).ok().ok_or("an object")?;
-    pool.give_back(rt, &mut me, other).ok().ok_or("taken back")?;
+    let lent = holds_one_of_two(rt, &pool, &mut me).ok_or("an object")?;
     callers.push(me)?;
     let core = pool.finish(rt, callers).ok().ok_or("a core")?;
     drop(core);

@@ -2,8 +2,9 @@
 ghost use Rattle.std.specs.Prelude.{◌≡◌};
 
 use crate::clocks::Still;
-use crate::items::{Failing, Items, Record};
-use crate::openings::{NUMBER, Pool, single};
+use crate::deeds::{Deed, Row, borrows, counts, does, gives_back, goes_through};
+use crate::items::{Failing, Items, Record, Waiting};
+use crate::openings::{NUMBER, Pool, open, single};
 use pool_settings::Settings;
 use pool_shared::{Caller, Room, Site};
 use std::alloc::Global;
@@ -19,15 +20,42 @@ const ALL_TESTS: &str =
 /// 3 for the addition, 3 for the idle test of each of the two objects.
 const CALLS: u64 = 19;
 
+const ONE_LENT: [Row; 2] = [(Deed::Reserved, "reserved", 0), (Deed::Lent, "lent", 1)];
+
+const NONE_LENT: [Row; 2] = [(Deed::Reserved, "reserved", 0), (Deed::Lent, "lent", 0)];
+
+const NONE_RESERVED: [Row; 1] = [(Deed::Reserved, "reserved", 0)];
+
 // Borrows, and gives back what was lent.
 fn borrows_and_gives_back<B: Room, R: Wait + Abort>(rt: &R, pool: &Pool<B>, me: &mut Caller<B>) {
-    if let Ok(lent) = pool.borrow(rt, me) {
-        assert_eq!(rt; pool.counts(rt, me).reserved, 0);
-        assert_eq!(rt; pool.counts(rt, me).lent, 1);
-        assert!(rt; pool.give_back(rt, me, lent).is_ok());
+    let mut held = None;
+    borrows(rt, pool, me, &mut held);
+    if held.is_some() {
+        goes_through(rt, pool, me, &mut held, &ONE_LENT);
+        gives_back(rt, pool, me, &mut held);
+        assert!(rt; held.is_none());
     }
-    assert_eq!(rt; pool.counts(rt, me).reserved, 0);
-    assert_eq!(rt; pool.counts(rt, me).lent, 0);
+    goes_through(rt, pool, me, &mut held, &NONE_LENT);
+}
+
+// Whether a word tells of an eviction run.
+fn is_run(word: &str) -> bool {
+    word == "examined" || word == "all destroyed" || word == "some destroyed"
+}
+
+// Adds an object, goes over the idle ones, and closes the pool.
+fn adds_and_ends<B: Room, R: Wait + Abort>(rt: &R, pool: &Pool<B>, me: &mut Caller<B>) {
+    let mut held = None;
+    does(rt, pool, me, &mut held, Deed::Add);
+    goes_through(rt, pool, me, &mut held, &NONE_RESERVED);
+    let (word, _) = does(rt, pool, me, &mut held, Deed::Evict);
+    assert!(rt; is_run(word));
+    goes_through(rt, pool, me, &mut held, &NONE_RESERVED);
+    let (word, _) = does(rt, pool, me, &mut held, Deed::Close);
+    assert!(rt; word == "count");
+    let counts = counts(rt, pool, me);
+    assert_eq!(rt; counts.reserved, 0);
+    assert_eq!(rt; counts.destroyed, counts.created);
 }
 
 fn lives<B: Room, R: Wait + Abort>(
@@ -35,24 +63,16 @@ fn lives<B: Room, R: Wait + Abort>(
     alloc: Global,
     site: Site,
     settings: Settings,
-    record: &Record,
-    failing: Failing,
+    items: Items,
 ) -> Result<(), Fail>
     requires { (site ≡ B.table) × (settings ≡ B.settings) × (1 ≡ B.callers) }
 {
-    let items = Items { record, failing };
-    let (pool, callers) = Pool::<B>::open(rt, alloc, site, settings, NUMBER, 1, items, Still)?;
+    let clock = Still { held: None };
+    let (pool, callers) = open::<B, R>(rt, alloc, site, settings, NUMBER, 1, items, clock)?;
     let mut me = single(callers).ok_or("a caller")?;
     borrows_and_gives_back(rt, &pool, &mut me);
     borrows_and_gives_back(rt, &pool, &mut me);
-    let _added = pool.add(rt, &mut me);
-    assert_eq!(rt; pool.counts(rt, &mut me).reserved, 0);
-    assert!(rt; pool.evict(rt, &mut me).is_ok());
-    assert_eq!(rt; pool.counts(rt, &mut me).reserved, 0);
-    assert!(rt; pool.close(rt, &mut me).is_ok());
-    let counts = pool.counts(rt, &mut me);
-    assert_eq!(rt; counts.reserved, 0);
-    assert_eq!(rt; counts.destroyed, counts.created);
+    adds_and_ends(rt, &pool, &mut me);
     Ok(())
 }
 
@@ -62,8 +82,12 @@ fn each_call_of_the_factory_fails_once(rt: HostRuntime) -> Result<(), Fail> {
     for number in 1..=CALLS + 1 {
         let site = Site::new(rt.alloc())?;
         let record = Record::new(rt.alloc(), 8)?;
-        let failing = Failing::Nth(number);
-        lives::<Brand, _>(&rt, rt.alloc(), site, settings, &record, failing)?;
+        let items = Items {
+            record: &record,
+            failing: Failing::Nth(number),
+            waiting: Waiting::Nowhere,
+        };
+        lives::<Brand, _>(&rt, rt.alloc(), site, settings, items)?;
         assert!(rt; record.is_even(), "at {number}");
         assert_eq!(rt; record.calls() < number, number > CALLS, "at {number}");
     }

@@ -1,12 +1,19 @@
 // The objects of the trials, the factory that makes them, and the record of what it did.
 ghost use Rattle.std.specs.Prelude.{◌≡◌, true, false};
 
+use crate::turns::Flags;
 use pool_shared::Factory;
 use std::alloc::{AllocError, Global};
 use std::sync::atomic::{AtomicU64, Ordering};
 
-/// What each call of a factory that fails fails for.
-pub const FAULT: u8 = 7;
+/// What a make fails for.
+pub const NOT_MADE: u8 = 7;
+
+/// What an activation fails for.
+pub const NOT_ACTIVATED: u8 = 8;
+
+/// What a passivation fails for.
+pub const NOT_PASSIVATED: u8 = 9;
 
 /// An object of a trial.
 #[derive(Drop)]
@@ -90,14 +97,38 @@ impl Record {
     }
 }
 
+/// Where a factory waits at the gate.
+#[derive(Clone, Copy)]
+pub enum Waiting<'a> {
+    Nowhere,
+    /// While it makes object 0.
+    Making(&'a Flags),
+    /// While it tests an object.
+    Testing(&'a Flags),
+}
+
 /// A factory that fails where it is told to, and keeps a record.
 #[derive(Drop)]
 pub struct Items<'a> {
     pub record: &'a Record,
     pub failing: Failing,
+    pub waiting: Waiting<'a>,
 }
 
 impl Items<'_> {
+    fn waits_to_make(&self, id: u64) {
+        match self.waiting {
+            Waiting::Making(flags) if id == 0 => flags.wait_at_the_gate(),
+            _ => {}
+        }
+    }
+
+    fn waits_to_test(&self) {
+        if let Waiting::Testing(flags) = self.waiting {
+            flags.wait_at_the_gate();
+        }
+    }
+
     // Whether this call fails.
     fn fails(&self, call: Call) -> bool {
         let before = self.record.calls.fetch_add(1, Ordering::SeqCst);
@@ -118,13 +149,14 @@ impl Factory<Item, u8> for Items<'_> {
 
     ghost from_make = { λ f. f ≡ 7 };
 
-    ghost from_activate = { λ f. f ≡ 7 };
+    ghost from_activate = { λ f. f ≡ 8 };
 
-    ghost from_passivate = { λ f. f ≡ 7 };
+    ghost from_passivate = { λ f. f ≡ 9 };
 
     fn make(&self, id: u64) -> Result<Item, u8> {
+        self.waits_to_make(id);
         if self.fails(Call::Make) {
-            return Err(FAULT);
+            return Err(NOT_MADE);
         }
         self.record.note_made(id);
         Ok(Item { id, awake: false })
@@ -132,7 +164,7 @@ impl Factory<Item, u8> for Items<'_> {
 
     fn activate(&self, value: &mut Item) -> Result<(), u8> {
         if self.fails(Call::Activate) {
-            return Err(FAULT);
+            return Err(NOT_ACTIVATED);
         }
         value.awake = true;
         Ok(())
@@ -140,12 +172,13 @@ impl Factory<Item, u8> for Items<'_> {
 
     fn validate(&self, value: &Item) -> bool {
         let _ = value;
+        self.waits_to_test();
         !self.fails(Call::Validate)
     }
 
     fn passivate(&self, value: &mut Item) -> Result<(), u8> {
         if self.fails(Call::Passivate) {
-            return Err(FAULT);
+            return Err(NOT_PASSIVATED);
         }
         value.awake = false;
         Ok(())

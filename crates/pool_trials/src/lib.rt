@@ -2,9 +2,13 @@
 #![tactic(auto)]
 
 #[cfg(test)]
+mod beside;
+#[cfg(test)]
 mod clocks;
 #[cfg(test)]
 mod cutting;
+#[cfg(test)]
+mod deeds;
 #[cfg(test)]
 mod dropping;
 #[cfg(test)]
@@ -21,6 +25,8 @@ mod items;
 mod life;
 #[cfg(test)]
 mod openings;
+#[cfg(test)]
+mod solo;
 #[cfg(test)]
 mod stock;
 #[cfg(test)]

@@ -2,12 +2,11 @@
 ghost use Rattle.std.specs.Prelude.{◌≡◌};
 
 use crate::clocks::Still;
-use crate::items::{Failing, Items, Record};
-use crate::openings::{NUMBER, Pool, pair};
+use crate::deeds::{Deed, Row, copied, goes_through};
+use crate::items::{Failing, Items, Record, Waiting};
+use crate::openings::{NUMBER, Pool, finished, open, pair};
 use pool_settings::Settings;
-use pool_shared::{
-    Addition, BorrowFault, Caller, EvictRun, FinishFault, Returned, Room, Site, Touched,
-};
+use pool_shared::{Caller, FinishFault, Room, Site};
 use pool_stats::Counts;
 use std::alloc::Global;
 use std::marker::Brand;
@@ -15,80 +14,80 @@ use std::process::Abort;
 use std::sync::Wait;
 use std::test::Fail;
 
-// The first caller borrows, touches and gives back.
-fn lends<B: Room, R: Wait + Abort>(rt: &R, pool: &Pool<B>, me: &mut Caller<B>) -> Result<(), Fail> {
-    let lent = pool.borrow(rt, me).ok().ok_or("an object")?;
-    assert_eq!(rt; lent.id(), 0);
-    let counts = Counts {
-        steps: 2,
-        idle: 0,
-        lent: 1,
-        reserved: 0,
-        created: 1,
-        destroyed: 0,
-        evicted: 0,
-        reclaimed: 0,
-    };
-    assert_eq!(rt; pool.counts(rt, me), counts);
-    assert!(rt; matches!(&pool.touch(rt, me, &lent), Ok(Touched::Noted)));
-    assert_eq!(rt; pool.counts(rt, me).steps, 3);
-    assert!(rt; matches!(&pool.give_back(rt, me, lent), Ok(Returned::Parked)));
-    assert_eq!(rt; pool.counts(rt, me).steps, 5);
-    Ok(())
+// The first caller borrows, touches and gives back; cares for the idle objects, and clears them away.
+const FIRST: [Row; 26] = [
+    (Deed::Borrow, "lent", 0),
+    (Deed::Steps, "steps", 2),
+    (Deed::Idle, "idle", 0),
+    (Deed::Lent, "lent", 1),
+    (Deed::Reserved, "reserved", 0),
+    (Deed::Created, "created", 1),
+    (Deed::Destroyed, "destroyed", 0),
+    (Deed::Evicted, "evicted", 0),
+    (Deed::Reclaimed, "reclaimed", 0),
+    (Deed::Touch, "noted", 0),
+    (Deed::Steps, "steps", 3),
+    (Deed::GiveBack, "parked", 0),
+    (Deed::Steps, "steps", 5),
+    (Deed::Add, "idle", 0),
+    (Deed::Steps, "steps", 7),
+    (Deed::Fill, "count", 0),
+    (Deed::Steps, "steps", 8),
+    (Deed::Evict, "examined", 2),
+    (Deed::Steps, "steps", 11),
+    (Deed::Reclaim, "count", 0),
+    (Deed::Steps, "steps", 12),
+    (Deed::Maintain, "done", 0),
+    (Deed::Steps, "steps", 17),
+    (Deed::Clear, "count", 2),
+    (Deed::Steps, "steps", 22),
+    (Deed::Held, "nothing held", 0),
+];
+
+fn first() -> &'static [Row] {
+    &FIRST
 }
 
-// It cares for the idle objects, and clears them away.
-fn keeps<B: Room, R: Wait + Abort>(rt: &R, pool: &Pool<B>, me: &mut Caller<B>) {
-    assert!(rt; matches!(&pool.add(rt, me), Ok(Addition::Idle)));
-    assert_eq!(rt; pool.counts(rt, me).steps, 7);
-    assert!(rt; matches!(&pool.fill(rt, me), Ok(0)));
-    assert_eq!(rt; pool.counts(rt, me).steps, 8);
-    let run = pool.evict(rt, me);
-    assert!(rt;
-        matches!(
-            &run,
-            Ok(EvictRun {
-                examined: 2,
-                destroyed: 0
-            })
-        )
-    );
-    assert_eq!(rt; pool.counts(rt, me).steps, 11);
-    assert!(rt; matches!(&pool.reclaim(rt, me), Ok(0)));
-    assert_eq!(rt; pool.counts(rt, me).steps, 12);
-    assert!(rt; matches!(&pool.maintain(rt, me), Ok(())));
-    assert_eq!(rt; pool.counts(rt, me).steps, 17);
-    assert!(rt; matches!(&pool.clear(rt, me), Ok(2)));
-    assert_eq!(rt; pool.counts(rt, me).steps, 22);
-}
+// The second borrows, and finds the object broken.
+const SECOND: [Row; 4] = [
+    (Deed::Borrow, "lent", 2),
+    (Deed::Steps, "steps", 24),
+    (Deed::Invalidate, "destroyed", 0),
+    (Deed::Steps, "steps", 26),
+];
 
-// The second caller borrows, and finds the object broken.
-fn breaks<B: Room, R: Wait + Abort>(
-    rt: &R,
-    pool: &Pool<B>,
-    me: &mut Caller<B>,
-) -> Result<(), Fail> {
-    let lent = pool.borrow(rt, me).ok().ok_or("an object")?;
-    assert_eq!(rt; lent.id(), 2);
-    assert_eq!(rt; pool.counts(rt, me).steps, 24);
-    assert!(rt; matches!(&pool.invalidate(rt, me, lent), Ok(Returned::Destroyed)));
-    assert_eq!(rt; pool.counts(rt, me).steps, 26);
-    Ok(())
+fn second() -> &'static [Row] {
+    &SECOND
 }
 
 // The first closes the pool, and borrows no more.
-fn closes<B: Room, R: Wait + Abort>(
+const END: [Row; 2] = [(Deed::Close, "count", 0), (Deed::Steps, "steps", 27)];
+
+fn end() -> &'static [Row] {
+    &END
+}
+
+const BEHIND_THE_END: [Row; 2] = [(Deed::Borrow, "closed", 0), (Deed::Steps, "steps", 28)];
+
+fn behind_the_end() -> &'static [Row] {
+    &BEHIND_THE_END
+}
+
+// Each caller does its part in turn.
+fn takes_parts<B: Room, R: Wait + Abort>(
     rt: &R,
     alloc: Global,
     pool: &Pool<B>,
-    me: &mut Caller<B>,
-) -> Result<(), Fail> {
-    assert!(rt; matches!(&pool.close(rt, me), Ok(0)));
-    assert_eq!(rt; pool.counts(rt, me).steps, 27);
-    assert_eq!(rt; pool.journal_copy(rt, alloc, me)?.len(), 27);
-    assert!(rt; matches!(&pool.borrow(rt, me), Err(BorrowFault::Closed)));
-    assert_eq!(rt; pool.counts(rt, me).steps, 28);
-    Ok(())
+    zero: &mut Caller<B>,
+    one: &mut Caller<B>,
+) {
+    let mut held = None;
+    goes_through(rt, pool, zero, &mut held, first());
+    goes_through(rt, pool, one, &mut held, second());
+    pool.meet(rt, zero, one);
+    goes_through(rt, pool, zero, &mut held, end());
+    assert_eq!(rt; copied(rt, alloc, pool, zero), Some(27));
+    goes_through(rt, pool, zero, &mut held, behind_the_end());
 }
 
 // The pool is finished once both callers are back.
@@ -105,7 +104,7 @@ fn finishes<B: Room, R: Wait + Abort>(
         return Err("finished without a caller".into());
     };
     callers.push(one)?;
-    let core = pool.finish(rt, callers).ok().ok_or("a core")?;
+    let core = finished(rt, pool, callers).ok_or("a core")?;
     assert_eq!(rt; core.journal().len(), 28);
     let counts = Counts {
         steps: 28,
@@ -126,21 +125,14 @@ fn lives<B: Room, R: Wait + Abort>(
     alloc: Global,
     site: Site,
     settings: Settings,
-    record: &Record,
+    items: Items,
 ) -> Result<(), Fail>
     requires { (site ≡ B.table) × (settings ≡ B.settings) × (2 ≡ B.callers) }
 {
-    let items = Items {
-        record,
-        failing: Failing::Never,
-    };
-    let (pool, callers) = Pool::<B>::open(rt, alloc, site, settings, NUMBER, 2, items, Still)?;
+    let clock = Still { held: None };
+    let (pool, callers) = open::<B, R>(rt, alloc, site, settings, NUMBER, 2, items, clock)?;
     let (mut zero, mut one) = pair(callers).ok_or("two callers")?;
-    lends(rt, &pool, &mut zero)?;
-    keeps(rt, &pool, &mut zero);
-    breaks(rt, &pool, &mut one)?;
-    pool.meet(rt, &mut zero, &mut one);
-    closes(rt, alloc, &pool, &mut zero)?;
+    takes_parts(rt, alloc, &pool, &mut zero, &mut one);
     finishes(rt, alloc, pool, zero, one)
 }
 
@@ -149,7 +141,12 @@ fn two_callers_live_through_all_calls(rt: HostRuntime) -> Result<(), Fail> {
     let site = Site::new(rt.alloc())?;
     let settings = Settings::from_text(rt.alloc(), "minIdle = 1")?;
     let record = Record::new(rt.alloc(), 8)?;
-    lives::<Brand, _>(&rt, rt.alloc(), site, settings, &record)?;
+    let items = Items {
+        record: &record,
+        failing: Failing::Never,
+        waiting: Waiting::Nowhere,
+    };
+    lives::<Brand, _>(&rt, rt.alloc(), site, settings, items)?;
     assert!(rt; record.is_even());
     Ok(())
 }

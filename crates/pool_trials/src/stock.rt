@@ -1,230 +1,85 @@
 // Objects that are made for stock: added one by one, and up to the number wanted.
-ghost use Rattle.std.specs.Prelude.{◌≡◌, true, false};
+use crate::deeds::Deed;
+use crate::items::{Call, Failing, NOT_MADE, NOT_PASSIVATED};
+use crate::solo::tries;
+use std::test::Fail;
 
-use crate::clocks::Still;
-use crate::items::Item;
-use pool_settings::Settings;
-use pool_shared::{AddFault, Addition, Factory, Room, SharedPool, Site};
-use std::alloc::Global;
-use std::marker::Brand;
-use std::process::Abort;
-use std::sync::Wait;
-use std::test::*;
-
-// What a maker can't do.
-#[derive(Clone, Copy)]
-enum Broken {
-    Nothing,
-    Make,
-    // It makes one object alone.
-    MakeMore,
-    Test,
-    Passivate,
-}
-
-#[derive(Drop)]
-struct Maker(Broken);
-
-impl Factory<Item, u8> for Maker {
-    ghost active = { λ v. v.awake ≡ true };
-
-    ghost valid = { λ v. v.id ≡ v.id };
-
-    ghost passive = { λ v. v.awake ≡ false };
-
-    ghost from_make = { λ f. f ≡ 7 };
-
-    ghost from_activate = { λ f. f ≡ 8 };
-
-    ghost from_passivate = { λ f. f ≡ 9 };
-
-    fn make(&self, id: u64) -> Result<Item, u8> {
-        match self.0 {
-            Broken::Make => Err(7),
-            Broken::MakeMore if id > 0 => Err(7),
-            _ => Ok(Item { id, awake: true }),
-        }
-    }
-
-    fn activate(&self, value: &mut Item) -> Result<(), u8> {
-        value.awake = true;
-        Ok(())
-    }
-
-    fn validate(&self, value: &Item) -> bool {
-        let _ = value;
-        !matches!(self.0, Broken::Test)
-    }
-
-    fn passivate(&self, value: &mut Item) -> Result<(), u8> {
-        if matches!(self.0, Broken::Passivate) {
-            Err(9)
-        } else {
-            value.awake = false;
-            Ok(())
-        }
-    }
-
-    fn destroy(&self, value: Item) {
-        let _ = value;
-    }
-}
-
-type Pool<B> = SharedPool<Item, u8, Maker, Still, B>;
-
-fn adds<B: Room, R: Wait + Abort>(
-    rt: &R,
-    alloc: Global,
-    site: Site,
-    settings: Settings,
-    broken: Broken,
-) -> Result<(), Fail>
-    requires { (site ≡ B.table) × (settings ≡ B.settings) × (1 ≡ B.callers) }
-{
-    let factory = Maker(broken);
-    let (pool, mut callers) = Pool::<B>::open(rt, alloc, site, settings, 5, 1, factory, Still)?;
-    let mut me = callers.pop().ok_or("a caller")?;
-    let done = pool.add(rt, &mut me);
-    let expected = match broken {
-        Broken::Nothing | Broken::MakeMore => matches!(&done, Ok(Addition::Idle)),
-        Broken::Make => matches!(&done, Err(AddFault::MakeFailed(7))),
-        Broken::Test => matches!(&done, Err(AddFault::CreateTestFailed)),
-        Broken::Passivate => matches!(&done, Err(AddFault::PassivateFailed(9))),
-    };
-    assert!(rt; expected);
-    let parked = matches!(&done, Ok(_));
-    let counts = pool.counts(rt, &mut me);
-    assert_eq!(rt; counts.idle, u64::from(parked));
-    assert_eq!(rt; counts.destroyed, u64::from(!parked));
-    if parked {
-        assert!(rt; matches!(&pool.add(rt, &mut me), Ok(Addition::NoPlace)));
-    }
-    assert_eq!(rt; pool.close(rt, &mut me)?, u64::from(parked));
-    assert!(rt; matches!(&pool.add(rt, &mut me), Err(AddFault::Closed)));
-    assert!(rt; matches!(&pool.fill(rt, &mut me), Ok(0)));
-    Ok(())
-}
-
-// One place, and new objects are tested.
-fn one_place() -> Settings {
-    Settings {
-        max_total: 1,
-        test_on_create: true,
-        ..Settings::default()
-    }
-}
+/// One place, and new objects are tested.
+const ONE_PLACE: &str = "maxTotal = 1\ntestOnCreate = true";
 
 #[test]
 fn added(rt: HostRuntime) -> Result<(), Fail> {
-    let site = Site::new(rt.alloc())?;
-    adds::<Brand, _>(&rt, rt.alloc(), site, one_place(), Broken::Nothing)
-}
-
-#[test]
-fn none_made(rt: HostRuntime) -> Result<(), Fail> {
-    let site = Site::new(rt.alloc())?;
-    adds::<Brand, _>(&rt, rt.alloc(), site, one_place(), Broken::Make)
-}
-
-#[test]
-fn none_tested(rt: HostRuntime) -> Result<(), Fail> {
-    let site = Site::new(rt.alloc())?;
-    adds::<Brand, _>(&rt, rt.alloc(), site, one_place(), Broken::Test)
-}
-
-#[test]
-fn none_passive(rt: HostRuntime) -> Result<(), Fail> {
-    let site = Site::new(rt.alloc())?;
-    adds::<Brand, _>(&rt, rt.alloc(), site, one_place(), Broken::Passivate)
-}
-
-// A fill, that of a full stock, and one where a place was left.
-fn fills<B: Room, R: Wait + Abort>(
-    rt: &R,
-    alloc: Global,
-    site: Site,
-    settings: Settings,
-    broken: Broken,
-    wanted: u64,
-) -> Result<(), Fail>
-    requires { (site ≡ B.table) × (settings ≡ B.settings) × (1 ≡ B.callers) }
-{
-    let factory = Maker(broken);
-    let (pool, mut callers) = Pool::<B>::open(rt, alloc, site, settings, 5, 1, factory, Still)?;
-    let mut me = callers.pop().ok_or("a caller")?;
-    let expected = match (broken, pool.fill(rt, &mut me)) {
-        (Broken::Nothing, Ok(parked)) => parked == wanted,
-        (Broken::MakeMore, Err(AddFault::MakeFailed(7))) => true,
-        _ => false,
-    };
-    assert!(rt; expected);
-    assert_eq!(rt; pool.counts(rt, &mut me).idle, wanted);
+    let rows = [
+        (Deed::Add, "idle", 0),
+        (Deed::Idle, "idle", 1),
+        (Deed::Destroyed, "destroyed", 0),
+        (Deed::Add, "no place", 0),
+        (Deed::Close, "count", 1),
+        (Deed::Add, "closed", 0),
+        (Deed::Fill, "count", 0),
+    ];
+    tries(&rt, rt.alloc(), ONE_PLACE, Failing::Never, &rows)?;
     Ok(())
 }
 
+#[test]
+fn none_added(rt: HostRuntime) -> Result<(), Fail> {
+    for (failing, word, number) in [
+        (Call::Make, "not made", u64::from(NOT_MADE)),
+        (Call::Validate, "new one failed its test", 0),
+        (Call::Passivate, "not passivated", u64::from(NOT_PASSIVATED)),
+    ] {
+        let rows = [
+            (Deed::Add, word, number),
+            (Deed::Idle, "idle", 0),
+            (Deed::Destroyed, "destroyed", 1),
+            (Deed::Close, "count", 0),
+            (Deed::Add, "closed", 0),
+            (Deed::Fill, "count", 0),
+        ];
+        tries(&rt, rt.alloc(), ONE_PLACE, Failing::All(failing), &rows)?;
+    }
+    Ok(())
+}
+
+// Up to the number wanted, to the last place, and to where a make fails: the third call of the factory that can fail makes the second
+// object.
 #[test]
 fn filled(rt: HostRuntime) -> Result<(), Fail> {
-    let settings = Settings {
-        min_idle: 3,
-        ..Settings::default()
-    };
-    let site = Site::new(rt.alloc())?;
-    fills::<Brand, _>(&rt, rt.alloc(), site, settings, Broken::Nothing, 3)
-}
-
-#[test]
-fn filled_to_the_last_place(rt: HostRuntime) -> Result<(), Fail> {
-    let settings = Settings {
-        min_idle: 3,
-        max_total: 2,
-        ..Settings::default()
-    };
-    let site = Site::new(rt.alloc())?;
-    fills::<Brand, _>(&rt, rt.alloc(), site, settings, Broken::Nothing, 2)
-}
-
-#[test]
-fn filled_in_part(rt: HostRuntime) -> Result<(), Fail> {
-    let settings = Settings {
-        min_idle: 3,
-        ..Settings::default()
-    };
-    let site = Site::new(rt.alloc())?;
-    fills::<Brand, _>(&rt, rt.alloc(), site, settings, Broken::MakeMore, 1)
-}
-
-// A stock of many is filled, gone over by an eviction run, and cleared.
-fn goes_over_many<B: Room, R: Wait + Abort>(
-    rt: &R,
-    alloc: Global,
-    site: Site,
-    settings: Settings,
-    many: u64,
-) -> Result<(), Fail>
-    requires { (site ≡ B.table) × (settings ≡ B.settings) × (1 ≡ B.callers) }
-{
-    let factory = Maker(Broken::Nothing);
-    let (pool, mut callers) = Pool::<B>::open(rt, alloc, site, settings, 5, 1, factory, Still)?;
-    let mut me = callers.pop().ok_or("a caller")?;
-    assert!(rt; matches!(pool.fill(rt, &mut me), Ok(parked) if parked == many));
-    let run = pool.evict(rt, &mut me)?;
-    assert_eq!(rt; run.examined, many);
-    assert_eq!(rt; pool.counts(rt, &mut me).idle, many);
-    assert_eq!(rt; pool.clear(rt, &mut me)?, many);
-    assert_eq!(rt; pool.counts(rt, &mut me).destroyed, many);
+    for (settings, failing, word, number, idle) in [
+        ("minIdle = 3", Failing::Never, "count", 3, 3),
+        ("minIdle = 3\nmaxTotal = 2", Failing::Never, "count", 2, 2),
+        (
+            "minIdle = 3",
+            Failing::Nth(3),
+            "not made",
+            u64::from(NOT_MADE),
+            1,
+        ),
+    ] {
+        let rows = [(Deed::Fill, word, number), (Deed::Idle, "idle", idle)];
+        tries(&rt, rt.alloc(), settings, failing, &rows)?;
+    }
     Ok(())
 }
 
+/// All are kept, and a run examines them all.
+const MANY: &str = "minIdle = 20000
+maxIdle = -1
+maxTotal = -1
+numTestsPerEvictionRun = -1
+";
+
+// A stock of many is filled, gone over by an eviction run, and cleared.
 #[test]
 fn stocked_with_many(rt: HostRuntime) -> Result<(), Fail> {
-    let many = 20_000;
-    let settings = Settings {
-        min_idle: 20_000,
-        max_idle: -1,
-        max_total: -1,
-        num_tests_per_eviction_run: -1,
-        ..Settings::default()
-    };
-    let site = Site::new(rt.alloc())?;
-    goes_over_many::<Brand, _>(&rt, rt.alloc(), site, settings, many)
+    let rows = [
+        (Deed::Fill, "count", 20_000),
+        (Deed::Evict, "examined", 20_000),
+        (Deed::Idle, "idle", 20_000),
+        (Deed::Clear, "count", 20_000),
+        (Deed::Destroyed, "destroyed", 20_000),
+    ];
+    tries(&rt, rt.alloc(), MANY, Failing::Never, &rows)?;
+    Ok(())
 }

@@ -2,17 +2,40 @@
 ghost use Rattle.std.specs.Prelude.{◌≡◌};
 
 use crate::clocks::Still;
-use crate::items::{Failing, Items, Record};
-use crate::openings::{Pool, single};
+use crate::deeds::{Deed, goes_through};
+use crate::items::{Failing, Items, Record, Waiting};
+use crate::openings::{Pool, open, single};
 use pool_settings::Settings;
-use pool_shared::{ReturnFault, Returned, Room, Site};
+use pool_shared::{Caller, Room, Site};
 use std::alloc::Global;
 use std::marker::Brand;
 use std::process::Abort;
 use std::sync::Wait;
 use std::test::Fail;
 
-// An object of a pool with the number 5 is offered to another pool, with this number.
+// Opens a pool with this number, for one caller.
+fn opens<'a, B: Room, R: Wait>(
+    rt: &R,
+    alloc: Global,
+    site: Site,
+    settings: Settings,
+    number: u64,
+    record: &'a Record,
+) -> Result<(Pool<'a, B>, Caller<B>), Fail>
+    requires { (site ≡ B.table) × (settings ≡ B.settings) × (1 ≡ B.callers) }
+{
+    let items = Items {
+        record,
+        failing: Failing::Never,
+        waiting: Waiting::Nowhere,
+    };
+    let clock = Still { held: None };
+    let (pool, callers) = open::<B, R>(rt, alloc, site, settings, number, 1, items, clock)?;
+    let me = single(callers).ok_or("a caller")?;
+    Ok((pool, me))
+}
+
+// An object of a pool with the number 5 is offered to another pool, with this number, which refuses it as not lent, or as foreign.
 fn offers<A: Room, B: Room, R: Wait + Abort>(
     rt: &R,
     alloc: Global,
@@ -21,34 +44,25 @@ fn offers<A: Room, B: Room, R: Wait + Abort>(
     settings: Settings,
     number: u64,
     record: &Record,
-) -> Result<ReturnFault, Fail>
+) -> Result<(), Fail>
     requires first { (first ≡ A.table) × (settings ≡ A.settings) × (1 ≡ A.callers) }
     requires second { (second ≡ B.table) × (settings ≡ B.settings) × (1 ≡ B.callers) }
 {
-    let items = Items {
-        record,
-        failing: Failing::Never,
-    };
-    let (own, callers) = Pool::<A>::open(rt, alloc, first, settings, 5, 1, items, Still)?;
-    let mut me = single(callers).ok_or("a caller")?;
-    let items = Items {
-        record,
-        failing: Failing::Never,
-    };
-    let (other, callers) = Pool::<B>::open(rt, alloc, second, settings, number, 1, items, Still)?;
-    let mut stranger = single(callers).ok_or("a caller")?;
-
-    let lent = own.borrow(rt, &mut me).ok().ok_or("an object")?;
-    let Err((_, lent)) = other.invalidate(rt, &mut stranger, lent) else {
-        return Err("destroyed by another pool".into());
-    };
-    let Err((fault, lent)) = other.give_back(rt, &mut stranger, lent) else {
-        return Err("taken by another pool".into());
-    };
-    assert_eq!(rt; lent.id(), 0);
-    assert!(rt; lent.value().awake);
-    assert!(rt; matches!(&own.give_back(rt, &mut me, lent), Ok(Returned::Parked)));
-    Ok(fault)
+    let (own, mut me) = opens::<A, R>(rt, alloc, first, settings, 5, record)?;
+    let (other, mut stranger) = opens::<B, R>(rt, alloc, second, settings, number, record)?;
+    let mut held = None;
+    let mine = [(Deed::Borrow, "lent", 0)];
+    goes_through(rt, &own, &mut me, &mut held, &mine);
+    let why = if number == 5 { "not lent" } else { "foreign" };
+    let offered = [
+        (Deed::Invalidate, why, 0),
+        (Deed::GiveBack, why, 0),
+        (Deed::Held, "awake", 0),
+    ];
+    goes_through(rt, &other, &mut stranger, &mut held, &offered);
+    let back = [(Deed::GiveBack, "parked", 0)];
+    goes_through(rt, &own, &mut me, &mut held, &back);
+    Ok(())
 }
 
 #[test]
@@ -59,12 +73,7 @@ fn objects_go_back_to_their_own_pool(rt: HostRuntime) -> Result<(), Fail> {
     for number in [5, 6] {
         let first = Site::new(a)?;
         let second = Site::new(a)?;
-        let fault = offers::<Brand, Brand, _>(&rt, a, first, second, settings, number, &record)?;
-        if number == 5 {
-            assert!(rt; matches!(&fault, ReturnFault::NotLent));
-        } else {
-            assert!(rt; matches!(&fault, ReturnFault::ForeignObject));
-        }
+        offers::<Brand, Brand, _>(&rt, a, first, second, settings, number, &record)?;
     }
     Ok(())
 }

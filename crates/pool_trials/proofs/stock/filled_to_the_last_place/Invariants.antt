@@ -1,4 +1,0 @@
-use Rattle.pool_trials.proofs.stock.filled_to_the_last_place.Given as goal
-
-abbrev pub ghosts-fills : goal.ghosts-fills
-ghosts-fills g a = record { table = a.site; settings = a.settings; callers = 1 }

@@ -1,0 +1,290 @@
+// Three callers beside one another, each in a thread of its own, or fewer where some do nothing.
+ghost use Rattle.std.specs.Prelude.{◌≡◌};
+
+use crate::clocks::Still;
+use crate::deeds::{Deed, Reply, Row, borrows, counts, cut, does, expects, gives_back};
+use crate::items::{Failing, Item, Items, Record, Waiting};
+use crate::openings::{NUMBER, Pool, finished, open, three};
+use crate::turns::{Flags, TURNS};
+use pool_core::Core;
+use pool_journal::Segment;
+use pool_settings::Settings;
+use pool_shared::{Caller, Lent, Room, Site};
+use pool_stats::Counts;
+use std::alloc::Global;
+use std::marker::Brand;
+use std::process::Abort;
+use std::sync::Wait;
+use std::test::Fail;
+use std::thread;
+use std::thread::Threads;
+
+// Looks until the journal has so many entries. Answers whether it had, within the turns.
+fn turns_until_steps<B: Room, R: Wait>(
+    rt: &R,
+    pool: &Pool<B>,
+    me: &mut Caller<B>,
+    steps: u64,
+) -> bool {
+    for _ in 0..TURNS {
+        if counts(rt, pool, me).steps >= steps {
+            return true;
+        }
+        thread::yield_now();
+    }
+    false
+}
+
+// Looks until an object is lent. Answers whether one was, within the turns.
+fn turns_until_lent<B: Room, R: Wait>(rt: &R, pool: &Pool<B>, me: &mut Caller<B>) -> bool {
+    for _ in 0..TURNS {
+        if counts(rt, pool, me).lent == 1 {
+            return true;
+        }
+        thread::yield_now();
+    }
+    false
+}
+
+fn of_wait(has_come: bool) -> Reply {
+    if has_come {
+        ("done", 0)
+    } else {
+        ("the turns ran out", 0)
+    }
+}
+
+// Borrows and gives back. The number is how often an object was lent and taken back.
+fn takes_turns<B: Room, R: Wait>(rt: &R, pool: &Pool<B>, me: &mut Caller<B>, rounds: u32) -> Reply {
+    let mut held = None;
+    let mut number = 0u64;
+    for _ in 0..rounds {
+        borrows(rt, pool, me, &mut held);
+        if held.is_some() {
+            gives_back(rt, pool, me, &mut held);
+            number = number.saturating_add(u64::from(held.is_none()));
+        }
+    }
+    ("done", number)
+}
+
+// Whether all that were made are somewhere.
+fn adds_up(counts: &Counts) -> bool {
+    let kept = u128::from(counts.idle) + u128::from(counts.lent) + u128::from(counts.reserved);
+    let lost = u128::from(counts.destroyed) + u128::from(counts.reclaimed);
+    u128::from(counts.created) == kept + lost
+}
+
+// Looks at the counts. The number is how often they added up and the steps had not fallen.
+fn watches<B: Room, R: Wait>(rt: &R, pool: &Pool<B>, me: &mut Caller<B>, looks: u32) -> Reply {
+    let mut before = 0;
+    let mut number = 0u64;
+    for _ in 0..looks {
+        let counts = counts(rt, pool, me);
+        if adds_up(&counts) && before <= counts.steps {
+            number = number.saturating_add(1);
+        }
+        before = counts.steps;
+    }
+    ("done", number)
+}
+
+// Cuts the journal. The number is how many segments were kept.
+fn cuts<B: Room, R: Wait>(
+    rt: &R,
+    alloc: Global,
+    pool: &Pool<B>,
+    me: &mut Caller<B>,
+    segments: &mut Vec<Segment>,
+    times: u32,
+) -> Reply {
+    let mut number = 0u64;
+    for _ in 0..times {
+        if let Some(segment) = cut(rt, alloc, pool, me) {
+            if segments.push(segment).is_ok() {
+                number = number.saturating_add(1);
+            }
+        }
+        thread::yield_now();
+    }
+    ("done", number)
+}
+
+// Does a deed that others have a part in, or one of a caller alone.
+fn does_beside<B: Room, R: Wait>(
+    rt: &R,
+    pool: &Pool<B>,
+    flags: &Flags,
+    me: &mut Caller<B>,
+    held: &mut Option<Lent<Item>>,
+    deed: Deed,
+) -> Reply {
+    match deed {
+        Deed::StepsAtLeast(steps) => of_wait(counts(rt, pool, me).steps >= steps),
+        Deed::UntilSteps(steps) => of_wait(turns_until_steps(rt, pool, me, steps)),
+        Deed::UntilLent => of_wait(turns_until_lent(rt, pool, me)),
+        Deed::UntilSet(flag) => of_wait(flags.turn_until_set(flag)),
+        Deed::Set(flag) => {
+            flags.set(flag);
+            ("done", 0)
+        }
+        Deed::TakeTurns(rounds) => takes_turns(rt, pool, me, rounds),
+        Deed::Watch(looks) => watches(rt, pool, me, looks),
+        _ => does(rt, pool, me, held, deed),
+    }
+}
+
+// Does a deed of any kind.
+fn does_any<B: Room, R: Wait>(
+    rt: &R,
+    alloc: Global,
+    pool: &Pool<B>,
+    flags: &Flags,
+    me: &mut Caller<B>,
+    held: &mut Option<Lent<Item>>,
+    segments: &mut Vec<Segment>,
+    deed: Deed,
+) -> Reply {
+    match deed {
+        Deed::Cut(times) => cuts(rt, alloc, pool, me, segments, times),
+        _ => does_beside(rt, pool, flags, me, held, deed),
+    }
+}
+
+// Goes through rows, and compares what each came to. Answers with the caller and the segments that it cut.
+fn takes_part<B: Room, R: Wait + Abort>(
+    rt: &R,
+    alloc: Global,
+    pool: &Pool<B>,
+    flags: &Flags,
+    me: Caller<B>,
+    rows: &[Row],
+) -> (Caller<B>, Vec<Segment>) {
+    let mut caller = me;
+    let mut held = None;
+    let mut segments = Vec::new(alloc);
+    for (deed, word, number) in rows {
+        let told = does_any(
+            rt,
+            alloc,
+            pool,
+            flags,
+            &mut caller,
+            &mut held,
+            &mut segments,
+            *deed,
+        );
+        expects(rt, *deed, told, (word, *number));
+    }
+    (caller, segments)
+}
+
+/// The core that is left of a trial, and the segments that the third caller cut.
+pub type Left = (Core<Item>, Vec<Segment>);
+
+/// What the callers of a trial go through.
+pub type Parts<'a> = [&'a [Row]; 3];
+
+// Has each caller go through its rows in a thread of its own.
+fn all_three<B: Room + Send + Sync, R: Threads + Wait + Abort + Sync>(
+    rt: &R,
+    alloc: Global,
+    pool: &Pool<B>,
+    flags: &Flags,
+    callers: (Caller<B>, Caller<B>, Caller<B>),
+    parts: Parts,
+) -> Result<(Vec<Caller<B>>, Vec<Segment>), Fail> {
+    let (zero, one, two) = callers;
+    let [first, second, third] = parts;
+    let (zero, others) = thread::join(
+        rt,
+        move || takes_part::<B, R>(rt, alloc, pool, flags, zero, first),
+        move || {
+            thread::join(
+                rt,
+                move || takes_part::<B, R>(rt, alloc, pool, flags, one, second),
+                move || takes_part::<B, R>(rt, alloc, pool, flags, two, third),
+            )
+        },
+    );
+    let (zero, _) = zero;
+    let (one, two) = others;
+    let (one, _) = one;
+    let (two, segments) = two;
+    let mut callers = Vec::new(alloc);
+    callers.push(zero)?;
+    callers.push(one)?;
+    callers.push(two)?;
+    Ok((callers, segments))
+}
+
+fn lives<B: Room + Send + Sync, R: Threads + Wait + Abort + Sync>(
+    rt: &R,
+    alloc: Global,
+    site: Site,
+    settings: Settings,
+    items: Items,
+    clock: Still,
+    flags: &Flags,
+    parts: Parts,
+) -> Result<Left, Fail>
+    requires { (site ≡ B.table) × (settings ≡ B.settings) × (3 ≡ B.callers) }
+{
+    let (pool, callers) = open::<B, R>(rt, alloc, site, settings, NUMBER, 3, items, clock)?;
+    let callers = three(callers).ok_or("three callers")?;
+    let (callers, segments) = all_three(rt, alloc, &pool, flags, callers, parts)?;
+    let core = finished(rt, pool, callers).ok_or("a core")?;
+    Ok((core, segments))
+}
+
+/// What waits at the gate of a trial.
+#[derive(Clone, Copy)]
+pub enum Gated {
+    Nothing,
+    /// The factory, while it makes object 0.
+    Making,
+    /// The factory, while it tests an object.
+    Testing,
+    /// The clock.
+    Telling,
+}
+
+fn waiting(gated: Gated, flags: &Flags) -> Waiting<'_> {
+    match gated {
+        Gated::Making => Waiting::Making(flags),
+        Gated::Testing => Waiting::Testing(flags),
+        Gated::Nothing | Gated::Telling => Waiting::Nowhere,
+    }
+}
+
+fn clock(gated: Gated, flags: &Flags) -> Still<'_> {
+    match gated {
+        Gated::Telling => Still { held: Some(flags) },
+        Gated::Nothing | Gated::Making | Gated::Testing => Still { held: None },
+    }
+}
+
+/// Has three callers of a new pool go through their parts, over a factory that fails so, under the settings of a text. Nothing waits at the
+/// gate until the turns run out. Answers with the core that is left, and the segments that the third caller cut.
+pub fn tries<R: Threads + Wait + Abort + Sync>(
+    rt: &R,
+    alloc: Global,
+    settings: &str,
+    failing: Failing,
+    gated: Gated,
+    parts: Parts,
+) -> Result<Left, Fail> {
+    let site = Site::new(alloc)?;
+    let settings = Settings::from_text(alloc, settings)?;
+    let record = Record::new(alloc, 8)?;
+    let flags = Flags::new();
+    let items = Items {
+        record: &record,
+        failing,
+        waiting: waiting(gated, &flags),
+    };
+    let clock = clock(gated, &flags);
+    let left = lives::<Brand, R>(rt, alloc, site, settings, items, clock, &flags, parts)?;
+    assert!(rt; !flags.have_run_out(), "the turns ran out at the gate");
+    Ok(left)
+}

@@ -1,0 +1,333 @@
+// What a caller of a trial does, and what it is answered, as words with a number.
+use crate::items::Item;
+use crate::openings::Pool;
+use crate::turns::Flag;
+use pool_journal::Segment;
+use pool_shared::{
+    AddFault, Addition, BorrowFault, Caller, Lent, PoolFault, ReturnFault, Returned, Room, Touched,
+};
+use pool_stats::Counts;
+use std::alloc::Global;
+use std::process::Abort;
+use std::sync::Wait;
+
+/// A call of a pool, a look at one of its counts, or what a caller does beside others. What is borrowed is held until it is given back.
+#[derive(Clone, Copy, Debug)]
+pub enum Deed {
+    Borrow,
+    Touch,
+    GiveBack,
+    Invalidate,
+    Add,
+    Fill,
+    Evict,
+    Reclaim,
+    Maintain,
+    Clear,
+    Close,
+    Steps,
+    Idle,
+    Lent,
+    Reserved,
+    Created,
+    Destroyed,
+    Evicted,
+    Reclaimed,
+    /// A look at what is held.
+    Held,
+    /// The journal has so many entries or more.
+    StepsAtLeast(u64),
+    /// Looks until it has.
+    UntilSteps(u64),
+    /// Looks until an object is lent.
+    UntilLent,
+    Set(Flag),
+    UntilSet(Flag),
+    /// Borrows and gives back so many times.
+    TakeTurns(u32),
+    /// Looks so many times whether the counts add up.
+    Watch(u32),
+    /// Cuts the journal so many times.
+    Cut(u32),
+}
+
+/// A word for what a call came to, and its number: an object's id, how many objects, or what the factory failed for; 0 where there is none.
+pub type Reply = (&'static str, u64);
+
+/// A deed, with the word and the number that it is to be answered.
+pub type Row = (Deed, &'static str, u64);
+
+fn of_borrow_fault(fault: BorrowFault<u8>) -> Reply {
+    match fault {
+        BorrowFault::Closed => ("closed", 0),
+        BorrowFault::Exhausted => ("exhausted", 0),
+        BorrowFault::TimedOut => ("timed out", 0),
+        BorrowFault::MakeFailed(fault) => ("not made", u64::from(fault)),
+        BorrowFault::CreateTestFailed => ("new one failed its test", 0),
+        BorrowFault::ActivateFailed(fault) => ("not activated", u64::from(fault)),
+        BorrowFault::BorrowTestFailed => ("failed its test", 0),
+        BorrowFault::JournalFull => ("full", 0),
+        BorrowFault::OutOfMemory => ("out of memory", 0),
+    }
+}
+
+fn of_return_fault(fault: ReturnFault) -> Reply {
+    match fault {
+        ReturnFault::ForeignObject => ("foreign", 0),
+        ReturnFault::NotLent => ("not lent", 0),
+        ReturnFault::JournalFull => ("full", 0),
+        ReturnFault::OutOfMemory => ("out of memory", 0),
+    }
+}
+
+fn of_add_fault(fault: AddFault<u8>) -> Reply {
+    match fault {
+        AddFault::Closed => ("closed", 0),
+        AddFault::MakeFailed(fault) => ("not made", u64::from(fault)),
+        AddFault::CreateTestFailed => ("new one failed its test", 0),
+        AddFault::PassivateFailed(fault) => ("not passivated", u64::from(fault)),
+        AddFault::JournalFull => ("full", 0),
+        AddFault::OutOfMemory => ("out of memory", 0),
+    }
+}
+
+fn of_count(done: Result<u64, PoolFault>) -> Reply {
+    match done {
+        Ok(number) => ("count", number),
+        Err(PoolFault::Closed) => ("closed", 0),
+        Err(PoolFault::JournalFull) => ("full", 0),
+        Err(PoolFault::OutOfMemory) => ("out of memory", 0),
+    }
+}
+
+fn of_returned(returned: Returned) -> Reply {
+    match returned {
+        Returned::Parked => ("parked", 0),
+        Returned::Destroyed => ("destroyed", 0),
+        Returned::Gone => ("gone", 0),
+    }
+}
+
+/// Borrows an object to hold. What was held before is dropped.
+pub fn borrows<B: Room, R: Wait>(
+    rt: &R,
+    pool: &Pool<B>,
+    me: &mut Caller<B>,
+    held: &mut Option<Lent<Item>>,
+) -> Reply {
+    match pool.borrow(rt, me) {
+        Ok(lent) => {
+            let id = lent.id();
+            *held = Some(lent);
+            ("lent", id)
+        }
+        Err(fault) => of_borrow_fault(fault),
+    }
+}
+
+fn touches<B: Room, R: Wait>(
+    rt: &R,
+    pool: &Pool<B>,
+    me: &mut Caller<B>,
+    held: &Option<Lent<Item>>,
+) -> Reply {
+    let Some(lent) = held else {
+        return ("nothing held", 0);
+    };
+    match pool.touch(rt, me, lent) {
+        Ok(Touched::Noted) => ("noted", 0),
+        Ok(Touched::Gone) => ("gone", 0),
+        Err(fault) => of_return_fault(fault),
+    }
+}
+
+/// Gives back what is held. Where it is refused, it is held on.
+pub fn gives_back<B: Room, R: Wait>(
+    rt: &R,
+    pool: &Pool<B>,
+    me: &mut Caller<B>,
+    held: &mut Option<Lent<Item>>,
+) -> Reply {
+    let Some(lent) = held.take() else {
+        return ("nothing held", 0);
+    };
+    match pool.give_back(rt, me, lent) {
+        Ok(returned) => of_returned(returned),
+        Err((fault, lent)) => {
+            *held = Some(lent);
+            of_return_fault(fault)
+        }
+    }
+}
+
+/// Has what is held destroyed. Where that is refused, it is held on.
+pub fn invalidates<B: Room, R: Wait>(
+    rt: &R,
+    pool: &Pool<B>,
+    me: &mut Caller<B>,
+    held: &mut Option<Lent<Item>>,
+) -> Reply {
+    let Some(lent) = held.take() else {
+        return ("nothing held", 0);
+    };
+    match pool.invalidate(rt, me, lent) {
+        Ok(returned) => of_returned(returned),
+        Err((fault, lent)) => {
+            *held = Some(lent);
+            of_return_fault(fault)
+        }
+    }
+}
+
+fn adds<B: Room, R: Wait>(rt: &R, pool: &Pool<B>, me: &mut Caller<B>) -> Reply {
+    match pool.add(rt, me) {
+        Ok(Addition::Idle) => ("idle", 0),
+        Ok(Addition::NoPlace) => ("no place", 0),
+        Ok(Addition::Destroyed) => ("destroyed", 0),
+        Err(fault) => of_add_fault(fault),
+    }
+}
+
+fn fills<B: Room, R: Wait>(rt: &R, pool: &Pool<B>, me: &mut Caller<B>) -> Reply {
+    match pool.fill(rt, me) {
+        Ok(parked) => ("count", parked),
+        Err(fault) => of_add_fault(fault),
+    }
+}
+
+// A run is told by how many objects it examined; where it destroyed some, by how many it destroyed of them.
+fn evicts<B: Room, R: Wait>(rt: &R, pool: &Pool<B>, me: &mut Caller<B>) -> Reply {
+    match pool.evict(rt, me) {
+        Ok(run) => {
+            if run.destroyed == 0 {
+                ("examined", run.examined)
+            } else if run.destroyed == run.examined {
+                ("all destroyed", run.destroyed)
+            } else {
+                ("some destroyed", run.destroyed)
+            }
+        }
+        Err(fault) => of_count(Err(fault)),
+    }
+}
+
+fn maintains<B: Room, R: Wait>(rt: &R, pool: &Pool<B>, me: &mut Caller<B>) -> Reply {
+    match pool.maintain(rt, me) {
+        Ok(()) => ("done", 0),
+        Err(fault) => of_add_fault(fault),
+    }
+}
+
+fn reclaims<B: Room, R: Wait>(rt: &R, pool: &Pool<B>, me: &mut Caller<B>) -> Reply {
+    of_count(pool.reclaim(rt, me))
+}
+
+fn clears<B: Room, R: Wait>(rt: &R, pool: &Pool<B>, me: &mut Caller<B>) -> Reply {
+    of_count(pool.clear(rt, me))
+}
+
+fn closes<B: Room, R: Wait>(rt: &R, pool: &Pool<B>, me: &mut Caller<B>) -> Reply {
+    of_count(pool.close(rt, me))
+}
+
+/// Cuts the journal; none where there is no memory.
+pub fn cut<B: Room, R: Wait>(
+    rt: &R,
+    alloc: Global,
+    pool: &Pool<B>,
+    me: &mut Caller<B>,
+) -> Option<Segment> {
+    pool.cut(rt, alloc, me).ok()
+}
+
+/// How many entries a copy of the journal has; none where there is no memory.
+pub fn copied<B: Room, R: Wait>(
+    rt: &R,
+    alloc: Global,
+    pool: &Pool<B>,
+    me: &mut Caller<B>,
+) -> Option<usize> {
+    Some(pool.journal_copy(rt, alloc, me).ok()?.len())
+}
+
+/// What the caller counts.
+pub fn counts<B: Room, R: Wait>(rt: &R, pool: &Pool<B>, me: &mut Caller<B>) -> Counts {
+    pool.counts(rt, me)
+}
+
+// Whether what is held is awake, and which object it is.
+fn of_held(held: &Option<Lent<Item>>) -> Reply {
+    match held {
+        None => ("nothing held", 0),
+        Some(lent) => {
+            if lent.value().awake {
+                ("awake", lent.id())
+            } else {
+                ("asleep", lent.id())
+            }
+        }
+    }
+}
+
+// One of the counts, for a deed that looks at it.
+fn of_counts(deed: Deed, counts: Counts) -> Reply {
+    match deed {
+        Deed::Steps => ("steps", counts.steps),
+        Deed::Idle => ("idle", counts.idle),
+        Deed::Lent => ("lent", counts.lent),
+        Deed::Reserved => ("reserved", counts.reserved),
+        Deed::Created => ("created", counts.created),
+        Deed::Destroyed => ("destroyed", counts.destroyed),
+        Deed::Evicted => ("evicted", counts.evicted),
+        Deed::Reclaimed => ("reclaimed", counts.reclaimed),
+        _ => ("no count", 0),
+    }
+}
+
+/// Does a deed, and tells what it came to.
+pub fn does<B: Room, R: Wait>(
+    rt: &R,
+    pool: &Pool<B>,
+    me: &mut Caller<B>,
+    held: &mut Option<Lent<Item>>,
+    deed: Deed,
+) -> Reply {
+    match deed {
+        Deed::Borrow => borrows(rt, pool, me, held),
+        Deed::Touch => touches(rt, pool, me, held),
+        Deed::GiveBack => gives_back(rt, pool, me, held),
+        Deed::Invalidate => invalidates(rt, pool, me, held),
+        Deed::Add => adds(rt, pool, me),
+        Deed::Fill => fills(rt, pool, me),
+        Deed::Evict => evicts(rt, pool, me),
+        Deed::Reclaim => reclaims(rt, pool, me),
+        Deed::Maintain => maintains(rt, pool, me),
+        Deed::Clear => clears(rt, pool, me),
+        Deed::Close => closes(rt, pool, me),
+        Deed::Held => of_held(held),
+        _ => of_counts(deed, counts(rt, pool, me)),
+    }
+}
+
+/// Compares what a deed came to with what it was to come to.
+pub fn expects(rt: &impl Abort, deed: Deed, told: Reply, wanted: Reply) {
+    let (word, number) = told;
+    assert!(rt;
+        word == wanted.0 && number == wanted.1,
+        "{deed:?} came to {word} {number}"
+    );
+}
+
+/// Does the deeds of rows in turn, and compares what each came to.
+pub fn goes_through<B: Room, R: Wait + Abort>(
+    rt: &R,
+    pool: &Pool<B>,
+    me: &mut Caller<B>,
+    held: &mut Option<Lent<Item>>,
+    rows: &[Row],
+) {
+    for (deed, word, number) in rows {
+        let told = does(rt, pool, me, held, *deed);
+        expects(rt, *deed, told, (word, *number));
+    }
+}
