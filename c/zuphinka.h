@@ -4,7 +4,8 @@
  * The pool decides; the host acts. For each step the host says what it wants or what it did, and the pool answers what is
  * to be done with which object. The objects are the host's: the pool knows each by its id, a number that is never drawn twice,
  * and keeps, while an object is idle, one pointer for it, the object's token, which it never follows. Each step appends one
- * entry to the pool's journal, whose text is that of the program `pool`: `pool check` judges it. The inputs with their answers stand in
+ * entry to the pool's journal, whose text is that of the program `pool`: `pool check` judges it. The journal is kept in memory, up to the
+ * setting journalLimit; a pool that is to run for longer writes it and cuts it in time (`zuphinka_cut`). The inputs with their answers stand in
  * README.md, "The program", and docs/life.md.
  *
  * `python3 tools/build.py zuphinka` builds the library. It calls malloc, realloc and free by way of a file of the kit:
@@ -49,7 +50,7 @@ enum zuphinka_status {
   ZUPHINKA_OUT_OF_MEMORY = 3,
   ZUPHINKA_JOURNAL_FULL = 4, /* the entry has no room in the journal with all that would be owed after it */
   ZUPHINKA_BAD_REQUEST = 5,  /* input is no code of an input, or outcome none of an outcome where one is read */
-  ZUPHINKA_NO_ENTRY = 6,     /* the journal has no entry at this position */
+  ZUPHINKA_NO_ENTRY = 6,     /* the journal has no entry, or the base no line, at this position */
   ZUPHINKA_NO_ROOM = 7,      /* the buffer is too short for the text */
   ZUPHINKA_NOT_TEXT = 8,     /* the settings are no UTF-8 */
   ZUPHINKA_NOT_TOML = 9,     /* the settings are no TOML document */
@@ -150,7 +151,7 @@ struct zuphinka_reply {
 
 /* How many entries there were, and of how many objects they tell. */
 struct zuphinka_counts {
-  uint64_t steps;     /* entries */
+  uint64_t steps;     /* entries, since the pool was opened */
   uint64_t idle;      /* objects that are idle, those that are being tested there included */
   uint64_t lent;      /* objects that are lent */
   uint64_t reserved;  /* objects that are present, and neither idle nor lent */
@@ -194,7 +195,7 @@ uint32_t zuphinka_step(struct zuphinka *pool, const struct zuphinka_request *req
 /* Tells the counts. ZUPHINKA_DONE; or ZUPHINKA_NOT_OPEN, and `counts` is as it was. */
 uint32_t zuphinka_counts(struct zuphinka *pool, struct zuphinka_counts *counts);
 
-/* Tells how many entries the journal has. ZUPHINKA_DONE; or ZUPHINKA_NOT_OPEN, and `steps` is as it was. */
+/* Tells how many entries the journal has, since it was cut last. ZUPHINKA_DONE; or ZUPHINKA_NOT_OPEN, and `steps` is as it was. */
 uint32_t zuphinka_steps(struct zuphinka *pool, uint64_t *steps);
 
 /*
@@ -209,9 +210,26 @@ uint32_t zuphinka_room(struct zuphinka *pool, uint64_t *room);
  *
  * ZUPHINKA_DONE; ZUPHINKA_NO_ROOM, where `length` is less than the size, which is told, and the buffer is as it was. Else both
  * are as they were: ZUPHINKA_NOT_OPEN; ZUPHINKA_NO_ENTRY, where the journal isn't as long; ZUPHINKA_OUT_OF_MEMORY, which may
- * stand in place of each but ZUPHINKA_NOT_OPEN.
+ * stand in place of each but ZUPHINKA_NOT_OPEN. It asks for memory once, and gives it back.
  */
 uint32_t zuphinka_line(struct zuphinka *pool, uint64_t position, char *text, size_t length, uint64_t *size);
+
+/*
+ * The same for the lines of the base that the entries go on from: at 0 the line that a segment begins with, and then one for each
+ * object that was present. They are the same until the journal is cut. ZUPHINKA_NO_ENTRY, where the base has fewer lines.
+ */
+uint32_t zuphinka_base(struct zuphinka *pool, uint64_t position, char *text, size_t length, uint64_t *size);
+
+/*
+ * Cuts the journal: drops the entries that are stored, and goes on from the base that they came to. Objects, their tokens and the counts
+ * stay as they are; positions and room are those of the entries to come. It takes time and memory for the objects that are present.
+ *
+ * Before it, write the lines of the base, and behind them those of all entries, to a file of their own, a segment: what wasn't written is
+ * lost. `pool check SETTINGS SEGMENT..` judges all segments of a pool, in their order, as the one journal that they are.
+ *
+ * ZUPHINKA_DONE. Else nothing has changed: ZUPHINKA_NOT_OPEN; ZUPHINKA_OUT_OF_MEMORY, and it may be tried again.
+ */
+uint32_t zuphinka_cut(struct zuphinka *pool);
 
 /*
  * Ends a pool, and gives its memory back: the handle is empty then, and may be opened again. Of an empty handle it does nothing.

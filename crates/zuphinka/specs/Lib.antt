@@ -2,4 +2,5 @@ pub mod Calls
 pub mod Codes
 pub mod Counting
 pub mod Holding
+pub mod Lines
 pub mod Status
