@@ -105,8 +105,8 @@ def check_binding():
         {name: words.rstrip(" ,\n").count(",") for name, words in re.findall(r"\b(zuphinka_\w+)\((.*?)\)(?: -> u32)?;", text, flags=re.DOTALL)}
         for text in (header, binding)
     ]
-    for name, count in counts[1].items():
-        yield None if counts[0].get(name) == count else f"{name} has other parameters than in the header"
+    for name in counts[0] | counts[1]:
+        yield None if counts[0].get(name) == counts[1].get(name) else f"{name} has other parameters than in the header, or is missing"
 
 
 def check_pairs(pairs):

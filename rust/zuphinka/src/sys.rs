@@ -132,5 +132,13 @@ extern "C" {
         length: usize,
         size: *mut u64,
     ) -> u32;
+    pub fn zuphinka_base(
+        pool: *mut Handle,
+        position: u64,
+        text: *mut c_char,
+        length: usize,
+        size: *mut u64,
+    ) -> u32;
+    pub fn zuphinka_cut(pool: *mut Handle) -> u32;
     pub fn zuphinka_drop(pool: *mut Handle);
 }
