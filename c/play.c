@@ -5,9 +5,9 @@
  * Writes the journal to standard output. The object with the id n has a token of its own, and where a token comes out it must be that of
  * the object, and must come out where the answer says so and nowhere else. What is answered must be what the entry's line says. After each
  * step the numbers of steps that the library tells must be the same, and what is told of a refusal must be true of it. A step that finishes
- * what was begun must ask for no memory, and a line for no more than once. It ends with status 0; or with status 3 and a line on standard
- * error for settings or a script that can't be taken, as `pool` has it, but without the name of a key; or with status 4 where
- * something was told wrongly.
+ * what was begun must ask for no memory, a line for no more than once, and a cut twice at most. It ends with status 0; or with status 3
+ * and a line on standard error for settings or a script that can't be taken, as `pool` has it; or with status 4 where something was told
+ * wrongly.
  *
  * With a number CUT that isn't 0 the journal is cut each time that it has so many entries and one more is to come, and is written as its
  * segments, one behind the other.
@@ -334,7 +334,9 @@ static uint64_t append_lines(telling *tell, struct zuphinka *pool, struct text *
 /* Cuts the journal. A cut that is refused has changed nothing. */
 static void cut(struct zuphinka *pool) {
   struct state before = state_of(pool);
+  uint64_t asked = allocations;
   uint32_t status = zuphinka_cut(pool);
+  check(allocations - asked <= 2, "a cut that asked for memory more than twice");
   if (status == ZUPHINKA_OUT_OF_MEMORY) {
     struct state after = state_of(pool);
     check(refused != 0 && memcmp(&before, &after, sizeof before) == 0, "a refused cut that changed the pool");
@@ -374,25 +376,81 @@ static char *read_file(const char *path, size_t *length) {
   return bytes;
 }
 
-static void open_pool(struct zuphinka *pool, const char *path) {
+/* Appends a key as it is told on one line: where it has a control character, these and backslashes stand as in TOML. */
+static void append_key(struct text *text, const struct text *key) {
+  static const char letters[] = {['\b'] = 'b', ['\t'] = 't', ['\n'] = 'n', ['\f'] = 'f', ['\r'] = 'r', ['\\'] = '\\'};
+  bool escapes = false;
+  for (size_t n = 0; n < key->length; n++) escapes |= (unsigned char)key->bytes[n] < 32 || key->bytes[n] == 127;
+  for (size_t n = 0; n < key->length; n++) {
+    unsigned char byte = (unsigned char)key->bytes[n];
+    char shown[8] = {(char)byte};
+    if (escapes && (byte < 32 || byte == 127 || byte == '\\')) {
+      if (byte < sizeof letters && letters[byte])
+        snprintf(shown, sizeof shown, "\\%c", letters[byte]);
+      else
+        snprintf(shown, sizeof shown, "\\u%04X", byte);
+    }
+    append(text, shown, strlen(shown));
+  }
+}
+
+/* What is told of settings, with the key that is at fault. */
+static uint32_t tell_settings(const char *text, size_t length, struct zuphinka_settings *settings, struct text *key) {
+  struct zuphinka_settings untouched;
+  uint64_t size = 0;
+  char none = 'x';
+  memset(&untouched, 0x5a, sizeof untouched);
+  memcpy(settings, &untouched, sizeof untouched);
+  uint32_t status = zuphinka_settings(text, length, settings, &none, 0, &size);
+  if (status == ZUPHINKA_OUT_OF_MEMORY) {
+    check(refused != 0 && size == 0, "a refused text that has a key");
+    status = zuphinka_settings(text, length, settings, &none, 0, &size);
+  }
+  if (status == ZUPHINKA_DONE) return status;
+  *key = (struct text){.bytes = __real_malloc(size + 2), .length = size};
+  check(key->bytes, "no memory for a key");
+  memset(key->bytes, 'x', size + 2);
+  uint32_t again = zuphinka_settings(text, length, settings, key->bytes, size + 1, &size);
+  if (again == ZUPHINKA_OUT_OF_MEMORY) again = zuphinka_settings(text, length, settings, key->bytes, size + 1, &size);
+  check(again == status && size == key->length && key->bytes[size] == 'x', "another key");
+  check(none == 'x' && memcmp(settings, &untouched, sizeof untouched) == 0, "settings of a text that has a fault");
+  return status;
+}
+
+static void fault_in(uint32_t status, const struct text *key) {
   static const char *const words[] = {[ZUPHINKA_NOT_TEXT] = "settings: not TOML",
                                       [ZUPHINKA_NOT_TOML] = "settings: not TOML",
-                                      [ZUPHINKA_UNKNOWN_KEY] = "settings: unknown key",
-                                      [ZUPHINKA_WRONG_TYPE] = "settings: wrong type",
-                                      [ZUPHINKA_OUT_OF_RANGE] = "settings: out of range"};
+                                      [ZUPHINKA_UNKNOWN_KEY] = "settings: unknown key ",
+                                      [ZUPHINKA_WRONG_TYPE] = "settings: wrong type ",
+                                      [ZUPHINKA_OUT_OF_RANGE] = "settings: out of range "};
+  struct text line = {0};
+  append(&line, words[status], strlen(words[status]));
+  append_key(&line, key);
+  append(&line, "", 1);
+  fault(line.bytes);
+}
+
+static void open_pool(struct zuphinka *pool, const char *path) {
+  struct zuphinka_settings settings;
+  struct text key = {0};
   size_t length;
   char *text = read_file(path, &length);
+  uint32_t told = tell_settings(text, length, &settings, &key);
   uint32_t status = zuphinka_open(pool, text, length);
   if (status == ZUPHINKA_OUT_OF_MEMORY) {
     check(refused != 0 && !pool->at, "a refused pool that is open");
     status = zuphinka_open(pool, text, length);
   }
+  check(status == told, "settings that are told and not taken, or taken and not told");
   if (status == ZUPHINKA_DONE) check(zuphinka_open(pool, text, length) == ZUPHINKA_ALREADY_OPEN, "a pool that is opened twice");
   free(text);
-  if (status == ZUPHINKA_DONE) return;
+  if (status == ZUPHINKA_DONE) {
+    check(state_of(pool).room + 1 == settings.journal_limit, "a journal with another limit");
+    return;
+  }
   check(!pool->at, "a refused pool that is open");
   check(status >= ZUPHINKA_NOT_TEXT && status <= ZUPHINKA_OUT_OF_RANGE, "a status of settings that is none");
-  fault(words[status]);
+  fault_in(status, &key);
 }
 
 /* An empty handle has a status for each call. */

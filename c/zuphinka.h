@@ -12,7 +12,7 @@
  *
  *     cc -I c server.c crates/zuphinka/out/libzuphinka.a "$(dirname "$(rt doc)")"/c/liblibc_c.a
  *
- * c/plain_life.c is a program to copy from.
+ * c/plain_life.c and c/long_life.c are programs to copy from.
  *
  * What is proved holds for callers who keep these rules. Nothing checks them:
  *   - a handle is zeroed (`struct zuphinka pool = {0};`) before its first call, and no copy of it is used, nor written
@@ -161,13 +161,47 @@ struct zuphinka_counts {
   uint64_t reclaimed; /* abandoned objects that lost their places */
 };
 
+/* What a text of settings says, as docs/settings.md has it. A key has the field's name with capitals in place of underscores. */
+struct zuphinka_settings {
+  uint64_t journal_limit;                  /* entries that the journal can hold */
+  int64_t max_wait_millis;                 /* negative: without limit */
+  int64_t min_evictable_idle_millis;       /* 0 or negative: none is evicted for that */
+  int64_t remove_abandoned_timeout_millis; /* of the table `abandoned` */
+  int64_t soft_min_evictable_idle_millis;  /* 0 or negative: none is evicted for that */
+  int32_t max_idle;                        /* objects; negative: without limit */
+  int32_t max_total;                       /* objects; negative: without limit */
+  int32_t min_idle;
+  int32_t num_tests_per_eviction_run;
+  bool abandoned; /* there is a table `abandoned` */
+  bool block_when_exhausted;
+  bool lifo;
+  bool remove_abandoned_on_borrow;      /* of the table `abandoned` */
+  bool remove_abandoned_on_maintenance; /* of the table `abandoned` */
+  bool test_on_borrow;
+  bool test_on_create;
+  bool test_on_return;
+  bool test_while_idle;
+};
+
 /* No line is longer, with its line feed. */
 #define ZUPHINKA_LONGEST_LINE 256
 
 #if defined(__STDC_VERSION__) && __STDC_VERSION__ >= 201112L
 _Static_assert(sizeof(void *) == 8 && sizeof(size_t) == 8, "zuphinka.h is for 64-bit systems");
 _Static_assert(sizeof(struct zuphinka_request) == 40 && sizeof(struct zuphinka_reply) == 32, "zuphinka.h: another layout of structs");
+_Static_assert(sizeof(struct zuphinka_settings) == 72, "zuphinka.h: another layout of structs");
 #endif
+
+/*
+ * Tells the settings that a text says, a TOML document of `length` bytes (docs/settings.md; of no bytes, all defaults). A host that steps a pool
+ * goes by some of them: what is tested, and whether a borrow first reclaims. It needs no pool.
+ *
+ * ZUPHINKA_DONE. Else `settings` is as it was: ZUPHINKA_NOT_TEXT, ZUPHINKA_NOT_TOML; ZUPHINKA_UNKNOWN_KEY, ZUPHINKA_WRONG_TYPE or
+ * ZUPHINKA_OUT_OF_RANGE, the first fault of the text, with the key's name, one of the table as `abandoned.<key>`, at the front of `key`, a
+ * buffer of `room` bytes, if it has room for that, and its size. ZUPHINKA_OUT_OF_MEMORY, which may stand in place of each other but
+ * ZUPHINKA_NOT_TEXT. Where no key is told, `key` and `size` are as they were.
+ */
+uint32_t zuphinka_settings(const char *text, size_t length, struct zuphinka_settings *settings, char *key, size_t room, uint64_t *size);
 
 /*
  * Opens a pool in an empty handle: no objects, an empty journal, and the settings that the text says, a TOML document of

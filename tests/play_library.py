@@ -7,7 +7,7 @@
     play_library.py segments LIBRARY POOL FOLDER..
     play_library.py many LIBRARY POOL
 
-LIBRARY is libzuphinka.a, as `rt lib` builds it. The programs c/plain_life.c and c/play.c are compiled with c/zuphinka.h by the C compiler that
+LIBRARY is libzuphinka.a, as `rt lib` builds it. The programs c/plain_life.c, c/long_life.c and c/play.c are compiled with c/zuphinka.h by the C compiler that
 CC names, or cc, and linked with it and with the kit's heap.
 
 - programs: `plain_life examples/settings.toml` must write the journal of examples/plain-life.script, which stands here, and end with status 0;
@@ -15,19 +15,20 @@ CC names, or cc, and linked with it and with the kit's heap.
   left behind.
 - cases: for files NAME.toml and NAME.script `play NAME.toml NAME.script` must write NAME.journal, and end with status 0 and nothing on standard
   error; or, where there is a file NAME.err, with status 3 and that line. For files NAME.toml and NAME.answer `play` of an empty script must
-  end with status 0 where the answer is 'ok', and else with status 3 and that line, but for the name of a key.
+  end with status 0 where the answer is 'ok', and else with status 3 and that line.
 - refused: each case that ends with status 0, whole and, where it has no more than SHORT entries, cut, is played once for each of the library's
   allocations, which is refused then, and must write the same.
 - segments: each case that ends with status 0 is cut every so many entries, for each of EVERY, and must write the segments that
   tests/pool_model.py has, which POOL, the program, must judge legal together.
-- many: the same of a pool that makes OBJECTS of them and parks most, and is cut where all are lent.
+- many: the same of a pool that makes OBJECTS of them and parks most, and is cut where all are lent; and the segments of `long_life`, each named
+  for its first entry, must be judged legal together, also of a run under valgrind, where it is installed.
 
 Prints each run that differs, and in the end the line 'N passed, M failed'.
 """
 
+import itertools
 import os
 import pathlib
-import re
 import shutil
 import subprocess
 import sys
@@ -45,8 +46,8 @@ REFUSING = ["-Wl,--wrap=malloc", "-Wl,--wrap=realloc"]
 EVERY = (1, 3, 7)
 SHORT = 100
 OBJECTS = 100_000
+ROUNDS = 2_000
 NO_LIMITS = "journalLimit = 4294967296\nmaxTotal = -1\nmaxIdle = -1\n"
-KEY = re.compile(rb"(unknown key|wrong type|out of range) .*")
 VALGRIND = ["valgrind", "--quiet", "--error-exitcode=9", "--leak-check=full", "--show-leak-kinds=all", "--errors-for-leak-kinds=all"]
 
 
@@ -75,18 +76,12 @@ def run(*words):
     return subprocess.run(words, stdin=subprocess.DEVNULL, capture_output=True, timeout=120)
 
 
-def wanted_of_answer(answer):
-    """What is wanted of settings: of a fault all but the name of a key."""
-    output, error, status = wanted_of_settings(answer)
-    return output, KEY.sub(rb"\1", error), status
-
-
 def cases(folder):
     """Each case of a folder: its file, its settings, its script, and what is wanted."""
     for script in sorted(folder.glob("*.script")):
         yield script, script.with_suffix(".toml"), script, wanted_of_script(script)
     for answer in sorted(folder.glob("*.answer")):
-        yield answer, answer.with_suffix(".toml"), "/dev/null", wanted_of_answer(answer)
+        yield answer, answer.with_suffix(".toml"), "/dev/null", wanted_of_settings(answer)
 
 
 def segments(settings, journal, every):
@@ -118,19 +113,42 @@ def cut_cases(play, pool, case):
     return [line for every in EVERY for line in differing_segments(play, pool, name, settings, script, every, segments(settings, journal, every))]
 
 
-def play_many(play, pool):
-    """Plays a run over many objects, and gives the status to end with."""
+def many_differing(play, pool):
+    """What differs in a run over many objects."""
     with tempfile.TemporaryDirectory() as folder:
         settings, script = pathlib.Path(folder) / "settings", pathlib.Path(folder) / "script"
         settings.write_text(NO_LIMITS)
         (first, made), (second, parked), (_, asked) = segments_of(settings_of(NO_LIMITS), OBJECTS)[0]
         script.write_bytes(b"".join(line.partition(b" = ")[0] + b"\n" for line in (made + parked + asked).splitlines()))
         parts = [first + made, second + parked + asked]
-        found = differing_segments(play, pool, f"{OBJECTS} objects", settings, script, made.count(b"\n"), parts)
-    for difference in found:
+        return differing_segments(play, pool, f"{OBJECTS} objects", settings, script, made.count(b"\n"), parts)
+
+
+def long_differing(life, pool, before, rounds):
+    """What differs in a long life with a short journal: four entries a round, and four to close the pool."""
+    with tempfile.TemporaryDirectory() as folder:
+        settings, made = pathlib.Path(folder) / "settings", pathlib.Path(folder) / "made"
+        settings.write_text("journalLimit = 100\n")
+        made.mkdir()
+        found = differing("long_life", (b"", b"", 0), run(*before, life, settings, made, str(rounds)))
+        paths = sorted(made.iterdir())
+        lengths = [path.read_bytes().count(b" = ") for path in paths]
+        names = [f"segment-{first:020}" for first in itertools.accumulate(lengths[:-1], initial=0)]
+        if [path.name for path in paths] != names or len(names) < rounds // 25:
+            found.append(f"long_life: segments {[path.name for path in paths]}, of {lengths} entries")
+        return found + differing("long_life, judged", (b"legal %d\n" % (4 * rounds + 4), b"", 0), run(pool, "check", settings, *paths))
+
+
+def play_many(play, life, pool):
+    """Plays a run over many objects and long lives, and gives the status to end with."""
+    runs = [many_differing(play, pool), long_differing(life, pool, [], ROUNDS)]
+    if shutil.which("valgrind"):
+        runs.append(long_differing(life, pool, VALGRIND, ROUNDS // 10))
+    for difference in itertools.chain(*runs):
         print(difference[:1000])
-    print("0 passed, 1 failed" if found else "1 passed, 0 failed")
-    return 1 if found else 0
+    failed = sum(map(bool, runs))
+    print(f"{len(runs) - failed} passed, {failed} failed")
+    return 1 if failed else 0
 
 
 def refusals(play, case):
@@ -167,7 +185,7 @@ def main(kind, library, words):
     with tempfile.TemporaryDirectory() as built:
         play = compiled("play", library, built, REFUSING)
         if kind == "many":
-            return play_many(play, *words)
+            return play_many(play, compiled("long_life", library, built, []), *words)
         if kind == "programs":
             life = compiled("plain_life", library, built, [])
             return play_folders(words, lambda folder: runs(life, play, folder), lambda case: differing(case[0], case[2], run(*case[1])))

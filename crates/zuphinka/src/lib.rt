@@ -4,6 +4,7 @@
 ghost use Rattle.std.specs.Prelude.{◌≡◌, None, IsSomeAnd};
 ghost use Rattle.zuphinka.specs.Calls.{Came, Opens, Steps, IsFinishing, Reads, TellsSteps, TellsRoom, Lines, BaseLines, Cuts};
 ghost use Rattle.zuphinka.specs.Counting.{TellsCounts};
+ghost use Rattle.zuphinka.specs.Setting.{SetsTo};
 ghost use Rattle.zuphinka.specs.Status.{status_code};
 ghost use Rattle.zuphinka.specs.declared.status.Status.TheVariants.{Done};
 
@@ -13,16 +14,45 @@ mod parts;
 mod pool;
 mod reply;
 mod request;
+mod setup;
 mod status;
 mod tally;
 
 use handle::Handle;
+use pool_settings::Settings;
 use reply::Reply;
 use request::Request;
-use status::Status;
+use setup::{Setup, put_key};
+use status::{Status, status_of};
 use std::alloc::Global;
 use std::str;
 use tally::Tally;
+
+/// Tells the settings that a text says, or the key of its first fault.
+#[unsafe(no_mangle)]
+pub extern "C" fn zuphinka_settings(
+    alloc: Global,
+    text: &[u8],
+    settings: &mut Setup,
+    key: &mut [u8],
+    size: &mut u64,
+) -> u32
+    ensures { Came result (SetsTo text.now settings.old settings.new key.old key.new size.old size.new) }
+{
+    let Ok(text) = str::from_utf8(text) else {
+        return Status::NotText.code();
+    };
+    match Settings::from_text(alloc, text) {
+        Ok(read) => {
+            *settings = Setup::of(&read);
+            Status::Done.code()
+        }
+        Err(fault) => {
+            put_key(&fault, key, size);
+            status_of(&fault).code()
+        }
+    }
+}
 
 /// Opens a pool in an empty handle, with the settings of a text.
 #[unsafe(no_mangle)]
