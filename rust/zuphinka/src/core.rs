@@ -24,6 +24,34 @@ pub(crate) enum OpenFault {
     Settings(u32),
 }
 
+/// The settings that a text says; else the status of its first fault, with the name of the key that is at fault, if one is.
+pub(crate) fn settings_of(text: &str) -> Result<sys::Settings, (u32, String)> {
+    let mut key = vec![0u8; 128];
+    loop {
+        let (mut settings, mut size) = (sys::Settings::default(), 0);
+        // SAFETY: text and buffer have so many bytes, and all are apart.
+        let status = unsafe {
+            let (bytes, start) = (text.as_ptr().cast(), key.as_mut_ptr().cast());
+            sys::zuphinka_settings(
+                bytes,
+                text.len(),
+                &mut settings,
+                start,
+                key.len(),
+                &mut size,
+            )
+        };
+        if status == sys::DONE {
+            return Ok(settings);
+        }
+        let had_room = size as usize <= key.len();
+        key.resize(size as usize, 0);
+        if had_room {
+            return Err((status, String::from_utf8_lossy(&key).into_owned()));
+        }
+    }
+}
+
 impl Core {
     /// A core with an empty journal, and these settings in TOML.
     pub fn open(settings: &str) -> Result<Core, OpenFault> {

@@ -66,7 +66,6 @@ mod settings;
 mod shared;
 mod step;
 mod sys;
-mod toml;
 
 pub use builder::Builder;
 pub use callers::caller_number;
