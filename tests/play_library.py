@@ -7,8 +7,8 @@
     play_library.py segments LIBRARY POOL FOLDER..
     play_library.py many LIBRARY POOL
 
-LIBRARY is libzuphinka.a, as `rt lib` builds it. The programs c/plain_life.c, c/long_life.c and c/play.c are compiled with c/zuphinka.h by the C compiler that
-CC names, or cc, and linked with it and with the kit's heap.
+LIBRARY is libzuphinka.a, as `rt lib` builds it. The programs c/plain_life.c, c/long_life.c and c/play.c are compiled with c/zuphinka.h by the C
+compiler that CC names, or cc, and linked with it and with the kit's heap.
 
 - programs: `plain_life examples/settings.toml` must write the journal of examples/plain-life.script, which stands here, and end with status 0;
   and so it must, and `play` with the first case of the folder, whole and cut, under valgrind, where it is installed, with no fault and nothing
@@ -47,6 +47,8 @@ EVERY = (1, 3, 7)
 SHORT = 100
 OBJECTS = 100_000
 ROUNDS = 2_000
+# A run that takes longer hangs, in seconds.
+LONGEST = 600
 NO_LIMITS = "journalLimit = 4294967296\nmaxTotal = -1\nmaxIdle = -1\n"
 VALGRIND = ["valgrind", "--quiet", "--error-exitcode=9", "--leak-check=full", "--show-leak-kinds=all", "--errors-for-leak-kinds=all"]
 
@@ -73,7 +75,7 @@ def compiled(name, library, folder, flags):
 
 
 def run(*words):
-    return subprocess.run(words, stdin=subprocess.DEVNULL, capture_output=True, timeout=120)
+    return subprocess.run(words, stdin=subprocess.DEVNULL, capture_output=True, timeout=LONGEST)
 
 
 def cases(folder):
