@@ -1022,6 +1022,72 @@ fn segments_of_four_threads_are_one_journal() {
 }
 
 #[test]
+fn what_is_written_while_others_cut_is_whole() {
+    const TIMES: u64 = 50;
+    let (pool, ..) = pool_with(|builder| builder.max_total(2).journal_limit(20_000));
+    let (cuts, copied, is_over) = (AtomicU64::new(0), AtomicU64::new(0), AtomicU64::new(0));
+    let goes_on = || is_over.load(Ordering::SeqCst) == 0;
+    let is_enough = || {
+        cuts.load(Ordering::SeqCst)
+            .min(copied.load(Ordering::SeqCst))
+            >= TIMES
+    };
+    let (mut segments, mut copies, mut drained) = (Vec::new(), Vec::new(), Vec::new());
+    thread::scope(|scope| {
+        let lending = || {
+            for round in 0.. {
+                if is_enough() && round >= 1_000 {
+                    break;
+                }
+                if pool.get().map(drop).is_err() {
+                    thread::yield_now();
+                }
+            }
+        };
+        let borrowers = [scope.spawn(lending), scope.spawn(lending)];
+        scope.spawn(|| {
+            while goes_on() {
+                if pool.room() < 19_000 {
+                    segments.push(cut_off(&pool));
+                    cuts.fetch_add(1, Ordering::SeqCst);
+                }
+            }
+        });
+        scope.spawn(|| {
+            while goes_on() {
+                copies.push(journal_of(&pool));
+                copied.fetch_add(1, Ordering::SeqCst);
+            }
+        });
+        scope.spawn(|| {
+            while goes_on() {
+                pool.drain_journal(&mut drained).unwrap();
+            }
+        });
+        let lent = borrowers.map(|borrower| borrower.join());
+        is_over.store(1, Ordering::SeqCst);
+        lent.into_iter().for_each(|lent| lent.unwrap());
+    });
+    segments.push(cut_off(&pool));
+    assert_segments_legal(&pool, &segments);
+    let entries: Vec<_> = segments.iter().flat_map(|it| entries_of(it)).collect();
+    for copy in &copies {
+        let head = copy.lines().next();
+        let is_whole = match head.filter(|line| line.starts_with("pool-journal 2 ")) {
+            Some(_) => segments.iter().any(|segment| segment.starts_with(copy)),
+            None => copy
+                .lines()
+                .eq(entries[..copy.lines().count()].iter().copied()),
+        };
+        assert!(is_whole, "{copy}");
+    }
+    // What was drained stands in the journal in its order, each entry once.
+    let mut rest = entries.iter();
+    let drained = String::from_utf8(drained).unwrap();
+    assert!(drained.lines().all(|line| rest.any(|entry| *entry == line)));
+}
+
+#[test]
 fn settings_out_of_range_open_nothing() {
     let opened = |builder: Builder<Maker>| builder.build(Maker::default()).map(|_| ());
     let refused = |key: &str| {
