@@ -259,7 +259,8 @@ uint32_t zuphinka_base(struct zuphinka *pool, uint64_t position, char *text, siz
  * stay as they are; positions and room are those of the entries to come. It takes time and memory for the objects that are present.
  *
  * Before it, write the lines of the base, and behind them those of all entries, to a file of their own, a segment: what wasn't written is
- * lost. `pool check SETTINGS SEGMENT..` judges all segments of a pool, in their order, as the one journal that they are.
+ * lost, so threads that share a pool hold their lock from the last line on. `pool check SETTINGS SEGMENT..` judges all segments of a pool, in
+ * their order, as the one journal that they are.
  *
  * ZUPHINKA_DONE. Else nothing has changed: ZUPHINKA_NOT_OPEN; ZUPHINKA_OUT_OF_MEMORY, and it may be tried again.
  */
