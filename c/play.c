@@ -1,15 +1,19 @@
 /* Plays a script on the C library, as the program `pool` plays it, and looks at all that the library tells.
  *
- *     play SETTINGS SCRIPT [REFUSED]
+ *     play SETTINGS SCRIPT [CUT [each]]
  *
  * Writes the journal to standard output. The object with the id n has a token of its own, and where a token comes out it must be that of
- * the object, and must come out where the answer says so and nowhere else. What is answered must be what the entry's line says. After each step the numbers of steps that the library tells must
- * be the same, and what is told of a refusal must be true of it. It ends with status 0; or with status 3 and a line on standard
- * error for settings or a script that can't be taken, as `pool` has it, but without the name of a key; or with status 4 where
- * something was told wrongly.
+ * the object, and must come out where the answer says so and nowhere else. What is answered must be what the entry's line says. After each
+ * step the numbers of steps that the library tells must be the same, and what is told of a refusal must be true of it. A step that finishes
+ * what was begun must ask for no memory, a line for no more than once, and a cut twice at most. It ends with status 0; or with status 3
+ * and a line on standard error for settings or a script that can't be taken, as `pool` has it; or with status 4 where something was told
+ * wrongly.
  *
- * With a number REFUSED the allocation of that number is refused to the library, and what was refused for want of memory is
- * tried again. It ends with status 5 where there were not so many. It is linked with --wrap=malloc and --wrap=realloc. */
+ * With a number CUT that isn't 0 the journal is cut each time that it has so many entries and one more is to come, and is written as its
+ * segments, one behind the other.
+ *
+ * With `each` the script is played again for each allocation of the library's, which is refused then; what was refused for want of memory is
+ * tried again, and the same must be written. It is linked with --wrap=malloc and --wrap=realloc. */
 #include <inttypes.h>
 #include <stdio.h>
 #include <stdlib.h>
@@ -17,9 +21,10 @@
 
 #include "zuphinka.h"
 
-enum { WRONG = 4, FAULT = 3, FEW = 5, WORDS = 6 };
+enum { WRONG = 4, FAULT = 3, WORDS = 6 };
 
-static uint64_t allocations, refused;
+/* Of the run that is played: how many allocations there were, and which one is refused; how many entries were cut off. */
+static uint64_t allocations, refused, dropped;
 
 void *__real_malloc(size_t size);
 void *__real_realloc(void *block, size_t size);
@@ -32,14 +37,43 @@ void *__wrap_realloc(void *block, size_t size) { return ++allocations == refused
 
 static void check(bool holds, const char *what) {
   if (holds) return;
-  fprintf(stderr, "play: %s\n", what);
+  fprintf(stderr, "play: %s", what);
+  if (refused) fprintf(stderr, ", with allocation %" PRIu64 " refused", refused);
+  fprintf(stderr, "\n");
   exit(WRONG);
 }
 
+/* What is written, kept until the run ends. */
+struct text {
+  char *bytes;
+  size_t length, room;
+};
+
+static struct text out;
+
+static void flush(void) {
+  if (out.length) fwrite(out.bytes, 1, out.length, stdout);
+  check(fflush(stdout) == 0, "what isn't written");
+}
+
 static void fault(const char *what) {
-  fflush(stdout);
+  flush();
   fprintf(stderr, "pool: %s\n", what);
   exit(FAULT);
+}
+
+static void append(struct text *text, const char *bytes, size_t length) {
+  if (text->room - text->length < length) {
+    text->room = 2 * (text->room + length);
+    text->bytes = __real_realloc(text->bytes, text->room);
+    check(text->bytes, "no memory for what is written");
+  }
+  memcpy(text->bytes + text->length, bytes, length);
+  text->length += length;
+}
+
+static bool same(const char *bytes, size_t length, const struct text *text) {
+  return length == text->length && (length == 0 || memcmp(bytes, text->bytes, length) == 0);
 }
 
 static void fault_at(unsigned long line, const char *what) {
@@ -148,7 +182,7 @@ static struct state state_of(struct zuphinka *pool) {
   check(zuphinka_steps(pool, &state.steps) == ZUPHINKA_DONE, "the steps aren't told");
   check(zuphinka_room(pool, &state.room) == ZUPHINKA_DONE, "the room isn't told");
   check(zuphinka_counts(pool, &state.counts) == ZUPHINKA_DONE, "the counts aren't told");
-  check(state.counts.steps == state.steps, "two numbers of steps");
+  check(state.counts.steps == dropped + state.steps, "two numbers of steps");
   check(state.counts.created ==
             state.counts.idle + state.counts.lent + state.counts.reserved + state.counts.destroyed + state.counts.reclaimed,
         "the counts don't add up");
@@ -188,10 +222,13 @@ static uint32_t step(struct zuphinka *pool, const struct zuphinka_request *reque
   struct zuphinka_reply untouched;
   memset(&untouched, 0x5a, sizeof untouched);
   memcpy(reply, &untouched, sizeof untouched);
+  uint64_t asked = allocations;
   uint32_t status = zuphinka_step(pool, request, reply);
+  bool is_asking = allocations != asked;
   struct state after = state_of(pool);
   if (status == ZUPHINKA_DONE) {
     check(after.steps == before.steps + 1, "a step without an entry");
+    check(!is_asking || !is_finishing(reply->answer, request->input), "a step that finishes asked for memory");
     check_token(request, reply);
     return status;
   }
@@ -248,23 +285,78 @@ static void check_answer(const struct zuphinka_reply *reply, const char *line, u
   check(length > 0 && (uint64_t)length < size && memcmp(line + size - length, end, (size_t)length) == 0, "a reply that isn't that of the line");
 }
 
-static void write_line(struct zuphinka *pool, uint64_t position, const struct zuphinka_reply *reply) {
-  char line[ZUPHINKA_LONGEST_LINE], other[ZUPHINKA_LONGEST_LINE];
-  uint64_t size = 0, told = 0;
-  memset(line, 'x', sizeof line);
-  memset(other, 'x', sizeof other);
-  uint32_t status = zuphinka_line(pool, position, line, sizeof line, &size);
+typedef uint32_t telling(struct zuphinka *, uint64_t, char *, size_t, uint64_t *);
+
+/* The line that is told at a position, and its size; 0 where there is none. What is refused is asked for again. */
+static uint64_t line_at(telling *tell, struct zuphinka *pool, uint64_t position, char line[ZUPHINKA_LONGEST_LINE]) {
+  char untouched[ZUPHINKA_LONGEST_LINE], other[ZUPHINKA_LONGEST_LINE];
+  uint64_t size = 0, told = 0, asked = allocations;
+  memset(untouched, 'x', sizeof untouched);
+  memcpy(line, untouched, sizeof untouched);
+  memcpy(other, untouched, sizeof untouched);
+  uint32_t status = tell(pool, position, line, ZUPHINKA_LONGEST_LINE, &size);
+  check(allocations - asked <= 1, "a line that asked for memory twice");
   if (status == ZUPHINKA_OUT_OF_MEMORY) {
-    check(refused != 0 && size == 0 && memcmp(line, other, sizeof line) == 0, "a refused line that has a text");
-    status = zuphinka_line(pool, position, line, sizeof line, &size);
+    check(refused != 0 && size == 0 && memcmp(line, untouched, sizeof untouched) == 0, "a refused line that has a text");
+    status = tell(pool, position, line, ZUPHINKA_LONGEST_LINE, &size);
   }
-  check(status == ZUPHINKA_DONE && size > 0 && size <= sizeof line && line[size - 1] == '\n', "no line of an entry");
-  check(memcmp(line + size, other, sizeof line - size) == 0, "a line that writes behind its end");
+  if (status == ZUPHINKA_NO_ENTRY) {
+    check(size == 0 && memcmp(line, untouched, sizeof untouched) == 0, "a text of no line");
+    return 0;
+  }
+  check(status == ZUPHINKA_DONE && size > 0 && size <= ZUPHINKA_LONGEST_LINE && line[size - 1] == '\n', "no line");
+  check(memcmp(line + size, untouched, ZUPHINKA_LONGEST_LINE - size) == 0, "a line that writes behind its end");
+  status = tell(pool, position, other, size - 1, &told);
+  if (status == ZUPHINKA_OUT_OF_MEMORY) status = tell(pool, position, other, size - 1, &told);
+  check(status == ZUPHINKA_NO_ROOM && told == size && memcmp(other, untouched, sizeof untouched) == 0, "a line that has no room");
+  return size;
+}
+
+/* Appends the line of the entry that a reply is of, or only looks at it. */
+static void see_entry(struct zuphinka *pool, uint64_t position, const struct zuphinka_reply *reply, bool is_written) {
+  char line[ZUPHINKA_LONGEST_LINE];
+  uint64_t size = line_at(zuphinka_line, pool, position, line);
+  check(size > 0, "no line of an entry");
   check_answer(reply, line, size);
-  status = zuphinka_line(pool, position, other, size - 1, &told);
-  if (status == ZUPHINKA_OUT_OF_MEMORY) status = zuphinka_line(pool, position, other, size - 1, &told);
-  check(status == ZUPHINKA_NO_ROOM && told == size && other[0] == 'x', "a line that has no room");
-  fwrite(line, 1, size, stdout);
+  if (is_written) append(&out, line, size);
+}
+
+/* Appends all lines that are told, and gives how many. */
+static uint64_t append_lines(telling *tell, struct zuphinka *pool, struct text *text) {
+  char line[ZUPHINKA_LONGEST_LINE];
+  uint64_t count = 0;
+  for (uint64_t size; (size = line_at(tell, pool, count, line)) > 0; count++) append(text, line, size);
+  return count;
+}
+
+/* ---- segments */
+
+/* Cuts the journal. A cut that is refused has changed nothing. */
+static void cut(struct zuphinka *pool) {
+  struct state before = state_of(pool);
+  uint64_t asked = allocations;
+  uint32_t status = zuphinka_cut(pool);
+  check(allocations - asked <= 2, "a cut that asked for memory more than twice");
+  if (status == ZUPHINKA_OUT_OF_MEMORY) {
+    struct state after = state_of(pool);
+    check(refused != 0 && memcmp(&before, &after, sizeof before) == 0, "a refused cut that changed the pool");
+    status = zuphinka_cut(pool);
+  }
+  check(status == ZUPHINKA_DONE, "a cut that isn't made");
+  dropped += before.steps;
+  struct state after = state_of(pool);
+  check(after.steps == 0 && after.room == before.room + before.steps, "a cut that leaves entries");
+  check(memcmp(&before.counts, &after.counts, sizeof before.counts) == 0, "a cut that changed the counts");
+}
+
+/* Writes the entries behind the base that was written from `begins` on, and that must be told as it was. */
+static void write_entries(struct zuphinka *pool, size_t begins) {
+  struct text again = {0};
+  append_lines(zuphinka_base, pool, &again);
+  check(same(out.bytes + begins, out.length - begins, &again), "a base that isn't as it was");
+  free(again.bytes);
+  struct state state = state_of(pool);
+  check(append_lines(zuphinka_line, pool, &out) == state.steps, "another number of entries");
 }
 
 /* ---- the run */
@@ -284,25 +376,81 @@ static char *read_file(const char *path, size_t *length) {
   return bytes;
 }
 
-static void open_pool(struct zuphinka *pool, const char *path) {
+/* Appends a key as it is told on one line: where it has a control character, these and backslashes stand as in TOML. */
+static void append_key(struct text *text, const struct text *key) {
+  static const char letters[] = {['\b'] = 'b', ['\t'] = 't', ['\n'] = 'n', ['\f'] = 'f', ['\r'] = 'r', ['\\'] = '\\'};
+  bool escapes = false;
+  for (size_t n = 0; n < key->length; n++) escapes |= (unsigned char)key->bytes[n] < 32 || key->bytes[n] == 127;
+  for (size_t n = 0; n < key->length; n++) {
+    unsigned char byte = (unsigned char)key->bytes[n];
+    char shown[8] = {(char)byte};
+    if (escapes && (byte < 32 || byte == 127 || byte == '\\')) {
+      if (byte < sizeof letters && letters[byte])
+        snprintf(shown, sizeof shown, "\\%c", letters[byte]);
+      else
+        snprintf(shown, sizeof shown, "\\u%04X", byte);
+    }
+    append(text, shown, strlen(shown));
+  }
+}
+
+/* What is told of settings, with the key that is at fault. */
+static uint32_t tell_settings(const char *text, size_t length, struct zuphinka_settings *settings, struct text *key) {
+  struct zuphinka_settings untouched;
+  uint64_t size = 0;
+  char none = 'x';
+  memset(&untouched, 0x5a, sizeof untouched);
+  memcpy(settings, &untouched, sizeof untouched);
+  uint32_t status = zuphinka_settings(text, length, settings, &none, 0, &size);
+  if (status == ZUPHINKA_OUT_OF_MEMORY) {
+    check(refused != 0 && size == 0, "a refused text that has a key");
+    status = zuphinka_settings(text, length, settings, &none, 0, &size);
+  }
+  if (status == ZUPHINKA_DONE) return status;
+  *key = (struct text){.bytes = __real_malloc(size + 2), .length = size};
+  check(key->bytes, "no memory for a key");
+  memset(key->bytes, 'x', size + 2);
+  uint32_t again = zuphinka_settings(text, length, settings, key->bytes, size + 1, &size);
+  if (again == ZUPHINKA_OUT_OF_MEMORY) again = zuphinka_settings(text, length, settings, key->bytes, size + 1, &size);
+  check(again == status && size == key->length && key->bytes[size] == 'x', "another key");
+  check(none == 'x' && memcmp(settings, &untouched, sizeof untouched) == 0, "settings of a text that has a fault");
+  return status;
+}
+
+static void fault_in(uint32_t status, const struct text *key) {
   static const char *const words[] = {[ZUPHINKA_NOT_TEXT] = "settings: not TOML",
                                       [ZUPHINKA_NOT_TOML] = "settings: not TOML",
-                                      [ZUPHINKA_UNKNOWN_KEY] = "settings: unknown key",
-                                      [ZUPHINKA_WRONG_TYPE] = "settings: wrong type",
-                                      [ZUPHINKA_OUT_OF_RANGE] = "settings: out of range"};
+                                      [ZUPHINKA_UNKNOWN_KEY] = "settings: unknown key ",
+                                      [ZUPHINKA_WRONG_TYPE] = "settings: wrong type ",
+                                      [ZUPHINKA_OUT_OF_RANGE] = "settings: out of range "};
+  struct text line = {0};
+  append(&line, words[status], strlen(words[status]));
+  append_key(&line, key);
+  append(&line, "", 1);
+  fault(line.bytes);
+}
+
+static void open_pool(struct zuphinka *pool, const char *path) {
+  struct zuphinka_settings settings;
+  struct text key = {0};
   size_t length;
   char *text = read_file(path, &length);
+  uint32_t told = tell_settings(text, length, &settings, &key);
   uint32_t status = zuphinka_open(pool, text, length);
   if (status == ZUPHINKA_OUT_OF_MEMORY) {
     check(refused != 0 && !pool->at, "a refused pool that is open");
     status = zuphinka_open(pool, text, length);
   }
+  check(status == told, "settings that are told and not taken, or taken and not told");
   if (status == ZUPHINKA_DONE) check(zuphinka_open(pool, text, length) == ZUPHINKA_ALREADY_OPEN, "a pool that is opened twice");
   free(text);
-  if (status == ZUPHINKA_DONE) return;
+  if (status == ZUPHINKA_DONE) {
+    check(state_of(pool).room + 1 == settings.journal_limit, "a journal with another limit");
+    return;
+  }
   check(!pool->at, "a refused pool that is open");
   check(status >= ZUPHINKA_NOT_TEXT && status <= ZUPHINKA_OUT_OF_RANGE, "a status of settings that is none");
-  fault(words[status]);
+  fault_in(status, &key);
 }
 
 /* An empty handle has a status for each call. */
@@ -317,6 +465,8 @@ static void check_empty(struct zuphinka *pool) {
   check(zuphinka_steps(pool, &number) == ZUPHINKA_NOT_OPEN && number == 7, "steps of no pool");
   check(zuphinka_room(pool, &number) == ZUPHINKA_NOT_OPEN && number == 7, "room of no pool");
   check(zuphinka_line(pool, 0, text, 1, &number) == ZUPHINKA_NOT_OPEN && number == 7 && text[0] == 'x', "a line of no pool");
+  check(zuphinka_base(pool, 0, text, 1, &number) == ZUPHINKA_NOT_OPEN && number == 7 && text[0] == 'x', "a base of no pool");
+  check(zuphinka_cut(pool) == ZUPHINKA_NOT_OPEN && !pool->at, "a cut of no pool");
   zuphinka_drop(pool);
   check(!pool->at, "a pool from nothing");
 }
@@ -336,38 +486,78 @@ static void check_codes(struct zuphinka *pool) {
   check(memcmp(&before, &after, sizeof before) == 0, "a bad request that changed the pool");
 }
 
-static void play(struct zuphinka *pool, char *script) {
-  unsigned long line = 1;
-  for (char *at = script; *at; line++) {
-    char *end = strchr(at, '\n');
-    struct zuphinka_request request;
-    struct zuphinka_reply reply;
-    if (!end) fault_at(line, "truncated");
-    *end = 0;
-    if (!read_request(at, &request)) fault_at(line, "not a line");
-    if (is_carrying(&request)) request.object = token(request.number);
-    uint32_t status = step(pool, &request, &reply);
-    if (status == ZUPHINKA_JOURNAL_FULL) fault_at(line, "journal full");
-    check(status == ZUPHINKA_DONE, "a step that isn't taken");
-    write_line(pool, line - 1, &reply);
-    at = end + 1;
-  }
-  uint64_t size = 7;
-  char text[1];
-  check(zuphinka_line(pool, line - 1, text, 1, &size) == ZUPHINKA_NO_ENTRY && size == 7, "a line of no entry");
+/* Takes the step of a line of the script. */
+static void play_line(struct zuphinka *pool, char *text, unsigned long line, bool is_written) {
+  struct zuphinka_request request;
+  struct zuphinka_reply reply;
+  if (!read_request(text, &request)) fault_at(line, "not a line");
+  if (is_carrying(&request)) request.object = token(request.number);
+  uint32_t status = step(pool, &request, &reply);
+  if (status == ZUPHINKA_JOURNAL_FULL) fault_at(line, "journal full");
+  check(status == ZUPHINKA_DONE, "a step that isn't taken");
+  see_entry(pool, line - 1 - dropped, &reply, is_written);
 }
 
-int main(int count, char **arguments) {
+static void play(struct zuphinka *pool, char *script, uint64_t every) {
+  unsigned long line = 1;
+  size_t begins = out.length;
+  if (every) append_lines(zuphinka_base, pool, &out);
+  for (char *at = script; *at; line++) {
+    char *end = strchr(at, '\n');
+    if (!end) fault_at(line, "truncated");
+    *end = 0;
+    if (every && line - 1 - dropped == every) {
+      write_entries(pool, begins);
+      cut(pool);
+      begins = out.length;
+      append_lines(zuphinka_base, pool, &out);
+    }
+    play_line(pool, at, line, !every);
+    at = end + 1;
+  }
+  if (every) write_entries(pool, begins);
+  uint64_t size = 7;
+  char text[1];
+  check(zuphinka_line(pool, line - 1 - dropped, text, 1, &size) == ZUPHINKA_NO_ENTRY && size == 7, "a line of no entry");
+}
+
+static void run(char **arguments, uint64_t every) {
   struct zuphinka pool = {0};
-  if (count < 3 || count > 4 || (count == 4 && !read_number(arguments[3], UINT64_MAX, &refused))) fault("wrong arguments");
+  allocations = dropped = 0;
   check_empty(&pool);
   open_pool(&pool, arguments[1]);
   check_codes(&pool);
   size_t length;
   char *script = read_file(arguments[2], &length);
-  play(&pool, script);
+  play(&pool, script, every);
   free(script);
   zuphinka_drop(&pool);
   check_empty(&pool);
-  return refused > allocations ? FEW : 0;
+}
+
+/* Plays the script with each allocation refused in turn. */
+static void run_each(char **arguments, uint64_t every) {
+  struct text wanted = out;
+  for (refused = 1;; refused++) {
+    out = (struct text){0};
+    run(arguments, every);
+    check(same(wanted.bytes, wanted.length, &out), "another journal");
+    free(out.bytes);
+    if (refused > allocations) break;
+  }
+  check(refused > 1, "no allocation");
+  free(wanted.bytes);
+}
+
+int main(int count, char **arguments) {
+  uint64_t every = 0;
+  bool is_each = count == 5 && strcmp(arguments[4], "each") == 0;
+  if (count < 3 || count > 5 || is_each != (count == 5) || (count > 3 && !read_number(arguments[3], UINT64_MAX, &every))) fault("wrong arguments");
+  run(arguments, every);
+  flush();
+  if (is_each)
+    run_each(arguments, every);
+  else
+    free(out.bytes);
+  return 0;
 }

@@ -4,14 +4,15 @@
  * The pool decides; the host acts. For each step the host says what it wants or what it did, and the pool answers what is
  * to be done with which object. The objects are the host's: the pool knows each by its id, a number that is never drawn twice,
  * and keeps, while an object is idle, one pointer for it, the object's token, which it never follows. Each step appends one
- * entry to the pool's journal, whose text is that of the program `pool`: `pool check` judges it. The inputs with their answers stand in
+ * entry to the pool's journal, whose text is that of the program `pool`: `pool check` judges it. The journal is kept in memory, up to the
+ * setting journalLimit; a pool that is to run for longer writes it and cuts it in time (`zuphinka_cut`). The inputs with their answers stand in
  * README.md, "The program", and docs/life.md.
  *
  * `python3 tools/build.py zuphinka` builds the library. It calls malloc, realloc and free by way of a file of the kit:
  *
  *     cc -I c server.c crates/zuphinka/out/libzuphinka.a "$(dirname "$(rt doc)")"/c/liblibc_c.a
  *
- * c/plain_life.c is a program to copy from.
+ * c/plain_life.c and c/long_life.c are programs to copy from.
  *
  * What is proved holds for callers who keep these rules. Nothing checks them:
  *   - a handle is zeroed (`struct zuphinka pool = {0};`) before its first call, and no copy of it is used, nor written
@@ -49,7 +50,7 @@ enum zuphinka_status {
   ZUPHINKA_OUT_OF_MEMORY = 3,
   ZUPHINKA_JOURNAL_FULL = 4, /* the entry has no room in the journal with all that would be owed after it */
   ZUPHINKA_BAD_REQUEST = 5,  /* input is no code of an input, or outcome none of an outcome where one is read */
-  ZUPHINKA_NO_ENTRY = 6,     /* the journal has no entry at this position */
+  ZUPHINKA_NO_ENTRY = 6,     /* the journal has no entry, or the base no line, at this position */
   ZUPHINKA_NO_ROOM = 7,      /* the buffer is too short for the text */
   ZUPHINKA_NOT_TEXT = 8,     /* the settings are no UTF-8 */
   ZUPHINKA_NOT_TOML = 9,     /* the settings are no TOML document */
@@ -150,7 +151,7 @@ struct zuphinka_reply {
 
 /* How many entries there were, and of how many objects they tell. */
 struct zuphinka_counts {
-  uint64_t steps;     /* entries */
+  uint64_t steps;     /* entries, since the pool was opened */
   uint64_t idle;      /* objects that are idle, those that are being tested there included */
   uint64_t lent;      /* objects that are lent */
   uint64_t reserved;  /* objects that are present, and neither idle nor lent */
@@ -160,13 +161,47 @@ struct zuphinka_counts {
   uint64_t reclaimed; /* abandoned objects that lost their places */
 };
 
+/* What a text of settings says, as docs/settings.md has it. A key has the field's name with capitals in place of underscores. */
+struct zuphinka_settings {
+  uint64_t journal_limit;                  /* entries that the journal can hold */
+  int64_t max_wait_millis;                 /* negative: without limit */
+  int64_t min_evictable_idle_millis;       /* 0 or negative: none is evicted for that */
+  int64_t remove_abandoned_timeout_millis; /* of the table `abandoned` */
+  int64_t soft_min_evictable_idle_millis;  /* 0 or negative: none is evicted for that */
+  int32_t max_idle;                        /* objects; negative: without limit */
+  int32_t max_total;                       /* objects; negative: without limit */
+  int32_t min_idle;
+  int32_t num_tests_per_eviction_run;
+  bool abandoned; /* there is a table `abandoned` */
+  bool block_when_exhausted;
+  bool lifo;
+  bool remove_abandoned_on_borrow;      /* of the table `abandoned` */
+  bool remove_abandoned_on_maintenance; /* of the table `abandoned` */
+  bool test_on_borrow;
+  bool test_on_create;
+  bool test_on_return;
+  bool test_while_idle;
+};
+
 /* No line is longer, with its line feed. */
 #define ZUPHINKA_LONGEST_LINE 256
 
 #if defined(__STDC_VERSION__) && __STDC_VERSION__ >= 201112L
 _Static_assert(sizeof(void *) == 8 && sizeof(size_t) == 8, "zuphinka.h is for 64-bit systems");
 _Static_assert(sizeof(struct zuphinka_request) == 40 && sizeof(struct zuphinka_reply) == 32, "zuphinka.h: another layout of structs");
+_Static_assert(sizeof(struct zuphinka_settings) == 72, "zuphinka.h: another layout of structs");
 #endif
+
+/*
+ * Tells the settings that a text says, a TOML document of `length` bytes (docs/settings.md; of no bytes, all defaults). A host that steps a pool
+ * goes by some of them: what is tested, and whether a borrow first reclaims. It needs no pool.
+ *
+ * ZUPHINKA_DONE. Else `settings` is as it was: ZUPHINKA_NOT_TEXT, ZUPHINKA_NOT_TOML; ZUPHINKA_UNKNOWN_KEY, ZUPHINKA_WRONG_TYPE or
+ * ZUPHINKA_OUT_OF_RANGE, the first fault of the text, with the key's name, one of the table as `abandoned.<key>`, at the front of `key`, a
+ * buffer of `room` bytes, if it has room for that, and its size. ZUPHINKA_OUT_OF_MEMORY, which may stand in place of each other but
+ * ZUPHINKA_NOT_TEXT. Where no key is told, `key` and `size` are as they were.
+ */
+uint32_t zuphinka_settings(const char *text, size_t length, struct zuphinka_settings *settings, char *key, size_t room, uint64_t *size);
 
 /*
  * Opens a pool in an empty handle: no objects, an empty journal, and the settings that the text says, a TOML document of
@@ -194,7 +229,7 @@ uint32_t zuphinka_step(struct zuphinka *pool, const struct zuphinka_request *req
 /* Tells the counts. ZUPHINKA_DONE; or ZUPHINKA_NOT_OPEN, and `counts` is as it was. */
 uint32_t zuphinka_counts(struct zuphinka *pool, struct zuphinka_counts *counts);
 
-/* Tells how many entries the journal has. ZUPHINKA_DONE; or ZUPHINKA_NOT_OPEN, and `steps` is as it was. */
+/* Tells how many entries the journal has, since it was cut last. ZUPHINKA_DONE; or ZUPHINKA_NOT_OPEN, and `steps` is as it was. */
 uint32_t zuphinka_steps(struct zuphinka *pool, uint64_t *steps);
 
 /*
@@ -209,9 +244,27 @@ uint32_t zuphinka_room(struct zuphinka *pool, uint64_t *room);
  *
  * ZUPHINKA_DONE; ZUPHINKA_NO_ROOM, where `length` is less than the size, which is told, and the buffer is as it was. Else both
  * are as they were: ZUPHINKA_NOT_OPEN; ZUPHINKA_NO_ENTRY, where the journal isn't as long; ZUPHINKA_OUT_OF_MEMORY, which may
- * stand in place of each but ZUPHINKA_NOT_OPEN.
+ * stand in place of each but ZUPHINKA_NOT_OPEN. It asks for memory once, and gives it back.
  */
 uint32_t zuphinka_line(struct zuphinka *pool, uint64_t position, char *text, size_t length, uint64_t *size);
+
+/*
+ * The same for the lines of the base that the entries go on from: at 0 the line that a segment begins with, and then one for each
+ * object that was present. They are the same until the journal is cut. ZUPHINKA_NO_ENTRY, where the base has fewer lines.
+ */
+uint32_t zuphinka_base(struct zuphinka *pool, uint64_t position, char *text, size_t length, uint64_t *size);
+
+/*
+ * Cuts the journal: drops the entries that are stored, and goes on from the base that they came to. Objects, their tokens and the counts
+ * stay as they are; positions and room are those of the entries to come. It takes time and memory for the objects that are present.
+ *
+ * Before it, write the lines of the base, and behind them those of all entries, to a file of their own, a segment: what wasn't written is
+ * lost, so threads that share a pool hold their lock from the last line on. `pool check SETTINGS SEGMENT..` judges all segments of a pool, in
+ * their order, as the one journal that they are.
+ *
+ * ZUPHINKA_DONE. Else nothing has changed: ZUPHINKA_NOT_OPEN; ZUPHINKA_OUT_OF_MEMORY, and it may be tried again.
+ */
+uint32_t zuphinka_cut(struct zuphinka *pool);
 
 /*
  * Ends a pool, and gives its memory back: the handle is empty then, and may be opened again. Of an empty handle it does nothing.

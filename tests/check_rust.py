@@ -22,6 +22,8 @@ import tomllib
 TOP = pathlib.Path(__file__).resolve().parent.parent
 CRATE = TOP / "rust/zuphinka"
 RESULT = re.compile(r"^test result: \w+\. (\d+) passed; (\d+) failed;", flags=re.MULTILINE)
+# The types of C that the binding has; a token is a pointer in C.
+TYPES = {"u64": "uint64_t", "u32": "uint32_t", "i64": "int64_t", "i32": "int32_t", "usize": "void", "*mut u8": "void"}
 # A run that takes longer hangs.
 LONGEST = 1200
 WORKERS, ROUNDS = 4, 20_000
@@ -90,23 +92,24 @@ def check_settings(settings):
 
 
 def check_binding():
-    """The codes and the longest line, the fields of each struct in their order, and the functions with how many parameters they have."""
+    """The codes and the longest line, the fields of each struct with their types in their order, and the functions with how many parameters
+    they have."""
     header, binding = (TOP / "c/zuphinka.h").read_text(), (CRATE / "src/sys.rs").read_text()
     header = re.sub(r"/\*.*?\*/", "", header, flags=re.DOTALL)
     codes = {name: int(code) for name, code in re.findall(r"\bZUPHINKA_(\w+)(?: =)? (\d+)\b", header)}
     for name, code in re.findall(r"^pub const (\w+): \w+ = (\d+);$", binding, flags=re.MULTILINE):
         yield None if codes.get(name) == int(code) else f"{name} is {code}, in the header {codes.get(name)}"
-    fields = {name: re.findall(r"(\w+);", body) for name, body in re.findall(r"struct zuphinka(\w*) \{(.*?)\};", header, flags=re.DOTALL)}
+    fields = {name: re.findall(r"(\w+) (\*?\w+);", body) for name, body in re.findall(r"struct zuphinka(\w*) \{(.*?)\};", header, flags=re.DOTALL)}
     for name, body in re.findall(r"^pub struct (\w+) \{\n(.*?)^\}", binding, flags=re.MULTILINE | re.DOTALL):
-        found = re.findall(r"(\w+): ", body)
+        found = [(TYPES.get(kind, kind), "*" * (kind in ("usize", "*mut u8")) + field) for field, kind in re.findall(r"(\w+): ([\w* ]+),", body)]
         wanted = fields.get("" if name == "Handle" else f"_{name.lower()}")
         yield None if found == wanted else f"{name} has {found}, in the header {wanted}"
     counts = [
         {name: words.rstrip(" ,\n").count(",") for name, words in re.findall(r"\b(zuphinka_\w+)\((.*?)\)(?: -> u32)?;", text, flags=re.DOTALL)}
         for text in (header, binding)
     ]
-    for name, count in counts[1].items():
-        yield None if counts[0].get(name) == count else f"{name} has other parameters than in the header"
+    for name in counts[0] | counts[1]:
+        yield None if counts[0].get(name) == counts[1].get(name) else f"{name} has other parameters than in the header, or is missing"
 
 
 def check_pairs(pairs):

@@ -4,17 +4,24 @@
     play_library.py programs LIBRARY FOLDER
     play_library.py cases LIBRARY FOLDER..
     play_library.py refused LIBRARY FOLDER..
+    play_library.py segments LIBRARY POOL FOLDER..
+    play_library.py many LIBRARY POOL
 
-LIBRARY is libzuphinka.a, as `rt lib` builds it. The programs c/plain_life.c and c/play.c are compiled with c/zuphinka.h by the C compiler that
-CC names, or cc, and linked with it and with the kit's heap.
+LIBRARY is libzuphinka.a, as `rt lib` builds it. The programs c/plain_life.c, c/long_life.c and c/play.c are compiled with c/zuphinka.h by the C
+compiler that CC names, or cc, and linked with it and with the kit's heap.
 
 - programs: `plain_life examples/settings.toml` must write the journal of examples/plain-life.script, which stands here, and end with status 0;
-  and so it must, and `play` with the first case of the folder, under valgrind, where it is installed, with no fault and nothing left behind.
+  and so it must, and `play` with the first case of the folder, whole and cut, under valgrind, where it is installed, with no fault and nothing
+  left behind.
 - cases: for files NAME.toml and NAME.script `play NAME.toml NAME.script` must write NAME.journal, and end with status 0 and nothing on standard
   error; or, where there is a file NAME.err, with status 3 and that line. For files NAME.toml and NAME.answer `play` of an empty script must
-  end with status 0 where the answer is 'ok', and else with status 3 and that line, but for the name of a key.
-- refused: each case that ends with status 0 is played once for each of the library's allocations, which is refused then, and must write
-  the same.
+  end with status 0 where the answer is 'ok', and else with status 3 and that line.
+- refused: each case that ends with status 0, whole and, where it has no more than SHORT entries, cut, is played once for each of the library's
+  allocations, which is refused then, and must write the same.
+- segments: each case that ends with status 0 is cut every so many entries, for each of EVERY, and must write the segments that
+  tests/pool_model.py has, which POOL, the program, must judge legal together.
+- many: the same of a pool that makes OBJECTS of them and parks most, and is cut where all are lent; and the segments of `long_life`, each named
+  for its first entry, must be judged legal together, also of a run under valgrind, where it is installed.
 
 Prints each run that differs, and in the end the line 'N passed, M failed'.
 """
@@ -22,21 +29,27 @@ Prints each run that differs, and in the end the line 'N passed, M failed'.
 import itertools
 import os
 import pathlib
-import re
 import shutil
 import subprocess
 import sys
 import tempfile
 
+from many_objects import segments_of
 from play_cases import wanted_of_script, wanted_of_settings
 from playing import differing, play_folders
+from pool_model import cut_at, settings_of
 
 TOP = pathlib.Path(__file__).resolve().parent.parent
 PLAIN_LIFE = b"0 10 borrow 10 = make 0\n0 11 ready 0 good = lent\n0 15 return 0 = check\n0 16 park 0 good = parked\n"
 FLAGS = ["-std=c11", "-O2", "-Wall", "-Wextra", "-Werror"]
 REFUSING = ["-Wl,--wrap=malloc", "-Wl,--wrap=realloc"]
-TOO_FEW = 5
-KEY = re.compile(rb"(unknown key|wrong type|out of range) .*")
+EVERY = (1, 3, 7)
+SHORT = 100
+OBJECTS = 100_000
+ROUNDS = 2_000
+# A run that takes longer hangs, in seconds.
+LONGEST = 600
+NO_LIMITS = "journalLimit = 4294967296\nmaxTotal = -1\nmaxIdle = -1\n"
 VALGRIND = ["valgrind", "--quiet", "--error-exitcode=9", "--leak-check=full", "--show-leak-kinds=all", "--errors-for-leak-kinds=all"]
 
 
@@ -62,13 +75,7 @@ def compiled(name, library, folder, flags):
 
 
 def run(*words):
-    return subprocess.run(words, stdin=subprocess.DEVNULL, capture_output=True, timeout=120)
-
-
-def wanted_of_answer(answer):
-    """What is wanted of settings: of a fault all but the name of a key."""
-    output, error, status = wanted_of_settings(answer)
-    return output, KEY.sub(rb"\1", error), status
+    return subprocess.run(words, stdin=subprocess.DEVNULL, capture_output=True, timeout=LONGEST)
 
 
 def cases(folder):
@@ -76,18 +83,84 @@ def cases(folder):
     for script in sorted(folder.glob("*.script")):
         yield script, script.with_suffix(".toml"), script, wanted_of_script(script)
     for answer in sorted(folder.glob("*.answer")):
-        yield answer, answer.with_suffix(".toml"), "/dev/null", wanted_of_answer(answer)
+        yield answer, answer.with_suffix(".toml"), "/dev/null", wanted_of_settings(answer)
+
+
+def segments(settings, journal, every):
+    """The segments of a journal that is cut every so many entries."""
+    return cut_at(settings_of(settings.read_text()), journal, set(range(every, journal.count(b"\n"), every)))
+
+
+def verdict(pool, settings, parts):
+    """What the program says of segments."""
+    with tempfile.TemporaryDirectory() as folder:
+        paths = [pathlib.Path(folder) / str(position) for position in range(len(parts))]
+        for path, part in zip(paths, parts):
+            path.write_bytes(part)
+        return run(pool, "check", settings, *paths)
+
+
+def differing_segments(play, pool, name, settings, script, every, parts):
+    """What differs where a script is cut, and where its segments are judged; `parts` are those that are wanted."""
+    done = run(play, settings, script, str(every))
+    found = [b"pool-journal " + part for part in done.stdout.split(b"pool-journal ")[1:]]
+    entries = sum(part.count(b" = ") for part in parts)
+    told = differing(f"{name}, judged", (b"legal %d\n" % entries, b"", 0), verdict(pool, settings, found))
+    return told + differing(f"{name}, cut every {every}", (b"".join(parts), b"", 0), done)
+
+
+def cut_cases(play, pool, case):
+    """What differs where a case is cut."""
+    name, settings, script, (journal, _, _) = case
+    return [line for every in EVERY for line in differing_segments(play, pool, name, settings, script, every, segments(settings, journal, every))]
+
+
+def many_differing(play, pool):
+    """What differs in a run over many objects."""
+    with tempfile.TemporaryDirectory() as folder:
+        settings, script = pathlib.Path(folder) / "settings", pathlib.Path(folder) / "script"
+        settings.write_text(NO_LIMITS)
+        (first, made), (second, parked), (_, asked) = segments_of(settings_of(NO_LIMITS), OBJECTS)[0]
+        script.write_bytes(b"".join(line.partition(b" = ")[0] + b"\n" for line in (made + parked + asked).splitlines()))
+        parts = [first + made, second + parked + asked]
+        return differing_segments(play, pool, f"{OBJECTS} objects", settings, script, made.count(b"\n"), parts)
+
+
+def long_differing(life, pool, before, rounds):
+    """What differs in a long life with a short journal: four entries a round, and four to close the pool."""
+    with tempfile.TemporaryDirectory() as folder:
+        settings, made = pathlib.Path(folder) / "settings", pathlib.Path(folder) / "made"
+        settings.write_text("journalLimit = 100\n")
+        made.mkdir()
+        found = differing("long_life", (b"", b"", 0), run(*before, life, settings, made, str(rounds)))
+        paths = sorted(made.iterdir())
+        lengths = [path.read_bytes().count(b" = ") for path in paths]
+        names = [f"segment-{first:020}" for first in itertools.accumulate(lengths[:-1], initial=0)]
+        if [path.name for path in paths] != names or len(names) < rounds // 25:
+            found.append(f"long_life: segments {[path.name for path in paths]}, of {lengths} entries")
+        return found + differing("long_life, judged", (b"legal %d\n" % (4 * rounds + 4), b"", 0), run(pool, "check", settings, *paths))
+
+
+def play_many(play, life, pool):
+    """Plays a run over many objects and long lives, and gives the status to end with."""
+    runs = [many_differing(play, pool), long_differing(life, pool, [], ROUNDS)]
+    if shutil.which("valgrind"):
+        runs.append(long_differing(life, pool, VALGRIND, ROUNDS // 10))
+    for difference in itertools.chain(*runs):
+        print(difference[:1000])
+    failed = sum(map(bool, runs))
+    print(f"{len(runs) - failed} passed, {failed} failed")
+    return 1 if failed else 0
 
 
 def refusals(play, case):
-    """Plays a case with each allocation refused in turn, and gives what differs."""
-    name, settings, script, wanted = case
-    for number in itertools.count(1):
-        done = run(play, settings, script, str(number))
-        if done.returncode == TOO_FEW and number > 1:
-            return []
-        if different := differing(f"{name}: allocation {number}", wanted, done):
-            return different
+    """Plays a case, whole and where it is short cut, with each allocation refused in turn, and gives what differs."""
+    name, settings, script, (journal, error, status) = case
+    whole = differing(f"{name}: refused", (journal, error, status), run(play, settings, script, "0", "each"))
+    if journal.count(b"\n") > SHORT:
+        return whole
+    parts = segments(settings, journal, EVERY[1])
+    return whole + differing(f"{name}: cut and refused", (b"".join(parts), error, status), run(play, settings, script, str(EVERY[1]), "each"))
 
 
 def refused_cases(folder):
@@ -97,7 +170,12 @@ def refused_cases(folder):
 def runs(life, play, folder):
     """What the programs are run on by themselves, and what is wanted of each; under valgrind too, where it is installed."""
     name, settings, script, wanted = next(refused_cases(folder))
-    alone = [("plain_life", [life, TOP / "examples" / "settings.toml"], (PLAIN_LIFE, b"", 0)), (name, [play, settings, script], wanted)]
+    parts = b"".join(segments(settings, wanted[0], EVERY[1])), b"", 0
+    alone = [
+        ("plain_life", [life, TOP / "examples" / "settings.toml"], (PLAIN_LIFE, b"", 0)),
+        (name, [play, settings, script], wanted),
+        (f"{name}, cut", [play, settings, script, str(EVERY[1])], parts),
+    ]
     yield from alone
     if shutil.which("valgrind"):
         yield from ((f"{name} under valgrind", [*VALGRIND, *words], wanted) for name, words, wanted in alone)
@@ -105,15 +183,19 @@ def runs(life, play, folder):
         print("valgrind isn't installed, and nothing looks for faults of memory (Debian and Ubuntu: apt-get install valgrind)")
 
 
-def main(kind, library, folders):
+def main(kind, library, words):
     with tempfile.TemporaryDirectory() as built:
         play = compiled("play", library, built, REFUSING)
+        if kind == "many":
+            return play_many(play, compiled("long_life", library, built, []), *words)
         if kind == "programs":
             life = compiled("plain_life", library, built, [])
-            return play_folders(folders, lambda folder: runs(life, play, folder), lambda case: differing(case[0], case[2], run(*case[1])))
+            return play_folders(words, lambda folder: runs(life, play, folder), lambda case: differing(case[0], case[2], run(*case[1])))
         if kind == "refused":
-            return play_folders(folders, refused_cases, lambda case: refusals(play, case))
-        return play_folders(folders, cases, lambda case: differing(case[0], case[3], run(play, case[1], case[2])))
+            return play_folders(words, refused_cases, lambda case: refusals(play, case))
+        if kind == "segments":
+            return play_folders(words[1:], refused_cases, lambda case: cut_cases(play, words[0], case))
+        return play_folders(words, cases, lambda case: differing(case[0], case[3], run(play, case[1], case[2])))
 
 
 if __name__ == "__main__":

@@ -1,10 +1,9 @@
 -- What the calls from C come to.
-use Rattle.std.specs.Prelude.{◌≡◌, ℕ, ◌+◌, ◌<◌, ◌≤◌, true, false, if◌then◌else◌, List, [], ◌∷◌, ◌++◌, length, drop, slice_get, Option, Some, None, IsSomeAnd, Ok, Err, IsUtf8}
+use Rattle.std.specs.Prelude.{◌≡◌, ℕ, ◌+◌, true, false, if◌then◌else◌, List, [], ◌∷◌, ◌++◌, length, Option, Some, None, IsSomeAnd, Ok, Err, IsUtf8}
 use Rattle.pool_settings.specs.Answer.{settings_of_text, IsAnswer}
 use Rattle.pool_settings.specs.declared.fault.SettingsFault.{SettingsFault}
-use Rattle.pool_journal.specs.Base.{empty_base, closed_from, records_from}
+use Rattle.pool_journal.specs.Base.{empty_base, closed_from, records_from, reach}
 use Rattle.pool_journal.specs.Carrying.{carries}
-use Rattle.pool_journal.specs.Text.{line}
 use Rattle.pool_journal.specs.declared.answer.Answer.{Answer}
 use Rattle.pool_journal.specs.declared.entry.Entry.{Entry}
 use Rattle.pool_journal.specs.declared.input.Input.{Input}
@@ -18,9 +17,10 @@ use Rattle.pool_core.specs.Pool.{Pool}
 use Rattle.pool_core.specs.ReplyFrom.{reply_from}
 use Rattle.pool_core.specs.Steps.{keeps_value}
 use Rattle.zuphinka.specs.Codes.{input_of, reply_of}
+use Rattle.zuphinka.specs.Lines.{TextTo, entry_line, base_line}
 use Rattle.zuphinka.specs.Status.{status_code, fault_status}
 use Rattle.zuphinka.specs.declared.status.Status.{Status}
-use Rattle.zuphinka.specs.declared.status.Status.TheVariants.{Done, NotOpen, AlreadyOpen, OutOfMemory, JournalFull, BadRequest, NoEntry, NoRoom, NotText}
+use Rattle.zuphinka.specs.declared.status.Status.TheVariants.{Done, NotOpen, AlreadyOpen, OutOfMemory, JournalFull, BadRequest, NotText}
 use Rattle.zuphinka.specs.declared.request.Request.{Request}
 use Rattle.zuphinka.specs.declared.reply.Reply.{Reply}
 
@@ -114,18 +114,29 @@ TellsSteps pool n = n ≡ length pool.journal
 abbrev pub TellsRoom : Pool ℕ → ℕ → Type 0
 TellsRoom pool n = n + (length pool.journal + owed_from pool.base pool.journal) ≡ limit_from pool.settings pool.base
 
--- ---- line
+-- ---- cut
 
--- what reading the text of an entry comes to
-abbrev pub LineTo : List Entry → ℕ → List ℕ → List ℕ → ℕ → ℕ → Status → Type 0
-LineTo J k before after n m Done =
-    IsSomeAnd (slice_get J k) (λ e. (length (line e) ≤ length before) × (after ≡ line e ++ drop (length (line e)) before) × (m ≡ length (line e)))
-LineTo J k before after n m NoRoom =
-    IsSomeAnd (slice_get J k) (λ e. (length before < length (line e)) × (after ≡ before) × (m ≡ length (line e)))
-LineTo J k before after n m NoEntry = (slice_get J k ≡ None) × (after ≡ before) × (m ≡ n)
-LineTo J k before after n m OutOfMemory = (after ≡ before) × (m ≡ n)
-LineTo J k before after n m _ = ⊥
+-- what cutting the journal of an open pool comes to: it goes on from what the entries came to, with none of them
+abbrev pub CutsTo : Pool ℕ → Pool ℕ → Status → Type 0
+CutsTo old new Done = new ≡ record old { base = reach old.base old.journal; journal = [] }
+CutsTo old new OutOfMemory = new ≡ old
+CutsTo old new _ = ⊥
 
+abbrev pub Cuts : Held → Held → Status → Type 0
+Cuts None new s = (s ≡ NotOpen) × (new ≡ None)
+Cuts (Some old) new s = IsSomeAnd new (λ pool. CutsTo old pool s)
+
+-- ---- lines
+
+-- what telling a text of a pool comes to, if it has one
+abbrev pub Tells : (Pool ℕ → Option (List ℕ)) → Held → Held → List ℕ → List ℕ → ℕ → ℕ → Status → Type 0
+Tells text None new before after n m s = (s ≡ NotOpen) × (new ≡ None) × (after ≡ before) × (m ≡ n)
+Tells text (Some pool) new before after n m s = (new ≡ Some pool) × TextTo (text pool) before after n m s
+
+-- the lines of the entries
 abbrev pub Lines : ℕ → Held → Held → List ℕ → List ℕ → ℕ → ℕ → Status → Type 0
-Lines k None new before after n m s = (s ≡ NotOpen) × (new ≡ None) × (after ≡ before) × (m ≡ n)
-Lines k (Some pool) new before after n m s = (new ≡ Some pool) × LineTo pool.journal k before after n m s
+Lines k = Tells (λ pool. entry_line pool.journal k)
+
+-- the lines of the base that the entries go on from
+abbrev pub BaseLines : ℕ → Held → Held → List ℕ → List ℕ → ℕ → ℕ → Status → Type 0
+BaseLines k = Tells (λ pool. base_line pool.base k)

@@ -18,7 +18,7 @@ pub(crate) enum Status {
     JournalFull,
     /// A code of the request is none.
     BadRequest,
-    /// The journal has no entry at this position.
+    /// The journal has no entry, or the base no line, at this position.
     NoEntry,
     /// The line is longer than the text has room for.
     NoRoom,

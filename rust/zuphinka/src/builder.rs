@@ -146,7 +146,7 @@ impl<M: Manager> Builder<M> {
     }
 
     /// How many entries the journal may have, from 1 to 2^32 (`journalLimit`, 1,000,000). A pool whose journal is full lends
-    /// nothing more. An entry is stored until the pool is dropped; a borrow and a return are four.
+    /// nothing more. An entry is stored until the journal is [`cut`](Pool::cut) or the pool is dropped; a borrow and a return are four.
     pub fn journal_limit(mut self, entries: u64) -> Builder<M> {
         self.settings.journal_limit = i64::try_from(entries).unwrap_or(i64::MAX);
         self

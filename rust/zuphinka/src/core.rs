@@ -2,6 +2,10 @@
 
 use crate::step::{Answer, Cause, Counts, Input, Outcome, StepFault, When};
 use crate::sys;
+use std::ffi::c_char;
+
+/// A function of the library that tells a line.
+type Teller = unsafe extern "C" fn(*mut sys::Handle, u64, *mut c_char, usize, *mut u64) -> u32;
 
 /// A core. It is its handle's only owner, and each call has it by itself, since it takes `&mut self`: these are the rules of
 /// `zuphinka.h`. Tokens are numbers to it, and are never followed.
@@ -18,6 +22,34 @@ pub(crate) enum OpenFault {
     OutOfMemory,
     /// The settings aren't taken; the status says why.
     Settings(u32),
+}
+
+/// The settings that a text says; else the status of its first fault, with the name of the key that is at fault, if one is.
+pub(crate) fn settings_of(text: &str) -> Result<sys::Settings, (u32, String)> {
+    let mut key = vec![0u8; 128];
+    loop {
+        let (mut settings, mut size) = (sys::Settings::default(), 0);
+        // SAFETY: text and buffer have so many bytes, and all are apart.
+        let status = unsafe {
+            let (bytes, start) = (text.as_ptr().cast(), key.as_mut_ptr().cast());
+            sys::zuphinka_settings(
+                bytes,
+                text.len(),
+                &mut settings,
+                start,
+                key.len(),
+                &mut size,
+            )
+        };
+        if status == sys::DONE {
+            return Ok(settings);
+        }
+        let had_room = size as usize <= key.len();
+        key.resize(size as usize, 0);
+        if had_room {
+            return Err((status, String::from_utf8_lossy(&key).into_owned()));
+        }
+    }
 }
 
 impl Core {
@@ -78,7 +110,7 @@ impl Core {
         }
     }
 
-    /// How many entries the journal has.
+    /// How many entries the journal has, since it was cut last.
     pub fn steps(&mut self) -> u64 {
         let mut steps = 0;
         // SAFETY: the handle is this core's.
@@ -102,11 +134,30 @@ impl Core {
     ///
     /// There was no memory, and the text is as it was.
     pub fn line(&mut self, position: u64, text: &mut Vec<u8>) -> Result<bool, StepFault> {
+        self.tell(sys::zuphinka_line, position, text)
+    }
+
+    /// Appends a line of the base that the entries go on from, with its line feed: whether there is one. At 0 it is the one that a segment
+    /// begins with, and then there is one for each object.
+    ///
+    /// # Errors
+    ///
+    /// There was no memory, and the text is as it was.
+    pub fn base_line(&mut self, position: u64, text: &mut Vec<u8>) -> Result<bool, StepFault> {
+        self.tell(sys::zuphinka_base, position, text)
+    }
+
+    fn tell(
+        &mut self,
+        teller: Teller,
+        position: u64,
+        text: &mut Vec<u8>,
+    ) -> Result<bool, StepFault> {
         let (mut line, mut size) = ([0u8; sys::LONGEST_LINE], 0);
         // SAFETY: the handle is this core's, the buffer has so many bytes, and all are apart.
         let status = unsafe {
             let start = line.as_mut_ptr().cast();
-            sys::zuphinka_line(&mut self.handle, position, start, line.len(), &mut size)
+            teller(&mut self.handle, position, start, line.len(), &mut size)
         };
         match status {
             sys::DONE => {
@@ -116,6 +167,20 @@ impl Core {
             sys::NO_ENTRY => Ok(false),
             sys::OUT_OF_MEMORY => Err(StepFault::OutOfMemory),
             status => unreachable!("a line came to status {status}"),
+        }
+    }
+
+    /// Cuts the journal: its entries are dropped, and it goes on from the base that they came to.
+    ///
+    /// # Errors
+    ///
+    /// There was no memory, and nothing has changed.
+    pub fn cut(&mut self) -> Result<(), StepFault> {
+        // SAFETY: the handle is this core's.
+        match unsafe { sys::zuphinka_cut(&mut self.handle) } {
+            sys::DONE => Ok(()),
+            sys::OUT_OF_MEMORY => Err(StepFault::OutOfMemory),
+            status => unreachable!("a cut came to status {status}"),
         }
     }
 }

@@ -92,7 +92,8 @@ pub enum OpenError {
 pub enum SettingsError {
     /// The text has more than 1,048,576 bytes.
     TooLong,
-    /// The text is no TOML document at this line; lines count from 1.
+    /// The text is no TOML document. The lines before this one are, by themselves; lines count from 1. Of a text of more than 1,000 lines
+    /// or 65,536 bytes the fault may stand further behind.
     NotToml(u64),
     /// There is no such setting.
     UnknownKey(String),
@@ -100,11 +101,16 @@ pub enum SettingsError {
     WrongType(String),
     /// The number of this key is out of its range.
     OutOfRange(String),
+    /// There was no memory to read them.
+    OutOfMemory,
 }
 
 impl From<SettingsError> for OpenError {
     fn from(error: SettingsError) -> OpenError {
-        OpenError::Settings(error)
+        match error {
+            SettingsError::OutOfMemory => OpenError::OutOfMemory,
+            error => OpenError::Settings(error),
+        }
     }
 }
 
@@ -134,6 +140,7 @@ impl fmt::Display for SettingsError {
             SettingsError::UnknownKey(key) => write!(f, "unknown key {}", key.escape_debug()),
             SettingsError::WrongType(key) => write!(f, "wrong type {}", key.escape_debug()),
             SettingsError::OutOfRange(key) => write!(f, "out of range {}", key.escape_debug()),
+            SettingsError::OutOfMemory => f.write_str("out of memory"),
         }
     }
 }

@@ -41,9 +41,9 @@
 //! # Ok::<(), Box<dyn std::error::Error>>(())
 //! ```
 //!
-//! The journal is kept in memory, and has at most `journalLimit` entries, 1,000,000 where nothing else is set. A borrow and a
-//! return are four. **A pool whose journal is full lends nothing more**: set the limit by how long the pool is to live
-//! ([`Builder::journal_limit`]), and look at [`Pool::room`].
+//! The journal is kept in memory, and has at most `journalLimit` entries ([`Builder::journal_limit`]), 1,000,000 where nothing else is
+//! set. A borrow and a return are four. **A pool whose journal is full lends nothing more**: look at [`Pool::room`], and cut the journal
+//! in time ([`Pool::cut`]). Then a pool runs for years, and its segments are judged as one journal.
 //!
 //! Build the C library first, by `python3 tools/build.py zuphinka`; `build.rs` says where else it may lie.
 #![warn(missing_docs)]
@@ -66,7 +66,6 @@ mod settings;
 mod shared;
 mod step;
 mod sys;
-mod toml;
 
 pub use builder::Builder;
 pub use callers::caller_number;

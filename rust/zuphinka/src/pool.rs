@@ -152,19 +152,21 @@ impl<M: Manager> Pool<M> {
         self.shared.close()
     }
 
-    /// How many entries the journal has, and how many objects there are and were, all of one moment. It takes the lock.
+    /// How many entries there were since the pool was opened, and how many objects there are and were, all of one moment. It takes
+    /// the lock.
     pub fn counts(&self) -> Counts {
         self.shared.lock().core.counts()
     }
 
     /// How many entries the journal can still take, besides those that may be needed to finish what was begun and to close the
-    /// pool. At 0 nothing is lent any more.
+    /// pool. At 0 nothing is lent any more, until the journal is [`cut`](Pool::cut).
     pub fn room(&self) -> u64 {
         self.shared.lock().core.room()
     }
 
     /// Writes the journal as text, from its first entry up to the last that there was when this was called: how many entries. `pool
-    /// check` judges it, over a file with these [`settings`](Pool::settings).
+    /// check` judges it, over a file with these [`settings`](Pool::settings). Of a journal that was [`cut`](Pool::cut) it is the segment
+    /// from there on, which is judged behind those that were cut off.
     ///
     /// The lock is held while some hundred lines are copied, and never while they are written.
     ///
@@ -175,16 +177,59 @@ impl<M: Manager> Pool<M> {
         self.shared.journal(&mut out)
     }
 
-    /// Writes those entries of the journal that no drain has written before: how many. All that drains write, one after the
-    /// other, is the journal. One drain of a pool runs at a time.
+    /// Writes those entries of the journal that no drain and no [`cut`](Pool::cut) has written before: how many. All that drains write,
+    /// one after the other, is the journal, where it is never cut. One drain or cut of a pool runs at a time.
     ///
-    /// Entries that were drained are still stored, and take room and memory as before.
+    /// Entries that were drained are still stored, and take room and memory as before, until they are cut off.
     ///
     /// # Errors
     ///
     /// The writer's. The next drain goes on with the lines that this one wanted to write last; those may stand there already, or in part.
     pub fn drain_journal(&self, mut out: impl Write) -> io::Result<u64> {
         self.shared.drain_journal(&mut out)
+    }
+
+    /// Writes the journal as a segment, and cuts it: how many entries the segment has. They are dropped from memory, and the pool goes on
+    /// from the base that they came to, with all its room. Objects, holders and [`counts`](Pool::counts) stay as they are.
+    ///
+    /// A segment begins with the lines of the base that its entries go on from. Write each to a file of its own: `pool check` judges all of
+    /// them, in their order, as the one journal that they are.
+    ///
+    /// ```
+    /// # use zuphinka::{Manager, Pool};
+    /// # struct Numbers;
+    /// # impl Manager for Numbers {
+    /// #     type Object = u64;
+    /// #     type Error = ();
+    /// #     fn make(&self, id: u64) -> Result<u64, ()> { Ok(id) }
+    /// # }
+    /// # let folder = std::env::temp_dir().join(format!("zuphinka-cut-{}", std::process::id()));
+    /// # std::fs::create_dir(&folder)?;
+    /// let pool = Pool::builder().journal_limit(1_000).build(Numbers)?;
+    /// let mut first = 0; // the position of a segment's first entry, by which it is named
+    /// for _ in 0..2_000 {
+    ///     drop(pool.get().unwrap());
+    ///     if pool.room() < 100 {
+    ///         let mut file = std::fs::File::create(folder.join(format!("segment-{first:020}")))?;
+    ///         first += pool.cut(&mut file)?;
+    ///         file.sync_all()?;
+    ///     }
+    /// }
+    /// assert_eq!(pool.counts().steps, 8_000);
+    /// # std::fs::remove_dir_all(&folder)?;
+    /// # Ok::<(), Box<dyn std::error::Error>>(())
+    /// ```
+    ///
+    /// The lock is held while some hundred lines are copied, and in the end while those entries are written that came meanwhile, `out` is
+    /// flushed and the journal is cut: so no entry falls between two segments. `out` must not call the pool. One drain or cut of a pool
+    /// runs at a time.
+    ///
+    /// # Errors
+    ///
+    /// The writer's, or there is no memory. The journal isn't cut then, and nothing is lost: the next cut writes the whole segment, and `out`
+    /// may have a part of it.
+    pub fn cut(&self, mut out: impl Write) -> io::Result<u64> {
+        self.shared.cut(&mut out)
     }
 
     /// The settings, as a file in TOML that has all of them.

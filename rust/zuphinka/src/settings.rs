@@ -1,19 +1,17 @@
 //! The settings of a pool, as a settings file has them.
 
+use crate::core::settings_of;
 use crate::error::SettingsError;
-use crate::toml::{self, Table, Value};
+use crate::sys;
 use std::fmt;
-use std::ops::RangeInclusive;
 use std::time::Duration;
 
 /// The greatest text that is taken, in bytes.
 const LONGEST: usize = 1 << 20;
 
-/// The greatest time, in milliseconds.
-const MOST_MILLIS: i64 = 1 << 53;
-
-const COUNTS: RangeInclusive<i64> = i32::MIN as i64..=i32::MAX as i64;
-const TIMES: RangeInclusive<i64> = -1..=MOST_MILLIS;
+/// How much of a text that is no TOML is looked at for the line: so many lines, and bytes.
+const MOST_LINES: usize = 1_000;
+const MOST_BYTES: usize = 1 << 16;
 
 /// The properties, each with the meaning that `docs/settings.md` tells.
 #[derive(Clone, Debug, PartialEq, Eq)]
@@ -92,91 +90,63 @@ pub(crate) fn millis(time: Duration) -> i64 {
     i64::try_from(millis).unwrap_or(i64::MAX)
 }
 
-/// The value of a key, of which all faults are told by its name.
-struct Found<'a> {
-    key: &'a str,
-    value: &'a Value,
+/// The line behind those that are TOML by themselves.
+fn line_of_fault(text: &str) -> u64 {
+    let ends = text.match_indices('\n').map(|(at, _)| at).enumerate();
+    let looked_at = ends
+        .take(MOST_LINES)
+        .take_while(|&(_, end)| end < MOST_BYTES);
+    let is_toml = |end| match settings_of(&text[..=end]) {
+        Ok(_) => true,
+        Err((status, _)) => status != sys::NOT_TOML && status != sys::OUT_OF_MEMORY,
+    };
+    let last = looked_at.filter(|&(_, end)| is_toml(end)).last();
+    last.map_or(1, |(lines, _)| lines as u64 + 2)
 }
 
-impl Found<'_> {
-    fn flag(&self) -> Result<bool, SettingsError> {
-        match self.value {
-            Value::Flag(flag) => Ok(*flag),
-            _ => Err(SettingsError::WrongType(self.key.to_owned())),
+impl From<sys::Settings> for Settings {
+    fn from(told: sys::Settings) -> Settings {
+        let abandoned = Abandoned {
+            on_borrow: told.remove_abandoned_on_borrow,
+            on_maintenance: told.remove_abandoned_on_maintenance,
+            timeout: Duration::from_millis(told.remove_abandoned_timeout_millis.unsigned_abs()),
+        };
+        Settings {
+            block_when_exhausted: told.block_when_exhausted,
+            journal_limit: i64::try_from(told.journal_limit).unwrap_or(i64::MAX),
+            lifo: told.lifo,
+            max_idle: told.max_idle.into(),
+            max_total: told.max_total.into(),
+            max_wait_millis: told.max_wait_millis,
+            min_evictable_idle_millis: told.min_evictable_idle_millis,
+            min_idle: told.min_idle.into(),
+            num_tests_per_eviction_run: told.num_tests_per_eviction_run.into(),
+            soft_min_evictable_idle_millis: told.soft_min_evictable_idle_millis,
+            test_on_borrow: told.test_on_borrow,
+            test_on_create: told.test_on_create,
+            test_on_return: told.test_on_return,
+            test_while_idle: told.test_while_idle,
+            abandoned: told.abandoned.then_some(abandoned),
         }
-    }
-
-    fn number(&self, range: RangeInclusive<i64>) -> Result<i64, SettingsError> {
-        match self.value {
-            Value::Number(number) if range.contains(number) => Ok(*number),
-            Value::Number(_) => Err(SettingsError::OutOfRange(self.key.to_owned())),
-            _ => Err(SettingsError::WrongType(self.key.to_owned())),
-        }
-    }
-
-    fn table(&self) -> Result<&Table, SettingsError> {
-        match self.value {
-            Value::Table(table) => Ok(table),
-            _ => Err(SettingsError::WrongType(self.key.to_owned())),
-        }
-    }
-}
-
-impl Abandoned {
-    fn from_table(table: &Table) -> Result<Abandoned, SettingsError> {
-        let mut abandoned = Abandoned::default();
-        for (name, value) in &table.keys {
-            let key = &format!("abandoned.{name}");
-            let found = Found { key, value };
-            match name.as_str() {
-                "removeAbandonedOnBorrow" => abandoned.on_borrow = found.flag()?,
-                "removeAbandonedOnMaintenance" => abandoned.on_maintenance = found.flag()?,
-                "removeAbandonedTimeoutMillis" => {
-                    let millis = found.number(0..=MOST_MILLIS)?;
-                    abandoned.timeout = Duration::from_millis(millis.unsigned_abs());
-                }
-                _ => return Err(SettingsError::UnknownKey(key.clone())),
-            }
-        }
-        Ok(abandoned)
     }
 }
 
 impl Settings {
-    /// The settings of a TOML text, where each key that is left out has its default.
+    /// The settings of a TOML text, as the core reads them, where each key that is left out has its default.
     pub fn from_toml(text: &str) -> Result<Settings, SettingsError> {
         if text.len() > LONGEST {
             return Err(SettingsError::TooLong);
         }
-        let mut settings = Settings::default();
-        for (key, value) in &toml::read(text)?.keys {
-            settings.set(&Found { key, value })?;
-        }
-        Ok(settings)
-    }
-
-    fn set(&mut self, found: &Found<'_>) -> Result<(), SettingsError> {
-        match found.key {
-            "abandoned" => self.abandoned = Some(Abandoned::from_table(found.table()?)?),
-            "blockWhenExhausted" => self.block_when_exhausted = found.flag()?,
-            "journalLimit" => self.journal_limit = found.number(1..=1 << 32)?,
-            "lifo" => self.lifo = found.flag()?,
-            "maxIdle" => self.max_idle = found.number(COUNTS)?,
-            "maxTotal" => self.max_total = found.number(COUNTS)?,
-            "maxWaitMillis" => self.max_wait_millis = found.number(TIMES)?,
-            "minEvictableIdleMillis" => self.min_evictable_idle_millis = found.number(TIMES)?,
-            "minIdle" => self.min_idle = found.number(0..=i32::MAX.into())?,
-            "numTestsPerEvictionRun" => self.num_tests_per_eviction_run = found.number(COUNTS)?,
-            "softMinEvictableIdleMillis" => {
-                self.soft_min_evictable_idle_millis = found.number(TIMES)?
-            }
-            "testOnBorrow" => self.test_on_borrow = found.flag()?,
-            "testOnCreate" => self.test_on_create = found.flag()?,
-            "testOnReturn" => self.test_on_return = found.flag()?,
-            "testWhileIdle" => self.test_while_idle = found.flag()?,
-            _ => return Err(SettingsError::UnknownKey(found.key.to_owned())),
-        }
-        Ok(())
+        settings_of(text)
+            .map(Settings::from)
+            .map_err(|(status, key)| match status {
+                sys::OUT_OF_MEMORY => SettingsError::OutOfMemory,
+                sys::NOT_TEXT | sys::NOT_TOML => SettingsError::NotToml(line_of_fault(text)),
+                sys::UNKNOWN_KEY => SettingsError::UnknownKey(key),
+                sys::WRONG_TYPE => SettingsError::WrongType(key),
+                sys::OUT_OF_RANGE => SettingsError::OutOfRange(key),
+                status => unreachable!("settings came to status {status}"),
+            })
     }
 
     /// Whether a borrow begins with the removal of abandoned objects.

@@ -6,7 +6,7 @@ use crate::error::Error;
 use crate::manager::Manager;
 use crate::settings::Settings;
 use crate::step::{Answer, Input};
-use std::sync::{Condvar, Mutex, MutexGuard, PoisonError};
+use std::sync::{Condvar, Mutex, MutexGuard, PoisonError, RwLock};
 use std::time::{Duration, Instant};
 
 /// Tells moments, in milliseconds.
@@ -40,8 +40,10 @@ pub(crate) struct Shared<M: Manager> {
     desk: Mutex<Desk<M::Object>>,
     changed: Condvar,
     clock: Clock,
-    /// How many entries were drained.
+    /// How many entries were drained or cut off. Who holds it may take the next two locks, in their order.
     pub drained: Mutex<u64>,
+    /// How many entries were cut off. Who holds it, also to read, may take the lock of the desk, and then nobody cuts.
+    pub cut_off: RwLock<u64>,
     pub manager: M,
     pub settings: Settings,
 }
@@ -56,6 +58,7 @@ impl<M: Manager> Shared<M> {
             changed: Condvar::new(),
             clock,
             drained: Mutex::new(0),
+            cut_off: RwLock::new(0),
             manager,
             settings,
         }
@@ -65,8 +68,8 @@ impl<M: Manager> Shared<M> {
         self.clock.now()
     }
 
-    /// Nobody else's code runs under the lock but the clock's, and each step is done whole or not at all: so a panic leaves
-    /// nothing in the midst.
+    /// Nobody else's code runs under the lock but the clock's and, in a cut, the writer's, and each step is done whole or not at all: so a
+    /// panic leaves nothing in the midst.
     pub fn lock(&self) -> MutexGuard<'_, Desk<M::Object>> {
         self.desk.lock().unwrap_or_else(PoisonError::into_inner)
     }

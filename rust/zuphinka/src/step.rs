@@ -84,11 +84,11 @@ pub(crate) enum StepFault {
     OutOfMemory,
 }
 
-/// How many entries the journal has, and how many objects it tells of.
+/// How many entries there were since the pool was opened, and of how many objects they tell.
 #[derive(Clone, Copy, Debug, Default, PartialEq, Eq, Hash)]
 #[non_exhaustive]
 pub struct Counts {
-    /// The entries of the journal.
+    /// The entries, those that were cut off included.
     pub steps: u64,
     /// The objects that lie idle, or are under an idle test.
     pub idle: u64,

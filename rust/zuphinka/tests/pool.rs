@@ -2,7 +2,7 @@
 
 mod common;
 
-use common::{assert_legal, journal_of};
+use common::{assert_legal, cut_off, entries_of, journal_of, judge_segments};
 use std::panic::{self, AssertUnwindSafe};
 use std::sync::atomic::{AtomicU64, Ordering};
 use std::sync::{mpsc, Arc, Mutex};
@@ -861,22 +861,23 @@ fn a_drain_goes_on_where_the_last_ended() {
     assert_eq!(String::from_utf8(text).unwrap(), journal_of(&pool));
 }
 
+/// Takes so many bytes.
+struct Narrow(usize, Vec<u8>);
+impl std::io::Write for Narrow {
+    fn write(&mut self, bytes: &[u8]) -> std::io::Result<usize> {
+        if self.1.len() + bytes.len() > self.0 {
+            return Err(std::io::ErrorKind::StorageFull.into());
+        }
+        self.1.extend_from_slice(bytes);
+        Ok(bytes.len())
+    }
+    fn flush(&mut self) -> std::io::Result<()> {
+        Ok(())
+    }
+}
+
 #[test]
 fn a_drain_that_fails_loses_nothing() {
-    /// Takes so many bytes.
-    struct Narrow(usize, Vec<u8>);
-    impl std::io::Write for Narrow {
-        fn write(&mut self, bytes: &[u8]) -> std::io::Result<usize> {
-            if self.1.len() + bytes.len() > self.0 {
-                return Err(std::io::ErrorKind::StorageFull.into());
-            }
-            self.1.extend_from_slice(bytes);
-            Ok(bytes.len())
-        }
-        fn flush(&mut self) -> std::io::Result<()> {
-            Ok(())
-        }
-    }
     let (pool, ..) = pool_with(|builder| builder);
     for _ in 0..200 {
         drop(pool.get().unwrap());
@@ -887,6 +888,203 @@ fn a_drain_that_fails_loses_nothing() {
     assert!(!narrow.1.is_empty());
     pool.drain_journal(&mut narrow.1).unwrap();
     assert_eq!(String::from_utf8(narrow.1).unwrap(), journal);
+}
+
+/// Sees that the program finds these segments legal, with so many entries.
+fn assert_segments_legal<M: Manager>(pool: &Pool<M>, segments: &[String]) {
+    let entries: usize = segments
+        .iter()
+        .map(|segment| entries_of(segment).count())
+        .sum();
+    assert_eq!(entries as u64, pool.counts().steps);
+    let verdict = judge_segments(&pool.settings(), segments);
+    assert_eq!(verdict, format!("legal {entries}\n"), "{segments:?}");
+}
+
+#[test]
+fn a_pool_whose_journal_is_cut_lends_on() {
+    let (pool, maker, _) = pool_with(|builder| builder.journal_limit(12));
+    drop(pool.get().unwrap());
+    let mut segments = vec![cut_off(&pool)];
+    let room = pool.room();
+    for _ in 1..20 {
+        let refused = std::iter::repeat_with(|| pool.get().map(drop)).find_map(Result::err);
+        assert_eq!(refused, Some(Error::JournalFull));
+        let before = pool.counts();
+        segments.push(cut_off(&pool));
+        assert_eq!((pool.counts(), pool.room()), (before, room));
+    }
+    let held = pool.get().unwrap();
+    segments.push(cut_off(&pool));
+    assert!(segments[20].contains("0 idle "), "{}", segments[20]);
+    drop(held);
+    pool.close();
+    segments.push(cut_off(&pool));
+    assert!(segments[21].contains("0 lent "), "{}", segments[21]);
+    segments.push(journal_of(&pool));
+    assert!(segments[22].starts_with("pool-journal 2 "));
+    assert!(segments[22].contains(" closed "), "{}", segments[22]);
+    assert_segments_legal(&pool, &segments);
+    assert_eq!(*maker.dropped.lock().unwrap(), [0]);
+}
+
+#[test]
+fn a_cut_that_fails_loses_nothing() {
+    /// Takes all, and fails at the end.
+    struct Lossy(Vec<u8>);
+    impl std::io::Write for Lossy {
+        fn write(&mut self, bytes: &[u8]) -> std::io::Result<usize> {
+            self.0.write(bytes)
+        }
+        fn flush(&mut self) -> std::io::Result<()> {
+            Err(std::io::ErrorKind::BrokenPipe.into())
+        }
+    }
+    let (pool, ..) = pool_with(|builder| builder);
+    let first = cut_off(&pool);
+    for _ in 0..200 {
+        drop(pool.get().unwrap());
+    }
+    let (journal, counts) = (journal_of(&pool), pool.counts());
+    for room in [0, 10, journal.len() / 2, journal.len() - 1] {
+        assert!(pool.cut(&mut Narrow(room, Vec::new())).is_err());
+        assert!(pool.cut(&mut Lossy(Vec::new())).is_err());
+        assert_eq!(
+            (journal_of(&pool), pool.counts()),
+            (journal.clone(), counts)
+        );
+    }
+    drop(pool.get().unwrap());
+    let segments = [first, cut_off(&pool), journal_of(&pool)];
+    assert_eq!(entries_of(&segments[1]).count(), 804);
+    assert_segments_legal(&pool, &segments);
+}
+
+#[test]
+fn a_drain_goes_on_behind_a_cut() {
+    let (pool, ..) = pool_with(|builder| builder);
+    let mut drained = Vec::new();
+    drop(pool.get().unwrap());
+    assert_eq!(pool.drain_journal(&mut drained).unwrap(), 4);
+    drop(pool.get().unwrap());
+    let segment = cut_off(&pool);
+    assert_eq!(entries_of(&segment).count(), 8);
+    assert_eq!(pool.drain_journal(&mut drained).unwrap(), 0);
+    drop(pool.get().unwrap());
+    assert_eq!(pool.drain_journal(&mut drained).unwrap(), 4);
+    let last = journal_of(&pool);
+    let written: Vec<_> = entries_of(&segment)
+        .take(4)
+        .chain(entries_of(&last))
+        .collect();
+    assert_eq!(
+        String::from_utf8(drained)
+            .unwrap()
+            .lines()
+            .collect::<Vec<_>>(),
+        written
+    );
+    assert_segments_legal(&pool, &[segment, last]);
+}
+
+#[test]
+fn segments_of_four_threads_are_one_journal() {
+    const ROUNDS: u64 = 2_000;
+    let (pool, ..) = pool_with(|builder| builder.max_total(2).journal_limit(400));
+    let segments = Mutex::new(Vec::new());
+    let cut = || {
+        let mut segments = segments.lock().unwrap();
+        segments.push(cut_off(&pool));
+    };
+    let borrow = || {
+        for _ in 0..ROUNDS {
+            while let Err(error) = pool.get().map(drop) {
+                assert_eq!(error, Error::JournalFull);
+                cut();
+            }
+            if pool.room() < 200 {
+                cut();
+            }
+        }
+    };
+    thread::scope(|scope| {
+        for _ in 0..4 {
+            scope.spawn(borrow);
+        }
+    });
+    let counts = pool.counts();
+    assert_eq!((counts.lent, counts.reserved), (0, 0));
+    assert!(counts.steps >= 4 * 4 * ROUNDS);
+    let mut segments = segments.into_inner().unwrap();
+    segments.push(journal_of(&pool));
+    assert!(segments.len() > 80, "{} segments", segments.len());
+    assert_segments_legal(&pool, &segments);
+}
+
+#[test]
+fn what_is_written_while_others_cut_is_whole() {
+    const TIMES: u64 = 50;
+    let (pool, ..) = pool_with(|builder| builder.max_total(2).journal_limit(20_000));
+    let (cuts, copied, is_over) = (AtomicU64::new(0), AtomicU64::new(0), AtomicU64::new(0));
+    let goes_on = || is_over.load(Ordering::SeqCst) == 0;
+    let is_enough = || {
+        cuts.load(Ordering::SeqCst)
+            .min(copied.load(Ordering::SeqCst))
+            >= TIMES
+    };
+    let (mut segments, mut copies, mut drained) = (Vec::new(), Vec::new(), Vec::new());
+    thread::scope(|scope| {
+        let lending = || {
+            for round in 0.. {
+                if is_enough() && round >= 1_000 {
+                    break;
+                }
+                if pool.get().map(drop).is_err() {
+                    thread::yield_now();
+                }
+            }
+        };
+        let borrowers = [scope.spawn(lending), scope.spawn(lending)];
+        scope.spawn(|| {
+            while goes_on() {
+                if pool.room() < 19_000 {
+                    segments.push(cut_off(&pool));
+                    cuts.fetch_add(1, Ordering::SeqCst);
+                }
+            }
+        });
+        scope.spawn(|| {
+            while goes_on() {
+                copies.push(journal_of(&pool));
+                copied.fetch_add(1, Ordering::SeqCst);
+            }
+        });
+        scope.spawn(|| {
+            while goes_on() {
+                pool.drain_journal(&mut drained).unwrap();
+            }
+        });
+        let lent = borrowers.map(|borrower| borrower.join());
+        is_over.store(1, Ordering::SeqCst);
+        lent.into_iter().for_each(|lent| lent.unwrap());
+    });
+    segments.push(cut_off(&pool));
+    assert_segments_legal(&pool, &segments);
+    let entries: Vec<_> = segments.iter().flat_map(|it| entries_of(it)).collect();
+    for copy in &copies {
+        let head = copy.lines().next();
+        let is_whole = match head.filter(|line| line.starts_with("pool-journal 2 ")) {
+            Some(_) => segments.iter().any(|segment| segment.starts_with(copy)),
+            None => copy
+                .lines()
+                .eq(entries[..copy.lines().count()].iter().copied()),
+        };
+        assert!(is_whole, "{copy}");
+    }
+    // What was drained stands in the journal in its order, each entry once.
+    let mut rest = entries.iter();
+    let drained = String::from_utf8(drained).unwrap();
+    assert!(drained.lines().all(|line| rest.any(|entry| *entry == line)));
 }
 
 #[test]

@@ -101,6 +101,7 @@ fn each_form_of_toml_is_read() {
         "[abandoned]\nremoveAbandonedOnBorrow = true\nremoveAbandonedTimeoutMillis = +15",
         "[ \"abandoned\" ] # a table\n\nremoveAbandonedTimeoutMillis = 0xF\nremoveAbandonedOnBorrow = true\n",
         "abandoned = { removeAbandonedOnBorrow = true , removeAbandonedTimeoutMillis = 15 }\n",
+        "abandoned = { removeAbandonedOnBorrow = true, removeAbandonedTimeoutMillis = 15, }\n",
         "abandoned.removeAbandonedOnBorrow = true\nabandoned . 'removeAbandonedTimeoutMillis' = 15\n",
     ];
     for table in tables {
@@ -123,7 +124,9 @@ fn a_text_that_is_no_toml_is_told_with_its_line() {
         ("lifo = tru", 1),
         ("lifo = true\rmaxIdle = 1", 1),
         ("\"maxTotal = 1", 1),
-        ("abandoned = { removeAbandonedOnBorrow = true, }", 1),
+        ("abandoned = { removeAbandonedOnBorrow = true,, }", 1),
+        ("maxTotal = 1\nx = [\n1,\n2\n]\nlifo = tru\n", 6),
+        ("maxTotal = 1\nx = [\n1,\n2 3\n]\n", 2),
         ("x = \"\\q\"", 1),
         ("x = [1, 2", 1),
     ];
@@ -134,6 +137,30 @@ fn a_text_that_is_no_toml_is_told_with_its_line() {
             "{text}"
         );
     }
+}
+
+#[test]
+fn a_key_of_any_length_is_told() {
+    for length in [1, 127, 128, 129, 100_000] {
+        let key = "k".repeat(length);
+        let told = settings_of(&format!("{key} = 1"));
+        assert_eq!(told, Err(SettingsError::UnknownKey(key)));
+    }
+    let text = "[abandoned]\n\"\\u00e9\" = 1\nremoveAbandonedTimeoutMillis = -1\n";
+    let late = "abandoned.removeAbandonedTimeoutMillis".to_owned();
+    assert_eq!(settings_of(text), Err(SettingsError::OutOfRange(late)));
+    let unknown = SettingsError::UnknownKey("abandoned.\u{e9}".to_owned());
+    assert_eq!(settings_of("abandoned.\"\\u00e9\" = 1"), Err(unknown));
+}
+
+#[test]
+fn the_line_in_a_long_text_is_found_in_time() {
+    let lines = "#\n".repeat(1 << 19);
+    let text = &lines[..lines.len() - 1];
+    let broken = text.replacen('#', "=", 1);
+    assert_eq!(settings_of(&broken), Err(SettingsError::NotToml(1)));
+    let last = text[..text.len() - 1].to_owned() + "=";
+    assert_eq!(settings_of(&last), Err(SettingsError::NotToml(1_001)));
 }
 
 #[test]

@@ -1,11 +1,11 @@
 //! Four threads call a pool by chance, over a manager that fails and panics by chance, with 20 seeds.
 //!
 //! Each object that was made is dropped once, the program `pool` finds the journal legal, what each thread did stands in it in
-//! its order, all that was drained is the journal, and no object is left anywhere.
+//! its order, all that was drained is the journal, or where it was cut its segments are, and no object is left anywhere.
 
 mod common;
 
-use common::{journal_of, judge};
+use common::{cut_off, entries_of, journal_of, judge_segments};
 use std::collections::HashSet;
 use std::panic::{self, AssertUnwindSafe};
 use std::sync::atomic::{AtomicU64, Ordering};
@@ -264,6 +264,9 @@ struct Table {
     /// Objects that one hands to another.
     handed: Mutex<Vec<Pooled<Fickle>>>,
     drained: Mutex<Vec<u8>>,
+    segments: Mutex<Vec<String>>,
+    /// Whether the journal is cut, and else it is drained.
+    is_cut: bool,
     is_calm: bool,
 }
 
@@ -434,9 +437,15 @@ impl<'a> Player<'a> {
         caught(|| pool.close());
     }
 
-    fn drain(&mut self) {
-        let mut drained = self.table.drained.lock().unwrap();
-        self.pool().drain_journal(&mut *drained).unwrap();
+    /// Drains the journal, or cuts it.
+    fn write(&mut self) {
+        if self.table.is_cut {
+            let mut segments = self.table.segments.lock().unwrap();
+            segments.push(cut_off(self.pool()));
+        } else {
+            let mut drained = self.table.drained.lock().unwrap();
+            self.pool().drain_journal(&mut *drained).unwrap();
+        }
     }
 
     /// A call that is made seldom. A pool is closed now and then.
@@ -448,7 +457,7 @@ impl<'a> Player<'a> {
                 self.marks.push(Mark::Clears);
                 caught(|| pool.clear());
             }
-            501..=600 => self.drain(),
+            501..=600 => self.write(),
             _ => {
                 let counts = pool.counts();
                 assert!(counts.idle + counts.lent + counts.reserved <= 4);
@@ -500,6 +509,8 @@ fn play(seed: u64) -> (usize, String) {
         manner,
         handed: Mutex::default(),
         drained: Mutex::default(),
+        segments: Mutex::default(),
+        is_cut: seed % 3 == 1,
         is_calm: !panics,
     };
     let played: Vec<_> = thread::scope(|scope| {
@@ -517,6 +528,8 @@ fn play(seed: u64) -> (usize, String) {
         pool,
         handed,
         drained,
+        segments,
+        is_cut,
         ..
     } = table;
     for object in handed.into_inner().unwrap() {
@@ -537,13 +550,14 @@ fn play(seed: u64) -> (usize, String) {
         "seed {seed}"
     );
 
-    let journal = journal_of(&pool);
-    let verdict = judge(&pool.settings(), journal.as_bytes());
-    assert_eq!(
-        verdict,
-        format!("legal {}\n", journal.lines().count()),
-        "seed {seed}"
-    );
+    let mut segments = segments.into_inner().unwrap();
+    segments.push(journal_of(&pool));
+    let entries = segments.iter().flat_map(|segment| entries_of(segment));
+    let journal: String = entries.flat_map(|entry| [entry, "\n"]).collect();
+    assert_eq!(journal.lines().count() as u64, counts.steps, "seed {seed}");
+    assert_eq!(is_cut, segments.len() > 1, "seed {seed}");
+    let verdict = judge_segments(&pool.settings(), &segments);
+    assert_eq!(verdict, format!("legal {}\n", counts.steps), "seed {seed}");
     for (caller, marks) in played {
         let told = told(&journal, caller);
         assert!(
@@ -551,9 +565,11 @@ fn play(seed: u64) -> (usize, String) {
             "seed {seed}, caller {caller}: {told:?} isn't {marks:?}"
         );
     }
-    let mut drained = drained.into_inner().unwrap();
-    pool.drain_journal(&mut drained).unwrap();
-    assert_eq!(String::from_utf8(drained).unwrap(), journal, "seed {seed}");
+    if !is_cut {
+        let mut drained = drained.into_inner().unwrap();
+        pool.drain_journal(&mut drained).unwrap();
+        assert_eq!(String::from_utf8(drained).unwrap(), journal, "seed {seed}");
+    }
 
     drop(pool);
     let drops = drops.lock().unwrap();

@@ -26,20 +26,46 @@ fn program() -> PathBuf {
 
 /// What the program says of a journal with these settings.
 pub fn judge(settings: &str, journal: &[u8]) -> String {
+    judge_segments(settings, &[journal])
+}
+
+/// What the program says of the segments of a journal with these settings.
+pub fn judge_segments<T: AsRef<[u8]>>(settings: &str, segments: &[T]) -> String {
     static NEXT: AtomicU64 = AtomicU64::new(0);
     let number = NEXT.fetch_add(1, Ordering::Relaxed);
     let folder = env::temp_dir().join(format!("zuphinka-{}-{number}", std::process::id()));
     fs::create_dir(&folder).unwrap();
-    let (settings_file, journal_file) = (folder.join("settings.toml"), folder.join("journal"));
+    let settings_file = folder.join("settings.toml");
     fs::write(&settings_file, settings).unwrap();
-    fs::write(&journal_file, journal).unwrap();
+    let files: Vec<_> = (0..segments.len())
+        .map(|number| folder.join(format!("segment-{number:06}")))
+        .collect();
+    for (file, segment) in files.iter().zip(segments) {
+        fs::write(file, segment).unwrap();
+    }
     let done = Command::new(program())
         .arg("check")
-        .args([settings_file, journal_file])
+        .arg(settings_file)
+        .args(files)
         .output()
         .unwrap();
     fs::remove_dir_all(folder).unwrap();
     String::from_utf8(done.stdout).unwrap() + &String::from_utf8(done.stderr).unwrap()
+}
+
+/// The entries of a segment, without the lines of its base.
+pub fn entries_of(segment: &str) -> impl Iterator<Item = &str> {
+    segment.lines().filter(|line| line.contains(" = "))
+}
+
+/// A segment that is cut off.
+pub fn cut_off<M: Manager>(pool: &Pool<M>) -> String {
+    let mut segment = Vec::new();
+    let written = pool.cut(&mut segment).unwrap();
+    let segment = String::from_utf8(segment).unwrap();
+    assert_eq!(written, entries_of(&segment).count() as u64);
+    assert!(segment.starts_with("pool-journal 2 "));
+    segment
 }
 
 /// The journal of a pool.
@@ -47,7 +73,7 @@ pub fn journal_of<M: Manager>(pool: &Pool<M>) -> String {
     let mut journal = Vec::new();
     let written = pool.journal(&mut journal).unwrap();
     let text = String::from_utf8(journal).unwrap();
-    assert_eq!(written, text.lines().count() as u64);
+    assert_eq!(written, entries_of(&text).count() as u64);
     text
 }
 
