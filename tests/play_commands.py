@@ -3,10 +3,11 @@
 
 play_commands.py POOL  The last line is 'N passed, M failed'.
 
-A block is what a page indents by four spaces, and the man page's section of examples. Each must be of commands, which are run one after the other with the repository's examples at
-hand, the lines of a journal, which must be legal with the default settings, cut into segments or not, the form of a line, or the kit's name.
-The command ./check is not run, since it runs this, nor are tools/, since it has built the programs: there must be such a tool and crate. Blocks of
-Rust are held against the sources by check_readme.py, and names by check_names.py. Cargo's commands are left out where no cargo runs.
+A block is what a page indents by four spaces, and the man page's section of examples. Each must be of commands, which are run one after the
+other with the repository's examples at hand, or as one where they have a loop; the lines of a journal, which must be legal with the default
+settings, cut into segments or not; the form of a line; or the kit's name. The command ./check is not run, since it runs this, nor are tools/,
+since it has built the programs: there must be such a tool and crate. Blocks between fences are not run: check_readme.py holds those of Rust and
+C against the sources. Names are for check_names.py. Cargo's commands are left out where no cargo runs.
 """
 
 import pathlib
@@ -16,7 +17,7 @@ import sys
 import tempfile
 
 TOP = pathlib.Path(__file__).resolve().parent.parent
-COMMAND = re.compile(r"(\./pool|\./check|pool|crates/\S+|\(cd|mkdir|python3 tools/\S+|cc|\./plain_life|\./long_life|cargo) ")
+COMMAND = re.compile(r"(\./pool|\./check|pool|crates/\S+|\(cd|mkdir|printf|python3 tools/\S+|cc|\./plain_life|\./long_life|cargo) ")
 ENTRY = re.compile(r"\d+ \d+ .* = ")
 BASE = re.compile(r"pool-journal 2 |\d+ (readying|adding|lent|returning|idle|testing|destroying) ")
 FORM = "<caller> <at> <input>"
@@ -27,8 +28,13 @@ def blocks(page):
     text = re.sub(r"^```.*?^```$", "", page.read_text(), flags=re.MULTILINE | re.DOTALL)
     if page.suffix == ".1":
         yield [line for line in text.partition(".SH EXAMPLES\n")[2].splitlines() if not line.startswith(".")]
-    for block in re.findall(r"(?:^    \S.*\n)+", text, flags=re.MULTILINE):
+    for block in re.findall(r"^    \S.*\n(?:^    .*\S.*\n)*", text, flags=re.MULTILINE):
         yield [line[4:] for line in block.splitlines()]
+
+
+def commands(block):
+    """The commands of a block: one in each line, but one alone where there is a loop."""
+    return ["\n".join(block)] if any(line.startswith("for ") for line in block) else block
 
 
 def runs_cargo():
@@ -51,7 +57,7 @@ class Place:
 
     def fault_of_command(self, line):
         """Why a command is not as the page says, if it isn't."""
-        words = line.partition("#")[0].strip()
+        words = line.partition(" #")[0].strip()
         if words == "./check":
             return None
         if words.startswith("python3 tools/"):
@@ -80,8 +86,8 @@ class Place:
         """What is tried of a page, each with its fault, if it has one."""
         shown = []
         for block in blocks(page):
-            if all(COMMAND.match(line + " ") for line in block):
-                yield from ((line, self.fault_of_command(line)) for line in block)
+            if all(COMMAND.match(line + " ") for line in commands(block)):
+                yield from ((line, self.fault_of_command(line)) for line in commands(block))
             elif all(ENTRY.match(line) or BASE.match(line) for line in block):
                 shown += block
             elif block not in ([FORM], [kit()]):

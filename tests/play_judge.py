@@ -11,6 +11,7 @@ with the lines that were written of the one before it.
   they must be legal exactly where the verdict says so; where it does, what is written of each must be the lines of the next one's base.
 - Three segments are damaged: in each place a byte is changed, dropped or doubled. Joined, they must be legal exactly where those of
   tests/pool_model.py are, and where `POOL check` over all of them says so.
+- The commands of docs/audits.md that judge segments and join them are run on those of FOLDER: they must find them legal where the verdict does.
 - Other arguments, and files that aren't there or give no settings, must have their status and their line.
 
 Prints what differs, and in the end the line 'N passed, M failed'.
@@ -23,6 +24,7 @@ import subprocess
 import sys
 import tempfile
 
+from play_commands import TOP, blocks, commands
 from play_damaged import Chance
 from play_segments import THREE, damaged
 from pool_model import settings_of, verdict_of_segments
@@ -84,6 +86,33 @@ def of_case(judge, verdict, paths, chance):
     return None
 
 
+def of_page(judge, folder):
+    shown = [command for block in blocks(TOP / "docs/audits.md") for command in commands(block)]
+    script = "\n".join(shown[shown.index("mkdir reached") :])
+    for verdict in sorted(folder.glob("*.verdict")):
+        paths = sorted(folder.glob(f"{verdict.stem}.*.journal"), key=lambda path: int(path.suffixes[0][1:]))
+        yield lambda verdict=verdict, paths=paths: of_commands(judge, script, verdict, [path.read_bytes() for path in paths])
+
+
+def of_commands(judge, script, verdict, segments):
+    """Judges and joins segments by the page's commands. A first one without a base gets the line of the base before all entries."""
+    with tempfile.TemporaryDirectory() as name:
+        room = pathlib.Path(name)
+        for made in ("archived", "crates/judge/out"):
+            (room / made).mkdir(parents=True)
+        (room / "crates/judge/out/judge").symlink_to(pathlib.Path(judge).resolve())
+        (room / "archived/archive.toml").write_bytes(verdict.with_suffix(".toml").read_bytes())
+        for index, text in enumerate(segments):
+            bare = index == 0 and not text.startswith(b"pool-journal")
+            (room / f"archived/segment-{index:04}").write_bytes(EMPTY * bare + text)
+        done = subprocess.run(["bash", "-c", script], cwd=room, capture_output=True, timeout=60, stdin=subprocess.DEVNULL)
+    is_legal = verdict.read_bytes().startswith(b"0\nlegal")
+    wanted = b"one legal journal\n" if is_legal else b"not legal from archived/segment-"
+    if (done.returncode == 0) == is_legal and done.stdout.startswith(wanted):
+        return None
+    return f"{verdict}, by the commands of the page: legal is {is_legal}, {done}"
+
+
 def of_damage(judge, pool, settings):
     read, chance = settings_of(pathlib.Path(settings).read_text()), Chance(13)
     for index, text in enumerate(THREE):
@@ -139,6 +168,7 @@ def main(judge, pool, folder):
     with tempfile.NamedTemporaryFile("w", suffix=".toml") as defaults:
         trials = [
             *of_folder(judge, pathlib.Path(folder)),
+            *of_page(judge, pathlib.Path(folder)),
             *of_damage(judge, pool, defaults.name),
             lambda: of_uses(judge, defaults.name),
         ]

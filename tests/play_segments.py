@@ -10,8 +10,8 @@
   segments of one entry; `check` over all of them must find it legal. It is cut at three places besides, and one of the segments is left
   out, repeated or exchanged with the next: the verdict must be that of tests/pool_model.py.
 - Three segments are damaged: in each place a byte is changed, dropped or doubled; the verdict must be the model's.
-- `check` over a thousand segments must take no more memory on one processor than over the longest of them alone, with a tenth and 256 KiB
-  for what differs from run to run; and on all no more than so many times what the longest takes beyond the program itself, and 512 KiB each.
+- `check` over a thousand segments must take no more memory on one processor than over the longest of them alone, with a tenth and 512 KiB
+  for the files' names and what differs from run to run; and on all no more than so many times what the longest takes beyond the program itself, and 512 KiB each.
 
 Each of the first and the third is judged on all processors, side by side, and on one, one after the other: the answers must be the same.
 
@@ -175,7 +175,7 @@ def of_memory(pool, settings):
         (in_turn, is_well), (at_once, are_well) = (peak(room, [pool, "check", settings, *paths], on) for on in (on_one, None))
     processors = len(os.sched_getaffinity(0))
     most = least + processors * (longest - least + 512)
-    if not (is_well and are_well) or in_turn > longest * 1.1 + 256 or at_once > most:
+    if not (is_well and are_well) or in_turn > longest * 1.1 + 512 or at_once > most:
         return f"memory: {len(segments)} segments took {in_turn} KiB in turn and {at_once} at once; one took {longest}, none {least}"
     return None
 
