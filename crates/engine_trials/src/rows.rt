@@ -1,4 +1,7 @@
-use crate::{EngineFault, check, run};
+// Journals that are run and checked whole, and the faults at which an engine ends.
+use crate::engines::{check, run};
+use crate::streams::{Failing, Pieces, Stingy};
+use pool_engines::EngineFault;
 use pool_journal::LineFault;
 use pool_settings::Settings;
 use std::alloc::{AllocError, Global};
@@ -6,18 +9,7 @@ use std::cell::Cell;
 use std::process::Abort;
 use std::test::Fail;
 
-mod calls;
-mod counted;
-mod damaged;
-mod files;
-mod reports;
-mod settings_files;
-mod statistics;
-mod streams;
-
-use streams::{Failing, Pieces, Stingy};
-
-const PLAIN_LIFE: &str = "0 10 borrow 10 = make 0\n\
+pub const PLAIN_LIFE: &str = "0 10 borrow 10 = make 0\n\
     0 11 ready 0 good = lent\n\
     0 15 return 0 = check\n\
     0 16 park 0 good = parked\n";
@@ -32,7 +24,7 @@ const TWO_OBJECTS: &str = "0 0 borrow 0 = make 0\n\
     1 3 park 1 good = parked\n\
     0 4 borrow 4 = take 1\n";
 
-const FAILED_ACTIVATION: &str = "0 0 borrow 0 = make 0\n\
+pub const FAILED_ACTIVATION: &str = "0 0 borrow 0 = make 0\n\
     1 0 borrow 0 = make 1\n\
     0 1 ready 0 good = lent\n\
     1 1 ready 1 good = lent\n\
@@ -76,7 +68,7 @@ const ROWS: [&str; 6] = [
 ];
 
 /// The script of a journal: each line up to its ` = `.
-fn script_of(alloc: Global, journal: &str) -> Result<String, AllocError> {
+pub fn script_of(alloc: Global, journal: &str) -> Result<String, AllocError> {
     let mut script = String::new(alloc);
     for line in journal.lines() {
         let asked = line.split_once(" = ").map_or(line, |parts| parts.0);
@@ -86,7 +78,8 @@ fn script_of(alloc: Global, journal: &str) -> Result<String, AllocError> {
     Ok(script)
 }
 
-fn with_limit(journal_limit: u64) -> Settings {
+/// Settings with this journal limit.
+pub fn with_limit(journal_limit: u64) -> Settings {
     Settings {
         journal_limit,
         ..Settings::default()

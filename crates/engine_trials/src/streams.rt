@@ -1,7 +1,7 @@
 // Readers and writers that give and take little, fail, are interrupted, or count.
 ghost use Rattle.std.specs.Prelude.{◌≡◌, true, ◌≤◌, length, IfSome};
 
-use crate::{Sink, Source, flush_past_signals, read_past_signals, write_past_signals};
+use pool_engines::{Sink, Source, flush_past_signals, read_past_signals, write_past_signals};
 use std::alloc::Global;
 use std::cell::Cell;
 use std::io;

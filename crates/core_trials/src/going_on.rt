@@ -1,8 +1,8 @@
-//! A pool that is cut, and opened again from what it came to, answers as one that is not.
+// A pool that is cut, and opened again from what it came to, answers as one that is not.
 
-use super::lives::{Dice, next_input, some_settings};
-use super::value_of;
-use crate::{Core, StepFault};
+use crate::lives::{Dice, next_input, some_settings};
+use crate::playing::{cut, from_base, step};
+use pool_core::{Core, StepFault};
 use pool_journal::{Answer, Base, Input, Phase};
 use pool_settings::Settings;
 use std::alloc::Global;
@@ -27,10 +27,10 @@ fn opened_again(
     settings: Settings,
     mut core: Core<u64>,
 ) -> Result<Core<u64>, Fail> {
-    let _ = core.cut(alloc)?;
-    let base = core.cut(alloc)?.base;
+    cut(alloc, &mut core).ok_or("a segment")?;
+    let base = cut(alloc, &mut core).ok_or("a segment")?.base;
     let values = values_of(alloc, &base)?;
-    match Core::from_base(alloc, settings, base, values) {
+    match from_base(alloc, settings, base, values) {
         Ok(opened) => Ok(opened),
         Err(_) => panic!(rt; "a base that was reached is refused"),
     }
@@ -43,7 +43,7 @@ fn stepped(
     at: u64,
     input: Input,
 ) -> Option<(Answer, Option<u64>)> {
-    match core.step(0, at, input, value_of(input)) {
+    match step(core, 0, at, input) {
         Ok(done) => Some(done),
         Err(StepFault::JournalFull(_)) => None,
         Err(StepFault::OutOfMemory(_)) => panic!(rt; "out of memory"),
@@ -54,20 +54,20 @@ fn stepped(
 fn go_on(rt: &impl Abort, alloc: Global, dice: &mut Dice) -> Result<(), Fail> {
     let settings = some_settings(dice, 1_000);
     let mut whole = Core::open(alloc, settings)?;
-    let mut cut = Core::open(alloc, settings)?;
+    let mut other = Core::open(alloc, settings)?;
     let mut at = 0u64;
     for _ in 0..80 {
         at = at.saturating_add(dice.roll() % 20);
         let input = next_input(dice, whole.journal(), at);
         match dice.roll() % 3 {
-            0 => cut = opened_again(rt, alloc, settings, cut)?,
+            0 => other = opened_again(rt, alloc, settings, other)?,
             1 => {
-                let _ = cut.cut(alloc)?;
+                cut(alloc, &mut other).ok_or("a segment")?;
             }
             _ => {}
         }
-        assert!(rt; stepped(rt, &mut whole, at, input) == stepped(rt, &mut cut, at, input));
-        assert!(rt; whole.counts() == cut.counts());
+        assert!(rt; stepped(rt, &mut whole, at, input) == stepped(rt, &mut other, at, input));
+        assert!(rt; whole.counts() == other.counts());
     }
     Ok(())
 }

@@ -1,7 +1,7 @@
 // A reader and a writer that count their calls, and are interrupted.
 ghost use Rattle.std.specs.Prelude.{true};
 
-use crate::{Sink, Source, flush_past_signals, read_past_signals, write_past_signals};
+use pool_engines::{Sink, Source, flush_past_signals, read_past_signals, write_past_signals};
 use std::alloc::Global;
 use std::io;
 use std::io::{Read, Write};

@@ -1,4 +1,4 @@
-use crate::Settings;
+use pool_settings::{Settings, SettingsFault};
 use std::process::Abort;
 use std::test::Fail;
 
@@ -360,7 +360,7 @@ fn keys_on_one_line(rt: HostRuntime) -> Result<(), Fail> {
 #[test]
 fn names_of_unknown_keys(rt: HostRuntime) -> Result<(), Fail> {
     match Settings::from_text(rt.alloc(), "[abandoned]\nfoo = 1") {
-        Err(crate::SettingsFault::UnknownKey(name)) => {
+        Err(SettingsFault::UnknownKey(name)) => {
             assert_eq!(rt; name.as_str(), "abandoned.foo");
             Ok(())
         }
@@ -370,7 +370,7 @@ fn names_of_unknown_keys(rt: HostRuntime) -> Result<(), Fail> {
 
 #[test]
 fn want_of_memory_as_text(rt: HostRuntime) -> Result<(), Fail> {
-    let fault = crate::SettingsFault::OutOfMemory;
+    let fault = SettingsFault::OutOfMemory;
     assert_eq!(rt;
         format!(in rt.alloc(); "{fault}")?.as_str(),
         "out of memory"

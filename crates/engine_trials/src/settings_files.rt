@@ -1,6 +1,7 @@
 // What settings files answer.
-use super::streams::{Failing, Pieces};
-use crate::{FileFault, Source, read_settings};
+use crate::engines::read_settings;
+use crate::streams::{Failing, Pieces};
+use pool_engines::{FileFault, Source};
 use pool_settings::Settings;
 use std::alloc::{AllocError, Global};
 use std::cell::Cell;

@@ -1,7 +1,8 @@
 // Journals and scripts that are cut or damaged, and readers and writers that fail at each byte.
-use super::streams::{Failing, Limited};
-use super::{PLAIN_LIFE, script_of};
-use crate::{EngineFault, check, run};
+use crate::engines::{check, run};
+use crate::rows::{PLAIN_LIFE, script_of};
+use crate::streams::{Failing, Limited};
+use pool_engines::EngineFault;
 use pool_journal::LineFault;
 use pool_settings::Settings;
 use std::alloc::{AllocError, Global};

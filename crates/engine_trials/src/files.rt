@@ -1,6 +1,7 @@
 // Journals that lie in several files.
-use super::with_limit;
-use crate::{EngineFault, Sink, check};
+use crate::engines::check;
+use crate::rows::with_limit;
+use pool_engines::{EngineFault, Sink};
 use pool_journal::LineFault;
 use std::alloc::Global;
 use std::process::Abort;

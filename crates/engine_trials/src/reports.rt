@@ -1,5 +1,6 @@
-use super::streams::{Failing, Stingy};
-use crate::{EngineFault, write_report};
+use crate::engines::write_report;
+use crate::streams::{Failing, Stingy};
+use pool_engines::EngineFault;
 use pool_stats::Statistics;
 use std::cell::Cell;
 use std::test::Fail;

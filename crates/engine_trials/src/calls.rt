@@ -1,8 +1,9 @@
 // How often a reader and a writer are called, and with how many bytes.
-use super::counted::{Asked, CountedReader, CountedWriter, Handed};
-use super::streams::{Endless, Failing, Pieces};
-use super::{FAILED_ACTIVATION, PLAIN_LIFE, script_of, with_limit};
-use crate::{EngineFault, check, read_settings, run, stats};
+use crate::counted::{Asked, CountedReader, CountedWriter, Handed};
+use crate::engines::{check, read_settings, run, stats};
+use crate::rows::{FAILED_ACTIVATION, PLAIN_LIFE, script_of, with_limit};
+use crate::streams::{Endless, Failing, Pieces};
+use pool_engines::EngineFault;
 use pool_journal::LineFault;
 use pool_settings::Settings;
 use std::alloc::{AllocError, Global};

@@ -1,7 +1,7 @@
-use super::PLAIN_LIFE;
-use super::streams::{Failing, Pieces, Stingy};
-use crate::tallier::stats_of_at_most;
-use crate::{EngineFault, stats};
+use crate::engines::{stats, stats_of_at_most};
+use crate::rows::PLAIN_LIFE;
+use crate::streams::{Failing, Pieces, Stingy};
+use pool_engines::EngineFault;
 use pool_journal::LineFault;
 use std::alloc::{AllocError, Global};
 use std::cell::Cell;

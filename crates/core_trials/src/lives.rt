@@ -1,9 +1,7 @@
-//! Many lives of small journals, which are filled to the last entry and then brought to an end.
+// Many lives of small journals, which are filled to the last entry and then brought to an end.
 
-use super::{
-    GOOD, added, borrow, give_back, invalidate, note_use, park, ready, refuses, tested, value_of,
-};
-use crate::{Core, StepFault};
+use crate::playing::{due_out, length, named, refuses, step, value_of};
+use pool_core::{Core, StepFault};
 use pool_journal::{Answer, Entry, Input, Outcome, Phase, When};
 use pool_settings::Settings;
 use std::process::Abort;
@@ -11,12 +9,12 @@ use std::test::Fail;
 
 // Numbers that look random, and are the same each time.
 #[derive(Drop)]
-pub(super) struct Dice {
-    pub(super) state: u64,
+pub(crate) struct Dice {
+    pub(crate) state: u64,
 }
 
 impl Dice {
-    pub(super) fn roll(&mut self) -> u64 {
+    pub(crate) fn roll(&mut self) -> u64 {
         self.state = self
             .state
             .wrapping_mul(6_364_136_223_846_793_005)
@@ -30,21 +28,6 @@ fn begins_as(input: Input) -> Phase {
     match input {
         Input::Borrow { began: _ } => Phase::Readying,
         _ => Phase::Adding,
-    }
-}
-
-// The object that an input names.
-fn named(input: Input) -> u64 {
-    match input {
-        Input::Ready { id, outcome: _ } => id,
-        Input::GiveBack { id } => id,
-        Input::Park { id, outcome: _ } => id,
-        Input::Invalidate { id } => id,
-        Input::Use { id } => id,
-        Input::Added { id, outcome: _ } => id,
-        Input::Tested { id, outcome: _ } => id,
-        Input::Destroyed { id } => id,
-        _ => u64::MAX,
     }
 }
 
@@ -120,15 +103,6 @@ fn owed_in(journal: &[Entry]) -> u64 {
     owed
 }
 
-// What comes out of a step, where the value of object i is i.
-fn due_out(answer: Answer, input: Input) -> Option<u64> {
-    match answer {
-        Answer::Take(id) | Answer::Test(id) | Answer::DestroyIdle(id) => Some(id),
-        Answer::Parked | Answer::Kept => None,
-        _ => value_of(input),
-    }
-}
-
 fn some_outcome(dice: &mut Dice) -> Outcome {
     match dice.roll() % 10 {
         0 => Outcome::MakeFailed,
@@ -136,18 +110,18 @@ fn some_outcome(dice: &mut Dice) -> Outcome {
         2 => Outcome::ActivateFailed,
         3 => Outcome::TestFailed,
         4 => Outcome::PassivateFailed,
-        _ => GOOD,
+        _ => Outcome::Good,
     }
 }
 
 // What brings an object nearer to its end.
 fn way_on(phase: Phase, id: u64, outcome: Outcome) -> Option<Input> {
     match phase {
-        Phase::Readying => Some(ready(id, outcome)),
-        Phase::Adding => Some(added(id, outcome)),
-        Phase::Lent => Some(give_back(id)),
-        Phase::Returning => Some(park(id, outcome)),
-        Phase::Testing => Some(tested(id, outcome)),
+        Phase::Readying => Some(Input::Ready { id, outcome }),
+        Phase::Adding => Some(Input::Added { id, outcome }),
+        Phase::Lent => Some(Input::GiveBack { id }),
+        Phase::Returning => Some(Input::Park { id, outcome }),
+        Phase::Testing => Some(Input::Tested { id, outcome }),
         Phase::Idle => Some(Input::ClearNext),
         Phase::Destroying => Some(Input::Destroyed { id }),
         Phase::Absent | Phase::Gone => None,
@@ -157,10 +131,13 @@ fn way_on(phase: Phase, id: u64, outcome: Outcome) -> Option<Input> {
 // Any input, about an object that may be there.
 fn any_input(dice: &mut Dice, at: u64, id: u64) -> Input {
     match dice.roll() % 20 {
-        0 => invalidate(id),
-        1 => note_use(id),
-        2 => give_back(id),
-        3 => park(id, some_outcome(dice)),
+        0 => Input::Invalidate { id },
+        1 => Input::Use { id },
+        2 => Input::GiveBack { id },
+        3 => Input::Park {
+            id,
+            outcome: some_outcome(dice),
+        },
         4 => Input::Destroyed { id },
         5 => Input::Fill,
         6 => Input::Evict,
@@ -171,12 +148,14 @@ fn any_input(dice: &mut Dice, at: u64, id: u64) -> Input {
         12 => Input::ClearNext,
         13 if dice.roll() % 4 == 0 => Input::Close,
         14 | 15 => Input::Add,
-        _ => borrow(at.saturating_sub(dice.roll() % 20)),
+        _ => Input::Borrow {
+            began: at.saturating_sub(dice.roll() % 20),
+        },
     }
 }
 
 // Something new, or the next part of what was begun.
-pub(super) fn next_input(dice: &mut Dice, journal: &[Entry], at: u64) -> Input {
+pub(crate) fn next_input(dice: &mut Dice, journal: &[Entry], at: u64) -> Input {
     let id = dice.roll() % made_in(journal).saturating_add(1);
     let outcome = some_outcome(dice);
     match way_on(phase_in(journal, id), id, outcome) {
@@ -196,22 +175,21 @@ fn agrees(rt: &impl Abort, core: &Core<u64>, limit: u64) {
 // Takes a step. One that is refused leaves the journal as it was, and comes only where there is no
 // room for it and for a whole life. The answer tells whether it was taken.
 fn may_step(rt: &impl Abort, core: &mut Core<u64>, at: u64, input: Input) -> bool {
-    let before = core.journal().len();
+    let before = length(core);
     let room = core.room();
-    let handed = value_of(input);
-    match core.step(0, at, input, handed) {
+    match step(core, 0, at, input) {
         Ok((answer, out)) => {
             assert!(rt; out == due_out(answer, input));
-            assert!(rt; core.journal().len() == before + 1);
+            assert!(rt; length(core).saturating_sub(before) == 1);
             return true;
         }
         Err(StepFault::JournalFull(back)) => {
-            assert!(rt; back == handed);
+            assert!(rt; back == value_of(input));
             assert!(rt; room < 6);
         }
-        Err(StepFault::OutOfMemory(back)) => assert!(rt; back == handed),
+        Err(StepFault::OutOfMemory(back)) => assert!(rt; back == value_of(input)),
     }
-    assert!(rt; core.journal().len() == before);
+    assert!(rt; length(core) == before);
     assert!(rt; core.room() == room);
     false
 }
@@ -226,7 +204,7 @@ fn must_step(rt: &impl Abort, core: &mut Core<u64>, at: u64, input: Input) {
 // Brings an object to its end.
 fn end(rt: &impl Abort, core: &mut Core<u64>, at: u64, id: u64) {
     for _ in 0..40 {
-        if let Some(input) = way_on(phase_in(core.journal(), id), id, GOOD) {
+        if let Some(input) = way_on(phase_in(core.journal(), id), id, Outcome::Good) {
             must_step(rt, core, at, input);
         }
     }
@@ -248,7 +226,7 @@ fn end_all(rt: &impl Abort, core: &mut Core<u64>, at: u64, limit: u64, closes_fi
     agrees(rt, core, limit);
 }
 
-pub(super) fn some_settings(dice: &mut Dice, limit: u64) -> Settings {
+pub(crate) fn some_settings(dice: &mut Dice, limit: u64) -> Settings {
     Settings {
         abandoned: dice.roll() % 2 == 0,
         journal_limit: limit,
@@ -300,6 +278,9 @@ fn all_that_was_begun_can_end(rt: HostRuntime) -> Result<(), Fail> {
     Ok(())
 }
 
+/// A borrow that begins at once.
+const NEW: Input = Input::Borrow { began: 0 };
+
 // The room of the opened pool, and of one with an object that is being made ready.
 #[test]
 fn room_at_limits(rt: HostRuntime) -> Result<(), Fail> {
@@ -318,10 +299,10 @@ fn room_at_limits(rt: HostRuntime) -> Result<(), Fail> {
         let mut core: Core<u64> = Core::open(rt.alloc(), settings)?;
         assert!(rt; core.room() == opened);
         match with_one {
-            None => refuses(&rt, &mut core, 0, 0, borrow(0)),
+            None => refuses(&rt, &mut core, 0, 0, NEW),
             Some(room) => {
-                assert!(rt; may_step(&rt, &mut core, 0, borrow(0)) || core.room() == opened);
-                if core.journal().len() == 1 {
+                assert!(rt; may_step(&rt, &mut core, 0, NEW) || core.room() == opened);
+                if length(&core) == 1 {
                     assert!(rt; core.room() == room);
                 }
             }

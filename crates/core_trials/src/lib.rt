@@ -1,0 +1,27 @@
+//! Trials of the core: what is answered to steps in turn, under which settings, and what comes of a cut.
+#![tactic(auto)]
+
+#[cfg(test)]
+mod abandoned;
+#[cfg(test)]
+mod borrowing;
+#[cfg(test)]
+mod closing;
+#[cfg(test)]
+mod counting;
+#[cfg(test)]
+mod cutting;
+#[cfg(test)]
+mod eviction;
+#[cfg(test)]
+mod going_on;
+#[cfg(test)]
+mod judging;
+#[cfg(test)]
+mod lives;
+#[cfg(test)]
+mod playing;
+#[cfg(test)]
+mod rows;
+#[cfg(test)]
+mod stepping;
