@@ -80,6 +80,9 @@ class Script:
         # The settings' bytes, the document and its three keys; two buffers; the lists of objects and of their ids. No entry is held.
         objects, more = room(self.idle)
         allocations += 1 + 5 + 2 + 2 * (1 + more)
+        if command == "check":
+            # The lists of the journal's files and of their paths.
+            allocations += 2
         return allocations, max(OBJECT * objects + 2 * BUFFER, SETTINGS)
 
 
