@@ -17,8 +17,6 @@ with the lines that were written of the one before it.
 Prints what differs, and in the end the line 'N passed, M failed'.
 """
 
-import concurrent.futures
-import os
 import pathlib
 import subprocess
 import sys
@@ -26,7 +24,7 @@ import tempfile
 
 from play_commands import TOP, blocks, commands
 from play_damaged import Chance
-from play_segments import THREE, damaged
+from play_segments import THREE, damaged, told_by
 from pool_model import settings_of, verdict_of_segments
 
 
@@ -164,7 +162,6 @@ def of_uses(judge, settings):
 
 
 def main(judge, pool, folder):
-    found, passed = [], 0
     with tempfile.NamedTemporaryFile("w", suffix=".toml") as defaults:
         trials = [
             *of_folder(judge, pathlib.Path(folder)),
@@ -172,14 +169,7 @@ def main(judge, pool, folder):
             *of_damage(judge, pool, defaults.name),
             lambda: of_uses(judge, defaults.name),
         ]
-        with concurrent.futures.ThreadPoolExecutor(os.cpu_count()) as workers:
-            for told in workers.map(lambda trial: trial(), trials):
-                passed += told is None
-                found += [told] if told else []
-    for told in found:
-        print(told)
-    print(f"{passed} passed, {len(found)} failed")
-    return 1 if found or passed < 100 else 0
+        return told_by(trials)
 
 
 if __name__ == "__main__":

@@ -180,8 +180,21 @@ def of_memory(pool, settings):
     return None
 
 
-def main(pool, folder, *cases):
+def told_by(trials):
+    """Makes the trials, side by side, prints what differs and how many passed and failed, and gives the status to end with. Fewer than a
+    hundred that passed count as a failure."""
     found, passed = [], 0
+    with concurrent.futures.ThreadPoolExecutor(os.cpu_count()) as workers:
+        for told in workers.map(lambda trial: trial(), trials):
+            passed += told is None
+            found += [told] if told else []
+    for told in found:
+        print(told)
+    print(f"{passed} passed, {len(found)} failed")
+    return 1 if found or passed < 100 else 0
+
+
+def main(pool, folder, *cases):
     with tempfile.NamedTemporaryFile("w", suffix=".toml") as defaults:
         trials = [
             *of_folder(pool, pathlib.Path(folder)),
@@ -189,14 +202,7 @@ def main(pool, folder, *cases):
             *of_damage(pool, defaults.name),
             lambda: of_memory(pool, defaults.name),
         ]
-        with concurrent.futures.ThreadPoolExecutor(os.cpu_count()) as workers:
-            for told in workers.map(lambda trial: trial(), trials):
-                passed += told is None
-                found += [told] if told else []
-    for told in found:
-        print(told)
-    print(f"{passed} passed, {len(found)} failed")
-    return 1 if found or passed < 100 else 0
+        return told_by(trials)
 
 
 if __name__ == "__main__":
