@@ -11,7 +11,7 @@
  *   came after the last write to standard output (late); room, the least room that one had;
  * - read and written, the bytes of all reads, and those of all writes to standard output; and writes, how many these were.
  *
- * For programs of one thread.
+ * Where a program has several threads, `most` may miss a moment at which two of them took memory at once.
  */
 #define _GNU_SOURCE
 #include <dlfcn.h>
@@ -21,9 +21,9 @@
 #include <unistd.h>
 
 static struct {
-  long allocations, most, reads, ends, unread, late, room, read, writes, written;
+  _Atomic long allocations, most, reads, ends, unread, late, room, read, writes, written;
 } counted = {.room = 1L << 62};
-static long held;
+static _Atomic long held;
 
 #define REAL(type, name, ...)       \
   static type (*real)(__VA_ARGS__); \

@@ -5,7 +5,8 @@
 
 POOL is the program. Its allocations, the bytes that it holds, its reads and its writes are counted by a preloaded library
 (tests/count.c, built with the C compiler that CC names, or cc). Allocations and bytes must be within a quarter of what is said
-below of lists and their elements; reads and writes within bounds that follow from the size of the buffers.
+below of lists and their elements; reads and writes within bounds that follow from the size of the buffers. Segments that are judged side
+by side must each be read once, so what was found of them ahead must be used: a segment that was judged again would be read twice.
 
 TALLY is the test program crates/tally, which cuts a pool of up to 100,000 objects, reads the base that tests/pool_model.py tells, compares
 and prints it, and opens a pool from it, which goes on as the model does. The allocations of each of these calls are counted.
@@ -184,6 +185,19 @@ def play_endless(counter):
     counter.endless("a full journal", ["run", "small.toml", "/dev/stdin"], b"", b"0 0 borrow 0\n", full)
 
 
+def play_side_by_side(counter):
+    """Legal segments: each is read once, but for the front of it in which its base is looked for."""
+    segments, uses = 12, 40_000
+    names, sizes = [f"segment-{index}" for index in range(segments)], []
+    for index, name in enumerate(names):
+        first = index * uses
+        base = f"pool-journal 2 {first} 0 open none 0 0 0 0\n" if index else ""
+        text = base + "".join(f"7 {at} use {at} = refused notlent\n" for at in range(first, first + uses))
+        sizes.append((counter.folder / name).write_text(text))
+    counted = counter.count(["check", "settings.toml", *names])
+    counter.expect(f"{segments} segments side by side: bytes read", counted["read"], sum(sizes), sum(sizes) + segments * BUFFER + SETTINGS)
+
+
 def growths(count, first=FIRST):
     """How often memory is asked for a list with so many elements that are appended one by one."""
     return 1 + room(count, first)[1]
@@ -250,6 +264,7 @@ def main(pool, tally):
             for command in ("run", "check", "stats"):
                 counter.play(script, command)
         play_endless(counter)
+        play_side_by_side(counter)
         play_cuts(counter, str(pathlib.Path(tally).resolve()))
     print(f"{counter.passed} passed, {counter.failed} failed")
     return 1 if counter.failed else 0

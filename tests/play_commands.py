@@ -69,8 +69,8 @@ class Place:
             words = "./" + words
         done = subprocess.run(["bash", "-c", words], cwd=self.folder, capture_output=True, text=True, stdin=subprocess.DEVNULL)
         # Built without arguments, the program that draws says that they are wrong.
-        wanted = (2,) if words.startswith("(cd") else (0,)
-        return None if done.returncode in wanted else f"status {done.returncode}: {done.stderr.strip()}"
+        wanted = 2 if "rt run" in words else 0
+        return None if done.returncode == wanted else f"status {done.returncode}: {done.stderr.strip()}"
 
     def fault_of_journal(self, segments):
         """Why segments are no legal journal, if they aren't."""

@@ -11,7 +11,8 @@
   out, repeated or exchanged with the next: the verdict must be that of tests/pool_model.py.
 - Three segments are damaged: in each place a byte is changed, dropped or doubled; the verdict must be the model's.
 - `check` over a thousand segments must take no more memory on one processor than over the longest of them alone, with a tenth and 512 KiB
-  for the files' names and what differs from run to run; and on all no more than so many times what the longest takes beyond the program itself, and 512 KiB each.
+  for the files' names and what differs from run to run; and on all, for each of the files that are judged at once, no more than
+  what the longest takes beyond the program itself, and 512 KiB.
 
 Each of the first and the third is judged on all processors, side by side, and on one, one after the other: the answers must be the same.
 
@@ -31,6 +32,8 @@ from pool_model import cut_at, settings_of, verdict_of_segments
 
 # The most segments that are handed to one run.
 MOST_SEGMENTS = 400
+# How many files the program judges side by side for each processor.
+FILES_PER_PROCESSOR = 4
 
 THREE = [
     b"""pool-journal 2 0 0 open none 0 0 0 0
@@ -173,8 +176,8 @@ def of_memory(pool, settings):
         none.write_bytes(b"")
         least, longest = (peak(room, [pool, "check", settings, path])[0] for path in (none, paths[0]))
         (in_turn, is_well), (at_once, are_well) = (peak(room, [pool, "check", settings, *paths], on) for on in (on_one, None))
-    processors = len(os.sched_getaffinity(0))
-    most = least + processors * (longest - least + 512)
+    files_at_once = FILES_PER_PROCESSOR * len(os.sched_getaffinity(0))
+    most = least + files_at_once * (longest - least + 512)
     if not (is_well and are_well) or in_turn > longest * 1.1 + 512 or at_once > most:
         return f"memory: {len(segments)} segments took {in_turn} KiB in turn and {at_once} at once; one took {longest}, none {least}"
     return None

@@ -3,6 +3,7 @@ ghost use Rattle.std.specs.Prelude.{◌∷◌, [], None};
 use pool_engines::Segments;
 use std::fs::File;
 use std::io;
+use std::io::ErrorKind;
 
 /// The segment in the file at this path.
 #[derive(Drop)]
@@ -18,7 +19,10 @@ impl Segments<File> for OneSegment<'_> {
         1
     }
 
-    fn open(&self, _number: usize) -> io::Result<File> {
-        File::open(self.rt, self.path)
+    fn open(&self, number: usize) -> io::Result<File> {
+        match number {
+            0 => File::open(self.rt, self.path),
+            _ => Err(io::Error::from(ErrorKind::NotFound)),
+        }
     }
 }

@@ -5,6 +5,7 @@ use crate::progress::{Progress, Watched};
 use pool_load::Segments;
 use std::fs::File;
 use std::io;
+use std::io::ErrorKind;
 
 /// The files at these paths, each of which is opened when it is read, and as often as it is.
 #[derive(Drop)]
@@ -22,7 +23,10 @@ impl<'a, 'p, 'r> Segments<Watched<'a, 'p, 'r>> for Files<'a, 'p, 'r> {
     }
 
     fn open(&self, number: usize) -> io::Result<Watched<'a, 'p, 'r>> {
-        let path = self.paths[number];
+        let Some(path) = self.paths.get(number) else {
+            return Err(io::Error::from(ErrorKind::NotFound));
+        };
+        let path = *path;
         let file = File::open(self.rt, path)?;
         Ok(Watched {
             rt: self.rt,

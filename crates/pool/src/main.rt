@@ -36,6 +36,9 @@ const ILLEGAL: u8 = 1;
 /// How many files are kept open until they are read.
 const MOST_OPEN: usize = 500;
 
+/// How many files are judged side by side for each processor: with more than one no processor waits for the longest of a few.
+const FILES_PER_PROCESSOR: usize = 4;
+
 fn main(rt: HostRuntime) -> ExitCode {
     match arguments_of(&rt) {
         Ok(arguments) => match perform(&rt, &rt, &arguments) {
@@ -153,7 +156,7 @@ fn width<R: Threads>(threads: &R, rt: &HostRuntime, paths: &[&str]) -> Option<us
             return None;
         }
     }
-    Some(processors)
+    Some(processors.saturating_mul(FILES_PER_PROCESSOR))
 }
 
 /// Whether there is a regular file at this path.

@@ -1,9 +1,24 @@
-//! What the program does: the engines, which go over a stream of lines, and a load of many workers.
+//! Workers over a shared pool: rounds of borrows and returns, and a load of many of them at once. It hands on the engines, which go
+//! over a stream of lines.
 #![tactic(auto)]
 
+mod gate;
+mod ids;
+mod load_fault;
+mod loading;
+mod rounds;
+mod starting;
+mod workers;
+
+pub use gate::Gate;
+pub use load_fault::LoadFault;
+pub use loading::{LoadReport, load};
 pub use pool_engines::{
     EngineFault, FileFault, Segments, Sink, Source, check, check_side_by_side, flush_past_signals,
     read_past_signals, read_settings, run, runs_are_determined, stats, write_past_signals,
     write_report,
 };
-pub use pool_work::{Gate, LoadFault, LoadReport, load};
+pub use rounds::work;
+
+#[cfg(test)]
+mod tests;

@@ -1,0 +1,93 @@
+-- What joined threads kept, in the order in which they were started.
+use Rattle.std.proofs.Common.{◌≡◌, ℕ, ◌+◌, ◌*◌, ◌<◌, ◌≤◌, List, [], ◌∷◌, ◌++◌, length, length-append, map, Option, Some, None, Result, Ok, Err, slice_get, refl, sym, ap, ◌∙◌, subst, arith}
+use Rattle.std.specs.Prelude.{slice_index_or, sum}
+use Rattle.std.specs.Option.{option_map}
+use Rattle.std.proofs.lemmas.List.{length-map, map-append}
+use Rattle.std.proofs.lemmas.List.Sums.{fold-append}
+use Rattle.std.proofs.Math.Nat.{mul-add}
+use Rattle.std.proofs.lemmas.Option.{slice_get-map, slice_get_within, slice_get-get_or, get_or_from_slice_get}
+use Rattle.pool_settings.specs.declared.settings.Settings.{Settings}
+use Rattle.pool_history.specs.Standings.{Standing}
+use Rattle.pool_load.specs.declared.load_fault.LoadFault.{LoadFault}
+use Rattle.pool_load.specs.declared.load_fault.LoadFault.TheVariants as stops
+use Rattle.pool_load.specs.Workers.{IsOutcome, Works, AllWorked}
+
+-- an element of a mapped list comes from an element
+pub record From {X Y : Type 0} (f : X → Y) (xs : List X) (i : ℕ) (y : Y) : Type 0 where
+  pub x : X
+  pub at : slice_get xs i ≡ Some x
+  pub is : f x ≡ y
+
+pub mapped_from : {X Y : Type 0} (f : X → Y) (xs : List X) (i : ℕ) (y : Y) → slice_get (map f xs) i ≡ Some y → From f xs i y
+mapped_from {X} {Y} f xs i y at = by_element (slice_get xs i) refl (sym (slice_get-map f xs i) ∙ at)
+  where
+    by_element : (o : Option X) → slice_get xs i ≡ o → option_map f o ≡ Some y → From f xs i y
+    by_element None none is = absurd (cc is)
+    by_element (Some x) some is = record { x = x; at = some; is = cc is }
+
+module _ {H W : Type 0} (before : H → Standing) (rounds : H → ℕ) (caller : W → Standing) (outcome : W → Result ℕ LoadFault) (s : Settings) (n : ℕ) where
+  -- the thread at each place kept what its handle promised
+  abbrev pub AllKept : List H → List W → Type 0
+  AllKept hs ws = (i : ℕ) (d : W) → i < length hs
+      → (h : H) × (h ≡ slice_index_or hs i h) × Works s (rounds h) (outcome (slice_index_or ws i d)) (before h) (caller (slice_index_or ws i d))
+
+  pub joined : (hs : List H) (cs : List Standing) (ws : List W) → map before hs ≡ cs → map rounds hs ≡ map (λ (c : Standing). n) cs → length ws ≡ length hs → AllKept hs ws
+      → AllWorked s n cs (map caller ws) (map outcome ws)
+  joined hs cs ws from each long kept =
+      let same : length hs ≡ length cs = sym (length-map hs before) ∙ ap length from in
+      record { callers = length-map ws caller ∙ long ∙ same; results = length-map ws outcome ∙ long ∙ same; each = at }
+    where
+      at : (i : ℕ) (b a : Standing) (o : Result ℕ LoadFault) → slice_get cs i ≡ Some b → slice_get (map caller ws) i ≡ Some a → slice_get (map outcome ws) i ≡ Some o → Works s n o b a
+      at i b a o at_b at_a at_o =
+          let began = mapped_from before hs i b (ap (λ l. slice_get l i) from ∙ at_b) in
+          let ended = mapped_from caller ws i a at_a in
+          let gave = mapped_from outcome ws i o at_o in
+          let same : gave.x ≡ ended.x = cc (sym gave.at ∙ ended.at) in
+          let k = kept i ended.x (slice_get_within hs i began.x began.at) in
+          let handle : k.0 ≡ began.x = k.1 ∙ get_or_from_slice_get hs i began.x k.0 began.at in
+          let worker : slice_index_or ws i ended.x ≡ ended.x = get_or_from_slice_get ws i ended.x ended.x ended.at in
+          let counts : Some (rounds began.x) ≡ Some n =
+          sym (slice_get-map rounds hs i ∙ ap (option_map rounds) began.at) ∙ ap (λ (l : List ℕ). slice_get l i) each
+          ∙ slice_get-map (λ (c : Standing). n) cs i ∙ ap (option_map (λ (c : Standing). n)) at_b in
+          let count : rounds k.0 ≡ n = ap rounds handle ∙ cc counts in
+          let w = subst (λ (w : W). Works s (rounds k.0) (outcome w) (before k.0) (caller w)) worker k.2 in
+          let r = subst (λ (m : ℕ). Works s m (outcome ended.x) (before k.0) (caller ended.x)) count w in
+          let h = subst (λ (c : Standing). Works s n (outcome ended.x) c (caller ended.x)) (ap before handle ∙ began.is) r in
+          let c = subst (λ (c : Standing). Works s n (outcome ended.x) b c) ended.is h in
+          subst (λ (x : Result ℕ LoadFault). Works s n x b a) (ap outcome (sym same) ∙ gave.is) c
+
+pub outcomes_more : {W : Type 0} (outcome : W → Result ℕ LoadFault) (ws : List W) (w : W) (fs : List ℕ) (f : ℕ) → map outcome ws ≡ map Ok fs → outcome w ≡ Ok f
+    → map outcome (ws ++ w ∷ []) ≡ map Ok (fs ++ f ∷ [])
+outcomes_more outcome ws w fs f so_far is = map-append outcome ws (w ∷ []) ∙ ap (λ l. l ++ outcome w ∷ []) so_far ∙ ap (λ o. map Ok fs ++ o ∷ []) is ∙ sym (map-append Ok fs (f ∷ []))
+
+pub sum_more : (fs : List ℕ) (f : ℕ) → sum (fs ++ f ∷ []) ≡ sum fs + f
+sum_more fs f = fold-append (λ (a b : ℕ). a + b) 0 fs (f ∷ [])
+
+-- a worker of the list was refused no more often than that
+pub no_more : {W : Type 0} (caller : W → Standing) (outcome : W → Result ℕ LoadFault) (s : Settings) (most : ℕ) (ws : List W) (i : ℕ) (w : W) (f : ℕ)
+    → ((i : ℕ) (d : W) → i < length ws → IsOutcome s most (outcome (slice_index_or ws i d)) (caller (slice_index_or ws i d)))
+    → i < length ws → w ≡ slice_index_or ws i w → outcome w ≡ Ok f → f ≤ most
+no_more caller outcome s most ws i w f each lt here is =
+    subst (λ o. IsOutcome s most o (caller w)) is (subst (λ x. IsOutcome s most (outcome x) (caller x)) (sym here) (each i w lt))
+
+pub bound_more : {W : Type 0} (ws : List W) (w : W) (most n f : ℕ) → n ≤ most * length ws → f ≤ most → n + f ≤ most * length (ws ++ w ∷ [])
+bound_more ws w most n f so_far here =
+    let long = length-append ws (w ∷ []) in
+    rw long (rw mul-add (omega (arith, so_far, here)))
+
+outcome_up : (s : Settings) (rounds most : ℕ) (o : Result ℕ LoadFault) (me : Standing) → rounds ≤ most → IsOutcome s rounds o me → IsOutcome s most o me
+outcome_up s rounds most (Ok f) me up is = omega (arith, up, is)
+outcome_up s rounds most (Err stops.NoThread) me up is = tt
+outcome_up s rounds most (Err _) me up is = is
+
+-- each outcome is one of so many rounds, also where more might be made
+pub outcomes_within : {W : Type 0} (caller : W → Standing) (outcome : W → Result ℕ LoadFault) (s : Settings) (rounds most : ℕ) (before : List Standing) (ws : List W) → AllWorked s rounds before (map caller ws) (map outcome ws) → rounds ≤ most
+    → (i : ℕ) (d : W) → i < length ws → IsOutcome s most (outcome (slice_index_or ws i d)) (caller (slice_index_or ws i d))
+outcomes_within caller outcome s rounds most before ws worked up i d lt =
+    let w = slice_index_or ws i d in
+    let at : slice_get ws i ≡ Some w = slice_get-get_or ws i d lt in
+    let long : length before ≡ length ws = sym worked.callers ∙ length-map ws caller in
+    let at_b = slice_get-get_or before i (caller w) (omega (arith, long, lt)) in
+    let at_a : slice_get (map caller ws) i ≡ Some (caller w) = slice_get-map caller ws i ∙ ap (option_map caller) at in
+    let at_o : slice_get (map outcome ws) i ≡ Some (outcome w) = slice_get-map outcome ws i ∙ ap (option_map outcome) at in
+    outcome_up s rounds most (outcome w) (caller w) up (worked.each i (slice_index_or before i (caller w)) (caller w) (outcome w) at_b at_a at_o).result

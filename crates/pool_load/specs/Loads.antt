@@ -1,0 +1,47 @@
+-- What a load made, and why it has no report.
+use Rattle.std.specs.Prelude.{◌≡◌, ◌⊎◌, ℕ, ◌+◌, ◌<◌, ◌≤◌, List, length, sum, slice_index, Ok}
+use Rattle.pool_journal.specs.declared.entry.Entry.{Entry}
+use Rattle.pool_settings.specs.declared.settings.Settings.{Settings}
+use Rattle.pool_stats.specs.Statistics.{statistics_of}
+use Rattle.pool_stats.specs.declared.statistics.Statistics.{Statistics}
+use Rattle.pool_core.specs.Legal.{IsLegal}
+use Rattle.pool_history.specs.Rule.{own, AllBelow, Begins}
+use Rattle.pool_history.specs.Standings.{Standing, newcomer_at}
+use Rattle.pool_shared.specs.Clears.{CloseRow}
+use Rattle.pool_load.specs.declared.load_fault.LoadFault.{LoadFault}
+use Rattle.pool_load.specs.declared.load_fault.LoadFault.TheVariants.{WorkerCount, RoundCount}
+use Rattle.pool_load.specs.Rounds.{IsWorked}
+use Rattle.pool_load.specs.Workers.{StopsLoad}
+
+-- so many workers may be had, and so many rounds asked of each
+pub record IsInRange (workers rounds : ℕ) : Type 0 where
+  pub some_workers : 0 < workers
+  pub few_workers : workers ≤ 1023
+  pub some_rounds : 0 < rounds
+  pub few_rounds : rounds ≤ 1000000
+
+-- all that the caller of this number made in a history is one close, the first and the last of its calls
+pub record OnlyCloses (s : Settings) (n : ℕ) (journal : List Entry) : Type 0 where
+  pub taken : ℕ
+  pub after : Standing
+  pub made : after.made ≡ own n journal
+  pub seen : Begins after.seen journal
+  pub row : CloseRow s (Ok taken) (newcomer_at n) after
+
+-- there is one legal history: each worker made its rounds in it, and the last caller closed the pool, and nothing else stands there. The refusals of all workers are counted, and the statistics are those of this history
+pub record IsLoad (s : Settings) (workers rounds refused : ℕ) (stats : Statistics) : Type 0 where
+  pub journal : List Entry
+  pub legal : IsLegal s journal
+  pub below : AllBelow (workers + 1) journal
+  pub refusals : List ℕ
+  pub each : length refusals ≡ workers
+  pub worked : (w : ℕ) → w < workers → IsWorked s rounds (slice_index refusals w) (own w journal)
+  pub closed : OnlyCloses s workers journal
+  pub all : refused ≡ sum refusals
+  pub told : stats ≡ statistics_of journal
+
+-- why there is no report: a number is out of its range, or, where both are in theirs, an entry of a caller didn't fit the journal, memory is wanting, or a thread
+abbrev pub IsLoadFault : Settings → ℕ → ℕ → LoadFault → Type 0
+IsLoadFault s workers rounds WorkerCount = (workers ≡ 0) ⊎ (1023 < workers)
+IsLoadFault s workers rounds RoundCount = (0 < workers) × (workers ≤ 1023) × ((rounds ≡ 0) ⊎ (1000000 < rounds))
+IsLoadFault s workers rounds fault = IsInRange workers rounds × StopsLoad s fault

@@ -1,0 +1,99 @@
+-- Rounds of a caller: a borrow, and, where it got an object, its return.
+use Rattle.std.specs.Prelude.{◌≡◌, ℕ, zero, suc, ◌+◌, List, [], ◌++◌}
+use Rattle.pool_journal.specs.declared.entry.Entry.{Entry}
+use Rattle.pool_journal.specs.declared.input.Input.{Input}
+use Rattle.pool_journal.specs.declared.answer.Answer.{Answer}
+use Rattle.pool_journal.specs.declared.answer.Answer.TheVariants as answers
+use Rattle.pool_journal.specs.declared.answer.Cause.TheVariants as causes
+use Rattle.pool_settings.specs.declared.settings.Settings.{Settings}
+use Rattle.pool_core.specs.Legal.{IsLegal}
+use Rattle.pool_history.specs.Standings.{Standing}
+use Rattle.pool_desk.specs.Sections.{IsFullFor}
+use Rattle.pool_shared.specs.declared.faults.BorrowFault.{BorrowFault}
+use Rattle.pool_shared.specs.declared.faults.BorrowFault.TheVariants as faults
+use Rattle.pool_shared.specs.Walks.{walked, AllDue}
+use Rattle.pool_shared.specs.Borrows as borrows
+use Rattle.pool_shared.specs.Returns as returns
+use Rattle.pool_load.specs.declared.load_fault.LoadFault.{LoadFault}
+use Rattle.pool_load.specs.declared.load_fault.LoadFault.TheVariants.{JournalFull, OutOfMemory}
+
+-- the answers with which a borrow is refused
+abbrev pub IsRefusing : Answer → Type 0
+IsRefusing (answers.Refused causes.Closed) = Unit {0}
+IsRefusing answers.Exhausted = Unit {0}
+IsRefusing answers.TimedOut = Unit {0}
+IsRefusing _ = ⊥
+
+-- a borrow that was refused, or whose new object did not get ready
+abbrev pub IsRefusal : borrows.Stage → Type 0
+IsRefusal (borrows.refused a) = IsRefusing a
+IsRefusal (borrows.failed o) = Unit {0}
+IsRefusal _ = ⊥
+
+-- the object was not lent any more
+abbrev pub IsNotLent : Answer → Type 0
+IsNotLent (answers.Refused causes.NotLent) = Unit {0}
+IsNotLent _ = ⊥
+
+-- a return that is through
+abbrev pub IsThrough : returns.Stage → Type 0
+IsThrough (returns.done r) = Unit {0}
+IsThrough (returns.refused a) = IsNotLent a
+IsThrough _ = ⊥
+
+-- the entries of a whole borrow that lent this object
+pub record BorrowDone (s : Settings) (i : ℕ) (es : List Entry) : Type 0 where
+  pub began : ℕ
+  pub due : AllDue (borrows.Due s began) borrows.next (borrows.start s) es
+  pub ends : walked borrows.next (borrows.start s) es ≡ borrows.lent i
+
+-- the entries of a whole borrow that lent nothing
+pub record BorrowRefused (s : Settings) (es : List Entry) : Type 0 where
+  pub began : ℕ
+  pub due : AllDue (borrows.Due s began) borrows.next (borrows.start s) es
+  pub ends : IsRefusal (walked borrows.next (borrows.start s) es)
+
+-- the entries of a whole return of this object
+pub record ReturnDone (s : Settings) (i : ℕ) (es : List Entry) : Type 0 where
+  pub due : AllDue (returns.Due s i) returns.next returns.gives es
+  pub ends : IsThrough (walked returns.next returns.gives es)
+
+-- one round, and how many refusals it is
+pub data Round (s : Settings) (f : ℕ) (es : List Entry) : Type 0 where
+  lends : (i : ℕ) (bs gs : List Entry) → es ≡ bs ++ gs → f ≡ 0 → BorrowDone s i bs → ReturnDone s i gs → Round s f es
+  refuses : f ≡ 1 → BorrowRefused s es → Round s f es
+
+-- so many rounds, with so many refusals
+abbrev pub IsWorked : Settings → ℕ → ℕ → List Entry → Type 0
+IsWorked s zero f es = (f ≡ 0) × (es ≡ [])
+IsWorked s (suc r) f es = (xs : List Entry) × (ys : List Entry) × (g : ℕ) × (h : ℕ) × (es ≡ xs ++ ys) × (f ≡ g + h) × Round s g xs × IsWorked s r h ys
+
+abbrev pub MakesRound : Settings → ℕ → Standing → Standing → Type 0
+MakesRound s f before after = (es : List Entry) × (after.made ≡ before.made ++ es) × Round s f es
+
+abbrev pub MakesRounds : Settings → ℕ → ℕ → Standing → Standing → Type 0
+MakesRounds s r f before after = (es : List Entry) × (after.made ≡ before.made ++ es) × IsWorked s r f es
+
+-- a refusal that isn't for want of room or memory
+abbrev pub IsOwn : {E : Type 0} → BorrowFault E → Type 0
+IsOwn faults.JournalFull = ⊥
+IsOwn faults.OutOfMemory = ⊥
+IsOwn _ = Unit {0}
+
+-- a refusal for want of room or memory stops a worker
+abbrev pub StopsFor : {E : Type 0} → LoadFault → BorrowFault E → Type 0
+StopsFor JournalFull faults.JournalFull = Unit {0}
+StopsFor OutOfMemory faults.OutOfMemory = Unit {0}
+StopsFor _ _ = ⊥
+
+-- after a legal history that is seen an entry was due that doesn't fit
+pub record IsFull (s : Settings) (me : Standing) : Type 0 where
+  pub legal : IsLegal s me.seen
+  pub input : Input
+  pub full : IsFullFor s input me
+
+-- why a caller stopped in its rounds
+abbrev pub Stops : Settings → LoadFault → Standing → Type 0
+Stops s JournalFull me = IsFull s me
+Stops s OutOfMemory me = Unit {0}
+Stops s _ me = ⊥

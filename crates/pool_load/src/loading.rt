@@ -1,0 +1,131 @@
+// Many workers at once, and what their history says.
+ghost use Rattle.std.specs.Prelude.{◌≡◌, ◌+◌, ◌*◌, ℕ, Ok, IfOk, IfErr, OnOk};
+ghost use Rattle.pool_shared.specs.Clears.{CloseRow};
+ghost use Rattle.pool_load.specs.Workers.{StopsLoad};
+ghost use Rattle.pool_load.specs.Loads.{IsInRange, IsLoad, IsLoadFault};
+
+use crate::gate::Gate;
+use crate::ids::{IdPool, Ids, Ticks};
+use crate::load_fault::LoadFault;
+use crate::workers::{collect_all, work_all};
+use pool_settings::Settings;
+use pool_shared::{Caller, OpenFault, PoolFault, Room, Site};
+use pool_stats::Statistics;
+use std::alloc::Global;
+use std::marker::Brand;
+use std::sync::Wait;
+use std::thread::Threads;
+
+/// How many workers there may be.
+const MOST_WORKERS: u32 = 1_023;
+
+/// How many rounds a worker may make.
+const MOST_ROUNDS: u64 = 1_000_000;
+
+/// What a load found.
+#[derive(Clone, Copy, Debug, PartialEq, Eq)]
+pub struct LoadReport {
+    /// How many borrows were refused, of all workers.
+    pub refused: u64,
+    /// The statistics of the whole history.
+    pub stats: Statistics,
+}
+
+/// Opens a pool with these settings, lets so many workers make so many rounds on it, each in a thread
+/// of its own, and then closes it. In a round a worker borrows an object, passes the gate with it, and
+/// gives it back; a borrow that is refused is a round too. All threads are joined before the answer.
+///
+/// The value of an object is its id, the factory never fails, and the clock counts its readings.
+///
+/// # Errors
+///
+/// `WorkerCount` and `RoundCount` exactly where a number is out of its range, in this order.
+/// `JournalFull`, where an entry that was due did not fit. `NoThread`, where the system refused a
+/// thread: then no worker has begun. `OutOfMemory`.
+pub fn load<G: Gate, R: Threads + Wait + Sync>(
+    rt: &R,
+    alloc: Global,
+    settings: Settings,
+    workers: u32,
+    rounds: u64,
+    gate: &G,
+) -> Result<LoadReport, LoadFault>
+    ensures range { OnOk result (IsInRange workers rounds) }
+    ensures load { IfOk result (λ r. IsLoad settings workers rounds r.refused r.stats) }
+    ensures rounds { IfOk result (λ r. r.stats.borrowed + r.refused ≡ workers * rounds) }
+    ensures fault { IfErr result (IsLoadFault settings workers rounds) }
+{
+    if workers == 0 || workers > MOST_WORKERS {
+        return Err(LoadFault::WorkerCount);
+    }
+    if rounds == 0 || rounds > MOST_ROUNDS {
+        return Err(LoadFault::RoundCount);
+    }
+    match Site::new(alloc) {
+        Ok(site) => load_on::<Brand, G, R>(rt, alloc, site, settings, workers, rounds, gate),
+        Err(_) => Err(LoadFault::OutOfMemory),
+    }
+}
+
+/// The load of a pool whose name is picked.
+fn load_on<B: Room + Send + Sync, G: Gate, R: Threads + Wait + Sync>(
+    rt: &R,
+    alloc: Global,
+    site: Site,
+    settings: Settings,
+    workers: u32,
+    rounds: u64,
+    gate: &G,
+) -> Result<LoadReport, LoadFault>
+    requires room { (site ≡ B.table) × (settings ≡ B.settings) × (workers + 1 ≡ B.callers) }
+    requires range { IsInRange workers rounds }
+    ensures load { IfOk result (λ r. IsLoad settings workers rounds r.refused r.stats) }
+    ensures stops { IfErr result (StopsLoad settings) }
+{
+    let callers = workers + 1;
+    let (pool, mut callers) = match IdPool::<B>::open(
+        rt,
+        alloc,
+        site,
+        settings,
+        0,
+        callers,
+        Ids,
+        Ticks::new(),
+    ) {
+        Ok(opened) => opened,
+        Err(OpenFault::CallerCount) => unreachable!(),
+        Err(OpenFault::OutOfMemory) => return Err(LoadFault::OutOfMemory),
+    };
+    let Some(mut last) = callers.pop() else {
+        unreachable!()
+    };
+    let worked = work_all::<B, G, R>(rt, alloc, &pool, gate, callers, rounds)?;
+    let (refused, mut all) = collect_all::<B>(alloc, worked)?;
+    close::<B, R>(rt, &pool, &mut last)?;
+    let Ok(()) = all.push(last) else {
+        return Err(LoadFault::OutOfMemory);
+    };
+    let Ok(core) = pool.finish(rt, all) else {
+        unreachable!()
+    };
+    match Statistics::of(alloc, core.journal()) {
+        Ok(stats) => Ok(LoadReport { refused, stats }),
+        Err(_) => Err(LoadFault::OutOfMemory),
+    }
+}
+
+/// The last caller closes the pool.
+fn close<B: Room, R: Wait>(rt: &R, pool: &IdPool<B>, last: &mut Caller<B>) -> Result<(), LoadFault>
+    ensures number { last.new.number ≡ last.old.number }
+    ensures uncut { last.new.cuts ≡ last.old.cuts }
+    ensures row { IfOk result (λ u. (taken : ℕ) × CloseRow B.settings (Ok taken) last.old last.new) }
+    ensures stops { IfErr result (StopsLoad B.settings) }
+{
+    match pool.close(rt, last) {
+        Ok(_) => Ok(()),
+        Err(PoolFault::JournalFull) => Err(LoadFault::JournalFull),
+        Err(PoolFault::OutOfMemory) => Err(LoadFault::OutOfMemory),
+        Err(PoolFault::Closed) => unreachable!(),
+    }
+}

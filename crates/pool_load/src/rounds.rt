@@ -1,0 +1,83 @@
+// Rounds of one caller.
+ghost use Rattle.std.specs.Prelude.{◌≡◌, ◌≤◌, IfOk, IfErr};
+ghost use Rattle.pool_load.specs.Rounds.{MakesRound, MakesRounds, IsOwn, StopsFor, Stops};
+
+use crate::gate::Gate;
+use crate::load_fault::LoadFault;
+use pool_shared::{BorrowFault, Caller, Clock, Factory, ReturnFault, Room, SharedPool};
+use std::sync::Wait;
+
+/// A borrow that the pool refused for a cause of its own is a refusal. For want of room or memory a
+/// worker stops.
+fn pass_over<E>(fault: &BorrowFault<E>) -> Result<(), LoadFault>
+    ensures own { IfOk result (λ u. IsOwn fault.now) }
+    ensures stops { IfErr result (λ stop. StopsFor stop fault.now) }
+{
+    match fault {
+        BorrowFault::JournalFull => Err(LoadFault::JournalFull),
+        BorrowFault::OutOfMemory => Err(LoadFault::OutOfMemory),
+        _ => Ok(()),
+    }
+}
+
+/// One round: how many refusals it was.
+fn round<T: Drop, E: Drop, F: Factory<T, E> + Drop, C: Clock + Drop, B: Room, G: Gate, R: Wait>(
+    rt: &R,
+    pool: &SharedPool<T, E, F, C, B>,
+    gate: &G,
+    me: &mut Caller<B>,
+    number: u64,
+) -> Result<u64, LoadFault>
+    ensures most { IfOk result (λ n. n ≤ 1) }
+    ensures number { me.new.number ≡ me.old.number }
+    ensures uncut { me.new.cuts ≡ me.old.cuts }
+    ensures row { IfOk result (λ n. MakesRound B.settings n me.old me.new) }
+    ensures stops { IfErr result (λ fault. Stops B.settings fault me.new) }
+{
+    match pool.borrow(rt, me) {
+        Ok(lent) => {
+            gate.pass(me.number(), number);
+            match pool.give_back(rt, me, lent) {
+                Ok(_) => Ok(0),
+                Err((ReturnFault::NotLent, _)) => Ok(0),
+                Err((ReturnFault::JournalFull, _)) => Err(LoadFault::JournalFull),
+                Err((ReturnFault::OutOfMemory, _)) => Err(LoadFault::OutOfMemory),
+                Err((ReturnFault::ForeignObject, _)) => unreachable!(),
+            }
+        }
+        Err(fault) => match pass_over(&fault) {
+            Ok(()) => Ok(1),
+            Err(stop) => Err(stop),
+        },
+    }
+}
+
+/// Rounds of a caller: in each it borrows an object, passes the gate with it, and gives it back. Answers
+/// how many borrows were refused, which are rounds too; the caller's entries are those of its rounds.
+///
+/// # Errors
+///
+/// `JournalFull` and `OutOfMemory`, where a section of a borrow or of a return was refused for that; the
+/// rounds end there.
+pub fn work<T: Drop, E: Drop, F: Factory<T, E> + Drop, C: Clock + Drop, B: Room, G: Gate, R: Wait>(
+    rt: &R,
+    pool: &SharedPool<T, E, F, C, B>,
+    gate: &G,
+    me: &mut Caller<B>,
+    rounds: u64,
+) -> Result<u64, LoadFault>
+    ensures number { me.new.number ≡ me.old.number }
+    ensures uncut { me.new.cuts ≡ me.old.cuts }
+    ensures most { IfOk result (λ n. n ≤ rounds) }
+    ensures rows { IfOk result (λ n. MakesRounds B.settings rounds n me.old me.new) }
+    ensures stops { IfErr result (λ fault. Stops B.settings fault me.new) }
+{
+    let mut refused = 0;
+    for done in 0..rounds {
+        match round(rt, pool, gate, me, done) {
+            Ok(more) => refused += more,
+            Err(fault) => return Err(fault),
+        }
+    }
+    Ok(refused)
+}

@@ -1,0 +1,191 @@
+// Workers in threads of their own.
+ghost use Rattle.std.specs.Prelude.{◌≡◌, ◌≤◌, ◌<◌, ℕ, List, length, map, sum, slice_index_or, Ok, IfOk, IfErr};
+ghost use Rattle.pool_load.specs.Workers.{Works, AllWorked, IsOutcome, StopsLoad, IsWanting};
+
+use crate::gate::Gate;
+use crate::ids::IdPool;
+use crate::load_fault::LoadFault;
+use crate::rounds::work;
+use crate::starting::Start;
+use pool_shared::{Caller, Room};
+use std::alloc::Global;
+use std::snapshot::Snapshot;
+use std::sync::Wait;
+use std::thread;
+use std::thread::{Promise, PromisedHandle, Scope, Threads};
+
+/// What a worker gives back: its caller, and how many borrows were refused, or why it stopped.
+#[derive(Drop)]
+pub(crate) struct Worked<B: Room> {
+    pub(crate) caller: Caller<B>,
+    pub(crate) outcome: Result<u64, LoadFault>,
+}
+
+/// Promises that a caller, as it is now, makes so many rounds.
+#[derive(Drop)]
+struct WorkOf<B: Room> {
+    before: Snapshot<Caller<B>>,
+    rounds: u64,
+}
+
+impl<B: Room> Promise<Worked<B>> for WorkOf<B> {
+    ghost use Rattle.pool_load.specs.Workers.{Works};
+
+    ghost kept_by = { λ p r. Works B.settings p.rounds r.outcome p.before.value r.caller };
+}
+
+/// What a worker's thread does, once the signal is given.
+fn run<B: Room, G: Gate, R: Wait>(
+    rt: &R,
+    pool: &IdPool<B>,
+    gate: &G,
+    start: &Start,
+    me: Caller<B>,
+    rounds: u64,
+) -> Worked<B>
+    ensures { Works B.settings rounds result.outcome me result.caller }
+{
+    let mut caller = me;
+    let outcome = if start.wait(rt) {
+        work(rt, pool, gate, &mut caller, rounds)
+    } else {
+        Err(LoadFault::NoThread)
+    };
+    Worked { caller, outcome }
+}
+
+fn start_one<'s, E, B: Room + Send + Sync, G: Gate, R: Threads + Wait + Sync>(
+    scope: &Scope<'s, E>,
+    rt: &'s R,
+    pool: &'s IdPool<B>,
+    gate: &'s G,
+    start: &'s Start,
+    me: Caller<B>,
+    rounds: u64,
+) -> Result<PromisedHandle<Worked<B>, WorkOf<B>>, LoadFault>
+    ensures ok { IfOk result (λ h. (h.promise.before.value ≡ me) × (h.promise.rounds ≡ rounds)) }
+    ensures err { IfErr result (λ fault. fault ≡ LoadFault.NoThread) }
+{
+    let promise = WorkOf {
+        before: Snapshot::of(&me),
+        rounds,
+    };
+    match scope.spawn_with(promise, move || run(rt, pool, gate, start, me, rounds)) {
+        Ok(thread) => Ok(thread),
+        Err(_) => Err(LoadFault::NoThread),
+    }
+}
+
+/// A thread for each caller, in their order.
+fn start_all<'s, E, B: Room + Send + Sync, G: Gate, R: Threads + Wait + Sync>(
+    scope: &Scope<'s, E>,
+    rt: &'s R,
+    alloc: Global,
+    pool: &'s IdPool<B>,
+    gate: &'s G,
+    start: &'s Start,
+    callers: Vec<Caller<B>>,
+    rounds: u64,
+) -> Result<Vec<PromisedHandle<Worked<B>, WorkOf<B>>>, LoadFault>
+    ensures begun { IfOk result (λ v. map (λ h. h.promise.before.value) v.items ≡ callers.items) }
+    ensures long { IfOk result (λ v.
+        map (λ h. h.promise.rounds) v.items ≡ map (λ c. rounds) callers.items) }
+    ensures err { IfErr result (λ fault. IsWanting fault) }
+{
+    let mut threads = Vec::new(alloc);
+    for me in callers {
+        match start_one(scope, rt, pool, gate, start, me, rounds) {
+            Ok(thread) => {
+                if threads.push(thread).is_err() {
+                    return Err(LoadFault::OutOfMemory);
+                }
+            }
+            Err(fault) => return Err(fault),
+        }
+    }
+    Ok(threads)
+}
+
+/// Starts the workers and joins them.
+fn work_in<'s, E, B: Room + Send + Sync, G: Gate, R: Threads + Wait + Sync>(
+    scope: &Scope<'s, E>,
+    rt: &'s R,
+    alloc: Global,
+    pool: &'s IdPool<B>,
+    gate: &'s G,
+    start: &'s Start,
+    callers: Vec<Caller<B>>,
+    rounds: u64,
+) -> Result<Vec<Worked<B>>, LoadFault>
+    ensures ok { IfOk result (λ v. AllWorked B.settings rounds callers.items
+        (map (λ w. w.caller) v.items) (map (λ w. w.outcome) v.items)) }
+    ensures err { IfErr result (λ fault. IsWanting fault) }
+{
+    let started = start_all(scope, rt, alloc, pool, gate, start, callers, rounds);
+    start.give(rt, started.is_ok());
+    match started {
+        Ok(threads) => match thread::join_promised(rt, threads) {
+            Ok(all) => Ok(all),
+            Err(_) => Err(LoadFault::OutOfMemory),
+        },
+        Err(fault) => Err(fault),
+    }
+}
+
+/// Lets each caller work in a thread of its own, and waits until all of them are through.
+///
+/// # Errors
+///
+/// `NoThread`, where the system refused a thread, and `OutOfMemory`. No worker has begun then.
+pub(crate) fn work_all<B: Room + Send + Sync, G: Gate, R: Threads + Wait + Sync>(
+    rt: &R,
+    alloc: Global,
+    pool: &IdPool<B>,
+    gate: &G,
+    callers: Vec<Caller<B>>,
+    rounds: u64,
+) -> Result<Vec<Worked<B>>, LoadFault>
+    ensures ok { IfOk result (λ v. AllWorked B.settings rounds callers.items
+        (map (λ w. w.caller) v.items) (map (λ w. w.outcome) v.items)) }
+    ensures err { IfErr result (λ fault. IsWanting fault) }
+{
+    let start = Start::new();
+    let shared = &start;
+    thread::scope(
+        thread::scope_env(),
+        rt,
+        move |scope| -> Result<Vec<Worked<B>>, LoadFault>
+            ensures ok { IfOk result (λ v. AllWorked B.settings rounds callers.items
+                (map (λ w. w.caller) v.items) (map (λ w. w.outcome) v.items)) }
+            ensures err { IfErr result (λ fault. IsWanting fault) }
+        { work_in(scope, rt, alloc, pool, gate, shared, callers, rounds) },
+    )
+}
+
+/// The callers of all workers, and how many borrows were refused in all.
+pub(crate) fn collect_all<B: Room>(
+    alloc: Global,
+    workers: Vec<Worked<B>>,
+) -> Result<(u64, Vec<Caller<B>>), LoadFault>
+    requires few { length workers.items ≤ 1023 }
+    requires each { (i : ℕ) (d : _) → i < length workers.items → IsOutcome B.settings 1000000
+        (slice_index_or workers.items i d).outcome (slice_index_or workers.items i d).caller }
+    ensures callers { IfOk result (λ r. r.1.items ≡ map (λ w. w.caller) workers.items) }
+    ensures refused { IfOk result (λ r. (refusals : List ℕ)
+        × (map (λ w. w.outcome) workers.items ≡ map Ok refusals) × (r.0 ≡ sum refusals)) }
+    ensures stops { IfErr result (StopsLoad B.settings) }
+{
+    let mut callers = Vec::new(alloc);
+    let mut refused = 0;
+    for worker in workers {
+        let Worked { caller, outcome } = worker;
+        match outcome {
+            Ok(more) => refused += more,
+            Err(fault) => return Err(fault),
+        }
+        if callers.push(caller).is_err() {
+            return Err(LoadFault::OutOfMemory);
+        }
+    }
+    Ok((refused, callers))
+}
