@@ -39,7 +39,4 @@ pub use settings_file::read_settings;
 pub use side_by_side::{check_side_by_side, judge_segment};
 pub use sink::{Sink, flush_past_signals, write_past_signals};
 pub use source::{Source, read_past_signals};
-pub use tallier::stats;
-
-#[cfg(test)]
-mod tests;
+pub use tallier::{stats, stats_of_at_most};

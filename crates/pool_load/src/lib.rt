@@ -19,6 +19,3 @@ pub use pool_engines::{
     write_report,
 };
 pub use rounds::work;
-
-#[cfg(test)]
-mod tests;

@@ -12,6 +12,3 @@ pub use escaped::Escaped;
 pub use fault::SettingsFault;
 pub use key_name::KeyName;
 pub use settings::Settings;
-
-#[cfg(test)]
-mod tests;

@@ -13,6 +13,3 @@ pub use counts::Counts;
 pub use ended::Ended;
 pub use running_tally::RunningTally;
 pub use statistics::Statistics;
-
-#[cfg(test)]
-mod tests;

@@ -1,0 +1,239 @@
+// Journals that are cut, and pools that are opened from what they came to.
+use crate::playing::{
+    FIVE_ADDED, PLAIN_LIFE, base_of, cut, entries, from_base, length, opened, play, refuses,
+};
+use pool_core::{BaseFault, Core};
+use pool_journal::{Base, Entry, Input};
+use pool_settings::Settings;
+use pool_stats::Counts;
+use std::alloc::Global;
+use std::process::Abort;
+use std::test::Fail;
+
+/// A journal of seven entries, of which an object's way takes four.
+const SEVEN: &str = "journalLimit = 7";
+
+const ONE_WAY: &str = "0 0 borrow 0 = make 0
+0 0 ready 0 good = lent
+0 0 return 0 = check
+0 0 park 0 good = parked
+";
+
+/// The base before all entries.
+const EMPTY: &str = "pool-journal 2 0 0 open none 0 0 0 0\n";
+
+/// What the four entries of an object's way come to.
+const ONE_IDLE: &str = "pool-journal 2 4 1 open none 0 0 0 1
+0 idle 3 0 0 0 old
+";
+
+/// A base behind which there is room for one entry more.
+const ALMOST_MOST: &str = "pool-journal 2 9223372036854775806 0 open none 0 0 0 0\n";
+
+/// A base behind which there is none.
+const MOST: &str = "pool-journal 2 9223372036854775807 0 open none 0 0 0 0\n";
+
+const NEW: Input = Input::Borrow { began: 0 };
+
+/// Whether two bases are the same.
+pub fn is_same(one: &Base, other: &Base) -> bool {
+    one.head() == other.head() && one.records.as_slice() == other.records.as_slice()
+}
+
+fn are_same(some: &[Entry], others: &[Entry]) -> bool {
+    some == others
+}
+
+// Cuts the journal, which gives the base and these entries.
+fn cuts(
+    rt: &impl Abort,
+    alloc: Global,
+    core: &mut Core<u64>,
+    base: &str,
+    lines: &str,
+) -> Result<(), Fail> {
+    let wanted = entries(alloc, lines)?;
+    let base = base_of(alloc, base)?;
+    let segment = cut(alloc, core).ok_or("a segment")?;
+    assert!(rt; is_same(&segment.base, &base));
+    assert!(rt; are_same(segment.entries.as_slice(), &wanted));
+    assert!(rt; length(core) == 0);
+    Ok(())
+}
+
+// Plays lines and one more, cuts the journal, which gives them all, and plays the next one.
+fn is_cut_between(
+    rt: &impl Abort,
+    alloc: Global,
+    before: &str,
+    last: &str,
+    next: &str,
+) -> Result<(), Fail> {
+    let mut core = opened(alloc, "")?;
+    play(rt, alloc, &mut core, before)?;
+    play(rt, alloc, &mut core, last)?;
+    let stored = length(&core);
+    let segment = cut(alloc, &mut core).ok_or("a segment")?;
+    assert!(rt; segment.entries.as_slice().len() == stored);
+    play(rt, alloc, &mut core, next)
+}
+
+// A pool from a base that is refused; base and value come back.
+fn is_refused(
+    rt: &impl Abort,
+    alloc: Global,
+    settings: Settings,
+    base: Base,
+    values: Vec<(u64, u64)>,
+    fault: BaseFault,
+) -> (Base, Vec<(u64, u64)>) {
+    let before = values.len();
+    match from_base(alloc, settings, base, values) {
+        Err((found, base, values)) => {
+            assert!(rt; found == fault);
+            assert!(rt; values.len() == before);
+            (base, values)
+        }
+        Ok(_) => panic!(rt; "not refused"),
+    }
+}
+
+// A pool from a base that may be refused once, for want of memory.
+fn is_opened(
+    rt: &impl Abort,
+    alloc: Global,
+    settings: Settings,
+    base: Base,
+    values: Vec<(u64, u64)>,
+) -> Core<u64> {
+    match from_base(alloc, settings, base, values) {
+        Ok(core) => core,
+        Err((_, base, values)) => match from_base(alloc, settings, base, values) {
+            Ok(core) => core,
+            Err(_) => panic!(rt; "refused twice"),
+        },
+    }
+}
+
+// After the cut there is room for as many entries again, and the ids go on.
+#[test]
+fn cut_behind_an_object_s_way(rt: HostRuntime) -> Result<(), Fail> {
+    for line in ["0 0 borrow 0 = take 0\n", "0 0 add = make 1\n"] {
+        let mut core = opened(rt.alloc(), SEVEN)?;
+        play(&rt, rt.alloc(), &mut core, ONE_WAY)?;
+        cuts(&rt, rt.alloc(), &mut core, EMPTY, ONE_WAY)?;
+        play(&rt, rt.alloc(), &mut core, line)?;
+    }
+    Ok(())
+}
+
+// A second cut gives no entries, behind those that were cut before.
+#[test]
+fn cut_twice(rt: HostRuntime) -> Result<(), Fail> {
+    let mut core = opened(rt.alloc(), SEVEN)?;
+    play(&rt, rt.alloc(), &mut core, ONE_WAY)?;
+    cuts(&rt, rt.alloc(), &mut core, EMPTY, ONE_WAY)?;
+    cuts(&rt, rt.alloc(), &mut core, ONE_IDLE, "")
+}
+
+// An eviction run goes on where it was; a closed pool stays closed; an object that was just made is still new; and one that was taken isn't.
+#[test]
+fn cut_between_two_steps(rt: HostRuntime) -> Result<(), Fail> {
+    for (before, last, next) in [
+        (
+            FIVE_ADDED,
+            "0 1 evictnext = keptidle 0\n",
+            "0 1 evictnext = keptidle 1\n",
+        ),
+        (
+            PLAIN_LIFE,
+            "0 20 close = count 1\n",
+            "0 21 borrow 21 = refused closed\n",
+        ),
+        (
+            "",
+            "0 10 borrow 10 = make 0\n",
+            "0 11 ready 0 makefail = freed\n",
+        ),
+        (
+            PLAIN_LIFE,
+            "0 20 borrow 20 = take 0\n",
+            "0 21 ready 0 makefail = refused badoutcome\n",
+        ),
+    ] {
+        is_cut_between(&rt, rt.alloc(), before, last, next)?;
+    }
+    Ok(())
+}
+
+// Each fault in its turn; base and value come back.
+fn is_refused_thrice(rt: &impl Abort, alloc: Global) -> Result<(Base, Vec<(u64, u64)>), Fail> {
+    let seven = Settings::from_text(alloc, SEVEN)?;
+    let two = Settings::from_text(alloc, "journalLimit = 2")?;
+    let no_places = Settings::from_text(alloc, "journalLimit = 7\nmaxTotal = 0")?;
+    let base = base_of(alloc, ONE_IDLE)?;
+    let values = vec![in alloc; (0, 0)]?;
+    let none = Vec::new(alloc);
+    let (base, _) = is_refused(rt, alloc, seven, base, none, BaseFault::WrongValues);
+    let (base, values) = is_refused(rt, alloc, two, base, values, BaseFault::NoRoom);
+    Ok(is_refused(rt, alloc, no_places, base, values, BaseFault::NotABase))
+}
+
+// Refused thrice, and then a pool that goes on.
+#[test]
+fn opened_from_a_base(rt: HostRuntime) -> Result<(), Fail> {
+    let (base, values) = is_refused_thrice(&rt, rt.alloc())?;
+    let settings = Settings::from_text(rt.alloc(), SEVEN)?;
+    let mut core = is_opened(&rt, rt.alloc(), settings, base, values);
+    let wanted = Counts {
+        steps: 4,
+        idle: 1,
+        lent: 0,
+        reserved: 0,
+        created: 1,
+        destroyed: 0,
+        evicted: 0,
+        reclaimed: 0,
+    };
+    assert!(rt; core.counts() == wanted);
+    let taken = "0 0 borrow 0 = take 0\n";
+    play(&rt, rt.alloc(), &mut core, taken)?;
+    cuts(&rt, rt.alloc(), &mut core, ONE_IDLE, taken)
+}
+
+// A pool from a base with no objects.
+fn opened_bare(rt: &impl Abort, alloc: Global, base: &str) -> Result<Core<u64>, Fail> {
+    let base = base_of(alloc, base)?;
+    Ok(is_opened(rt, alloc, Settings::default(), base, Vec::new(alloc)))
+}
+
+#[test]
+fn opened_behind_no_entries(rt: HostRuntime) -> Result<(), Fail> {
+    let empty = opened_bare(&rt, rt.alloc(), EMPTY)?;
+    let none = Counts {
+        steps: 0,
+        idle: 0,
+        lent: 0,
+        reserved: 0,
+        created: 0,
+        destroyed: 0,
+        evicted: 0,
+        reclaimed: 0,
+    };
+    assert!(rt; empty.counts() == none);
+    Ok(())
+}
+
+// A base behind which there is room for one entry more, and one behind which there is none.
+#[test]
+fn opened_behind_most_entries(rt: HostRuntime) -> Result<(), Fail> {
+    let mut core = opened_bare(&rt, rt.alloc(), ALMOST_MOST)?;
+    refuses(&rt, &mut core, 0, 0, NEW);
+    play(&rt, rt.alloc(), &mut core, "0 0 close = count 0\n")?;
+    refuses(&rt, &mut core, 0, 0, NEW);
+    let past = base_of(rt.alloc(), MOST)?;
+    let none = Vec::new(rt.alloc());
+    let settings = Settings::default();
+    is_refused(&rt, rt.alloc(), settings, past, none, BaseFault::NotABase);
+    Ok(())
+}

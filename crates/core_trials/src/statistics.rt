@@ -1,0 +1,177 @@
+use pool_journal::{Answer, Entry, Input, Outcome, read_entry};
+use pool_stats::{Ended, RunningTally, Statistics};
+use std::alloc::{AllocError, Global};
+use std::process::Abort;
+use std::test::Fail;
+
+const PLAIN_LIFE: &str = "0 10 borrow 10 = make 0\n\
+    0 11 ready 0 good = lent\n\
+    0 15 return 0 = check\n\
+    0 16 park 0 good = parked\n";
+
+const RECLAIMED: &str = "0 0 borrow 0 = make 0\n\
+    0 0 ready 0 good = lent\n\
+    1 99 reclaim maintain = count 0\n\
+    1 99 reclaimnext = nothing\n\
+    1 100 reclaim maintain = count 1\n\
+    1 100 reclaimnext = reclaimed 0\n\
+    0 101 return 0 = gone\n";
+
+const CLOSED: &str = "0 0 borrow 0 = make 0\n\
+    0 0 ready 0 good = lent\n\
+    1 0 borrow 0 = make 1\n\
+    0 1 return 0 = check\n\
+    2 2 close = count 0\n\
+    0 3 park 0 good = destroy\n\
+    0 3 destroyed 0 = freed\n\
+    1 3 ready 1 good = lent\n\
+    2 4 close = nothing\n\
+    2 4 borrow 4 = refused closed\n\
+    2 4 add = refused closed\n\
+    2 4 evict = refused closed\n\
+    2 4 fill = enough\n\
+    1 5 return 1 = check\n\
+    1 5 park 1 good = destroy\n";
+
+// No pool makes these, and they have statistics all the same.
+const NEVER_LENT: &str = "0 5 return 0 = check\n";
+
+const LENT_LATER: &str = "0 9 ready 0 good = lent\n\
+    0 5 invalidate 0 = destroy\n";
+
+const LONGEST_TWICE: &str = "0 0 ready 0 good = lent\n\
+    0 18446744073709551615 return 0 = check\n\
+    0 0 ready 0 good = lent\n\
+    0 18446744073709551615 return 0 = check\n";
+
+const TWO_LENT: &str = "0 0 ready 0 good = lent\n\
+    1 10 ready 1 good = lent\n\
+    0 12 return 0 = check\n\
+    1 13 invalidate 1 = destroy\n";
+
+const DESTROYED: &str = "0 0 borrow 0 = make 0\n\
+    0 0 ready 0 testfail = destroy\n\
+    0 0 destroyed 0 = freed\n\
+    0 0 add = make 1\n\
+    0 0 added 1 good = parked\n\
+    1 5 evictnext = test 1\n\
+    1 5 tested 1 testfail = destroy\n\
+    1 5 destroyed 1 = freed\n\
+    1 6 evictnext = destroyidle 2\n\
+    1 7 clearnext = destroyidle 3\n\
+    1 8 tested 4 good = destroy\n\
+    1 9 ready 5 activatefail = destroy\n";
+
+// Object 0 is lent for 15 milliseconds, and then until a moment before that lending began. Object 1 is still lent.
+const LENT_AGAIN: &str = "0 0 borrow 0 = make 0\n\
+    0 10 ready 0 good = lent\n\
+    0 25 return 0 = check\n\
+    0 26 park 0 good = parked\n\
+    1 30 borrow 30 = take 0\n\
+    1 30 ready 0 good = lent\n\
+    0 28 borrow 28 = make 1\n\
+    0 29 ready 1 good = lent\n\
+    1 20 return 0 = check\n\
+    1 21 park 0 good = parked\n";
+
+/// The entries of a journal's text.
+fn entries_of(rt: &impl Abort, alloc: Global, text: &str) -> Result<Vec<Entry>, AllocError> {
+    let mut entries = Vec::new(alloc);
+    for line in text.split_inclusive("\n") {
+        match read_entry(line.as_bytes()) {
+            Ok((entry, _)) => entries.push(entry)?,
+            Err(_) => panic!(rt; "not an entry: {line}"),
+        }
+    }
+    Ok(entries)
+}
+
+/// Statistics, from their numbers in the order of the fields.
+fn numbers(all: [u64; 9]) -> Statistics {
+    Statistics {
+        borrowed: all[0],
+        returned: all[1],
+        created: all[2],
+        destroyed: all[3],
+        evicted: all[4],
+        borrow_test_failed: all[5],
+        reclaimed: all[6],
+        longest: all[7],
+        total: all[8],
+    }
+}
+
+#[test]
+fn statistics_of_journals(rt: HostRuntime) -> Result<(), Fail> {
+    let most = u64::MAX;
+    let cases = [
+        ("", [0, 0, 0, 0, 0, 0, 0, 0, 0]),
+        (PLAIN_LIFE, [1, 1, 1, 0, 0, 0, 0, 4, 4]),
+        (RECLAIMED, [1, 0, 1, 0, 0, 0, 1, 100, 100]),
+        (CLOSED, [2, 2, 2, 1, 0, 0, 0, 2, 3]),
+        (NEVER_LENT, [0, 1, 0, 0, 0, 0, 0, 0, 0]),
+        (LENT_LATER, [1, 0, 0, 0, 0, 0, 0, 0, 0]),
+        (LONGEST_TWICE, [2, 2, 0, 0, 0, 0, 0, most, most]),
+        (TWO_LENT, [2, 1, 0, 0, 0, 0, 0, 12, 15]),
+        (DESTROYED, [0, 0, 2, 2, 2, 1, 0, 0, 0]),
+    ];
+    for (text, wanted) in cases {
+        let entries = entries_of(&rt, rt.alloc(), text)?;
+        let found = Statistics::of(rt.alloc(), &entries)?;
+        assert_eq!(rt; found, numbers(wanted), "at {text}");
+    }
+    Ok(())
+}
+
+// Tells a tally one entry more.
+fn tells(rt: &impl Abort, tally: &mut RunningTally, entry: &Entry) -> Result<(), AllocError> {
+    if tally.taken() < u64::MAX {
+        tally.take(entry)
+    } else {
+        panic!(rt; "too many entries")
+    }
+}
+
+// A tally that is told entries one by one has at each of them the statistics of all that it was told.
+fn told_of(rt: &impl Abort, alloc: Global, entries: &[Entry]) -> Result<Statistics, Fail> {
+    let mut tally = RunningTally::new(alloc);
+    let mut told = Vec::new(alloc);
+    for entry in entries {
+        tells(rt, &mut tally, entry)?;
+        told.push(*entry)?;
+        assert_eq!(rt; tally.taken(), told.len() as u64);
+        assert_eq!(rt; tally.statistics(), Statistics::of(alloc, &told)?);
+    }
+    Ok(tally.statistics())
+}
+
+#[test]
+fn told_one_by_one(rt: HostRuntime) -> Result<(), Fail> {
+    for (text, wanted) in [
+        (LENT_AGAIN, [3, 2, 2, 0, 0, 0, 0, 15, 15]),
+        (RECLAIMED, [1, 0, 1, 0, 0, 0, 1, 100, 100]),
+        (DESTROYED, [0, 0, 2, 2, 2, 1, 0, 0, 0]),
+    ] {
+        let entries = entries_of(&rt, rt.alloc(), text)?;
+        let found = told_of(&rt, rt.alloc(), &entries)?;
+        assert_eq!(rt; found, numbers(wanted), "at {text}");
+    }
+    Ok(())
+}
+
+#[test]
+fn ends_one_by_one(rt: HostRuntime) {
+    let outcome = Outcome::TestFailed;
+    let ended = Ended::none()
+        .after(Input::Tested { id: 0, outcome }, Answer::Destroy)
+        .after(Input::Destroyed { id: 0 }, Answer::Freed)
+        .after(Input::EvictNext, Answer::DestroyIdle(1))
+        .after(Input::ReclaimNext, Answer::Reclaimed(2))
+        .after(Input::EvictNext, Answer::KeptIdle(3));
+    let wanted = Ended {
+        destroyed: 1,
+        evicted: 2,
+        reclaimed: 1,
+    };
+    assert_eq!(rt; ended, wanted);
+}

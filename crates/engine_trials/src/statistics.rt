@@ -1,0 +1,243 @@
+use crate::engines::{stats, stats_of_at_most};
+use crate::rows::PLAIN_LIFE;
+use crate::streams::{Failing, Pieces, Stingy};
+use pool_engines::EngineFault;
+use pool_journal::LineFault;
+use std::alloc::{AllocError, Global};
+use std::cell::Cell;
+use std::process::Abort;
+use std::test::Fail;
+
+const OF_PLAIN_LIFE: &str = "borrowed 1\nreturned 1\ncreated 1\ndestroyed 0\nevicted 0\n\
+    borrowtestfailed 0\nreclaimed 0\nlongest 4\ntotal 4\n";
+
+const OF_NOTHING: &str = "borrowed 0\nreturned 0\ncreated 0\ndestroyed 0\nevicted 0\n\
+    borrowtestfailed 0\nreclaimed 0\nlongest 0\ntotal 0\n";
+
+const RECLAIMED: &str = "0 0 borrow 0 = make 0\n\
+    0 0 ready 0 good = lent\n\
+    1 99 reclaim maintain = count 0\n\
+    1 99 reclaimnext = nothing\n\
+    1 100 reclaim maintain = count 1\n\
+    1 100 reclaimnext = reclaimed 0\n\
+    0 101 return 0 = gone\n";
+
+const OF_RECLAIMED: &str = "borrowed 1\nreturned 0\ncreated 1\ndestroyed 0\nevicted 0\n\
+    borrowtestfailed 0\nreclaimed 1\nlongest 100\ntotal 100\n";
+
+const CLOSED: &str = "0 0 borrow 0 = make 0\n\
+    0 0 ready 0 good = lent\n\
+    1 0 borrow 0 = make 1\n\
+    0 1 return 0 = check\n\
+    2 2 close = count 0\n\
+    0 3 park 0 good = destroy\n\
+    0 3 destroyed 0 = freed\n\
+    1 3 ready 1 good = lent\n\
+    2 4 close = nothing\n\
+    2 4 borrow 4 = refused closed\n\
+    2 4 add = refused closed\n\
+    2 4 evict = refused closed\n\
+    2 4 fill = enough\n\
+    1 5 return 1 = check\n\
+    1 5 park 1 good = destroy\n";
+
+const OF_CLOSED: &str = "borrowed 2\nreturned 2\ncreated 2\ndestroyed 1\nevicted 0\n\
+    borrowtestfailed 0\nreclaimed 0\nlongest 2\ntotal 3\n";
+
+// The second segment of a journal that was cut behind four entries.
+const SEGMENT: &str = "pool-journal 2 4 1 open none 0 0 0 1\n\
+    0 idle 3 0 0 0 old\n\
+    0 0 borrow 0 = take 0\n";
+
+// A segment of the plain life, behind no entry.
+const FIRST_SEGMENT: &str = "pool-journal 2 0 0 open none 0 0 0 0\n\
+    0 10 borrow 10 = make 0\n\
+    0 11 ready 0 good = lent\n\
+    0 15 return 0 = check\n\
+    0 16 park 0 good = parked\n";
+
+const NEVER_LENT: &str = "0 5 return 0 = check\n";
+
+const OF_NEVER_LENT: &str = "borrowed 0\nreturned 1\ncreated 0\ndestroyed 0\nevicted 0\n\
+    borrowtestfailed 0\nreclaimed 0\nlongest 0\ntotal 0\n";
+
+const LONGEST_TWICE: &str = "0 0 ready 0 good = lent\n\
+    0 18446744073709551615 return 0 = check\n\
+    0 0 ready 0 good = lent\n\
+    0 18446744073709551615 return 0 = check\n";
+
+const OF_LONGEST_TWICE: &str = "borrowed 2\nreturned 2\ncreated 0\ndestroyed 0\nevicted 0\n\
+    borrowtestfailed 0\nreclaimed 0\nlongest 18446744073709551615\ntotal 18446744073709551615\n";
+
+#[test]
+fn statistics_of_journals(rt: HostRuntime) -> Result<(), Fail> {
+    let cases = [
+        ("", OF_NOTHING),
+        (PLAIN_LIFE, OF_PLAIN_LIFE),
+        (RECLAIMED, OF_RECLAIMED),
+        (CLOSED, OF_CLOSED),
+        (NEVER_LENT, OF_NEVER_LENT),
+        (LONGEST_TWICE, OF_LONGEST_TWICE),
+        (SEGMENT, OF_NOTHING),
+        (FIRST_SEGMENT, OF_PLAIN_LIFE),
+        ("pool-journal 2 4 1 open none 0 0 0 0\n", OF_NOTHING),
+    ];
+    for (journal, wanted) in cases {
+        let mut written = Vec::new(rt.alloc());
+        let ended = stats(rt.alloc(), &mut journal.as_bytes(), &mut written);
+        assert_eq!(rt; ended, Ok(()), "at {journal}");
+        assert_eq!(rt; written.as_slice(), wanted.as_bytes());
+    }
+    Ok(())
+}
+
+// Where a line is no entry, or one too many, nothing is told.
+#[test]
+fn statistics_end_at_faults(rt: HostRuntime) -> Result<(), Fail> {
+    let no_number = "0 10 borrow 10 = make 0\n0 11 ready 00 good = lent\n";
+    let cases = [
+        (4, PLAIN_LIFE, Ok(()), OF_PLAIN_LIFE),
+        (3, PLAIN_LIFE, Err(EngineFault::Full(4)), ""),
+        (0, PLAIN_LIFE, Err(EngineFault::Full(1)), ""),
+        (0, "", Ok(()), OF_NOTHING),
+        (
+            9,
+            no_number,
+            Err(EngineFault::Line(2, LineFault::BadNumber)),
+            "",
+        ),
+        // A line is read before there is found to be no room for it.
+        (
+            1,
+            no_number,
+            Err(EngineFault::Line(2, LineFault::BadNumber)),
+            "",
+        ),
+        (
+            9,
+            "0 10 borrow 10\n",
+            Err(EngineFault::Line(1, LineFault::NotALine)),
+            "",
+        ),
+        (
+            9,
+            "0 1 close",
+            Err(EngineFault::Line(1, LineFault::Truncated)),
+            "",
+        ),
+    ];
+    for (limit, journal, wanted, told) in cases {
+        let mut written = Vec::new(rt.alloc());
+        let ended = stats_of_at_most(rt.alloc(), limit, &mut journal.as_bytes(), &mut written);
+        assert_eq!(rt; ended, wanted, "at {journal}");
+        assert_eq!(rt; written.as_slice(), told.as_bytes());
+    }
+    Ok(())
+}
+
+// The lines of a base are read as those of entries are, and counted with them.
+#[test]
+fn statistics_end_at_faults_of_a_base(rt: HostRuntime) -> Result<(), Fail> {
+    let no_object = "pool-journal 2 4 1 open none 0 0 0 1\n";
+    let cases = [
+        ("pool-journal", 1, LineFault::Truncated),
+        ("pool-journal 2 4 1 open", 1, LineFault::Truncated),
+        ("pool-journal 2 4 1 open\n", 1, LineFault::NotALine),
+        ("pool-journal\n", 1, LineFault::NotALine),
+        (
+            "pool-journal 3 4 1 open none 0 0 0 0\n",
+            1,
+            LineFault::NotALine,
+        ),
+        (
+            "pool-journal 2 04 1 open none 0 0 0 0\n",
+            1,
+            LineFault::BadNumber,
+        ),
+        (
+            "pool-journals 2 4 1 open none 0 0 0 0\n",
+            1,
+            LineFault::NotALine,
+        ),
+        (no_object, 2, LineFault::Truncated),
+        (
+            "pool-journal 2 4 1 open none 0 0 0 1\n0 idle 03 0 0 0 old\n",
+            2,
+            LineFault::BadNumber,
+        ),
+        (
+            "pool-journal 2 4 1 open none 0 0 0 1\n0 0 borrow 0 = take 0\n",
+            2,
+            LineFault::NotALine,
+        ),
+        (
+            "pool-journal 2 4 1 open none 0 0 0 1\n0 idle 3 0 0 0 old\n0 idle 3 0 0 0 old\n",
+            3,
+            LineFault::NotALine,
+        ),
+        (
+            "0 10 borrow 10 = make 0\npool-journal 2 0 0 open none 0 0 0 0\n",
+            2,
+            LineFault::NotALine,
+        ),
+    ];
+    for (journal, number, fault) in cases {
+        let mut written = Vec::new(rt.alloc());
+        let ended = stats(rt.alloc(), &mut journal.as_bytes(), &mut written);
+        assert_eq!(rt;
+            ended,
+            Err(EngineFault::Line(number, fault)),
+            "at {journal}"
+        );
+        assert!(rt; written.is_empty());
+    }
+    Ok(())
+}
+
+// Objects are counted with the entries, and the first line isn't.
+#[test]
+fn statistics_of_a_segment_end_at_their_limit(rt: HostRuntime) -> Result<(), Fail> {
+    let cases = [
+        (2, Ok(())),
+        (1, Err(EngineFault::Full(3))),
+        (0, Err(EngineFault::Full(2))),
+    ];
+    for (limit, wanted) in cases {
+        let mut written = Vec::new(rt.alloc());
+        let ended = stats_of_at_most(rt.alloc(), limit, &mut SEGMENT.as_bytes(), &mut written);
+        assert_eq!(rt; ended, wanted, "at {limit}");
+    }
+    Ok(())
+}
+
+fn statistics_in_pieces(rt: &impl Abort, alloc: Global, size: usize) -> Result<(), AllocError> {
+    let written = Cell::new(0);
+    let mut reader = Pieces::new(CLOSED.as_bytes(), size, &written);
+    let mut writer = Stingy::new(alloc, size, &written);
+    assert_eq!(rt; stats(alloc, &mut reader, &mut writer), Ok(()));
+    assert_eq!(rt; writer.bytes(), OF_CLOSED.as_bytes());
+    Ok(())
+}
+
+#[test]
+fn pieces_make_no_difference_to_statistics(rt: HostRuntime) -> Result<(), Fail> {
+    for size in [1, 7, 15, 100] {
+        statistics_in_pieces(&rt, rt.alloc(), size)?;
+    }
+    Ok(())
+}
+
+#[test]
+fn statistics_after_a_failure(rt: HostRuntime) -> Result<(), Fail> {
+    let mut written = Vec::new(rt.alloc());
+    let mut reader = Failing::new(PLAIN_LIFE.as_bytes(), 24);
+    let ended = stats(rt.alloc(), &mut reader, &mut written);
+    assert_eq!(rt; ended, Err(EngineFault::Read));
+    assert!(rt; written.is_empty());
+
+    let mut broken = Failing::new(&[], 30);
+    let ended = stats(rt.alloc(), &mut PLAIN_LIFE.as_bytes(), &mut broken);
+    assert_eq!(rt; ended, Err(EngineFault::Write));
+    assert_eq!(rt; broken.taken(), 30);
+    Ok(())
+}

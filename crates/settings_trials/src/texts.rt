@@ -1,0 +1,413 @@
+use pool_settings::{Settings, SettingsFault};
+use std::process::Abort;
+use std::test::Fail;
+
+/// What the program tells of a text: `ok`, or the fault's line.
+fn told(rt: &impl AllocGlobal, text: &str) -> Result<String, Fail> {
+    Ok(match Settings::from_text(rt.alloc(), text) {
+        Ok(_) => String::from_str(rt.alloc(), "ok")?,
+        Err(fault) => format!(in rt.alloc(); "{fault}")?,
+    })
+}
+
+fn read(rt: &impl AllocGlobal, text: &str) -> Result<Settings, Fail> {
+    Ok(Settings::from_text(rt.alloc(), text)?)
+}
+
+/// The numbers of settings but for the journal's limit, by the alphabet of their keys.
+fn numbers(settings: &Settings) -> [i64; 8] {
+    [
+        settings.max_idle() as i64,
+        settings.max_total() as i64,
+        settings.max_wait_millis(),
+        settings.min_evictable_idle_millis(),
+        settings.min_idle() as i64,
+        settings.num_tests_per_eviction_run() as i64,
+        settings.remove_abandoned_timeout_millis(),
+        settings.soft_min_evictable_idle_millis(),
+    ]
+}
+
+/// What is true or false of settings, by the alphabet of their keys.
+fn flags(settings: &Settings) -> [bool; 9] {
+    [
+        settings.abandoned(),
+        settings.block_when_exhausted(),
+        settings.lifo(),
+        settings.remove_abandoned_on_borrow(),
+        settings.remove_abandoned_on_maintenance(),
+        settings.test_on_borrow(),
+        settings.test_on_create(),
+        settings.test_on_return(),
+        settings.test_while_idle(),
+    ]
+}
+
+fn all_told(rt: &(impl AllocGlobal + Abort), cases: &[(&str, &str)]) -> Result<(), Fail> {
+    for (text, answer) in cases {
+        assert_eq!(rt; told(rt, text)?.as_str(), *answer, "{text}");
+    }
+    Ok(())
+}
+
+// The defaults that GenericObjectPoolConfig and AbandonedConfig document, and the journal's limit.
+#[test]
+fn defaults(rt: HostRuntime) -> Result<(), Fail> {
+    let settings = Settings::default();
+    assert_eq!(rt; settings.journal_limit(), 1_000_000);
+    assert_eq!(rt;
+        numbers(&settings),
+        [8, 8, -1, 1_800_000, 0, 3, 300_000, -1]
+    );
+    assert_eq!(rt;
+        flags(&settings),
+        [false, true, true, false, false, false, false, false, false]
+    );
+    assert_eq!(rt; settings.effective_min_idle(), 0);
+    assert_eq!(rt; read(&rt, "")?, settings);
+    assert_eq!(rt; read(&rt, "# nothing is said\n\n")?, settings);
+    Ok(())
+}
+
+// Each setting is put at its key, all at values that are no other's.
+#[test]
+fn every_key_is_read(rt: HostRuntime) -> Result<(), Fail> {
+    let text = "
+blockWhenExhausted = false
+journalLimit = 20
+lifo = false
+maxIdle = 3
+maxTotal = -4
+maxWaitMillis = 50
+minEvictableIdleMillis = 60
+minIdle = 7
+numTestsPerEvictionRun = -8
+softMinEvictableIdleMillis = 90
+testOnBorrow = true
+testOnCreate = true
+testOnReturn = true
+testWhileIdle = true
+[abandoned]
+removeAbandonedOnBorrow = true
+removeAbandonedOnMaintenance = true
+removeAbandonedTimeoutMillis = 100
+";
+    let settings = read(&rt, text)?;
+    assert_eq!(rt; settings.journal_limit(), 20);
+    assert_eq!(rt; numbers(&settings), [3, -4, 50, 60, 7, -8, 100, 90]);
+    assert_eq!(rt;
+        flags(&settings),
+        [true, false, false, true, true, true, true, true, true]
+    );
+    assert_eq!(rt; settings.effective_min_idle(), 3);
+    Ok(())
+}
+
+// Of what is true or false each one alone.
+#[test]
+fn flags_are_told_apart(rt: HostRuntime) -> Result<(), Fail> {
+    for (text, told) in [
+        (
+            "lifo = false",
+            [false, true, false, false, false, false, false, false, false],
+        ),
+        (
+            "testOnBorrow = true",
+            [false, true, true, false, false, true, false, false, false],
+        ),
+        (
+            "testOnCreate = true",
+            [false, true, true, false, false, false, true, false, false],
+        ),
+        (
+            "testOnReturn = true",
+            [false, true, true, false, false, false, false, true, false],
+        ),
+        (
+            "testWhileIdle = true",
+            [false, true, true, false, false, false, false, false, true],
+        ),
+        (
+            "[abandoned]\nremoveAbandonedOnBorrow = true",
+            [true, true, true, true, false, false, false, false, false],
+        ),
+        (
+            "[abandoned]\nremoveAbandonedOnMaintenance = true",
+            [true, true, true, false, true, false, false, false, false],
+        ),
+    ] {
+        assert_eq!(rt; flags(&read(&rt, text)?), told, "{text}");
+    }
+    Ok(())
+}
+
+#[test]
+fn faults_in_order(rt: HostRuntime) -> Result<(), Fail> {
+    all_told(
+        &rt,
+        &[
+            ("maxTotal =", "settings: not TOML"),
+            ("maxTotal = 8\nmaxTotal = 8", "settings: not TOML"),
+            ("maxTotal = 9223372036854775808", "settings: not TOML"),
+            ("maxTotl = 8", "settings: unknown key maxTotl"),
+            ("maxTotal = \"8\"", "settings: wrong type maxTotal"),
+            ("maxTotal = 8.0", "settings: wrong type maxTotal"),
+            ("minIdle = -1", "settings: out of range minIdle"),
+            ("maxIdle = true\nlifo = 1", "settings: wrong type lifo"),
+            ("maxIdle = true\nzzz = 1", "settings: wrong type maxIdle"),
+            ("maxIdle = true\naaa = 1", "settings: unknown key aaa"),
+            (
+                "minIdle = -1\nmaxTotal = true",
+                "settings: wrong type maxTotal",
+            ),
+            (
+                "testOnBorrow = 1\nminIdle = -1",
+                "settings: out of range minIdle",
+            ),
+            ("é = 1", "settings: not TOML"),
+            (
+                "\"é\" = 1\nmaxTotal = true",
+                "settings: wrong type maxTotal",
+            ),
+            ("\"é\" = 1", "settings: unknown key é"),
+            ("\"\" = 1\nabandoned = 1", "settings: unknown key "),
+            ("Lifo = true\nabandoned = 1", "settings: unknown key Lifo"),
+        ],
+    )
+}
+
+#[test]
+fn table_of_abandoned_objects(rt: HostRuntime) -> Result<(), Fail> {
+    let settings = read(&rt, "[abandoned]")?;
+    assert!(rt; settings.abandoned());
+    assert!(rt; !settings.remove_abandoned_on_borrow());
+    assert!(rt; !settings.remove_abandoned_on_maintenance());
+    assert_eq!(rt; settings.remove_abandoned_timeout_millis(), 300_000);
+    all_told(
+        &rt,
+        &[
+            ("abandoned = {}", "ok"),
+            ("abandoned.removeAbandonedOnBorrow = true", "ok"),
+            ("abandoned = 1", "settings: wrong type abandoned"),
+            ("[[abandoned]]", "settings: wrong type abandoned"),
+            (
+                "maxTotal = \"8\"\nabandoned = 1",
+                "settings: wrong type abandoned",
+            ),
+            (
+                "[abandoned]\nfoo = 1",
+                "settings: unknown key abandoned.foo",
+            ),
+            (
+                "[abandoned]\nlifo = true",
+                "settings: unknown key abandoned.lifo",
+            ),
+            (
+                "[abandoned]\nremoveAbandonedOnBorrow = 1\nfoo = 1",
+                "settings: unknown key abandoned.foo",
+            ),
+            (
+                "lifo = 1\n[abandoned]\nremoveAbandonedOnMaintenance = 1",
+                "settings: wrong type abandoned.removeAbandonedOnMaintenance",
+            ),
+            (
+                "[abandoned]\nremoveAbandonedTimeoutMillis = true\nremoveAbandonedOnBorrow = 1",
+                "settings: wrong type abandoned.removeAbandonedOnBorrow",
+            ),
+            (
+                "removeAbandonedOnBorrow = true",
+                "settings: unknown key removeAbandonedOnBorrow",
+            ),
+            (
+                "'abandoned.removeAbandonedOnBorrow' = true",
+                "settings: unknown key abandoned.removeAbandonedOnBorrow",
+            ),
+        ],
+    )
+}
+
+#[test]
+fn ends_of_the_numbers_of_objects(rt: HostRuntime) -> Result<(), Fail> {
+    assert_eq!(rt;
+        read(&rt, "journalLimit = 4294967296")?.journal_limit(),
+        4_294_967_296
+    );
+    all_told(
+        &rt,
+        &[
+            ("journalLimit = 1", "ok"),
+            ("journalLimit = 0", "settings: out of range journalLimit"),
+            ("journalLimit = 4294967296", "ok"),
+            (
+                "journalLimit = 4294967297",
+                "settings: out of range journalLimit",
+            ),
+            ("maxIdle = -2147483648", "ok"),
+            ("maxIdle = -2147483649", "settings: out of range maxIdle"),
+            ("maxIdle = 2147483647", "ok"),
+            ("maxIdle = 2147483648", "settings: out of range maxIdle"),
+            ("maxTotal = -2147483648", "ok"),
+            ("maxTotal = -2147483649", "settings: out of range maxTotal"),
+            ("maxTotal = 2147483647", "ok"),
+            ("maxTotal = 2147483648", "settings: out of range maxTotal"),
+            ("minIdle = 0", "ok"),
+            ("minIdle = -1", "settings: out of range minIdle"),
+            ("minIdle = 2147483647", "ok"),
+            ("minIdle = 2147483648", "settings: out of range minIdle"),
+            ("numTestsPerEvictionRun = -2147483648", "ok"),
+            (
+                "numTestsPerEvictionRun = -2147483649",
+                "settings: out of range numTestsPerEvictionRun",
+            ),
+            ("numTestsPerEvictionRun = 2147483647", "ok"),
+            (
+                "numTestsPerEvictionRun = 2147483648",
+                "settings: out of range numTestsPerEvictionRun",
+            ),
+        ],
+    )
+}
+
+#[test]
+fn ends_of_the_times(rt: HostRuntime) -> Result<(), Fail> {
+    let longest = read(&rt, "maxWaitMillis = 9007199254740992")?;
+    assert_eq!(rt; longest.max_wait_millis(), 9_007_199_254_740_992);
+    let wait = "settings: out of range maxWaitMillis";
+    let idle = "settings: out of range minEvictableIdleMillis";
+    let soft = "settings: out of range softMinEvictableIdleMillis";
+    let timeout = "settings: out of range abandoned.removeAbandonedTimeoutMillis";
+    all_told(
+        &rt,
+        &[
+            ("maxWaitMillis = -1", "ok"),
+            ("maxWaitMillis = -2", wait),
+            ("maxWaitMillis = 9007199254740992", "ok"),
+            ("maxWaitMillis = 9007199254740993", wait),
+            ("minEvictableIdleMillis = -1", "ok"),
+            ("minEvictableIdleMillis = -2", idle),
+            ("minEvictableIdleMillis = 9007199254740992", "ok"),
+            ("minEvictableIdleMillis = 9007199254740993", idle),
+            ("softMinEvictableIdleMillis = -1", "ok"),
+            ("softMinEvictableIdleMillis = -2", soft),
+            ("softMinEvictableIdleMillis = 9007199254740992", "ok"),
+            ("softMinEvictableIdleMillis = 9007199254740993", soft),
+            ("[abandoned]\nremoveAbandonedTimeoutMillis = 0", "ok"),
+            ("[abandoned]\nremoveAbandonedTimeoutMillis = -1", timeout),
+            (
+                "[abandoned]\nremoveAbandonedTimeoutMillis = 9007199254740992",
+                "ok",
+            ),
+            (
+                "[abandoned]\nremoveAbandonedTimeoutMillis = 9007199254740993",
+                timeout,
+            ),
+        ],
+    )
+}
+
+#[test]
+fn every_key_has_its_type(rt: HostRuntime) -> Result<(), Fail> {
+    all_told(
+        &rt,
+        &[
+            (
+                "blockWhenExhausted = 1",
+                "settings: wrong type blockWhenExhausted",
+            ),
+            ("lifo = 1", "settings: wrong type lifo"),
+            ("testOnBorrow = 1", "settings: wrong type testOnBorrow"),
+            ("testOnCreate = 1", "settings: wrong type testOnCreate"),
+            ("testOnReturn = 1", "settings: wrong type testOnReturn"),
+            ("testWhileIdle = 1", "settings: wrong type testWhileIdle"),
+            (
+                "abandoned.removeAbandonedOnBorrow = 1",
+                "settings: wrong type abandoned.removeAbandonedOnBorrow",
+            ),
+            (
+                "abandoned.removeAbandonedOnMaintenance = 1",
+                "settings: wrong type abandoned.removeAbandonedOnMaintenance",
+            ),
+            ("journalLimit = true", "settings: wrong type journalLimit"),
+            ("maxIdle = true", "settings: wrong type maxIdle"),
+            ("maxTotal = true", "settings: wrong type maxTotal"),
+            ("maxWaitMillis = true", "settings: wrong type maxWaitMillis"),
+            (
+                "minEvictableIdleMillis = true",
+                "settings: wrong type minEvictableIdleMillis",
+            ),
+            ("minIdle = true", "settings: wrong type minIdle"),
+            (
+                "numTestsPerEvictionRun = true",
+                "settings: wrong type numTestsPerEvictionRun",
+            ),
+            (
+                "softMinEvictableIdleMillis = true",
+                "settings: wrong type softMinEvictableIdleMillis",
+            ),
+            (
+                "abandoned.removeAbandonedTimeoutMillis = true",
+                "settings: wrong type abandoned.removeAbandonedTimeoutMillis",
+            ),
+        ],
+    )
+}
+
+#[test]
+fn least_idle_under_the_greatest(rt: HostRuntime) -> Result<(), Fail> {
+    for (text, least) in [
+        ("minIdle = 5\nmaxIdle = 3", 3),
+        ("minIdle = 5\nmaxIdle = -1", 5),
+        ("minIdle = 5\nmaxIdle = 0", 0),
+        ("minIdle = 5\nmaxIdle = 5", 5),
+        ("minIdle = 5", 5),
+    ] {
+        assert_eq!(rt; read(&rt, text)?.effective_min_idle(), least, "{text}");
+    }
+    Ok(())
+}
+
+// Escapes are those of a basic string of TOML.
+#[test]
+fn keys_on_one_line(rt: HostRuntime) -> Result<(), Fail> {
+    all_told(
+        &rt,
+        &[
+            ("\"a\\nb\" = 1", "settings: unknown key a\\nb"),
+            ("\"\\u001B[2J\" = 1", "settings: unknown key \\u001B[2J"),
+            ("\"\\u007F\" = 1", "settings: unknown key \\u007F"),
+            (
+                "\"\\b\\t\\f\\r\\u0000\\u001f\" = 1",
+                "settings: unknown key \\b\\t\\f\\r\\u0000\\u001F",
+            ),
+            ("'a\\b' = 1", "settings: unknown key a\\b"),
+            ("\"a\\\\b\\n\" = 1", "settings: unknown key a\\\\b\\n"),
+            ("'\"' = 1", "settings: unknown key \""),
+            ("\"\\u0085\" = 1", "settings: unknown key \u{85}"),
+            (
+                "[abandoned]\n\"é\\n~\" = 1",
+                "settings: unknown key abandoned.é\\n~",
+            ),
+        ],
+    )
+}
+
+#[test]
+fn names_of_unknown_keys(rt: HostRuntime) -> Result<(), Fail> {
+    match Settings::from_text(rt.alloc(), "[abandoned]\nfoo = 1") {
+        Err(SettingsFault::UnknownKey(name)) => {
+            assert_eq!(rt; name.as_str(), "abandoned.foo");
+            Ok(())
+        }
+        _ => Err("an unknown key".into()),
+    }
+}
+
+#[test]
+fn want_of_memory_as_text(rt: HostRuntime) -> Result<(), Fail> {
+    let fault = SettingsFault::OutOfMemory;
+    assert_eq!(rt;
+        format!(in rt.alloc(); "{fault}")?.as_str(),
+        "out of memory"
+    );
+    Ok(())
+}

@@ -1,0 +1,51 @@
+#!/usr/bin/env python3
+"""Builds a static library over the libraries that the gate has just proved and left: `rt lib` would prove each of those once more, since
+the gate leaves no stamp beside them. The crate itself is proved on the way, as in every build.
+
+    tools/static.py CRATE
+
+The status is 1 where the crate isn't proved, or a library that it stands on is missing or older than its sources.
+"""
+
+import pathlib
+import subprocess
+import sys
+
+TOP = pathlib.Path(__file__).resolve().parent.parent
+
+
+def kit():
+    """The folder of the kit, in which its first page stands."""
+    return pathlib.Path(subprocess.run(["rt", "doc"], check=True, capture_output=True, text=True).stdout.split()[0]).resolve().parent
+
+
+def is_current(crate, rtlib):
+    """Whether a library is there that was made of the sources as they are."""
+    built = pathlib.Path(crate.rlib)
+    return built.is_dir() and all(pathlib.Path(file).stat().st_mtime < built.stat().st_mtime for file in rtlib.files_of(crate.folder))
+
+
+def main():
+    if len(sys.argv) != 2:
+        sys.exit(__doc__)
+    top = kit()
+    sys.path.insert(0, str(top / "bin"))
+    import rtlib
+
+    crate = next((crate for crate in rtlib.crates_below(str(TOP)) if crate.name == sys.argv[1]), None)
+    if crate is None or not crate.is_static:
+        sys.exit(f"{sys.argv[1]}: no static library of this repository")
+    stale = [library.name for library in crate.below() if not is_current(library, rtlib)]
+    if stale:
+        sys.exit(f"{crate.name}: {stale[0]} isn't built of its sources as they are")
+    words = [*crate.words(["--jobs", "2"], keeps=False), "--toolchain", f"{top}/toolchain", "--backend", "llvm"]
+    pathlib.Path(crate.folder, "out").mkdir(exist_ok=True)
+    command = [rtlib.RATTLE, "build", *words, "-o", f"out/lib{crate.name}.a"]
+    ran = subprocess.run(command, cwd=crate.folder, stdout=subprocess.PIPE, stderr=subprocess.STDOUT, text=True)
+    if ran.returncode:
+        sys.exit(ran.stdout)
+    print(f"{crate.name}: {next((line for line in ran.stdout.splitlines() if line.startswith('logic=')), 'built')}")
+
+
+if __name__ == "__main__":
+    main()
