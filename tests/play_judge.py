@@ -13,10 +13,14 @@ with the lines that were written of the one before it.
   tests/pool_model.py are, and where `POOL check` over all of them says so.
 - The commands of docs/audits.md that judge segments and join them are run on those of FOLDER: they must find them legal where the verdict does.
 - Other arguments, and files that aren't there or give no settings, must have their status and their line.
+- Segments of FOLDER that another one follows are judged once for each allocation, which is refused then: nothing is written, the status is 3 and
+  the line tells of memory, or that a file can't be opened or read; or all is written, where it can do without what was refused.
 
 Prints what differs, and in the end the line 'N passed, M failed'.
 """
 
+import itertools
+import os
 import pathlib
 import subprocess
 import sys
@@ -26,10 +30,15 @@ from play_commands import TOP, blocks, commands
 from play_damaged import Chance
 from play_segments import THREE, damaged, told_by
 from pool_model import settings_of, verdict_of_segments
+from preloading import preloaded
 
 
-def run(*command):
-    done = subprocess.run(command, capture_output=True, timeout=60, stdin=subprocess.DEVNULL)
+# What is told where an allocation was refused: by whom it was asked for.
+WANTING = {b"judge: out of memory\n", b"pool: out of memory\n", b"judge: cannot open the settings\n", b"pool: read failed\n"}
+
+
+def run(*command, **variables):
+    done = subprocess.run(command, capture_output=True, timeout=60, stdin=subprocess.DEVNULL, env=os.environ | variables)
     return done.stdout, done.stderr, done.returncode
 
 
@@ -161,13 +170,39 @@ def of_uses(judge, settings):
     return "; ".join(wrong) or None
 
 
+def of_refusals(judge, folder, library, mark):
+    """The segments that another one follows, of the legal journals among the first twelve."""
+    for verdict in sorted(folder.glob("*.verdict"))[:12]:
+        paths = sorted(folder.glob(f"{verdict.stem}.*.journal"), key=lambda path: int(path.suffixes[0][1:]))
+        if verdict.read_bytes().startswith(b"0\nlegal"):
+            for path, following in zip(paths, paths[1:]):
+                wanted = base_lines(following.read_bytes())
+                yield lambda command=(judge, verdict.with_suffix(".toml"), path), wanted=wanted: of_wanting(command, wanted, library, mark)
+
+
+def of_wanting(command, wanted, library, mark):
+    """Refuses each allocation in turn, until one is asked for that was never made."""
+    for number in itertools.count(1):
+        mark.unlink(missing_ok=True)
+        written, told, status = run(*command, LD_PRELOAD=library, REFUSED=str(mark), REFUSE=str(number))
+        is_whole = (written, told, status) == (wanted, b"", 0)
+        if not mark.exists():
+            return None if is_whole and number > 1 else f"{command[2]}, no allocation refused: {status}, {told}, {written}"
+        if not is_whole and (written or status != 3 or told not in WANTING):
+            return f"{command[2]}, allocation {number}: {status}, {told}, {written}"
+        if is_whole and number == 1:
+            return f"{command[2]}: it did without its first allocation"
+
+
 def main(judge, pool, folder):
-    with tempfile.NamedTemporaryFile("w", suffix=".toml") as defaults:
+    with tempfile.NamedTemporaryFile("w", suffix=".toml") as defaults, tempfile.TemporaryDirectory() as room:
+        library, mark = str(preloaded("refuse", pathlib.Path(room))), pathlib.Path(room) / "refused"
         trials = [
             *of_folder(judge, pathlib.Path(folder)),
             *of_page(judge, pathlib.Path(folder)),
             *of_damage(judge, pool, defaults.name),
             lambda: of_uses(judge, defaults.name),
+            *of_refusals(judge, pathlib.Path(folder), library, mark),
         ]
         return told_by(trials)
 
