@@ -34,7 +34,13 @@ from preloading import preloaded
 
 
 # What is told where an allocation was refused: by whom it was asked for.
-WANTING = {b"judge: out of memory\n", b"pool: out of memory\n", b"judge: cannot open the settings\n", b"pool: read failed\n"}
+WANTING = {
+    b"judge: out of memory\n",
+    b"pool: out of memory\n",
+    b"pool: base: out of memory\n",
+    b"judge: cannot open the settings\n",
+    b"pool: read failed\n",
+}
 
 
 def run(*command, **variables):
@@ -170,14 +176,15 @@ def of_uses(judge, settings):
     return "; ".join(wrong) or None
 
 
-def of_refusals(judge, folder, library, mark):
+def of_refusals(judge, folder, library, room):
     """The segments that another one follows, of the legal journals among the first twelve."""
     for verdict in sorted(folder.glob("*.verdict"))[:12]:
         paths = sorted(folder.glob(f"{verdict.stem}.*.journal"), key=lambda path: int(path.suffixes[0][1:]))
         if verdict.read_bytes().startswith(b"0\nlegal"):
             for path, following in zip(paths, paths[1:]):
                 wanted = base_lines(following.read_bytes())
-                yield lambda command=(judge, verdict.with_suffix(".toml"), path), wanted=wanted: of_wanting(command, wanted, library, mark)
+                command, mark = (judge, verdict.with_suffix(".toml"), path), room / path.name
+                yield lambda command=command, wanted=wanted, mark=mark: of_wanting(command, wanted, library, mark)
 
 
 def of_wanting(command, wanted, library, mark):
@@ -196,13 +203,13 @@ def of_wanting(command, wanted, library, mark):
 
 def main(judge, pool, folder):
     with tempfile.NamedTemporaryFile("w", suffix=".toml") as defaults, tempfile.TemporaryDirectory() as room:
-        library, mark = str(preloaded("refuse", pathlib.Path(room))), pathlib.Path(room) / "refused"
+        library = str(preloaded("refuse", pathlib.Path(room)))
         trials = [
             *of_folder(judge, pathlib.Path(folder)),
             *of_page(judge, pathlib.Path(folder)),
             *of_damage(judge, pool, defaults.name),
             lambda: of_uses(judge, defaults.name),
-            *of_refusals(judge, pathlib.Path(folder), library, mark),
+            *of_refusals(judge, pathlib.Path(folder), library, pathlib.Path(room)),
         ]
         return told_by(trials)
 
