@@ -68,9 +68,7 @@ class Place:
         if words.startswith("pool"):
             words = "./" + words
         done = subprocess.run(["bash", "-c", words], cwd=self.folder, capture_output=True, text=True, stdin=subprocess.DEVNULL)
-        # Built without arguments, the program that draws says that they are wrong.
-        wanted = 2 if "rt run" in words else 0
-        return None if done.returncode == wanted else f"status {done.returncode}: {done.stderr.strip()}"
+        return f"status {done.returncode}: {done.stderr.strip()}" if done.returncode else None
 
     def fault_of_journal(self, segments):
         """Why segments are no legal journal, if they aren't."""
