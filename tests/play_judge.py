@@ -14,7 +14,7 @@ with the lines that were written of the one before it.
 - The commands of docs/audits.md that judge segments and join them are run on those of FOLDER: they must find them legal where the verdict does.
 - Other arguments, and files that aren't there or give no settings, must have their status and their line.
 - Segments of FOLDER that another one follows are judged once for each allocation, which is refused then: nothing is written, the status is 3 and
-  the line tells of memory, or that a file can't be opened or read; or all is written, where it can do without what was refused.
+  the line tells of memory, as no other fault; or all is written, where it can do without what was refused.
 
 Prints what differs, and in the end the line 'N passed, M failed'.
 """
@@ -34,13 +34,7 @@ from preloading import preloaded
 
 
 # What is told where an allocation was refused: by whom it was asked for.
-WANTING = {
-    b"judge: out of memory\n",
-    b"pool: out of memory\n",
-    b"pool: base: out of memory\n",
-    b"judge: cannot open the settings\n",
-    b"pool: read failed\n",
-}
+WANTING = {b"judge: out of memory\n", b"pool: out of memory\n", b"pool: base: out of memory\n"}
 
 
 def run(*command, **variables):
