@@ -6,11 +6,17 @@ another side by side.
 
 Says on standard error which crates it is at, how many of them are done, and for how long it has worked. What a build said is shown only
 where it failed, and the status is then 1. What was built before and hasn't changed takes a moment.
+
+Each crate is built in a room of its own, a folder that has it and the libraries below it: `rt` lets nobody else work in the folders of the
+crates that it reads, so that in one place two crates that stand on a third would wait for each other.
 """
 
+import fcntl
 import os
 import pathlib
 import re
+import shutil
+import signal
 import subprocess
 import sys
 import tempfile
@@ -54,17 +60,53 @@ def below(crate, uses):
     return {crate}.union(*(below(name, uses) for name in uses[crate]))
 
 
+def linked(name, room):
+    """Puts a crate into a room, by links to its files. What was kept of its proofs is left out: who reads it needs none."""
+    shutil.copytree(TOP / "crates" / name, room / "crates" / name, copy_function=os.link, ignore=shutil.ignore_patterns("incremental"))
+
+
+class Room:
+    """A folder in which one crate is built."""
+
+    def __init__(self, rooms, crate, libraries):
+        self.top = pathlib.Path(rooms) / crate
+        self.own = self.top / "crates" / crate / "out"
+        self.out = TOP / "crates" / crate / "out"
+        for name in [*libraries, crate]:
+            linked(name, self.top)
+        for name in ("crates.txt", "HANDLES"):
+            os.link(TOP / name, self.top / name)
+        shutil.rmtree(self.own, ignore_errors=True)
+        if self.out.exists():
+            self.out.rename(self.own)
+
+    def leave(self):
+        """Takes back what is built, and what was kept of the proofs."""
+        if self.own.exists():
+            self.own.rename(self.out)
+        shutil.rmtree(self.top)
+
+
+def held(crates):
+    """Waits until nobody works in these crates' folders, and keeps others out until this ends, as `rt` does."""
+    for crate in sorted(crates):
+        fcntl.flock(os.open(TOP / "crates" / crate, os.O_RDONLY), fcntl.LOCK_EX)
+
+
 class Work:
     """What is to be built, what is being built, and since when."""
 
-    def __init__(self, program):
+    def __init__(self, program, rooms):
         uses = libraries()
         if program not in uses:
             sys.exit(f"{program}: no crate of this repository")
         self.program = program
+        self.rooms = rooms
         self.is_static = is_static(program)
         self.built = TOP / "crates" / program / "out" / (f"lib{program}.a" if self.is_static else program)
         wanted = below(program, uses)
+        held(wanted)
+        self.below = {crate: below(crate, uses) - {crate} for crate in wanted}
         self.waiting = {crate: set(uses[crate]) for crate in wanted}
         self.ways = longest_ways({crate: uses[crate] for crate in wanted})
         self.total = len(self.waiting)
@@ -94,47 +136,63 @@ class Work:
     def start(self):
         """Starts what stands on nothing that isn't built, and tells whether there was some of it."""
         ready = sorted((crate for crate, uses in self.waiting.items() if uses <= self.done), key=lambda crate: -self.ways[crate])
-        processors, side_by_side = os.cpu_count() or 1, len(ready) + len(self.running)
-        share = max(1, processors // max(1, side_by_side))
-        # What the most stands on gets what is over.
-        shares = [max(1, processors - share * (side_by_side - 1)), *[share] * len(ready)]
-        for crate, jobs in zip(ready, shares):
+        processors = os.cpu_count() or 1
+        free = max(1, processors - sum(jobs for _, _, _, jobs in self.running.values()))
+        share = max(1, free // max(1, len(ready)))
+        # What the most stands on gets what is over, and one more, since a build has times in which one processor works.
+        most = min(processors, max(1, free - share * (len(ready) - 1)) + 1)
+        for crate, jobs in zip(ready, [most, *[share] * len(ready)]):
             del self.waiting[crate]
             log = tempfile.TemporaryFile("w+")
-            self.running[crate] = subprocess.Popen(self.words(crate, jobs), cwd=TOP / "crates" / crate, stdin=subprocess.DEVNULL, stdout=log, stderr=log), log
+            words, room = self.words(crate, jobs), Room(self.rooms, crate, self.below[crate])
+            started = subprocess.Popen(words, cwd=room.own.parent, stdin=subprocess.DEVNULL, stdout=log, stderr=log)
+            self.running[crate] = started, log, room, jobs
         return bool(ready)
 
     def collect(self):
         """Takes out what has ended, and tells whether something has."""
-        ended = [crate for crate, (started, _) in self.running.items() if started.poll() is not None]
+        ended = [crate for crate, (started, *_) in self.running.items() if started.poll() is not None]
         for crate in ended:
-            started, log = self.running.pop(crate)
+            started, log, room, _ = self.running.pop(crate)
+            room.leave()
             if not self.is_built(crate, started.returncode):
-                self.fail(crate, log)
+                log.seek(0)
+                sys.stderr.write(log.read())
+                sys.exit(f"{self.program}: {crate} can't be built")
             self.done.add(crate)
         return bool(ended)
 
-    def fail(self, crate, log):
-        """Shows what a build said, stops the others and ends."""
-        for started, _ in self.running.values():
+    def stop(self):
+        """Stops what runs, and keeps what it has proved."""
+        for started, _, room, _ in self.running.values():
             started.terminate()
-        log.seek(0)
-        sys.stderr.write(log.read())
-        sys.exit(f"{self.program}: {crate} can't be built")
+            started.wait()
+            room.leave()
+        self.running.clear()
+
+    def run(self):
+        """Builds all of it."""
+        said = 0.0
+        while self.waiting or self.running:
+            has_changed = self.collect()
+            has_changed = self.start() or has_changed
+            if self.running and (has_changed or time.monotonic() - said > REMIND):
+                self.say()
+                said = time.monotonic()
+            time.sleep(PAUSE)
 
 
 def main():
     if len(sys.argv) != 2:
         sys.exit(__doc__)
-    work = Work(sys.argv[1])
-    said = 0.0
-    while work.waiting or work.running:
-        has_changed = work.collect()
-        has_changed = work.start() or has_changed
-        if work.running and (has_changed or time.monotonic() - said > REMIND):
-            work.say()
-            said = time.monotonic()
-        time.sleep(PAUSE)
+    signal.signal(signal.SIGTERM, lambda number, _: sys.exit(128 + number))
+    (TOP / "out").mkdir(exist_ok=True)
+    with tempfile.TemporaryDirectory(dir=TOP / "out") as rooms:
+        work = Work(sys.argv[1], rooms)
+        try:
+            work.run()
+        finally:
+            work.stop()
 
 
 if __name__ == "__main__":

@@ -92,14 +92,13 @@ impl<M: Manager> Shared<M> {
         value: Option<M::Object>,
     ) -> Result<Stepped<M>, Error<M::Error>> {
         let mut desk = self.lock();
-        let stepped = self.step(&mut desk, input, value);
-        let sleepers = desk.sleepers;
-        drop(desk);
-        let (answer, out) = stepped.map_err(|(fault, _)| fault)?;
-        if sleepers > 0 {
-            self.wake(input, answer);
+        match self.step(&mut desk, input, value) {
+            Ok((answer, out)) => {
+                self.wake(desk, input, answer);
+                Ok((answer, out))
+            }
+            Err((fault, _)) => Err(fault.into()),
         }
-        Ok((answer, out))
     }
 
     /// A section in which a call goes on with its object.
@@ -110,14 +109,29 @@ impl<M: Manager> Shared<M> {
         }
     }
 
-    /// Wakes one sleeper for one object or place, and all where the pool closed.
-    fn wake(&self, input: Input, answer: Answer) {
+    /// Gives the lock back, and wakes one sleeper for one object or place, and all where the pool closed.
+    fn wake(&self, mut desk: MutexGuard<'_, Desk<M::Object>>, input: Input, answer: Answer) {
         match answer {
             Answer::Parked | Answer::Kept | Answer::Freed | Answer::Reclaimed(_) => {
-                self.changed.notify_one()
+                self.wake_one(desk)
             }
-            Answer::Count(_) if input == Input::Close => self.changed.notify_all(),
+            Answer::Count(_) if input == Input::Close => {
+                let wakes = desk.wakes_all();
+                drop(desk);
+                if wakes {
+                    self.changed.notify_all();
+                }
+            }
             _ => {}
+        }
+    }
+
+    /// Gives the lock back, and wakes a sleeper where there is something to find that none is on its way to.
+    fn wake_one(&self, mut desk: MutexGuard<'_, Desk<M::Object>>) {
+        let wakes = desk.wakes_one(self.settings.max_total);
+        drop(desk);
+        if wakes {
+            self.changed.notify_one();
         }
     }
 
@@ -130,10 +144,9 @@ impl<M: Manager> Shared<M> {
                 Ok((Answer::Wait, _)) => desk = self.sleep(desk, began, patience)?,
                 Ok(found) => return Ok(found),
                 Err((fault, _)) => {
-                    drop(desk);
                     if has_slept {
                         // Another may be able to take what this one was woken for.
-                        self.changed.notify_one();
+                        self.wake_one(desk);
                     }
                     return Err(fault.into());
                 }
@@ -160,7 +173,7 @@ impl<M: Manager> Shared<M> {
                 Patience::AsSet => None,
             };
             let longest = asked.into_iter().chain(self.time_left(began)).min();
-            desk.sleepers += 1;
+            desk.fall_asleep();
             desk = match longest {
                 Some(time) => match self.changed.wait_timeout(desk, time) {
                     Ok((desk, _)) => desk,
@@ -171,7 +184,7 @@ impl<M: Manager> Shared<M> {
                     .wait(desk)
                     .unwrap_or_else(PoisonError::into_inner),
             };
-            desk.sleepers -= 1;
+            desk.wake_up();
             if !desk.has_nothing(self.settings.max_total)
                 || self.time_left(began) == Some(Duration::ZERO)
             {
