@@ -14,7 +14,6 @@ crates that it reads, so that in one place two crates that stand on a third woul
 import fcntl
 import os
 import pathlib
-import re
 import shutil
 import signal
 import subprocess
@@ -27,19 +26,26 @@ TOP = pathlib.Path(__file__).resolve().parent.parent
 PAUSE, REMIND = 0.2, 60
 
 
-def libraries():
-    """For each crate of the repository the libraries of the repository that it uses."""
-    uses = {}
+def declared():
+    """For each crate of the repository its line of crates.txt, up to the colon and behind it."""
+    found = {}
     for line in (TOP / "crates.txt").read_text().splitlines():
         head, colon, names = line.partition("#")[0].partition(":")
         if colon:
-            uses[head.split()[0]] = names.split()
-    return {crate: [name for name in names if name in uses] for crate, names in uses.items()}
+            found[head.split()[0]] = head, names
+    return found
+
+
+def libraries():
+    """For each crate of the repository the libraries of the repository that it uses."""
+    crates = declared()
+    return {crate: [name for name in names.split() if name in crates] for crate, (_, names) in crates.items()}
 
 
 def is_static(crate):
     """Whether a crate is a static library."""
-    return any(line.split()[:2] == [crate, "staticlib"] for line in re.split(r"[\n:]", (TOP / "crates.txt").read_text()))
+    head, _ = declared()[crate]
+    return "staticlib" in head.split()
 
 
 def size(crate):
@@ -72,10 +78,12 @@ class Room:
         self.top = pathlib.Path(rooms) / crate
         self.own = self.top / "crates" / crate / "out"
         self.out = TOP / "crates" / crate / "out"
-        for name in [*libraries, crate]:
+        crates = [*libraries, crate]
+        for name in crates:
             linked(name, self.top)
-        for name in ("crates.txt", "HANDLES"):
-            os.link(TOP / name, self.top / name)
+        lines = declared()
+        (self.top / "crates.txt").write_text("".join("{}:{}\n".format(*lines[name]) for name in crates))
+        os.link(TOP / "HANDLES", self.top / "HANDLES")
         shutil.rmtree(self.own, ignore_errors=True)
         if self.out.exists():
             self.out.rename(self.own)
