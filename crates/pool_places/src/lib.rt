@@ -13,10 +13,3 @@ pub use phase_tests::weight_of_phase;
 pub use place::Place;
 pub use place_counts::PlaceCounts;
 pub use places::Places;
-
-#[cfg(test)]
-mod restores;
-#[cfg(test)]
-mod tests;
-#[cfg(test)]
-mod trials;

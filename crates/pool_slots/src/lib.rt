@@ -7,6 +7,3 @@ mod slot;
 mod slots;
 
 pub use slots::Slots;
-
-#[cfg(test)]
-mod tests;

@@ -1,19 +1,11 @@
 -- What a pair that is added or taken out changes for the ids.
-use Rattle.std.proofs.Common.{◌≡◌, ◌≢◌, ℕ, ◌<◌, eqb, Bool, true, false, not, cond, List, [], ◌∷◌, ◌++◌, Option, Some, None, refl, ap, sym, ◌∙◌, arith}
+use Rattle.std.proofs.Common.{◌≡◌, ◌≢◌, ℕ, eqb, Bool, true, false, not, cond, List, [], ◌∷◌, ◌++◌, Option, Some, None, refl, ap, sym, ◌∙◌, arith}
 use Rattle.std.specs.Prelude.{find}
 use Rattle.std.specs.Option.{option_map}
 use Rattle.std.proofs.lemmas.Bool.Decides.{nat_tests}
 use Rattle.rising_index.specs.declared.pair.Pair.{Pair}
 use Rattle.rising_index.specs.Pairs.{key_of, without, IdsBelow}
 use Rattle.rising_index.proofs.Found.{other_is, same_is}
-
-pub below_without : (n i : ℕ) (ps : List Pair) → IdsBelow n ps → IdsBelow n (without i ps)
-below_without n i [] below = tt
-below_without n i (p ∷ ps) below = by_test (not (eqb i p.id)) below.0 (below_without n i ps below.1)
-  where
-    by_test : (b : Bool) → p.id < n → IdsBelow n (without i ps) → IdsBelow n (cond b (p ∷ without i ps) (without i ps))
-    by_test true here rest = (here, rest)
-    by_test false here rest = rest
 
 pub key_pushed : (ps : List Pair) (p : Pair) → IdsBelow p.id ps → key_of (ps ++ p ∷ []) p.id ≡ Some p.key
 key_pushed [] p below = rw (same_is p.id p.id refl) refl

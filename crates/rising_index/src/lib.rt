@@ -12,6 +12,3 @@ mod walk;
 pub use pair::Pair;
 pub use rising_index::RisingIndex;
 pub use walk::Walk;
-
-#[cfg(test)]
-mod tests;

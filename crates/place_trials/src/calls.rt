@@ -2,21 +2,14 @@ ghost use Rattle.std.specs.Prelude.{◌≡◌, ◌+◌, ◌<◌, ◌≤◌, Some
 ghost use Rattle.pool_journal.specs.Queue.{record_in};
 ghost use Rattle.pool_places.specs.Changes.{opens_as};
 ghost use Rattle.pool_places.specs.Shelf.{records_in};
-ghost use Rattle.pool_places.specs.Before.{AllBefore};
+ghost use Rattle.place_trials.specs.Before.{AllBefore};
 
-use crate::{Place, PlaceCounts, Places, weight_of_phase};
+use crate::numbers::next_number;
 use pool_journal::{Phase, Record};
+use pool_places::{Place, PlaceCounts, Places, weight_of_phase};
 use std::alloc::Global;
 use std::process::Abort;
 use std::test::Fail;
-
-// The next of a row of numbers without an order.
-pub(crate) fn next_number(state: &mut u64) -> u64 {
-    *state = state
-        .wrapping_mul(6_364_136_223_846_793_005)
-        .wrapping_add(1_442_695_040_888_963_407);
-    *state >> 33
-}
 
 // An object that comes to the pool, in a plain list.
 fn come(plain: &mut Vec<Place<u64>>, id: u64, phase: Phase) -> Result<(), Fail> {

@@ -4,9 +4,10 @@ ghost use Rattle.pool_journal.specs.Queue.{is_idle};
 ghost use Rattle.pool_places.specs.Changes.{IdsBelow, IsFreePosition};
 ghost use Rattle.pool_places.specs.Shelf.{records_in};
 
-use crate::trials::{ask_known, ask_overdue, ask_queue, next_number};
-use crate::{Place, Places};
+use crate::calls::{ask_known, ask_overdue, ask_queue};
+use crate::numbers::next_number;
 use pool_journal::{Phase, Record};
+use pool_places::{Place, Places};
 use std::alloc::Global;
 use std::process::Abort;
 use std::test::Fail;

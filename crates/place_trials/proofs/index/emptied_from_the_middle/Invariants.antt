@@ -1,5 +1,5 @@
 use Rattle.rising_index.specs.Pairs.{IdsBelow}
-use Rattle.rising_index.proofs.tests.emptied_from_the_middle.Given as goal
+use Rattle.place_trials.proofs.index.emptied_from_the_middle.Given as goal
 
 abbrev pub invariant-loop-id : goal.invariant-loop-id
 invariant-loop-id g l = IdsBelow l.id l.index.pairs

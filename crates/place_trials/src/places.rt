@@ -1,5 +1,5 @@
-use crate::{PlaceCounts, Places};
 use pool_journal::{Phase, Record};
+use pool_places::{PlaceCounts, Places};
 use std::test::Fail;
 
 // An object from its opening until its place is free.

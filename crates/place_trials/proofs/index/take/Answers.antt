@@ -1,6 +1,6 @@
-use Rattle.rising_index.proofs.Keys.{below_without}
-use Rattle.rising_index.proofs.tests.take.Goals.{then-is_some+else-assert_eq-2, else-is_some}
-use Rattle.rising_index.proofs.tests.take.Goals as goal
+use Rattle.place_trials.proofs.Ids.{below_without}
+use Rattle.place_trials.proofs.index.take.Goals.{then-is_some+else-assert_eq-2, else-is_some}
+use Rattle.place_trials.proofs.index.take.Goals as goal
 
 pub returns : goal.returns
 returns g c = λ n below.

@@ -1,7 +1,8 @@
 ghost use Rattle.std.specs.Prelude.{◌+◌, ◌≤◌, OnOk, ℕ};
 ghost use Rattle.rising_index.specs.Pairs.{IdsBelow};
 
-use crate::{Pair, RisingIndex};
+use crate::numbers::next_number;
+use rising_index::{Pair, RisingIndex};
 use std::alloc::AllocError;
 use std::process::Abort;
 use std::test::Fail;
@@ -34,14 +35,6 @@ fn take(rt: &impl Abort, index: &mut RisingIndex, plain: &mut Vec<Pair>, id: u64
     }
     assert_eq!(rt; index.find(id), None);
     assert_eq!(rt; index.len(), plain.len());
-}
-
-// The next of a row of numbers without an order.
-fn next_number(state: &mut u64) -> u64 {
-    *state = state
-        .wrapping_mul(6_364_136_223_846_793_005)
-        .wrapping_add(1_442_695_040_888_963_407);
-    *state >> 33
 }
 
 #[test]

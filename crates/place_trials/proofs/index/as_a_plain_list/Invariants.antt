@@ -1,5 +1,5 @@
 use Rattle.rising_index.specs.Pairs.{IdsBelow}
-use Rattle.rising_index.proofs.tests.as_a_plain_list.Given as goal
+use Rattle.place_trials.proofs.index.as_a_plain_list.Given as goal
 
 abbrev pub invariant-loop-id : goal.invariant-loop-id
 invariant-loop-id g l = IdsBelow l.id l.index.pairs

@@ -1,7 +1,7 @@
 ghost use Rattle.std.specs.Prelude.{◌≡◌, ◌++◌, ◌∷◌, [], IfOk};
 
-use crate::Slots;
 use pool_journal::{Phase, Record};
+use pool_slots::Slots;
 use std::test::Fail;
 
 // A record that is told from others by its id.

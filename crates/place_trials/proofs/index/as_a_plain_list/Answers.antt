@@ -1,5 +1,5 @@
 use Rattle.std.proofs.Common.{◌+◌}
-use Rattle.rising_index.proofs.tests.as_a_plain_list.Goals as goal
+use Rattle.place_trials.proofs.index.as_a_plain_list.Goals as goal
 
 pub loop-id-preserved : goal.loop-id-preserved
 loop-id-preserved g c =

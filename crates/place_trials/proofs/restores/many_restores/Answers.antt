@@ -3,8 +3,8 @@ use Rattle.pool_journal.specs.declared.record.Record.{Record}
 use Rattle.pool_places.specs.Changes.{IdsBelow}
 use Rattle.pool_places.specs.Shelf.{records_in}
 use Rattle.pool_places.proofs.Entries.{all_mapped}
-use Rattle.pool_places.proofs.restores.many_restores.Goals.{then-is_free+in_ok-put_back, else-is_free}
-use Rattle.pool_places.proofs.restores.many_restores.Goals as goal
+use Rattle.place_trials.proofs.restores.many_restores.Goals.{then-is_free+in_ok-put_back, else-is_free}
+use Rattle.place_trials.proofs.restores.many_restores.Goals as goal
 
 below_later : (n : ℕ) (rs : List Record) → IdsBelow n rs → IdsBelow (n + 1) rs
 below_later n rs below = all_mapped (λ r. r.id < n) (λ r. r.id < n + 1) rs (λ r under. omega (arith, under)) below

@@ -2,9 +2,9 @@ use Rattle.std.proofs.Common.{◌+◌, refl, sym, arith, subst}
 use Rattle.pool_journal.specs.declared.record.Phase.TheVariants as phases
 use Rattle.pool_places.specs.Changes.{phase_set, lent_at, used_at, parked_at}
 use Rattle.pool_places.specs.Shelf.{records_in}
-use Rattle.pool_places.specs.Before.{AllBefore}
-use Rattle.pool_places.proofs.Moments.{before_changed, before_without, before_later}
-use Rattle.pool_places.proofs.trials.move_on.Goals as goal
+use Rattle.place_trials.specs.Before.{AllBefore}
+use Rattle.place_trials.proofs.Moments.{before_changed, before_without, before_later}
+use Rattle.place_trials.proofs.calls.move_on.Goals as goal
 
 pub returns-in-Readying : goal.returns-in-Readying
 returns-in-Readying c = subst (AllBefore (c.args.moment + 1)) (sym c.set_phase.ensures.records) (before_changed c.args.moment c.args.id (phase_set phases.Destroying) (records_in c.args.places.now.kept) (λ r. refl) (λ r under. omega (arith, under)) c.requires.before)
