@@ -177,70 +177,104 @@ fn look(places: &mut Places<u64>, number: u64, moment: u64)
     places.look_for_overdue(moment, number % 32);
 }
 
-fn is_queued(place: &Place<u64>) -> bool {
-    matches!(place.known.phase, Phase::Idle | Phase::Testing)
-}
-
 fn is_overdue(place: &Place<u64>, at: u64, timeout: u64) -> bool {
     place.known.phase == Phase::Lent && at.saturating_sub(place.known.used) >= timeout
+}
+
+// Whether an object is idle, parked at the position or later, and before the best one.
+fn is_earlier(known: Record, position: u64, best: Option<Record>) -> bool {
+    known.phase == Phase::Idle
+        && known.parked >= position
+        && match best {
+            None => true,
+            Some(best) => known.parked < best.parked,
+        }
 }
 
 // The idle object that was parked first from a position on.
 fn first_from(plain: &[Place<u64>], position: u64) -> Option<u64> {
     let mut first: Option<Record> = None;
     for place in plain {
-        let known = place.known;
-        if known.phase == Phase::Idle && known.parked >= position {
-            let is_first = match first {
-                None => true,
-                Some(best) => known.parked < best.parked,
-            };
-            if is_first {
-                first = Some(known);
-            }
+        if is_earlier(place.known, position, first) {
+            first = Some(place.known);
         }
     }
-    first.map(|known| known.id)
+    Some(first?.id)
+}
+
+// Whether an object is idle, and parked after the best one.
+fn is_later(known: Record, best: Option<Record>) -> bool {
+    known.phase == Phase::Idle
+        && match best {
+            None => true,
+            Some(best) => known.parked > best.parked,
+        }
 }
 
 // The idle object that was parked last.
 fn last_of(plain: &[Place<u64>]) -> Option<u64> {
     let mut last: Option<Record> = None;
     for place in plain {
-        let known = place.known;
-        if known.phase == Phase::Idle {
-            let is_last = match last {
-                None => true,
-                Some(best) => known.parked > best.parked,
-            };
-            if is_last {
-                last = Some(known);
-            }
+        if is_later(place.known, last) {
+            last = Some(place.known);
         }
     }
-    last.map(|known| known.id)
+    Some(last?.id)
 }
 
-fn count_phase(plain: &[Place<u64>], phase: Phase) -> u64 {
-    plain
-        .iter()
-        .filter(|place| place.known.phase == phase)
-        .count() as u64
+// How many lent objects are overdue, and the first of them.
+fn overdue_of(plain: &[Place<u64>], at: u64, timeout: u64) -> (u64, Option<u64>) {
+    let mut count = 0u64;
+    let mut least = None;
+    for place in plain {
+        if is_overdue(place, at, timeout) {
+            if count == 0 {
+                least = Some(place.known.id);
+            }
+            count = count.wrapping_add(1);
+        }
+    }
+    (count, least)
+}
+
+// What is known of an object.
+fn known_of(plain: &[Place<u64>], id: u64) -> Option<Record> {
+    for place in plain {
+        if place.known.id == id {
+            return Some(place.known);
+        }
+    }
+    None
+}
+
+// Counts an object in this phase.
+fn count(counts: &mut PlaceCounts, phase: Phase) {
+    let number = match phase {
+        Phase::Idle => &mut counts.idle,
+        Phase::Lent => &mut counts.lent,
+        Phase::Adding => &mut counts.adding,
+        _ => return,
+    };
+    *number = number.wrapping_add(1);
 }
 
 fn counts_of(plain: &[Place<u64>]) -> PlaceCounts {
-    let mut owed = 0u64;
-    for place in plain {
-        owed = owed.wrapping_add(weight_of_phase(place.known.phase));
-    }
-    PlaceCounts {
+    let mut counts = PlaceCounts {
         present: plain.len() as u64,
-        queue: plain.iter().filter(|place| is_queued(place)).count() as u64,
-        idle: count_phase(plain, Phase::Idle),
-        lent: count_phase(plain, Phase::Lent),
-        adding: count_phase(plain, Phase::Adding),
-        owed,
+        queue: 0,
+        idle: 0,
+        lent: 0,
+        adding: 0,
+        owed: 0,
+    };
+    for place in plain {
+        let phase = place.known.phase;
+        let is_queued = matches!(phase, Phase::Idle | Phase::Testing);
+        counts.queue = counts.queue.wrapping_add(is_queued as u64);
+        counts.owed = counts.owed.wrapping_add(weight_of_phase(phase));
+        count(&mut counts, phase);
     }
+    counts
 }
 
 // Questions about the queue.
@@ -250,12 +284,17 @@ pub(crate) fn ask_queue(
     plain: &[Place<u64>],
     position: u64,
 ) {
-    assert_eq!(rt; places.first_idle(), first_from(plain, 0));
-    assert_eq!(rt; places.last_idle(), last_of(plain));
-    assert_eq!(rt;
+    let told = [
+        places.first_idle(),
+        places.last_idle(),
         places.next_idle_after(position),
-        first_from(plain, position.saturating_add(1))
-    );
+    ];
+    let due = [
+        first_from(plain, 0),
+        last_of(plain),
+        first_from(plain, position.saturating_add(1)),
+    ];
+    assert_eq!(rt; told, due);
 }
 
 // Questions about lent objects.
@@ -266,29 +305,20 @@ pub(crate) fn ask_overdue(
     at: u64,
     timeout: u64,
 ) {
-    let overdue = plain
-        .iter()
-        .filter(|place| is_overdue(place, at, timeout))
-        .count() as u64;
-    assert_eq!(rt; places.count_overdue(at, timeout), overdue);
-    let least = plain
-        .iter()
-        .find(|place| is_overdue(place, at, timeout))
-        .map(|place| place.known.id);
-    assert_eq!(rt; places.least_overdue(at, timeout), least);
+    let told = (
+        places.count_overdue(at, timeout),
+        places.least_overdue(at, timeout),
+    );
+    assert_eq!(rt; told, overdue_of(plain, at, timeout));
 }
 
 // Questions about one object and about all.
 pub(crate) fn ask_known(rt: &impl Abort, places: &Places<u64>, plain: &[Place<u64>], id: u64) {
-    let known = plain
-        .iter()
-        .find(|place| place.known.id == id)
-        .map(|place| place.known);
-    assert_eq!(rt; places.find(id), known);
-    assert_eq!(rt; places.present(), plain.len());
+    assert_eq!(rt; places.find(id), known_of(plain, id));
     let counts = counts_of(plain);
     assert_eq!(rt; places.counts(), counts);
-    assert_eq!(rt; places.queued() as u64, counts.queue);
+    let numbers = [places.present() as u64, places.queued() as u64];
+    assert_eq!(rt; numbers, [counts.present, counts.queue]);
 }
 
 // Calls by chance, with so many objects at most, and every question after each call.

@@ -23,17 +23,34 @@ fn add(
     Ok(())
 }
 
+// Takes the pair of an id out of a plain list, and gives its key.
+fn take_plain(plain: &mut Vec<Pair>, id: u64) -> Option<usize> {
+    for position in 0..plain.len() {
+        if plain.get(position)?.id == id {
+            return Some(plain.remove(position).key);
+        }
+    }
+    None
+}
+
+// Takes the pair of an id out of an index if it is there, and gives its key.
+fn take_indexed(index: &mut RisingIndex, id: u64) -> Option<usize>
+    ensures { (n : ℕ) → IdsBelow n index.old.pairs → IdsBelow n index.new.pairs }
+{
+    match index.find(id) {
+        None => None,
+        Some(_) => Some(index.remove(id)),
+    }
+}
+
 // Takes a pair from both if it is there.
 fn take(rt: &impl Abort, index: &mut RisingIndex, plain: &mut Vec<Pair>, id: u64)
     ensures { (n : ℕ) → IdsBelow n index.old.pairs → IdsBelow n index.new.pairs }
 {
-    let key = plain.iter().find(|pair| pair.id == id).map(|pair| pair.key);
-    assert_eq!(rt; index.find(id), key);
-    if index.find(id).is_some() {
-        assert_eq!(rt; Some(index.remove(id)), key);
-        plain.retain(|pair| pair.id != id);
-    }
-    assert_eq!(rt; index.find(id), None);
+    let key = take_plain(plain, id);
+    let found = index.find(id);
+    let taken = take_indexed(index, id);
+    assert_eq!(rt; [found, taken, index.find(id)], [key, key, None]);
     assert_eq!(rt; index.len(), plain.len());
 }
 
@@ -45,12 +62,11 @@ fn each_call_once(rt: HostRuntime) -> Result<(), Fail> {
     index.push(3, 30);
     index.reserve_one()?;
     index.push(7, 70);
-    assert_eq!(rt; index.len(), 2);
-    assert_eq!(rt; index.find(3), Some(30));
-    assert_eq!(rt; index.find(5), None);
-    assert_eq!(rt; index.walk().last(), Some(Pair { id: 7, key: 70 }));
-    assert_eq!(rt; index.remove(3), 30);
-    assert_eq!(rt; index.walk().next(), Some(Pair { id: 7, key: 70 }));
+    assert_eq!(rt; [index.find(3), index.find(5)], [Some(30), None]);
+    let last = index.walk().last();
+    assert_eq!(rt; [index.len(), index.remove(3)], [2, 30]);
+    let seven = Some(Pair { id: 7, key: 70 });
+    assert_eq!(rt; [last, index.walk().next()], [seven, seven]);
     assert!(rt; !index.is_empty());
     Ok(())
 }
@@ -63,12 +79,15 @@ fn by_position(rt: HostRuntime) -> Result<(), Fail> {
     index.push(3, 30);
     index.push(7, 70);
     index.push(9, 90);
-    assert_eq!(rt; index.nth(0), Some(Pair { id: 3, key: 30 }));
+    let first = index.nth(0);
     assert_eq!(rt; index.remove(3), 30);
-    assert_eq!(rt; index.nth(1), Some(Pair { id: 9, key: 90 }));
+    let second = index.nth(1);
     index.sweep();
-    assert_eq!(rt; index.nth(0), Some(Pair { id: 7, key: 70 }));
-    assert_eq!(rt; index.nth(2), None);
+    let three = Some(Pair { id: 3, key: 30 });
+    let seven = Some(Pair { id: 7, key: 70 });
+    let nine = Some(Pair { id: 9, key: 90 });
+    let told = [first, second, index.nth(0), index.nth(2)];
+    assert_eq!(rt; told, [three, nine, seven, None]);
     Ok(())
 }
 
@@ -80,10 +99,10 @@ fn an_id_twice(rt: HostRuntime) -> Result<(), Fail> {
     index.push(3, 30);
     index.reserve_one()?;
     index.push(7, 70);
-    assert_eq!(rt; index.remove(7), 70);
+    let taken = index.remove(7);
     index.reserve_one()?;
     index.push(7, 71);
-    assert_eq!(rt; index.find(7), Some(71));
+    assert_eq!(rt; [Some(taken), index.find(7)], [Some(70), Some(71)]);
     Ok(())
 }
 

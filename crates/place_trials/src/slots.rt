@@ -21,22 +21,23 @@ fn record(id: u64) -> Record {
 #[test]
 fn one_object(rt: HostRuntime) -> Result<(), Fail> {
     let mut slots = Slots::new(rt.alloc());
-    assert_eq!(rt; slots.len(), 0);
+    let before = slots.len();
     slots.reserve_one()?;
     let key = slots.insert(record(5));
-    assert_eq!(rt; slots.len(), 1);
-    assert_eq!(rt; slots.known(key).id, 5);
+    let inserted = slots.len();
+    let first_known = slots.known(key).id;
     slots.set_known(key, record(6));
-    assert_eq!(rt; slots.known(key).id, 6);
+    assert_eq!(rt; [first_known, slots.known(key).id], [5, 6]);
     slots.put(key, 70u8);
     slots.link_last(key);
-    assert_eq!(rt; (slots.first(), slots.last()), (Some(key), Some(key)));
-    assert_eq!(rt; (slots.before(key), slots.after(key)), (None, None));
+    let ends = [slots.first(), slots.last()];
+    let sides = [slots.before(key), slots.after(key)];
     slots.unlink(key);
-    assert_eq!(rt; (slots.first(), slots.last()), (None, None));
+    let told = [ends, sides, [slots.first(), slots.last()]];
+    assert_eq!(rt; told, [[Some(key), Some(key)], [None, None], [None, None]]);
     assert_eq!(rt; slots.take(key), 70);
     slots.remove(key);
-    assert_eq!(rt; slots.len(), 0);
+    assert_eq!(rt; [before, inserted, slots.len()], [0, 1, 0]);
     Ok(())
 }
 
@@ -83,11 +84,9 @@ fn before_another(rt: HostRuntime) -> Result<(), Fail> {
     slots.link_before(None, one);
     let two = slots.insert_with(record(2), Some(20u8));
     slots.link_before(Some(one), two);
-    assert_eq!(rt; (slots.first(), slots.last()), (Some(two), Some(one)));
-    assert_eq!(rt;
-        (slots.before(one), slots.after(two)),
-        (Some(two), Some(one))
-    );
+    let ends = [slots.first(), slots.last()];
+    let sides = [slots.before(one), slots.after(two)];
+    assert_eq!(rt; [ends, sides], [[Some(two), Some(one)]; 2]);
     assert_eq!(rt; slots.take(two), 20);
     Ok(())
 }
