@@ -1,16 +1,24 @@
 // Journals and scripts that are cut or damaged, and readers and writers that fail at each byte.
 use crate::engines::{check, run};
+use crate::outcomes::legal;
 use crate::rows::{PLAIN_LIFE, script_of};
 use crate::streams::{Failing, Limited};
 use pool_engines::EngineFault;
 use pool_journal::LineFault;
 use pool_settings::Settings;
 use std::alloc::{AllocError, Global};
+use std::process::Abort;
 use std::test::Fail;
 
 /// How many lines end in the bytes.
 fn lines_in(bytes: &[u8]) -> usize {
-    bytes.iter().filter(|byte| **byte == b'\n').count()
+    let mut lines = 0usize;
+    for byte in bytes {
+        if *byte == b'\n' {
+            lines = lines.saturating_add(1);
+        }
+    }
+    lines
 }
 
 /// The number of the line that comes behind the bytes, from 1.
@@ -28,50 +36,80 @@ fn first_lines(alloc: Global, text: &str, count: usize) -> Result<String, AllocE
     Ok(lines)
 }
 
-#[test]
-fn cut_journals(rt: HostRuntime) -> Result<(), Fail> {
-    let journal = PLAIN_LIFE.as_bytes();
-    assert_eq!(rt; journal.len(), 97);
-    for count in 0..=journal.len() {
-        let mut told = Vec::new(rt.alloc());
-        let cut = &journal[..count];
-        let lines = lines_in(cut);
-        let found = check(rt.alloc(), Settings::default(), &mut [cut], &mut told);
-        if [0, 24, 49, 71, 97].contains(&count) {
-            let legal = format!(in rt.alloc(); "legal {lines}\n")?;
-            assert_eq!(rt; found, Ok(true), "at {count}");
-            assert_eq!(rt; told.as_slice(), legal.as_bytes());
-        } else {
-            let fault = EngineFault::Line(line_behind(&journal[..count]), LineFault::Truncated);
-            assert_eq!(rt; found, Err(fault), "at {count}");
-            assert_eq!(rt; told.len(), 0);
-        }
+/// A verdict on the bytes of a journal comes to this, and this is told.
+fn judged(
+    rt: &impl Abort,
+    alloc: Global,
+    journal: &[u8],
+    wanted: (Result<bool, EngineFault>, &[u8]),
+) {
+    let mut told = Vec::new(alloc);
+    let found = check(alloc, Settings::default(), &mut [journal], &mut told);
+    assert_eq!(rt; (found, told.as_slice()), wanted, "at {journal:?}");
+}
+
+/// A journal that is cut is legal where its last line is whole.
+fn judged_where_cut(rt: &impl Abort, alloc: Global, cut: &[u8]) -> Result<(), Fail> {
+    if [0, 24, 49, 71, 97].contains(&cut.len()) {
+        let told = legal(alloc, lines_in(cut) as u64)?;
+        judged(rt, alloc, cut, (Ok(true), told.as_bytes()));
+    } else {
+        let fault = EngineFault::Line(line_behind(cut), LineFault::Truncated);
+        judged(rt, alloc, cut, (Err(fault), b""));
     }
     Ok(())
 }
 
 #[test]
+fn cut_journals(rt: HostRuntime) -> Result<(), Fail> {
+    let journal = PLAIN_LIFE.as_bytes();
+    assert!(rt; journal.len() == 97);
+    for count in 0..=journal.len() {
+        judged_where_cut(&rt, rt.alloc(), &journal[..count])?;
+    }
+    Ok(())
+}
+
+/// A journal with an `x` in this place.
+fn with_a_wrong_byte(alloc: Global, place: usize) -> Result<Vec<u8>, AllocError> {
+    let mut journal = Vec::from_slice(alloc, PLAIN_LIFE.as_bytes())?;
+    if let Some(byte) = journal.get_mut(place) {
+        *byte = b'x';
+    }
+    Ok(journal)
+}
+
+/// What is found where the journal has an `x` behind these bytes.
+fn fault_behind(before: &[u8]) -> EngineFault {
+    let line = line_behind(before);
+    if before.len() == 96 {
+        EngineFault::Line(line, LineFault::Truncated)
+    } else {
+        EngineFault::Line(line, LineFault::NotALine)
+    }
+}
+
+#[test]
 fn journals_with_a_wrong_byte(rt: HostRuntime) -> Result<(), Fail> {
     for place in 0..PLAIN_LIFE.len() {
-        let mut journal = Vec::new(rt.alloc());
-        journal.extend_from_slice(PLAIN_LIFE.as_bytes())?;
-        let line = line_behind(&journal[..place]);
-        journal[place] = b'x';
-        let mut told = Vec::new(rt.alloc());
-        let found = check(
-            rt.alloc(),
-            Settings::default(),
-            &mut [journal.as_slice()],
-            &mut told,
-        );
-        let fault = if place == 96 {
-            LineFault::Truncated
-        } else {
-            LineFault::NotALine
-        };
-        assert_eq!(rt; found, Err(EngineFault::Line(line, fault)), "at {place}");
-        assert_eq!(rt; told.len(), 0);
+        let fault = fault_behind(&PLAIN_LIFE.as_bytes()[..place]);
+        let journal = with_a_wrong_byte(rt.alloc(), place)?;
+        judged(&rt, rt.alloc(), &journal, (Err(fault), b""));
     }
+    Ok(())
+}
+
+/// A reader that gives these bytes in pieces of this size, and then fails.
+fn fails_behind(rt: &impl Abort, alloc: Global, given: &[u8], size: usize) -> Result<(), Fail> {
+    let mut reader = Failing::new(given, size);
+    let mut written = Vec::new(alloc);
+    let made = run(alloc, Settings::default(), &mut reader, &mut written);
+    let lines = first_lines(alloc, PLAIN_LIFE, lines_in(given))?;
+    assert_eq!(rt;
+        (made, reader.has_failed(), written.as_slice()),
+        (Err(EngineFault::Read), true, lines.as_bytes()),
+        "behind {given:?}"
+    );
     Ok(())
 }
 
@@ -79,35 +117,28 @@ fn journals_with_a_wrong_byte(rt: HostRuntime) -> Result<(), Fail> {
 fn readers_that_fail_at_each_byte(rt: HostRuntime) -> Result<(), Fail> {
     let script = script_of(rt.alloc(), PLAIN_LIFE)?;
     for count in 0..script.len() {
-        for size in [1, 100] {
-            let given = &script.as_bytes()[..count];
-            let mut reader = Failing::new(given, size);
-            let mut written = Vec::new(rt.alloc());
-            let made = run(rt.alloc(), Settings::default(), &mut reader, &mut written);
-            assert_eq!(rt; made, Err(EngineFault::Read), "at {count}");
-            assert!(rt; reader.has_failed());
-            let lines = first_lines(rt.alloc(), PLAIN_LIFE, lines_in(given))?;
-            assert_eq!(rt; written.as_slice(), lines.as_bytes());
-        }
+        let given = &script.as_bytes()[..count];
+        fails_behind(&rt, rt.alloc(), given, 1)?;
+        fails_behind(&rt, rt.alloc(), given, 100)?;
     }
     Ok(())
+}
+
+/// A writer that takes these bytes, and then fails or takes none.
+fn fails_after(rt: &impl Abort, alloc: Global, script: &str, taken: &[u8], fails: bool) {
+    let mut writer = Limited::new(alloc, taken.len(), fails);
+    let mut rest = script.as_bytes();
+    let made = run(alloc, Settings::default(), &mut rest, &mut writer);
+    assert_eq!(rt; (made, writer.bytes()), (Err(EngineFault::Write), taken));
 }
 
 #[test]
 fn writers_that_fail_after_each_byte(rt: HostRuntime) -> Result<(), Fail> {
     let script = script_of(rt.alloc(), PLAIN_LIFE)?;
     for count in 0..PLAIN_LIFE.len() {
-        for fails in [false, true] {
-            let mut writer = Limited::new(rt.alloc(), count, fails);
-            let made = run(
-                rt.alloc(),
-                Settings::default(),
-                &mut script.as_bytes(),
-                &mut writer,
-            );
-            assert_eq!(rt; made, Err(EngineFault::Write), "at {count}");
-            assert_eq!(rt; writer.bytes(), &PLAIN_LIFE.as_bytes()[..count]);
-        }
+        let taken = &PLAIN_LIFE.as_bytes()[..count];
+        fails_after(&rt, rt.alloc(), &script, taken, false);
+        fails_after(&rt, rt.alloc(), &script, taken, true);
     }
     Ok(())
 }

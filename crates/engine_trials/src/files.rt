@@ -25,12 +25,12 @@ fn expect(
     told: &str,
 ) {
     let mut written = Vec::new(alloc);
+    let judged = check(alloc, with_limit(7), files, &mut written);
     assert_eq!(rt;
-        check(alloc, with_limit(7), files, &mut written),
-        found,
+        (judged, written.as_slice()),
+        (found, told.as_bytes()),
         "for {told}"
     );
-    assert_eq!(rt; written.as_slice(), told.as_bytes());
 }
 
 #[test]

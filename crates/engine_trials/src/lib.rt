@@ -12,6 +12,8 @@ mod engines;
 #[cfg(test)]
 mod files;
 #[cfg(test)]
+mod outcomes;
+#[cfg(test)]
 mod reports;
 #[cfg(test)]
 mod rows;

@@ -1,9 +1,9 @@
 use crate::engines::write_report;
+use crate::outcomes::wrote;
 use crate::streams::{Failing, Stingy};
 use pool_engines::EngineFault;
 use pool_stats::Statistics;
 use std::cell::Cell;
-use std::test::Fail;
 
 const LINES: &str = "workers 4294967295\nrounds 18446744073709551615\nrefused 10\n\
     borrowed 1\nreturned 2\ncreated 3\ndestroyed 4\nevicted 5\n\
@@ -24,20 +24,17 @@ fn found() -> Statistics {
 }
 
 #[test]
-fn lines_of_a_report(rt: HostRuntime) -> Result<(), Fail> {
+fn lines_of_a_report(rt: HostRuntime) {
     let written = Cell::new(0);
     let mut writer = Stingy::new(rt.alloc(), 7, &written);
     let ended = write_report(rt.alloc(), u32::MAX, u64::MAX, 10, &found(), &mut writer);
     assert_eq!(rt; ended, Ok(()));
-    assert_eq!(rt; writer.bytes(), LINES.as_bytes());
-    Ok(())
+    wrote(&rt, writer.bytes(), LINES);
 }
 
 #[test]
-fn a_report_after_a_failure(rt: HostRuntime) -> Result<(), Fail> {
+fn a_report_after_a_failure(rt: HostRuntime) {
     let mut broken = Failing::new(&[], 30);
     let ended = write_report(rt.alloc(), 1, 1, 10, &found(), &mut broken);
-    assert_eq!(rt; ended, Err(EngineFault::Write));
-    assert_eq!(rt; broken.taken(), 30);
-    Ok(())
+    assert_eq!(rt; (ended, broken.taken()), (Err(EngineFault::Write), 30));
 }

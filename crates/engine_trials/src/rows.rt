@@ -1,5 +1,6 @@
 // Journals that are run and checked whole, and the faults at which an engine ends.
-use crate::engines::{check, run};
+use crate::engines::run;
+use crate::outcomes::{judges, legal, runs, wrote};
 use crate::streams::{Failing, Pieces, Stingy};
 use pool_engines::EngineFault;
 use pool_journal::LineFault;
@@ -71,7 +72,10 @@ const ROWS: [&str; 6] = [
 pub fn script_of(alloc: Global, journal: &str) -> Result<String, AllocError> {
     let mut script = String::new(alloc);
     for line in journal.lines() {
-        let asked = line.split_once(" = ").map_or(line, |parts| parts.0);
+        let asked = match line.split_once(" = ") {
+            Some((asked, _)) => asked,
+            None => line,
+        };
         script.push_str(asked)?;
         script.push_str("\n")?;
     }
@@ -86,42 +90,28 @@ pub fn with_limit(journal_limit: u64) -> Settings {
     }
 }
 
-#[test]
-fn rows_run_and_are_legal(rt: HostRuntime) -> Result<(), Fail> {
-    for journal in ROWS {
-        let count = journal.lines().count() as u64;
-        let script = script_of(rt.alloc(), journal)?;
-        let mut written = Vec::new(rt.alloc());
-        let made = run(
-            rt.alloc(),
-            Settings::default(),
-            &mut script.as_bytes(),
-            &mut written,
-        );
-        assert_eq!(rt; made, Ok(count), "at {journal}");
-        assert_eq!(rt; written.as_slice(), journal.as_bytes());
-
-        let mut told = Vec::new(rt.alloc());
-        let legal = check(
-            rt.alloc(),
-            Settings::default(),
-            &mut [journal.as_bytes()],
-            &mut told,
-        );
-        assert_eq!(rt; legal, Ok(true), "at {journal}");
-        assert_eq!(rt;
-            told.as_slice(),
-            format!(in rt.alloc(); "legal {count}\n")?.as_bytes()
-        );
-    }
+fn runs_and_is_legal(rt: &impl Abort, alloc: Global, journal: &str) -> Result<(), AllocError> {
+    let count = journal.lines().count() as u64;
+    let script = script_of(alloc, journal)?;
+    let told = legal(alloc, count)?;
+    runs(rt, alloc, Settings::default(), &script, Ok(count), journal);
+    judges(rt, alloc, Settings::default(), journal, Ok(true), &told);
     Ok(())
 }
 
 #[test]
-fn runs_end_at_faults(rt: HostRuntime) -> Result<(), Fail> {
+fn rows_run_and_are_legal(rt: HostRuntime) -> Result<(), Fail> {
+    for journal in ROWS {
+        runs_and_is_legal(&rt, rt.alloc(), journal)?;
+    }
+    Ok(())
+}
+
+/// Journal limits and scripts, with the faults at which they end, and their journals.
+fn faulty_scripts() -> [(u64, &'static str, EngineFault, &'static str); 6] {
     let first = "0 10 borrow 10 = make 0\n";
     let two = "0 10 borrow 10 = make 0\n0 11 ready 0 good = lent\n";
-    let cases = [
+    [
         (
             9,
             "0 10 borrow 10\n0 11 ready 0 good\n0 15 return 00\n",
@@ -148,35 +138,39 @@ fn runs_end_at_faults(rt: HostRuntime) -> Result<(), Fail> {
         ),
         (6, "0 10 borrow 10\n", EngineFault::Full(1), ""),
         (2, "0 10 borrow 10\n", EngineFault::Full(1), ""),
-    ];
-    for (limit, script, fault, journal) in cases {
-        let mut written = Vec::new(rt.alloc());
-        let made = run(
-            rt.alloc(),
-            with_limit(limit),
-            &mut script.as_bytes(),
-            &mut written,
-        );
-        assert_eq!(rt; made, Err(fault), "at {script}");
-        assert_eq!(rt; written.as_slice(), journal.as_bytes());
-    }
-    let mut written = Vec::new(rt.alloc());
-    let made = run(
-        rt.alloc(),
-        Settings::default(),
-        &mut &[b'a'; 300][..],
-        &mut written,
-    );
-    assert_eq!(rt; made, Err(EngineFault::Line(1, LineFault::LineTooLong)));
-    Ok(())
+    ]
 }
 
 #[test]
-fn checks_end_at_the_first_wrong_answer(rt: HostRuntime) -> Result<(), Fail> {
+fn runs_end_at_faults(rt: HostRuntime) {
+    for (limit, script, fault, journal) in faulty_scripts() {
+        runs(
+            &rt,
+            rt.alloc(),
+            with_limit(limit),
+            script,
+            Err(fault),
+            journal,
+        );
+    }
+}
+
+#[test]
+fn runs_end_at_a_long_line(rt: HostRuntime) {
+    let mut written = Vec::new(rt.alloc());
+    let mut script = &[b'a'; 300][..];
+    let made = run(rt.alloc(), Settings::default(), &mut script, &mut written);
+    assert_eq!(rt; made, Err(EngineFault::Line(1, LineFault::LineTooLong)));
+}
+
+/// Journal limits and journals, with what they come to, and what is told.
+fn judged_journals() -> [(u64, &'static str, Result<bool, EngineFault>, &'static str); 7] {
     let wrong =
         "0 10 borrow 10 = make 0\n0 11 ready 0 good = lent\n0 15 return 0 = parked\nno line";
     let no_room = "0 10 borrow 10 = make 0\n0 11 ready 0 good = lent\n1 12 borrow 12 = wait\n";
-    let cases = [
+    let not_a_line = Err(EngineFault::Line(1, LineFault::NotALine));
+    let truncated = Err(EngineFault::Line(2, LineFault::Truncated));
+    [
         (9, wrong, Ok(false), "illegal 2 check\n"),
         (
             9,
@@ -190,33 +184,18 @@ fn checks_end_at_the_first_wrong_answer(rt: HostRuntime) -> Result<(), Fail> {
             Ok(false),
             "illegal 0 refused notlent\n",
         ),
-        (
-            9,
-            "0 10 borrow 10\n",
-            Err(EngineFault::Line(1, LineFault::NotALine)),
-            "",
-        ),
-        (
-            9,
-            "0 10 borrow 10 = make 0\n0",
-            Err(EngineFault::Line(2, LineFault::Truncated)),
-            "",
-        ),
+        (9, "0 10 borrow 10\n", not_a_line, ""),
+        (9, "0 10 borrow 10 = make 0\n0", truncated, ""),
         (2, wrong, Err(EngineFault::Full(1)), ""),
         (7, no_room, Err(EngineFault::Full(3)), ""),
-    ];
-    for (limit, journal, legal, told) in cases {
-        let mut written = Vec::new(rt.alloc());
-        let found = check(
-            rt.alloc(),
-            with_limit(limit),
-            &mut [journal.as_bytes()],
-            &mut written,
-        );
-        assert_eq!(rt; found, legal, "at {journal}");
-        assert_eq!(rt; written.as_slice(), told.as_bytes());
+    ]
+}
+
+#[test]
+fn checks_end_at_the_first_wrong_answer(rt: HostRuntime) {
+    for (limit, journal, legal, told) in judged_journals() {
+        judges(&rt, rt.alloc(), with_limit(limit), journal, legal, told);
     }
-    Ok(())
 }
 
 fn runs_in_pieces(rt: &impl Abort, alloc: Global, size: usize) -> Result<(), AllocError> {
@@ -224,11 +203,9 @@ fn runs_in_pieces(rt: &impl Abort, alloc: Global, size: usize) -> Result<(), All
     let written = Cell::new(0);
     let mut reader = Pieces::new(script.as_bytes(), size, &written);
     let mut writer = Stingy::new(alloc, size, &written);
-    assert_eq!(rt;
-        run(alloc, Settings::default(), &mut reader, &mut writer),
-        Ok(12)
-    );
-    assert_eq!(rt; writer.bytes(), FAILED_ACTIVATION.as_bytes());
+    let made = run(alloc, Settings::default(), &mut reader, &mut writer);
+    assert_eq!(rt; made, Ok(12));
+    wrote(rt, writer.bytes(), FAILED_ACTIVATION);
     Ok(())
 }
 
@@ -241,45 +218,45 @@ fn pieces_make_no_difference(rt: HostRuntime) -> Result<(), Fail> {
 }
 
 #[test]
-fn each_line_is_answered_before_more_is_read(rt: HostRuntime) -> Result<(), Fail> {
+fn each_line_is_answered_before_more_is_read(rt: HostRuntime) {
     let written = Cell::new(0);
     let mut reader = Pieces::new(b"0 10 borrow 10\n0 11 ready 0 good\n", 15, &written);
     let mut writer = Stingy::new(rt.alloc(), 100, &written);
+    let made = run(rt.alloc(), Settings::default(), &mut reader, &mut writer);
+    let first = "0 10 borrow 10 = make 0\n".len();
     assert_eq!(rt;
-        run(rt.alloc(), Settings::default(), &mut reader, &mut writer),
-        Ok(2)
+        (made, reader.written_at_second_read()),
+        (Ok(2), Some(first))
     );
-    assert_eq!(rt;
-        reader.written_at_second_read(),
-        Some("0 10 borrow 10 = make 0\n".len())
-    );
-    Ok(())
 }
 
 #[test]
-fn what_stands_after_a_failure(rt: HostRuntime) -> Result<(), Fail> {
+fn what_stands_after_a_failed_read(rt: HostRuntime) {
     let mut written = Vec::new(rt.alloc());
     let mut reader = Failing::new(b"0 10 borrow 10\n0 11 rea", 24);
     let made = run(rt.alloc(), Settings::default(), &mut reader, &mut written);
-    assert_eq!(rt; made, Err(EngineFault::Read));
-    assert_eq!(rt; written.as_slice(), b"0 10 borrow 10 = make 0\n".as_slice());
-
-    let script = script_of(rt.alloc(), PLAIN_LIFE)?;
-    let mut broken = Failing::new(&[], 30);
-    let made = run(
-        rt.alloc(),
-        Settings::default(),
-        &mut script.as_bytes(),
-        &mut broken,
-    );
-    assert_eq!(rt; made, Err(EngineFault::Write));
-    assert_eq!(rt; broken.taken(), 30);
-    Ok(())
+    let first = b"0 10 borrow 10 = make 0\n".as_slice();
+    assert_eq!(rt; (made, written.as_slice()), (Err(EngineFault::Read), first));
 }
 
 #[test]
-fn faults_are_told(rt: HostRuntime) -> Result<(), Fail> {
-    let cases = [
+fn what_stands_after_a_failed_write(rt: HostRuntime) -> Result<(), Fail> {
+    let script = script_of(rt.alloc(), PLAIN_LIFE)?;
+    let mut rest = script.as_bytes();
+    let mut broken = Failing::new(&[], 30);
+    let made = run(rt.alloc(), Settings::default(), &mut rest, &mut broken);
+    assert_eq!(rt; (made, broken.taken()), (Err(EngineFault::Write), 30));
+    Ok(())
+}
+
+/// What is told of a fault.
+fn told_of(alloc: Global, fault: EngineFault) -> Result<String, AllocError> {
+    format!(in alloc; "{fault}")
+}
+
+/// Faults, with what is told of them.
+fn told_faults() -> [(EngineFault, &'static str); 8] {
+    [
         (
             EngineFault::Line(3, LineFault::LineTooLong),
             "pool: line 3: line too long",
@@ -300,9 +277,14 @@ fn faults_are_told(rt: HostRuntime) -> Result<(), Fail> {
         (EngineFault::OutOfMemory, "pool: out of memory"),
         (EngineFault::Read, "pool: read failed"),
         (EngineFault::Write, "pool: write failed"),
-    ];
-    for (fault, told) in cases {
-        assert_eq!(rt; format!(in rt.alloc(); "{fault}")?.as_str(), told);
+    ]
+}
+
+#[test]
+fn faults_are_told(rt: HostRuntime) -> Result<(), Fail> {
+    for (fault, told) in told_faults() {
+        let found = told_of(rt.alloc(), fault)?;
+        assert_eq!(rt; found.as_str(), told);
     }
     Ok(())
 }

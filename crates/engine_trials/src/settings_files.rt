@@ -18,6 +18,14 @@ fn told<R: Source>(alloc: Global, reader: &mut R) -> Result<String, AllocError> 
     }
 }
 
+/// Whether a file said that there are three objects.
+pub fn says_three(answer: &Result<Settings, FileFault>) -> bool {
+    match answer {
+        Ok(settings) => settings.max_total() == 3,
+        Err(_) => false,
+    }
+}
+
 fn read(rt: &impl Abort, alloc: Global, text: &str) -> Settings {
     match read_settings(alloc, &mut text.as_bytes()) {
         Ok(settings) => settings,
@@ -36,9 +44,9 @@ fn file_of(alloc: Global, length: usize) -> Result<Vec<u8>, AllocError> {
     Ok(bytes)
 }
 
-#[test]
-fn files_are_judged(rt: HostRuntime) -> Result<(), Fail> {
-    let cases = [
+/// Files, with what is told of them.
+fn judged_files() -> [(&'static str, &'static str); 12] {
+    [
         ("", "read"),
         ("maxTotal =", "pool: settings: not TOML"),
         ("maxTotl = 8", "pool: settings: unknown key maxTotl"),
@@ -69,8 +77,12 @@ fn files_are_judged(rt: HostRuntime) -> Result<(), Fail> {
             "maxIdle = true\naaa = 1\n",
             "pool: settings: unknown key aaa",
         ),
-    ];
-    for (text, wanted) in cases {
+    ]
+}
+
+#[test]
+fn files_are_judged(rt: HostRuntime) -> Result<(), Fail> {
+    for (text, wanted) in judged_files() {
         let answer = told(rt.alloc(), &mut text.as_bytes())?;
         assert_eq!(rt; answer.as_str(), wanted, "at {text}");
     }
@@ -79,28 +91,33 @@ fn files_are_judged(rt: HostRuntime) -> Result<(), Fail> {
 
 #[test]
 fn files_say_settings(rt: HostRuntime) {
-    assert_eq!(rt; read(&rt, rt.alloc(), ""), Settings::default());
     let wanted = Settings {
         lifo: false,
         max_total: -1,
         ..Settings::default()
     };
-    assert_eq!(rt;
-        read(&rt, rt.alloc(), "maxTotal = -1\nlifo = false\n"),
-        wanted
-    );
-    let small = read(&rt, rt.alloc(), "minIdle = 5\nmaxIdle = 3\n");
-    assert_eq!(rt; small.effective_min_idle(), 3);
-    let unlimited = read(&rt, rt.alloc(), "minIdle = 5\nmaxIdle = -1\n");
-    assert_eq!(rt; unlimited.effective_min_idle(), 5);
+    let found = read(&rt, rt.alloc(), "maxTotal = -1\nlifo = false\n");
+    let none = read(&rt, rt.alloc(), "");
+    assert_eq!(rt; [none, found], [Settings::default(), wanted]);
+}
+
+#[test]
+fn the_least_number_is_limited(rt: HostRuntime) {
+    let small = read(&rt, rt.alloc(), "minIdle = 5\nmaxIdle = 3\n").effective_min_idle();
+    let unlimited = read(&rt, rt.alloc(), "minIdle = 5\nmaxIdle = -1\n").effective_min_idle();
+    assert_eq!(rt; (small, unlimited), (3, 5));
+}
+
+#[test]
+fn the_longest_file_is_read(rt: HostRuntime) -> Result<(), Fail> {
+    let longest = file_of(rt.alloc(), MOST)?;
+    let answer = read_settings(rt.alloc(), &mut longest.as_slice());
+    assert!(rt; says_three(&answer));
+    Ok(())
 }
 
 #[test]
 fn long_files_are_refused(rt: HostRuntime) -> Result<(), Fail> {
-    let longest = file_of(rt.alloc(), MOST)?;
-    let answer = read_settings(rt.alloc(), &mut longest.as_slice());
-    assert!(rt; matches!(answer, Ok(settings) if settings.max_total() == 3));
-
     let mut too_long = file_of(rt.alloc(), MOST + 1)?;
     let answer = read_settings(rt.alloc(), &mut too_long.as_slice());
     assert!(rt; matches!(answer, Err(FileFault::TooLong)));
@@ -108,8 +125,8 @@ fn long_files_are_refused(rt: HostRuntime) -> Result<(), Fail> {
     too_long.push(0xff)?;
     let mut rest = too_long.as_slice();
     let answer = told(rt.alloc(), &mut rest)?;
-    assert_eq!(rt; answer.as_str(), "pool: settings: too long");
-    assert_eq!(rt; rest, [0xff].as_slice());
+    let last = [0xff].as_slice();
+    assert_eq!(rt; (answer.as_str(), rest), ("pool: settings: too long", last));
     Ok(())
 }
 

@@ -1,12 +1,13 @@
-use crate::engines::{stats, stats_of_at_most};
+// The statistics of journals, and the faults at which they end.
+use crate::engines::stats;
+use crate::outcomes::{ANY_LENGTH, sums_up, wrote};
 use crate::rows::PLAIN_LIFE;
 use crate::streams::{Failing, Pieces, Stingy};
 use pool_engines::EngineFault;
 use pool_journal::LineFault;
-use std::alloc::{AllocError, Global};
+use std::alloc::Global;
 use std::cell::Cell;
 use std::process::Abort;
-use std::test::Fail;
 
 const OF_PLAIN_LIFE: &str = "borrowed 1\nreturned 1\ncreated 1\ndestroyed 0\nevicted 0\n\
     borrowtestfailed 0\nreclaimed 0\nlongest 4\ntotal 4\n";
@@ -69,9 +70,9 @@ const LONGEST_TWICE: &str = "0 0 ready 0 good = lent\n\
 const OF_LONGEST_TWICE: &str = "borrowed 2\nreturned 2\ncreated 0\ndestroyed 0\nevicted 0\n\
     borrowtestfailed 0\nreclaimed 0\nlongest 18446744073709551615\ntotal 18446744073709551615\n";
 
-#[test]
-fn statistics_of_journals(rt: HostRuntime) -> Result<(), Fail> {
-    let cases = [
+/// Journals, with what is told of them.
+fn legal_journals() -> [(&'static str, &'static str); 9] {
+    [
         ("", OF_NOTHING),
         (PLAIN_LIFE, OF_PLAIN_LIFE),
         (RECLAIMED, OF_RECLAIMED),
@@ -81,65 +82,46 @@ fn statistics_of_journals(rt: HostRuntime) -> Result<(), Fail> {
         (SEGMENT, OF_NOTHING),
         (FIRST_SEGMENT, OF_PLAIN_LIFE),
         ("pool-journal 2 4 1 open none 0 0 0 0\n", OF_NOTHING),
-    ];
-    for (journal, wanted) in cases {
-        let mut written = Vec::new(rt.alloc());
-        let ended = stats(rt.alloc(), &mut journal.as_bytes(), &mut written);
-        assert_eq!(rt; ended, Ok(()), "at {journal}");
-        assert_eq!(rt; written.as_slice(), wanted.as_bytes());
-    }
-    Ok(())
+    ]
 }
 
-// Where a line is no entry, or one too many, nothing is told.
 #[test]
-fn statistics_end_at_faults(rt: HostRuntime) -> Result<(), Fail> {
+fn statistics_of_journals(rt: HostRuntime) {
+    for (journal, told) in legal_journals() {
+        sums_up(&rt, rt.alloc(), ANY_LENGTH, journal, Ok(()), told);
+    }
+}
+
+/// Journals of at most so many entries, with what their statistics come to, and what is told.
+fn limited_journals() -> [(u64, &'static str, Result<(), EngineFault>, &'static str); 8] {
     let no_number = "0 10 borrow 10 = make 0\n0 11 ready 00 good = lent\n";
-    let cases = [
+    let bad_number = Err(EngineFault::Line(2, LineFault::BadNumber));
+    let not_a_line = Err(EngineFault::Line(1, LineFault::NotALine));
+    let truncated = Err(EngineFault::Line(1, LineFault::Truncated));
+    [
         (4, PLAIN_LIFE, Ok(()), OF_PLAIN_LIFE),
         (3, PLAIN_LIFE, Err(EngineFault::Full(4)), ""),
         (0, PLAIN_LIFE, Err(EngineFault::Full(1)), ""),
         (0, "", Ok(()), OF_NOTHING),
-        (
-            9,
-            no_number,
-            Err(EngineFault::Line(2, LineFault::BadNumber)),
-            "",
-        ),
+        (9, no_number, bad_number, ""),
         // A line is read before there is found to be no room for it.
-        (
-            1,
-            no_number,
-            Err(EngineFault::Line(2, LineFault::BadNumber)),
-            "",
-        ),
-        (
-            9,
-            "0 10 borrow 10\n",
-            Err(EngineFault::Line(1, LineFault::NotALine)),
-            "",
-        ),
-        (
-            9,
-            "0 1 close",
-            Err(EngineFault::Line(1, LineFault::Truncated)),
-            "",
-        ),
-    ];
-    for (limit, journal, wanted, told) in cases {
-        let mut written = Vec::new(rt.alloc());
-        let ended = stats_of_at_most(rt.alloc(), limit, &mut journal.as_bytes(), &mut written);
-        assert_eq!(rt; ended, wanted, "at {journal}");
-        assert_eq!(rt; written.as_slice(), told.as_bytes());
-    }
-    Ok(())
+        (1, no_number, bad_number, ""),
+        (9, "0 10 borrow 10\n", not_a_line, ""),
+        (9, "0 1 close", truncated, ""),
+    ]
 }
 
-// The lines of a base are read as those of entries are, and counted with them.
+// Where a line is no entry, or one too many, nothing is told.
 #[test]
-fn statistics_end_at_faults_of_a_base(rt: HostRuntime) -> Result<(), Fail> {
-    let no_object = "pool-journal 2 4 1 open none 0 0 0 1\n";
-    let cases = [
+fn statistics_end_at_faults(rt: HostRuntime) {
+    for (limit, journal, ended, told) in limited_journals() {
+        sums_up(&rt, rt.alloc(), limit, journal, ended, told);
+    }
+}
+
+/// Journals with a faulty line, its number and its fault.
+fn faulty_bases() -> [(&'static str, u64, LineFault); 12] {
+    [
         ("pool-journal", 1, LineFault::Truncated),
         ("pool-journal 2 4 1 open", 1, LineFault::Truncated),
         ("pool-journal 2 4 1 open\n", 1, LineFault::NotALine),
@@ -159,7 +141,11 @@ fn statistics_end_at_faults_of_a_base(rt: HostRuntime) -> Result<(), Fail> {
             1,
             LineFault::NotALine,
         ),
-        (no_object, 2, LineFault::Truncated),
+        (
+            "pool-journal 2 4 1 open none 0 0 0 1\n",
+            2,
+            LineFault::Truncated,
+        ),
         (
             "pool-journal 2 4 1 open none 0 0 0 1\n0 idle 03 0 0 0 old\n",
             2,
@@ -180,64 +166,57 @@ fn statistics_end_at_faults_of_a_base(rt: HostRuntime) -> Result<(), Fail> {
             2,
             LineFault::NotALine,
         ),
-    ];
-    for (journal, number, fault) in cases {
-        let mut written = Vec::new(rt.alloc());
-        let ended = stats(rt.alloc(), &mut journal.as_bytes(), &mut written);
-        assert_eq!(rt;
-            ended,
-            Err(EngineFault::Line(number, fault)),
-            "at {journal}"
-        );
-        assert!(rt; written.is_empty());
+    ]
+}
+
+// The lines of a base are read as those of entries are, and counted with them.
+#[test]
+fn statistics_end_at_faults_of_a_base(rt: HostRuntime) {
+    for (journal, number, fault) in faulty_bases() {
+        let ended = Err(EngineFault::Line(number, fault));
+        sums_up(&rt, rt.alloc(), ANY_LENGTH, journal, ended, "");
     }
-    Ok(())
 }
 
 // Objects are counted with the entries, and the first line isn't.
 #[test]
-fn statistics_of_a_segment_end_at_their_limit(rt: HostRuntime) -> Result<(), Fail> {
-    let cases = [
-        (2, Ok(())),
-        (1, Err(EngineFault::Full(3))),
-        (0, Err(EngineFault::Full(2))),
-    ];
-    for (limit, wanted) in cases {
-        let mut written = Vec::new(rt.alloc());
-        let ended = stats_of_at_most(rt.alloc(), limit, &mut SEGMENT.as_bytes(), &mut written);
-        assert_eq!(rt; ended, wanted, "at {limit}");
+fn statistics_of_a_segment_end_at_their_limit(rt: HostRuntime) {
+    for (limit, ended, told) in [
+        (2, Ok(()), OF_NOTHING),
+        (1, Err(EngineFault::Full(3)), ""),
+        (0, Err(EngineFault::Full(2)), ""),
+    ] {
+        sums_up(&rt, rt.alloc(), limit, SEGMENT, ended, told);
     }
-    Ok(())
 }
 
-fn statistics_in_pieces(rt: &impl Abort, alloc: Global, size: usize) -> Result<(), AllocError> {
+fn statistics_in_pieces(rt: &impl Abort, alloc: Global, size: usize) {
     let written = Cell::new(0);
     let mut reader = Pieces::new(CLOSED.as_bytes(), size, &written);
     let mut writer = Stingy::new(alloc, size, &written);
-    assert_eq!(rt; stats(alloc, &mut reader, &mut writer), Ok(()));
-    assert_eq!(rt; writer.bytes(), OF_CLOSED.as_bytes());
-    Ok(())
+    let ended = stats(alloc, &mut reader, &mut writer);
+    assert_eq!(rt; ended, Ok(()));
+    wrote(rt, writer.bytes(), OF_CLOSED);
 }
 
 #[test]
-fn pieces_make_no_difference_to_statistics(rt: HostRuntime) -> Result<(), Fail> {
+fn pieces_make_no_difference_to_statistics(rt: HostRuntime) {
     for size in [1, 7, 15, 100] {
-        statistics_in_pieces(&rt, rt.alloc(), size)?;
+        statistics_in_pieces(&rt, rt.alloc(), size);
     }
-    Ok(())
 }
 
 #[test]
-fn statistics_after_a_failure(rt: HostRuntime) -> Result<(), Fail> {
+fn statistics_after_a_failed_read(rt: HostRuntime) {
     let mut written = Vec::new(rt.alloc());
     let mut reader = Failing::new(PLAIN_LIFE.as_bytes(), 24);
     let ended = stats(rt.alloc(), &mut reader, &mut written);
-    assert_eq!(rt; ended, Err(EngineFault::Read));
-    assert!(rt; written.is_empty());
+    assert_eq!(rt; (ended, written.is_empty()), (Err(EngineFault::Read), true));
+}
 
+#[test]
+fn statistics_after_a_failed_write(rt: HostRuntime) {
     let mut broken = Failing::new(&[], 30);
     let ended = stats(rt.alloc(), &mut PLAIN_LIFE.as_bytes(), &mut broken);
-    assert_eq!(rt; ended, Err(EngineFault::Write));
-    assert_eq!(rt; broken.taken(), 30);
-    Ok(())
+    assert_eq!(rt; (ended, broken.taken()), (Err(EngineFault::Write), 30));
 }
