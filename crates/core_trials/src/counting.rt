@@ -1,21 +1,31 @@
 // What is counted after the lines of a journal.
-use crate::playing::{PLAIN_LIFE, opened, play};
+use crate::playing::{PLAIN_LIFE, counted, opened, play};
 use pool_stats::Counts;
 use std::alloc::Global;
 use std::process::Abort;
 use std::test::Fail;
 
-// Counts, from their numbers in the order of the fields.
-fn numbers(all: [u64; 8]) -> Counts {
+/// Counts, from their numbers in the order of the fields.
+pub fn numbers(all: [u64; 8]) -> Counts {
+    let [
+        steps,
+        idle,
+        lent,
+        reserved,
+        created,
+        destroyed,
+        evicted,
+        reclaimed,
+    ] = all;
     Counts {
-        steps: all[0],
-        idle: all[1],
-        lent: all[2],
-        reserved: all[3],
-        created: all[4],
-        destroyed: all[5],
-        evicted: all[6],
-        reclaimed: all[7],
+        steps,
+        idle,
+        lent,
+        reserved,
+        created,
+        destroyed,
+        evicted,
+        reclaimed,
     }
 }
 
@@ -29,7 +39,7 @@ fn counts(
 ) -> Result<(), Fail> {
     let mut core = opened(alloc, settings)?;
     play(rt, alloc, &mut core, lines)?;
-    assert_eq!(rt; core.counts(), numbers(wanted));
+    assert_eq!(rt; counted(&core), numbers(wanted));
     Ok(())
 }
 

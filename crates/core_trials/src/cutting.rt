@@ -1,11 +1,12 @@
 // Journals that are cut, and pools that are opened from what they came to.
+use crate::counting::numbers;
 use crate::playing::{
-    FIVE_ADDED, PLAIN_LIFE, base_of, cut, entries, from_base, length, opened, play, refuses,
+    FIVE_ADDED, PLAIN_LIFE, base_of, counted, cut, entries, from_base, length, opened, play,
+    refuses,
 };
 use pool_core::{BaseFault, Core};
 use pool_journal::{Base, Entry, Input};
 use pool_settings::Settings;
-use pool_stats::Counts;
 use std::alloc::Global;
 use std::process::Abort;
 use std::test::Fail;
@@ -61,6 +62,18 @@ fn cuts(
     Ok(())
 }
 
+// Cuts the journal, which gives so many entries.
+fn cuts_off(
+    rt: &impl Abort,
+    alloc: Global,
+    core: &mut Core<u64>,
+    stored: usize,
+) -> Result<(), Fail> {
+    let segment = cut(alloc, core).ok_or("a segment")?;
+    assert!(rt; segment.entries.as_slice().len() == stored);
+    Ok(())
+}
+
 // Plays lines and one more, cuts the journal, which gives them all, and plays the next one.
 fn is_cut_between(
     rt: &impl Abort,
@@ -73,8 +86,7 @@ fn is_cut_between(
     play(rt, alloc, &mut core, before)?;
     play(rt, alloc, &mut core, last)?;
     let stored = length(&core);
-    let segment = cut(alloc, &mut core).ok_or("a segment")?;
-    assert!(rt; segment.entries.as_slice().len() == stored);
+    cuts_off(rt, alloc, &mut core, stored)?;
     play(rt, alloc, &mut core, next)
 }
 
@@ -185,17 +197,7 @@ fn opened_from_a_base(rt: HostRuntime) -> Result<(), Fail> {
     let (base, values) = is_refused_thrice(&rt, rt.alloc())?;
     let settings = Settings::from_text(rt.alloc(), SEVEN)?;
     let mut core = is_opened(&rt, rt.alloc(), settings, base, values);
-    let wanted = Counts {
-        steps: 4,
-        idle: 1,
-        lent: 0,
-        reserved: 0,
-        created: 1,
-        destroyed: 0,
-        evicted: 0,
-        reclaimed: 0,
-    };
-    assert!(rt; core.counts() == wanted);
+    assert!(rt; counted(&core) == numbers([4, 1, 0, 0, 1, 0, 0, 0]));
     let taken = "0 0 borrow 0 = take 0\n";
     play(&rt, rt.alloc(), &mut core, taken)?;
     cuts(&rt, rt.alloc(), &mut core, ONE_IDLE, taken)
@@ -210,17 +212,7 @@ fn opened_bare(rt: &impl Abort, alloc: Global, base: &str) -> Result<Core<u64>, 
 #[test]
 fn opened_behind_no_entries(rt: HostRuntime) -> Result<(), Fail> {
     let empty = opened_bare(&rt, rt.alloc(), EMPTY)?;
-    let none = Counts {
-        steps: 0,
-        idle: 0,
-        lent: 0,
-        reserved: 0,
-        created: 0,
-        destroyed: 0,
-        evicted: 0,
-        reclaimed: 0,
-    };
-    assert!(rt; empty.counts() == none);
+    assert!(rt; counted(&empty) == numbers([0; 8]));
     Ok(())
 }
 

@@ -1,6 +1,6 @@
 // Many lives of small journals, which are filled to the last entry and then brought to an end.
 
-use crate::playing::{due_out, length, named, refuses, step, value_of};
+use crate::playing::{due_out, length, named, refuses, room, step, value_of};
 use pool_core::{Core, StepFault};
 use pool_journal::{Answer, Entry, Input, Outcome, Phase, When};
 use pool_settings::Settings;
@@ -169,36 +169,43 @@ fn agrees(rt: &impl Abort, core: &Core<u64>, limit: u64) {
     let journal = core.journal();
     let taken = owed_in(journal).saturating_add(journal.len() as u64);
     assert!(rt; taken <= limit);
-    assert!(rt; core.room() == limit.saturating_sub(taken));
+    assert!(rt; room(core) == limit.saturating_sub(taken));
 }
 
-// Takes a step. One that is refused leaves the journal as it was, and comes only where there is no
-// room for it and for a whole life. The answer tells whether it was taken.
+// A refused step hands its value back, and comes only where there is no room for it and for a whole life.
+fn is_handed_back(rt: &impl Abort, fault: StepFault<u64>, input: Input, room: u64) {
+    match fault {
+        StepFault::JournalFull(back) => {
+            assert!(rt; back == value_of(input));
+            assert!(rt; room < 6);
+        }
+        StepFault::OutOfMemory(back) => assert!(rt; back == value_of(input)),
+    }
+}
+
+// Takes a step. One that is refused leaves the journal as it was. The answer tells whether it was taken.
 fn may_step(rt: &impl Abort, core: &mut Core<u64>, at: u64, input: Input) -> bool {
     let before = length(core);
-    let room = core.room();
+    let left = room(core);
     match step(core, 0, at, input) {
         Ok((answer, out)) => {
             assert!(rt; out == due_out(answer, input));
             assert!(rt; length(core).saturating_sub(before) == 1);
-            return true;
+            true
         }
-        Err(StepFault::JournalFull(back)) => {
-            assert!(rt; back == value_of(input));
-            assert!(rt; room < 6);
+        Err(fault) => {
+            is_handed_back(rt, fault, input, left);
+            assert!(rt; (length(core), room(core)) == (before, left));
+            false
         }
-        Err(StepFault::OutOfMemory(back)) => assert!(rt; back == value_of(input)),
     }
-    assert!(rt; length(core) == before);
-    assert!(rt; core.room() == room);
-    false
 }
 
 // Takes a step for which room and memory are kept.
 fn must_step(rt: &impl Abort, core: &mut Core<u64>, at: u64, input: Input) {
-    let room = core.room();
+    let left = room(core);
     assert!(rt; may_step(rt, core, at, input));
-    assert!(rt; core.room() >= room);
+    assert!(rt; room(core) >= left);
 }
 
 // Brings an object to its end.
@@ -282,9 +289,24 @@ fn all_that_was_begun_can_end(rt: HostRuntime) -> Result<(), Fail> {
 const NEW: Input = Input::Borrow { began: 0 };
 
 // The room of the opened pool, and of one with an object that is being made ready.
+fn has_room(rt: &impl Abort, core: &mut Core<u64>, opened: u64, with_one: Option<u64>) {
+    assert!(rt; room(core) == opened);
+    match with_one {
+        None => refuses(rt, core, 0, 0, NEW),
+        Some(left) => {
+            let due = if may_step(rt, core, 0, NEW) {
+                left
+            } else {
+                opened
+            };
+            assert!(rt; room(core) == due);
+        }
+    }
+}
+
 #[test]
 fn room_at_limits(rt: HostRuntime) -> Result<(), Fail> {
-    for (limit, opened, with_one) in [
+    for (journal_limit, opened, with_one) in [
         (0, 0, None),
         (1, 0, None),
         (6, 5, None),
@@ -293,20 +315,11 @@ fn room_at_limits(rt: HostRuntime) -> Result<(), Fail> {
         (u64::MAX, (1 << 63) - 2, Some((1 << 63) - 8)),
     ] {
         let settings = Settings {
-            journal_limit: limit,
+            journal_limit,
             ..Settings::default()
         };
-        let mut core: Core<u64> = Core::open(rt.alloc(), settings)?;
-        assert!(rt; core.room() == opened);
-        match with_one {
-            None => refuses(&rt, &mut core, 0, 0, NEW),
-            Some(room) => {
-                assert!(rt; may_step(&rt, &mut core, 0, NEW) || core.room() == opened);
-                if length(&core) == 1 {
-                    assert!(rt; core.room() == room);
-                }
-            }
-        }
+        let mut core = Core::open(rt.alloc(), settings)?;
+        has_room(&rt, &mut core, opened, with_one);
     }
     Ok(())
 }

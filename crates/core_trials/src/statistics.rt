@@ -1,4 +1,6 @@
-use pool_journal::{Answer, Entry, Input, Outcome, read_entry};
+// What the statistics of journals are, at their end and at each entry.
+use crate::playing::entries;
+use pool_journal::{Answer, Entry, Input, Outcome};
 use pool_stats::{Ended, RunningTally, Statistics};
 use std::alloc::{AllocError, Global};
 use std::process::Abort;
@@ -74,37 +76,41 @@ const LENT_AGAIN: &str = "0 0 borrow 0 = make 0\n\
     1 20 return 0 = check\n\
     1 21 park 0 good = parked\n";
 
-/// The entries of a journal's text.
-fn entries_of(rt: &impl Abort, alloc: Global, text: &str) -> Result<Vec<Entry>, AllocError> {
-    let mut entries = Vec::new(alloc);
-    for line in text.split_inclusive("\n") {
-        match read_entry(line.as_bytes()) {
-            Ok((entry, _)) => entries.push(entry)?,
-            Err(_) => panic!(rt; "not an entry: {line}"),
-        }
-    }
-    Ok(entries)
-}
-
 /// Statistics, from their numbers in the order of the fields.
 fn numbers(all: [u64; 9]) -> Statistics {
+    let [
+        borrowed,
+        returned,
+        created,
+        destroyed,
+        evicted,
+        borrow_test_failed,
+        reclaimed,
+        longest,
+        total,
+    ] = all;
     Statistics {
-        borrowed: all[0],
-        returned: all[1],
-        created: all[2],
-        destroyed: all[3],
-        evicted: all[4],
-        borrow_test_failed: all[5],
-        reclaimed: all[6],
-        longest: all[7],
-        total: all[8],
+        borrowed,
+        returned,
+        created,
+        destroyed,
+        evicted,
+        borrow_test_failed,
+        reclaimed,
+        longest,
+        total,
     }
 }
 
-#[test]
-fn statistics_of_journals(rt: HostRuntime) -> Result<(), Fail> {
+// The statistics of a journal are these.
+fn come_to(rt: &impl Abort, journal: &str, found: Statistics, wanted: [u64; 9]) {
+    assert_eq!(rt; found, numbers(wanted), "at {journal}");
+}
+
+// Journals, with their statistics.
+fn journals() -> [(&'static str, [u64; 9]); 9] {
     let most = u64::MAX;
-    let cases = [
+    [
         ("", [0, 0, 0, 0, 0, 0, 0, 0, 0]),
         (PLAIN_LIFE, [1, 1, 1, 0, 0, 0, 0, 4, 4]),
         (RECLAIMED, [1, 0, 1, 0, 0, 0, 1, 100, 100]),
@@ -114,11 +120,15 @@ fn statistics_of_journals(rt: HostRuntime) -> Result<(), Fail> {
         (LONGEST_TWICE, [2, 2, 0, 0, 0, 0, 0, most, most]),
         (TWO_LENT, [2, 1, 0, 0, 0, 0, 0, 12, 15]),
         (DESTROYED, [0, 0, 2, 2, 2, 1, 0, 0, 0]),
-    ];
-    for (text, wanted) in cases {
-        let entries = entries_of(&rt, rt.alloc(), text)?;
+    ]
+}
+
+#[test]
+fn statistics_of_journals(rt: HostRuntime) -> Result<(), Fail> {
+    for (text, wanted) in journals() {
+        let entries = entries(rt.alloc(), text)?;
         let found = Statistics::of(rt.alloc(), &entries)?;
-        assert_eq!(rt; found, numbers(wanted), "at {text}");
+        come_to(&rt, text, found, wanted);
     }
     Ok(())
 }
@@ -139,8 +149,9 @@ fn told_of(rt: &impl Abort, alloc: Global, entries: &[Entry]) -> Result<Statisti
     for entry in entries {
         tells(rt, &mut tally, entry)?;
         told.push(*entry)?;
-        assert_eq!(rt; tally.taken(), told.len() as u64);
-        assert_eq!(rt; tally.statistics(), Statistics::of(alloc, &told)?);
+        let wanted = Statistics::of(alloc, &told)?;
+        let found = (tally.taken(), tally.statistics());
+        assert_eq!(rt; found, (told.len() as u64, wanted));
     }
     Ok(tally.statistics())
 }
@@ -152,9 +163,9 @@ fn told_one_by_one(rt: HostRuntime) -> Result<(), Fail> {
         (RECLAIMED, [1, 0, 1, 0, 0, 0, 1, 100, 100]),
         (DESTROYED, [0, 0, 2, 2, 2, 1, 0, 0, 0]),
     ] {
-        let entries = entries_of(&rt, rt.alloc(), text)?;
+        let entries = entries(rt.alloc(), text)?;
         let found = told_of(&rt, rt.alloc(), &entries)?;
-        assert_eq!(rt; found, numbers(wanted), "at {text}");
+        come_to(&rt, text, found, wanted);
     }
     Ok(())
 }

@@ -1,4 +1,5 @@
 // Pools that keep no entries.
+use crate::counting::numbers;
 use crate::cutting::is_same;
 use crate::playing::{PLAIN_LIFE, TWO_OBJECTS, base_of, entries, value_of};
 use pool_core::{BaseFault, StepFault, Stepper};
@@ -30,19 +31,32 @@ fn step(
     stepper.step(caller, at, input, value_of(input))
 }
 
+// How many steps were taken since the last cut.
+fn taken(stepper: &Stepper<u64>) -> u64 {
+    stepper.taken()
+}
+
+fn room(stepper: &Stepper<u64>) -> u64 {
+    stepper.room()
+}
+
+fn counted(stepper: &Stepper<u64>) -> Counts {
+    stepper.counts()
+}
+
 // Takes a step. Where memory is wanting the value comes back, and nothing has changed.
 fn try_step(
     rt: &impl Abort,
     stepper: &mut Stepper<u64>,
     wanted: &Entry,
 ) -> Option<(Entry, Option<u64>)> {
-    let before = stepper.taken();
+    let before = taken(stepper);
     match step(stepper, wanted.caller, wanted.at, wanted.input) {
         Ok(done) => return Some(done),
         Err(StepFault::OutOfMemory(back)) => assert!(rt; back == value_of(wanted.input)),
         Err(StepFault::JournalFull(_)) => panic!(rt; "full"),
     }
-    assert!(rt; stepper.taken() == before);
+    assert!(rt; taken(stepper) == before);
     None
 }
 
@@ -60,12 +74,12 @@ fn take_step(rt: &impl Abort, stepper: &mut Stepper<u64>, wanted: &Entry) -> (En
 // Takes the steps of entries, and compares each entry and what was foreseen.
 fn takes(rt: &impl Abort, stepper: &mut Stepper<u64>, entries: &[Entry]) {
     for wanted in entries {
-        let before = stepper.taken();
+        let before = taken(stepper);
         let due = stepper.due(wanted.at, wanted.input);
         let (entry, _) = take_step(rt, stepper, wanted);
         assert!(rt; entry == *wanted, "{entry:?} and not {wanted:?}");
         assert!(rt; due == wanted.answer);
-        assert!(rt; stepper.taken().saturating_sub(before) == 1);
+        assert!(rt; taken(stepper).saturating_sub(before) == 1);
     }
 }
 
@@ -83,12 +97,12 @@ fn plays(
 
 // A step for which there is no room hands its value back, and is not taken.
 fn refuses(rt: &impl Abort, stepper: &mut Stepper<u64>, input: Input) {
-    let before = stepper.taken();
+    let before = taken(stepper);
     match step(stepper, 0, 0, input) {
         Err(StepFault::JournalFull(back)) => assert!(rt; back == value_of(input)),
         _ => panic!(rt; "not full"),
     }
-    assert!(rt; stepper.taken() == before);
+    assert!(rt; taken(stepper) == before);
 }
 
 #[test]
@@ -96,17 +110,7 @@ fn steps_without_a_journal(rt: HostRuntime) -> Result<(), Fail> {
     let mut stepper = opened(rt.alloc(), "")?;
     plays(&rt, rt.alloc(), &mut stepper, TWO_OBJECTS)?;
     plays(&rt, rt.alloc(), &mut stepper, "7 4 borrow 4 = take 1\n")?;
-    let wanted = Counts {
-        steps: 9,
-        idle: 1,
-        lent: 0,
-        reserved: 1,
-        created: 2,
-        destroyed: 0,
-        evicted: 0,
-        reclaimed: 0,
-    };
-    assert!(rt; stepper.counts() == wanted);
+    assert!(rt; counted(&stepper) == numbers([9, 1, 0, 1, 2, 0, 0, 0]));
     Ok(())
 }
 
@@ -114,9 +118,9 @@ fn steps_without_a_journal(rt: HostRuntime) -> Result<(), Fail> {
 #[test]
 fn room_without_a_journal(rt: HostRuntime) -> Result<(), Fail> {
     let mut stepper = opened(rt.alloc(), "journalLimit = 7")?;
-    assert!(rt; stepper.room() == 6);
+    assert!(rt; room(&stepper) == 6);
     plays(&rt, rt.alloc(), &mut stepper, "0 0 borrow 0 = make 0\n")?;
-    assert!(rt; stepper.room() == 0);
+    assert!(rt; room(&stepper) == 0);
     refuses(&rt, &mut stepper, NEW);
     plays(
         &rt,
@@ -142,8 +146,8 @@ fn cut_without_a_journal(rt: HostRuntime) -> Result<(), Fail> {
     let base = cut(rt.alloc(), &mut stepper).ok_or("a base")?;
     let wanted = base_of(rt.alloc(), ONE_IDLE)?;
     assert!(rt; is_same(&base, &wanted), "{base:?}");
-    assert!(rt; stepper.taken() == 0);
-    assert!(rt; stepper.counts().steps == 4);
+    assert!(rt; taken(&stepper) == 0);
+    assert!(rt; counted(&stepper).steps == 4);
     plays(&rt, rt.alloc(), &mut stepper, "0 20 borrow 20 = take 0\n")
 }
 
@@ -155,6 +159,12 @@ fn from_base(
 ) -> Result<Result<Stepper<u64>, (BaseFault, Vec<(u64, u64)>)>, Fail> {
     let values = vec![in alloc; (id, 9u64)]?;
     Ok(Stepper::from_base(alloc, Settings::default(), base, values))
+}
+
+// Whether there is no stepper from a base, with a value of an object with this id.
+fn is_refused(alloc: Global, base: &mut Base, id: u64) -> Result<bool, Fail> {
+    let opened = from_base(alloc, base, id)?;
+    Ok(opened.is_err())
 }
 
 // A base that is refused stays as it was, and the values come back.
@@ -171,20 +181,25 @@ fn refused_without_a_journal(rt: HostRuntime) -> Result<(), Fail> {
     Ok(())
 }
 
+// A stepper behind four entries takes the object with its value.
+fn goes_on(rt: &impl Abort, alloc: Global, mut stepper: Stepper<u64>) -> Result<(), Fail> {
+    let next = entries(alloc, "0 20 borrow 20 = take 0\n")?;
+    for wanted in &next {
+        let (entry, out) = take_step(rt, &mut stepper, wanted);
+        assert!(rt; entry.answer == wanted.answer);
+        assert!(rt; out == Some(9));
+    }
+    assert!(rt; counted(&stepper).steps == 5);
+    Ok(())
+}
+
 // A stepper from a base goes on as the one that was cut.
 #[test]
 fn opened_without_a_journal(rt: HostRuntime) -> Result<(), Fail> {
     let mut base = base_of(rt.alloc(), ONE_IDLE)?;
-    assert!(rt; from_base(rt.alloc(), &mut base, 1)?.is_err());
-    let Ok(mut stepper) = from_base(rt.alloc(), &mut base, 0)? else {
-        panic!(rt; "refused");
-    };
-    let next = entries(rt.alloc(), "0 20 borrow 20 = take 0\n")?;
-    for wanted in &next {
-        let (entry, out) = take_step(&rt, &mut stepper, wanted);
-        assert!(rt; entry.answer == wanted.answer);
-        assert!(rt; out == Some(9));
+    assert!(rt; is_refused(rt.alloc(), &mut base, 1)?);
+    match from_base(rt.alloc(), &mut base, 0)? {
+        Ok(stepper) => goes_on(&rt, rt.alloc(), stepper),
+        Err(_) => panic!(rt; "refused"),
     }
-    assert!(rt; stepper.counts().steps == 5);
-    Ok(())
 }
