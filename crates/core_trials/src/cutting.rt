@@ -74,7 +74,21 @@ fn cuts_off(
     Ok(())
 }
 
-// Plays lines and one more, cuts the journal, which gives them all, and plays the next one.
+// Plays a line, cuts the journal, which gives all that was stored, and plays the next one.
+fn goes_on_behind_a_cut(
+    rt: &impl Abort,
+    alloc: Global,
+    core: &mut Core<u64>,
+    last: &str,
+    next: &str,
+) -> Result<(), Fail> {
+    play(rt, alloc, core, last)?;
+    let stored = length(core);
+    cuts_off(rt, alloc, core, stored)?;
+    play(rt, alloc, core, next)
+}
+
+// Plays lines on a new pool, and one more before a cut and one behind it.
 fn is_cut_between(
     rt: &impl Abort,
     alloc: Global,
@@ -84,10 +98,7 @@ fn is_cut_between(
 ) -> Result<(), Fail> {
     let mut core = opened(alloc, "")?;
     play(rt, alloc, &mut core, before)?;
-    play(rt, alloc, &mut core, last)?;
-    let stored = length(&core);
-    cuts_off(rt, alloc, &mut core, stored)?;
-    play(rt, alloc, &mut core, next)
+    goes_on_behind_a_cut(rt, alloc, &mut core, last, next)
 }
 
 // A pool from a base that is refused; base and value come back.
@@ -127,13 +138,18 @@ fn is_opened(
     }
 }
 
+// Cuts the journal behind an object's way.
+fn cuts_one_way(rt: &impl Abort, alloc: Global, core: &mut Core<u64>) -> Result<(), Fail> {
+    play(rt, alloc, core, ONE_WAY)?;
+    cuts(rt, alloc, core, EMPTY, ONE_WAY)
+}
+
 // After the cut there is room for as many entries again, and the ids go on.
 #[test]
 fn cut_behind_an_object_s_way(rt: HostRuntime) -> Result<(), Fail> {
     for line in ["0 0 borrow 0 = take 0\n", "0 0 add = make 1\n"] {
         let mut core = opened(rt.alloc(), SEVEN)?;
-        play(&rt, rt.alloc(), &mut core, ONE_WAY)?;
-        cuts(&rt, rt.alloc(), &mut core, EMPTY, ONE_WAY)?;
+        cuts_one_way(&rt, rt.alloc(), &mut core)?;
         play(&rt, rt.alloc(), &mut core, line)?;
     }
     Ok(())
@@ -143,8 +159,7 @@ fn cut_behind_an_object_s_way(rt: HostRuntime) -> Result<(), Fail> {
 #[test]
 fn cut_twice(rt: HostRuntime) -> Result<(), Fail> {
     let mut core = opened(rt.alloc(), SEVEN)?;
-    play(&rt, rt.alloc(), &mut core, ONE_WAY)?;
-    cuts(&rt, rt.alloc(), &mut core, EMPTY, ONE_WAY)?;
+    cuts_one_way(&rt, rt.alloc(), &mut core)?;
     cuts(&rt, rt.alloc(), &mut core, ONE_IDLE, "")
 }
 
@@ -216,13 +231,24 @@ fn opened_behind_no_entries(rt: HostRuntime) -> Result<(), Fail> {
     Ok(())
 }
 
-// A base behind which there is room for one entry more, and one behind which there is none.
+// There is room to close the pool, and for nothing else.
+fn can_be_closed(rt: &impl Abort, alloc: Global, core: &mut Core<u64>) -> Result<(), Fail> {
+    refuses(rt, core, 0, 0, NEW);
+    play(rt, alloc, core, "0 0 close = count 0\n")?;
+    refuses(rt, core, 0, 0, NEW);
+    Ok(())
+}
+
+// A base behind which there is room for one entry more.
 #[test]
 fn opened_behind_most_entries(rt: HostRuntime) -> Result<(), Fail> {
     let mut core = opened_bare(&rt, rt.alloc(), ALMOST_MOST)?;
-    refuses(&rt, &mut core, 0, 0, NEW);
-    play(&rt, rt.alloc(), &mut core, "0 0 close = count 0\n")?;
-    refuses(&rt, &mut core, 0, 0, NEW);
+    can_be_closed(&rt, rt.alloc(), &mut core)
+}
+
+// A base behind which there is none.
+#[test]
+fn refused_behind_all_entries(rt: HostRuntime) -> Result<(), Fail> {
     let past = base_of(rt.alloc(), MOST)?;
     let none = Vec::new(rt.alloc());
     let settings = Settings::default();

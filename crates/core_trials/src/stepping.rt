@@ -138,17 +138,31 @@ fn cut(alloc: Global, stepper: &mut Stepper<u64>) -> Option<Base> {
     stepper.cut(alloc).ok()
 }
 
-// A cut gives what the entries came to, and there is room for as many again.
+// A cut gives what the entries came to.
+fn cuts(rt: &impl Abort, alloc: Global, stepper: &mut Stepper<u64>) -> Result<(), Fail> {
+    let base = cut(alloc, stepper).ok_or("a base")?;
+    let wanted = base_of(alloc, ONE_IDLE)?;
+    assert!(rt; is_same(&base, &wanted), "{base:?}");
+    Ok(())
+}
+
+// Behind the cut no step was taken, the counts go on, and there is room for as many steps again.
+fn goes_on_behind_a_cut(
+    rt: &impl Abort,
+    alloc: Global,
+    stepper: &mut Stepper<u64>,
+) -> Result<(), Fail> {
+    plays(rt, alloc, stepper, PLAIN_LIFE)?;
+    cuts(rt, alloc, stepper)?;
+    assert!(rt; taken(stepper) == 0);
+    assert!(rt; counted(stepper).steps == 4);
+    plays(rt, alloc, stepper, "0 20 borrow 20 = take 0\n")
+}
+
 #[test]
 fn cut_without_a_journal(rt: HostRuntime) -> Result<(), Fail> {
     let mut stepper = opened(rt.alloc(), "journalLimit = 7")?;
-    plays(&rt, rt.alloc(), &mut stepper, PLAIN_LIFE)?;
-    let base = cut(rt.alloc(), &mut stepper).ok_or("a base")?;
-    let wanted = base_of(rt.alloc(), ONE_IDLE)?;
-    assert!(rt; is_same(&base, &wanted), "{base:?}");
-    assert!(rt; taken(&stepper) == 0);
-    assert!(rt; counted(&stepper).steps == 4);
-    plays(&rt, rt.alloc(), &mut stepper, "0 20 borrow 20 = take 0\n")
+    goes_on_behind_a_cut(&rt, rt.alloc(), &mut stepper)
 }
 
 // A stepper from a base, with a value of an object with this id.

@@ -20,7 +20,8 @@ mod things;
 
 use calling::{Manner, Player, Pool, Segments};
 use fault::Fault;
-use judging::{Verdict, judge};
+use judging::{Played, Verdict, judge};
+use pool_core::Core;
 use pool_settings::Settings;
 use pool_shared::{Caller, OpenFault, Room, Site};
 use refusals::{CALLS, Call, Refusals};
@@ -29,7 +30,7 @@ use std::marker::Brand;
 use std::sync::{Mutex, Wait};
 use std::thread::Threads;
 use std::{io, thread};
-use things::{Fickle, Tally, Ticking};
+use things::{Fickle, Tally, Thing, Ticking};
 
 const SEEDS: u64 = 20;
 
@@ -96,6 +97,41 @@ fn players_of<'a, B: Room>(
     Ok(players)
 }
 
+// The players' callers, and what they did.
+fn leave_all<B: Room>(
+    players: Vec<Player<'_, B>>,
+    back: &mut Vec<Caller<B>>,
+    all: &mut Vec<Played>,
+    refusals: &mut Refusals,
+) -> Result<(), Fault> {
+    for player in players {
+        let (me, played) = player.leave();
+        refusals.join(&played.refusals);
+        back.push(me).map_err(|_| Fault::Starved)?;
+        all.push(played).map_err(|_| Fault::Starved)?;
+    }
+    Ok(())
+}
+
+// All callers play on a pool, which ends with them. What they did is gathered.
+fn play_on<B: Room + Send + Sync, R: Threads + Wait + Sync>(
+    rt: &R,
+    pool: Pool<'_, B>,
+    mut players: Vec<Player<'_, B>>,
+    mut back: Vec<Caller<B>>,
+    all: &mut Vec<Played>,
+    refusals: &mut Refusals,
+) -> Result<Core<Thing>, Fault> {
+    thread::for_each_mut(
+        rt,
+        players.as_mut_slice(),
+        CALLERS as usize,
+        &|_, player| player.play(rt, &pool),
+    );
+    leave_all(players, &mut back, all, refusals)?;
+    pool.finish(rt, back).map_err(|_| Fault::CallerMissing)
+}
+
 // All callers play on one pool. Where it finds no memory to begin with, nobody plays.
 fn play<B: Room + Send + Sync, R: Threads + Wait + Sync>(
     rt: &R,
@@ -116,28 +152,11 @@ fn play<B: Room + Send + Sync, R: Threads + Wait + Sync>(
         refusals.note(Call::Open);
     }
     let (pool, callers) = opened?;
-    let mut room = Vec::new(alloc);
-    room.reserve(CUTS)?;
-    let segments: Segments = Mutex::new(room);
-    let mut players = players_of(alloc, callers, seed, manner, &segments)?;
-    let mut back = Vec::new(alloc);
-    back.reserve(CALLERS as usize)?;
-    let mut all = Vec::new(alloc);
-    all.reserve(CALLERS as usize)?;
-
-    thread::for_each_mut(
-        rt,
-        players.as_mut_slice(),
-        CALLERS as usize,
-        &|_, player| player.play(rt, &pool),
-    );
-    for player in players {
-        let (me, played) = player.leave();
-        refusals.join(&played.refusals);
-        back.push(me).map_err(|_| Fault::Starved)?;
-        all.push(played).map_err(|_| Fault::Starved)?;
-    }
-    let core = pool.finish(rt, back).map_err(|_| Fault::CallerMissing)?;
+    let segments: Segments = Mutex::new(Vec::with_capacity(alloc, CUTS)?);
+    let players = players_of(alloc, callers, seed, manner, &segments)?;
+    let back = Vec::with_capacity(alloc, CALLERS as usize)?;
+    let mut all = Vec::with_capacity(alloc, CALLERS as usize)?;
+    let core = play_on(rt, pool, players, back, &mut all, refusals)?;
     let segments = segments.into_inner();
     judge(alloc, settings, &segments, &core, all.as_slice(), tally)
 }
