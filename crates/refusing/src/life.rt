@@ -2,7 +2,7 @@
 use crate::TRIES;
 use crate::fault::Fault;
 use crate::parts::{Notes, Part};
-use crate::replay::replay;
+use crate::replay::counts_again;
 use crate::things::{Hands, Thing, Things};
 use pool_journal::{Entry, Segment};
 use pool_settings::Settings;
@@ -74,12 +74,12 @@ fn told_of_run<A: Drop>(told: Result<A, PoolFault>) -> Told {
 /// A caller with what it holds.
 #[derive(Drop)]
 pub struct Life<B: Room> {
-    pub me: Caller<B>,
+    me: Caller<B>,
     held: Option<Lent<Thing>>,
     /// How many objects it was lent and has not given back, those that were reclaimed since among them.
     loans: u64,
     /// What was cut from the journal.
-    pub segment: Option<Segment>,
+    segment: Option<Segment>,
 }
 
 impl<B: Room> Life<B> {
@@ -90,6 +90,17 @@ impl<B: Room> Life<B> {
             loans: 0,
             segment: None,
         }
+    }
+
+    /// Its caller, and what was cut from the journal.
+    pub fn leave(self) -> (Caller<B>, Option<Segment>) {
+        let Life {
+            me,
+            held: _,
+            loans: _,
+            segment,
+        } = self;
+        (me, segment)
     }
 
     fn borrow<R: Wait>(&mut self, rt: &R, pool: &Pool<B>) -> Told {
@@ -226,8 +237,8 @@ impl<B: Room> Life<B> {
         notes: &mut Notes,
     ) -> Result<(), Fault> {
         let stored = self.journal(rt, alloc, pool, notes)?;
-        let core = replay(alloc, settings, &self.segment, &stored, notes)?;
-        if core.counts() == pool.counts(rt, &mut self.me) {
+        let counts = counts_again(alloc, settings, &self.segment, &stored, notes)?;
+        if counts == pool.counts(rt, &mut self.me) {
             Ok(())
         } else {
             Err(Fault::CountsDiffer)

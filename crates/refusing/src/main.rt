@@ -20,7 +20,7 @@ use parts::{Notes, Part};
 use pool_core::Core;
 use pool_journal::{Entry, Segment};
 use pool_settings::Settings;
-use pool_shared::{OpenFault, Room, Site};
+use pool_shared::{Caller, OpenFault, Room, Site};
 use replay::{count, is_same, replay};
 use std::alloc::Global;
 use std::fmt::Display;
@@ -148,8 +148,8 @@ fn count_made(
     }
 }
 
-// A pool in which no object is left, and whose journal has its base, its answers, its counts and its statistics.
-fn judge(
+// A new core that takes the same steps comes to the same.
+fn is_replayed(
     alloc: Global,
     settings: Settings,
     segment: &Option<Segment>,
@@ -160,10 +160,22 @@ fn judge(
     if !is_same(again.base(), core.base()) {
         return Err(Fault::BasesDiffer);
     }
-    let counts = core.counts();
-    if again.counts() != counts {
+    if again.counts() != core.counts() {
         return Err(Fault::CountsDiffer);
     }
+    Ok(())
+}
+
+// A pool in which no object is left, and whose journal has its base, its answers, its counts and its statistics.
+fn judge(
+    alloc: Global,
+    settings: Settings,
+    segment: &Option<Segment>,
+    core: &Core<Thing>,
+    notes: &mut Notes,
+) -> Result<(), Fault> {
+    is_replayed(alloc, settings, segment, core, notes)?;
+    let counts = core.counts();
     let ended = counts.destroyed.saturating_add(counts.reclaimed);
     let made = count_made(alloc, segment, core.journal(), notes)?;
     if ended == counts.created && made == counts.created {
@@ -188,21 +200,50 @@ fn live<B: Room, R: Wait>(
     let moment = AtomicU64::new(0);
     let hands = Hands { moment: &moment };
     let (pool, callers) = Pool::<B>::open(rt, alloc, site, settings, NUMBER, 1, Things, hands)?;
-    let mut callers = callers;
-    let Some(me) = callers.pop() else {
-        return Ok(Err(Fault::CallerMissing));
-    };
+    Ok(live_with(
+        rt, alloc, pool, callers, settings, part, spare, &moment, notes,
+    ))
+}
+
+// The life of a pool with its one caller.
+fn live_with<B: Room, R: Wait>(
+    rt: &R,
+    alloc: Global,
+    pool: Pool<B>,
+    mut callers: Vec<Caller<B>>,
+    settings: Settings,
+    part: Part,
+    spare: u64,
+    moment: &AtomicU64,
+    notes: &mut Notes,
+) -> Result<End, Fault> {
+    let me = callers.pop().ok_or(Fault::CallerMissing)?;
     let mut life = Life::new(me);
     let end = make_calls(
-        rt, alloc, &pool, settings, &mut life, part, spare, &moment, notes,
+        rt, alloc, &pool, settings, &mut life, part, spare, moment, notes,
     );
-    if callers.push(life.me).is_err() {
-        return Ok(Err(Fault::OutOfMemory));
+    let (me, segment) = life.leave();
+    if callers.push(me).is_err() {
+        return Err(Fault::OutOfMemory);
     }
-    Ok(match pool.finish(rt, callers) {
-        Ok(core) => judge(alloc, settings, &life.segment, &core, notes).and(end),
+    finish(rt, alloc, pool, callers, settings, &segment, notes)?;
+    end
+}
+
+// The pool is finished, and what it left is judged.
+fn finish<B: Room, R: Wait>(
+    rt: &R,
+    alloc: Global,
+    pool: Pool<B>,
+    callers: Vec<Caller<B>>,
+    settings: Settings,
+    segment: &Option<Segment>,
+    notes: &mut Notes,
+) -> Result<(), Fault> {
+    match pool.finish(rt, callers) {
+        Ok(core) => judge(alloc, settings, segment, &core, notes),
         Err(_) => Err(Fault::CallerMissing),
-    })
+    }
 }
 
 fn make_calls<B: Room, R: Wait>(
