@@ -25,7 +25,7 @@ use fault::Fault;
 use pool_core::Core;
 use pool_journal::print_entry;
 use pool_settings::Settings;
-use pool_shared::{Factory, Room, SharedPool, Site};
+use pool_shared::{Caller, Factory, Room, SharedPool, Site};
 use sqlite::Error;
 use std::alloc::Global;
 use std::marker::Brand;
@@ -60,6 +60,49 @@ const PAUSE: u64 = 250;
 /// SQLite is made of: whether it may go from thread to thread.
 type Bank<L, F, B> = SharedPool<L, Error, F, OfficeClock, B>;
 
+// All clerks work, each on a thread of its own. Their callers come back.
+fn work_all<
+    L: Connected,
+    F: Factory<L, Error> + Send + Drop,
+    B: Room + Send + Sync,
+    R: Threads + Wait + Sync,
+>(
+    rt: &R,
+    alloc: Global,
+    bank: &Bank<L, F, B>,
+    clerks: Vec<Caller<B>>,
+) -> Result<Vec<Caller<B>>, Fault> {
+    let mut back = Vec::new(alloc);
+    for clerk in thread::map_vec(rt, clerks, &|me| work(rt, bank, me))? {
+        back.push(clerk?)?;
+    }
+    Ok(back)
+}
+
+// The manager opens the connections in the morning, and in the evening looks after them and closes the pool.
+fn keep_open<
+    L: Connected,
+    F: Factory<L, Error> + Send + Drop,
+    B: Room + Send + Sync,
+    R: Threads + Wait + Sync,
+>(
+    rt: &R,
+    alloc: Global,
+    bank: &Bank<L, F, B>,
+    manager: &mut Caller<B>,
+    clerks: Vec<Caller<B>>,
+    clock: OfficeClock,
+) -> Result<Vec<Caller<B>>, Fault> {
+    bank.maintain(rt, manager)
+        .map_err(|_| Fault::NotMaintained)?;
+    let back = work_all(rt, alloc, bank, clerks)?;
+    clock.pass(PAUSE);
+    bank.maintain(rt, manager)
+        .map_err(|_| Fault::NotMaintained)?;
+    bank.close(rt, manager).map_err(|_| Fault::NotClosed)?;
+    Ok(back)
+}
+
 // A day at the bank, with a caller for each clerk and one for the manager. `B` stands for this one pool: so the check
 // knows that the callers are its own.
 fn day<
@@ -88,18 +131,7 @@ fn day<
         clock,
     ).map_err(|_| Fault::NotOpened)?;
     let mut manager = callers.pop().ok_or(Fault::CallerMissing)?;
-    bank.maintain(rt, &mut manager)
-        .map_err(|_| Fault::NotMaintained)?;
-
-    let mut back = Vec::new(alloc);
-    for clerk in thread::map_vec(rt, callers, &|me| work(rt, &bank, me))? {
-        back.push(clerk?)?;
-    }
-
-    clock.pass(PAUSE);
-    bank.maintain(rt, &mut manager)
-        .map_err(|_| Fault::NotMaintained)?;
-    bank.close(rt, &mut manager).map_err(|_| Fault::NotClosed)?;
+    let mut back = keep_open(rt, alloc, &bank, &mut manager, callers, clock)?;
     back.push(manager)?;
     bank.finish(rt, back).map_err(|_| Fault::CallerMissing)
 }
