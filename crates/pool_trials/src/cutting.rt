@@ -5,7 +5,7 @@ use crate::beside::{Gated, Parts, tries};
 use crate::clocks::Still;
 use crate::deeds::{Deed, Row, copied, cut, goes_through};
 use crate::items::{Failing, Item, Items, Record, Waiting};
-use crate::openings::{NUMBER, Pool, finished, open, single};
+use crate::openings::{NUMBER, Pool, finished, open};
 use pool_core::Core;
 use pool_journal::{Answer, Base, Entry, Segment};
 use pool_settings::Settings;
@@ -45,6 +45,20 @@ fn behind() -> &'static [Row] {
     &BEHIND
 }
 
+// The first cut gives four entries, behind no others, and leaves none.
+fn cuts_four<B: Room, R: Wait + Abort>(
+    rt: &R,
+    alloc: Global,
+    pool: &Pool<B>,
+    me: &mut Caller<B>,
+) -> Result<(), Fail> {
+    let segment = cut(rt, alloc, pool, me).ok_or("a segment")?;
+    assert_eq!(rt; segment.base.first, 0);
+    assert_eq!(rt; segment.entries.as_slice().len(), 4);
+    assert_eq!(rt; copied(rt, alloc, pool, me), Some(0));
+    Ok(())
+}
+
 fn borrows_behind_a_cut<B: Room, R: Wait + Abort>(
     rt: &R,
     alloc: Global,
@@ -53,10 +67,7 @@ fn borrows_behind_a_cut<B: Room, R: Wait + Abort>(
 ) -> Result<(), Fail> {
     let mut held = None;
     goes_through(rt, pool, me, &mut held, before());
-    let segment = cut(rt, alloc, pool, me).ok_or("a segment")?;
-    assert_eq!(rt; segment.base.first, 0);
-    assert_eq!(rt; segment.entries.as_slice().len(), 4);
-    assert_eq!(rt; copied(rt, alloc, pool, me), Some(0));
+    cuts_four(rt, alloc, pool, me)?;
     goes_through(rt, pool, me, &mut held, behind());
     assert_eq!(rt; copied(rt, alloc, pool, me), Some(2));
     Ok(())
@@ -72,12 +83,16 @@ fn one_caller_cuts<B: Room, R: Wait + Abort>(
     requires { (site ≡ B.table) × (settings ≡ B.settings) × (1 ≡ B.callers) }
 {
     let clock = Still { held: None };
-    let (pool, callers) = open::<B, R>(rt, alloc, site, settings, NUMBER, 1, items, clock)?;
-    let mut me = single(callers).ok_or("a caller")?;
-    borrows_behind_a_cut(rt, alloc, &pool, &mut me)?;
-    let mut callers = Vec::new(alloc);
-    callers.push(me)?;
+    let (pool, mut callers) = open::<B, R>(rt, alloc, site, settings, NUMBER, 1, items, clock)?;
+    let me = callers.last_mut().ok_or("a caller")?;
+    borrows_behind_a_cut(rt, alloc, &pool, me)?;
     let core = finished(rt, pool, callers).ok_or("a core")?;
+    is_left(rt, &core);
+    Ok(())
+}
+
+// What is left behind the cut: two entries, and an object that is lent.
+fn is_left(rt: &impl Abort, core: &Core<Item>) {
     assert_eq!(rt; core.journal().len(), 2);
     let counts = Counts {
         steps: 6,
@@ -90,7 +105,6 @@ fn one_caller_cuts<B: Room, R: Wait + Abort>(
         reclaimed: 0,
     };
     assert_eq!(rt; core.counts(), counts);
-    Ok(())
 }
 
 #[test]
@@ -149,7 +163,21 @@ fn cuts_again<R: Abort>(
     Ok(())
 }
 
-// A core of its own that takes the steps of all segments and is cut where they were, and then those that were stored at the end.
+// Takes the steps of all segments and is cut where they were, and then takes those that were stored at the end.
+fn takes_all<R: Abort>(
+    rt: &R,
+    alloc: Global,
+    core: &mut Core<u64>,
+    segments: &[Segment],
+    stored: &[Entry],
+) -> Result<(), Fail> {
+    for segment in segments {
+        cuts_again(rt, alloc, core, segment)?;
+    }
+    answers_again(rt, core, stored)
+}
+
+// What a core of its own counts that takes the same steps.
 fn plays_again<R: Abort>(
     rt: &R,
     alloc: Global,
@@ -158,10 +186,7 @@ fn plays_again<R: Abort>(
     stored: &[Entry],
 ) -> Result<Counts, Fail> {
     let mut core = another(alloc, settings).ok_or("a core")?;
-    for segment in segments {
-        cuts_again(rt, alloc, &mut core, segment)?;
-    }
-    answers_again(rt, &mut core, stored)?;
+    takes_all(rt, alloc, &mut core, segments, stored)?;
     Ok(core.counts())
 }
 

@@ -160,6 +160,16 @@ fn holds_one_of_two<'a, B: Room, R: Wait>(
     }
 }
 
+// What the last of the callers holds, who borrowed two objects and gave one back.
+fn lends_one<'a, B: Room, R: Wait>(
+    rt: &R,
+    pool: &Counts<'a, B>,
+    callers: &mut Vec<Caller<B>>,
+) -> Result<Lent<Counted<'a>>, Fail> {
+    let me = callers.last_mut().ok_or("a caller")?;
+    Ok(holds_one_of_two(rt, pool, me).ok_or("an object")?)
+}
+
 // A pool with an idle object and a lent one is dropped with them.
 fn drops<B: Room, R: Wait>(
     rt: &R,
@@ -176,9 +186,7 @@ fn drops<B: Room, R: Wait>(
     let (pool, mut callers) = Counts::<B>::open(
         rt, alloc, site, settings, NUMBER, 2, objects, clock,
     )?;
-    let mut me = callers.pop().ok_or("a caller")?;
-    let lent = holds_one_of_two(rt, &pool, &mut me).ok_or("an object")?;
-    callers.push(me)?;
+    let lent = lends_one(rt, &pool, &mut callers)?;
     drop_in_order(order, pool, callers, lent);
     Ok(())
 }
@@ -209,9 +217,7 @@ fn finishes<B: Room, R: Wait>(
     let (pool, mut callers) = Counts::<B>::open(
         rt, alloc, site, settings, NUMBER, 1, objects, clock,
     )?;
-    let mut me = callers.pop().ok_or("a caller")?;
-    let lent = holds_one_of_two(rt, &pool, &mut me).ok_or("an object")?;
-    callers.push(me)?;
+    let lent = lends_one(rt, &pool, &mut callers)?;
     let core = pool.finish(rt, callers).ok().ok_or("a core")?;
     drop(core);
     drop(lent);

@@ -3,8 +3,9 @@ ghost use Rattle.std.specs.Prelude.{◌≡◌};
 
 use crate::clocks::Still;
 use crate::deeds::{Deed, Row, copied, goes_through};
-use crate::items::{Failing, Items, Record, Waiting};
+use crate::items::{Failing, Item, Items, Record, Waiting};
 use crate::openings::{NUMBER, Pool, finished, open, pair};
+use pool_core::Core;
 use pool_settings::Settings;
 use pool_shared::{Caller, FinishFault, Room, Site};
 use pool_stats::Counts;
@@ -90,21 +91,20 @@ fn takes_parts<B: Room, R: Wait + Abort>(
     goes_through(rt, pool, zero, &mut held, behind_the_end());
 }
 
-// The pool is finished once both callers are back.
-fn finishes<B: Room, R: Wait + Abort>(
+// The pool is not finished without the second caller.
+fn lacks_a_caller<'a, B: Room, R: Wait>(
     rt: &R,
-    alloc: Global,
-    pool: Pool<B>,
-    zero: Caller<B>,
-    one: Caller<B>,
-) -> Result<(), Fail> {
-    let mut callers = Vec::new(alloc);
-    callers.push(zero)?;
-    let Err((FinishFault::CallersMissing, pool, mut callers)) = pool.finish(rt, callers) else {
-        return Err("finished without a caller".into());
-    };
-    callers.push(one)?;
-    let core = finished(rt, pool, callers).ok_or("a core")?;
+    pool: Pool<'a, B>,
+    callers: Vec<Caller<B>>,
+) -> Result<(Pool<'a, B>, Vec<Caller<B>>), Fail> {
+    match pool.finish(rt, callers) {
+        Err((FinishFault::CallersMissing, pool, callers)) => Ok((pool, callers)),
+        Ok(_) => Err("finished without a caller".into()),
+    }
+}
+
+// What is left of the pool.
+fn comes_to(rt: &impl Abort, core: &Core<Item>) {
     assert_eq!(rt; core.journal().len(), 28);
     let counts = Counts {
         steps: 28,
@@ -117,6 +117,22 @@ fn finishes<B: Room, R: Wait + Abort>(
         reclaimed: 0,
     };
     assert_eq!(rt; core.counts(), counts);
+}
+
+// The pool is finished once both callers are back.
+fn finishes<B: Room, R: Wait + Abort>(
+    rt: &R,
+    alloc: Global,
+    pool: Pool<B>,
+    zero: Caller<B>,
+    one: Caller<B>,
+) -> Result<(), Fail> {
+    let mut callers = Vec::new(alloc);
+    callers.push(zero)?;
+    let (pool, mut callers) = lacks_a_caller(rt, pool, callers)?;
+    callers.push(one)?;
+    let core = finished(rt, pool, callers).ok_or("a core")?;
+    comes_to(rt, &core);
     Ok(())
 }
 

@@ -36,6 +36,29 @@ fn opens<'a, B: Room, R: Wait>(
 }
 
 // An object of a pool with the number 5 is offered to another pool, with this number, which refuses it as not lent, or as foreign.
+fn is_offered<A: Room, B: Room, R: Wait + Abort>(
+    rt: &R,
+    own: &Pool<A>,
+    me: &mut Caller<A>,
+    other: &Pool<B>,
+    stranger: &mut Caller<B>,
+    number: u64,
+) {
+    let mut held = None;
+    let mine = [(Deed::Borrow, "lent", 0)];
+    goes_through(rt, own, me, &mut held, &mine);
+    let why = if number == 5 { "not lent" } else { "foreign" };
+    let offered = [
+        (Deed::Invalidate, why, 0),
+        (Deed::GiveBack, why, 0),
+        (Deed::Held, "awake", 0),
+    ];
+    goes_through(rt, other, stranger, &mut held, &offered);
+    let back = [(Deed::GiveBack, "parked", 0)];
+    goes_through(rt, own, me, &mut held, &back);
+}
+
+// Opens both pools.
 fn offers<A: Room, B: Room, R: Wait + Abort>(
     rt: &R,
     alloc: Global,
@@ -50,18 +73,7 @@ fn offers<A: Room, B: Room, R: Wait + Abort>(
 {
     let (own, mut me) = opens::<A, R>(rt, alloc, first, settings, 5, record)?;
     let (other, mut stranger) = opens::<B, R>(rt, alloc, second, settings, number, record)?;
-    let mut held = None;
-    let mine = [(Deed::Borrow, "lent", 0)];
-    goes_through(rt, &own, &mut me, &mut held, &mine);
-    let why = if number == 5 { "not lent" } else { "foreign" };
-    let offered = [
-        (Deed::Invalidate, why, 0),
-        (Deed::GiveBack, why, 0),
-        (Deed::Held, "awake", 0),
-    ];
-    goes_through(rt, &other, &mut stranger, &mut held, &offered);
-    let back = [(Deed::GiveBack, "parked", 0)];
-    goes_through(rt, &own, &mut me, &mut held, &back);
+    is_offered(rt, &own, &mut me, &other, &mut stranger, number);
     Ok(())
 }
 
