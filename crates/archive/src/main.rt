@@ -17,15 +17,16 @@ use archive::Archive;
 use clock::Uptime;
 use connections::{Connection, Connector};
 use fault::Fault;
+use pool_core::Core;
 use pool_settings::Settings;
-use pool_shared::{Room, SharedPool, Site};
+use pool_shared::{Caller, Room, SharedPool, Site};
 use std::alloc::Global;
 use std::convert::Infallible;
 use std::marker::Brand;
 use std::sync::Wait;
 use std::thread::Threads;
 use std::{env, thread};
-use working::work;
+use working::{Tally, work};
 
 /// How the pool is to behave.
 const SETTINGS: &str = "journalLimit = 300
@@ -49,6 +50,49 @@ struct Outcome {
     still_open: u64,
     entries: u64,
     archived: u64,
+}
+
+// All workers work, each on a thread of its own. Their callers come back.
+fn work_all<B: Room + Send + Sync, R: Threads + Wait + Sync>(
+    rt: &R,
+    archive: &Archive<'_>,
+    pool: &Connections<B>,
+    workers: Vec<Caller<B>>,
+    back: &mut Vec<Caller<B>>,
+) -> Result<Tally, Fault> {
+    let mut all = Tally {
+        answered: 0,
+        archived: 0,
+    };
+    for worked in thread::map_vec(rt, workers, &|me| work(rt, archive, pool, me))? {
+        let (caller, tally) = worked?;
+        back.push(caller)?;
+        all.answered = all.answered.saturating_add(tally.answered);
+        all.archived = all.archived.saturating_add(tally.archived);
+    }
+    Ok(all)
+}
+
+// The keeper closes the pool, and archives what is left. The number is how many entries that were.
+fn close<B: Room, R: Wait>(
+    rt: &R,
+    archive: &Archive<'_>,
+    pool: &Connections<B>,
+    keeper: &mut Caller<B>,
+) -> Result<u64, Fault> {
+    pool.close(rt, keeper).map_err(|_| Fault::NotClosed)?;
+    archive.take_in(rt, pool, keeper)
+}
+
+// What came of the work, and of the entries that were archived in the end.
+fn outcome_of(core: &Core<Connection>, tally: Tally, rest: u64) -> Outcome {
+    let counts = core.counts();
+    Outcome {
+        answered: tally.answered,
+        still_open: counts.idle + counts.lent + counts.reserved,
+        entries: counts.steps,
+        archived: tally.archived.saturating_add(rest),
+    }
 }
 
 // The life of the pool, with a caller for each worker and one for the keeper. `B` stands for this one pool: so the check knows that
@@ -75,28 +119,12 @@ fn live<B: Room + Send + Sync, R: Threads + Wait + Sync>(
     )
     .map_err(|_| Fault::NotOpened)?;
     let mut keeper = callers.pop().ok_or(Fault::CallerMissing)?;
-
     let mut back = Vec::new(alloc);
-    let mut answered = 0u64;
-    let mut archived = 0u64;
-    for worked in thread::map_vec(rt, callers, &|me| work(rt, archive, &pool, me))? {
-        let (caller, tally) = worked?;
-        back.push(caller)?;
-        answered = answered.saturating_add(tally.answered);
-        archived = archived.saturating_add(tally.archived);
-    }
-
-    pool.close(rt, &mut keeper).map_err(|_| Fault::NotClosed)?;
-    archived = archived.saturating_add(archive.take_in(rt, &pool, &mut keeper)?);
+    let tally = work_all(rt, archive, &pool, callers, &mut back)?;
+    let rest = close(rt, archive, &pool, &mut keeper)?;
     back.push(keeper)?;
     let core = pool.finish(rt, back).map_err(|_| Fault::CallerMissing)?;
-    let counts = core.counts();
-    Ok(Outcome {
-        answered,
-        still_open: counts.idle + counts.lent + counts.reserved,
-        entries: counts.steps,
-        archived,
-    })
+    Ok(outcome_of(&core, tally, rest))
 }
 
 fn main(rt: HostRuntime) -> Result<(), Fault> {
