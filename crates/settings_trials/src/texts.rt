@@ -103,40 +103,46 @@ removeAbandonedTimeoutMillis = 100
     Ok(())
 }
 
-// Of what is true or false each one alone.
+/// Of what is true or false each one alone.
+const FLAGS_ALONE: [(&str, [bool; 9]); 7] = [
+    (
+        "lifo = false",
+        [false, true, false, false, false, false, false, false, false],
+    ),
+    (
+        "testOnBorrow = true",
+        [false, true, true, false, false, true, false, false, false],
+    ),
+    (
+        "testOnCreate = true",
+        [false, true, true, false, false, false, true, false, false],
+    ),
+    (
+        "testOnReturn = true",
+        [false, true, true, false, false, false, false, true, false],
+    ),
+    (
+        "testWhileIdle = true",
+        [false, true, true, false, false, false, false, false, true],
+    ),
+    (
+        "[abandoned]\nremoveAbandonedOnBorrow = true",
+        [true, true, true, true, false, false, false, false, false],
+    ),
+    (
+        "[abandoned]\nremoveAbandonedOnMaintenance = true",
+        [true, true, true, false, true, false, false, false, false],
+    ),
+];
+
+fn flags_alone() -> &'static [(&'static str, [bool; 9])] {
+    &FLAGS_ALONE
+}
+
 #[test]
 fn flags_are_told_apart(rt: HostRuntime) -> Result<(), Fail> {
-    for (text, told) in [
-        (
-            "lifo = false",
-            [false, true, false, false, false, false, false, false, false],
-        ),
-        (
-            "testOnBorrow = true",
-            [false, true, true, false, false, true, false, false, false],
-        ),
-        (
-            "testOnCreate = true",
-            [false, true, true, false, false, false, true, false, false],
-        ),
-        (
-            "testOnReturn = true",
-            [false, true, true, false, false, false, false, true, false],
-        ),
-        (
-            "testWhileIdle = true",
-            [false, true, true, false, false, false, false, false, true],
-        ),
-        (
-            "[abandoned]\nremoveAbandonedOnBorrow = true",
-            [true, true, true, true, false, false, false, false, false],
-        ),
-        (
-            "[abandoned]\nremoveAbandonedOnMaintenance = true",
-            [true, true, true, false, true, false, false, false, false],
-        ),
-    ] {
-        assert_eq!(rt; flags(&read(&rt, text)?), told, "{text}");
+    for (text, told) in flags_alone() {
+        assert_eq!(rt; flags(&read(&rt, text)?), *told, "{text}");
     }
     Ok(())
 }
@@ -268,41 +274,49 @@ fn ends_of_the_numbers_of_objects(rt: HostRuntime) -> Result<(), Fail> {
     )
 }
 
+const WAIT: &str = "settings: out of range maxWaitMillis";
+
+const IDLE: &str = "settings: out of range minEvictableIdleMillis";
+
+const SOFT: &str = "settings: out of range softMinEvictableIdleMillis";
+
+const TIMEOUT: &str = "settings: out of range abandoned.removeAbandonedTimeoutMillis";
+
+/// The least and the greatest of each time, and what is beyond.
+const TIMES: [(&str, &str); 16] = [
+    ("maxWaitMillis = -1", "ok"),
+    ("maxWaitMillis = -2", WAIT),
+    ("maxWaitMillis = 9007199254740992", "ok"),
+    ("maxWaitMillis = 9007199254740993", WAIT),
+    ("minEvictableIdleMillis = -1", "ok"),
+    ("minEvictableIdleMillis = -2", IDLE),
+    ("minEvictableIdleMillis = 9007199254740992", "ok"),
+    ("minEvictableIdleMillis = 9007199254740993", IDLE),
+    ("softMinEvictableIdleMillis = -1", "ok"),
+    ("softMinEvictableIdleMillis = -2", SOFT),
+    ("softMinEvictableIdleMillis = 9007199254740992", "ok"),
+    ("softMinEvictableIdleMillis = 9007199254740993", SOFT),
+    ("[abandoned]\nremoveAbandonedTimeoutMillis = 0", "ok"),
+    ("[abandoned]\nremoveAbandonedTimeoutMillis = -1", TIMEOUT),
+    (
+        "[abandoned]\nremoveAbandonedTimeoutMillis = 9007199254740992",
+        "ok",
+    ),
+    (
+        "[abandoned]\nremoveAbandonedTimeoutMillis = 9007199254740993",
+        TIMEOUT,
+    ),
+];
+
+fn times() -> &'static [(&'static str, &'static str)] {
+    &TIMES
+}
+
 #[test]
 fn ends_of_the_times(rt: HostRuntime) -> Result<(), Fail> {
     let longest = read(&rt, "maxWaitMillis = 9007199254740992")?;
     assert_eq!(rt; longest.max_wait_millis(), 9_007_199_254_740_992);
-    let wait = "settings: out of range maxWaitMillis";
-    let idle = "settings: out of range minEvictableIdleMillis";
-    let soft = "settings: out of range softMinEvictableIdleMillis";
-    let timeout = "settings: out of range abandoned.removeAbandonedTimeoutMillis";
-    all_told(
-        &rt,
-        &[
-            ("maxWaitMillis = -1", "ok"),
-            ("maxWaitMillis = -2", wait),
-            ("maxWaitMillis = 9007199254740992", "ok"),
-            ("maxWaitMillis = 9007199254740993", wait),
-            ("minEvictableIdleMillis = -1", "ok"),
-            ("minEvictableIdleMillis = -2", idle),
-            ("minEvictableIdleMillis = 9007199254740992", "ok"),
-            ("minEvictableIdleMillis = 9007199254740993", idle),
-            ("softMinEvictableIdleMillis = -1", "ok"),
-            ("softMinEvictableIdleMillis = -2", soft),
-            ("softMinEvictableIdleMillis = 9007199254740992", "ok"),
-            ("softMinEvictableIdleMillis = 9007199254740993", soft),
-            ("[abandoned]\nremoveAbandonedTimeoutMillis = 0", "ok"),
-            ("[abandoned]\nremoveAbandonedTimeoutMillis = -1", timeout),
-            (
-                "[abandoned]\nremoveAbandonedTimeoutMillis = 9007199254740992",
-                "ok",
-            ),
-            (
-                "[abandoned]\nremoveAbandonedTimeoutMillis = 9007199254740993",
-                timeout,
-            ),
-        ],
-    )
+    all_told(&rt, times())
 }
 
 #[test]
@@ -352,16 +366,23 @@ fn every_key_has_its_type(rt: HostRuntime) -> Result<(), Fail> {
     )
 }
 
+/// How many objects are kept idle at least.
+const LEAST_IDLE: [(&str, i32); 5] = [
+    ("minIdle = 5\nmaxIdle = 3", 3),
+    ("minIdle = 5\nmaxIdle = -1", 5),
+    ("minIdle = 5\nmaxIdle = 0", 0),
+    ("minIdle = 5\nmaxIdle = 5", 5),
+    ("minIdle = 5", 5),
+];
+
+fn least_idle() -> &'static [(&'static str, i32)] {
+    &LEAST_IDLE
+}
+
 #[test]
 fn least_idle_under_the_greatest(rt: HostRuntime) -> Result<(), Fail> {
-    for (text, least) in [
-        ("minIdle = 5\nmaxIdle = 3", 3),
-        ("minIdle = 5\nmaxIdle = -1", 5),
-        ("minIdle = 5\nmaxIdle = 0", 0),
-        ("minIdle = 5\nmaxIdle = 5", 5),
-        ("minIdle = 5", 5),
-    ] {
-        assert_eq!(rt; read(&rt, text)?.effective_min_idle(), least, "{text}");
+    for (text, least) in least_idle() {
+        assert_eq!(rt; read(&rt, text)?.effective_min_idle(), *least, "{text}");
     }
     Ok(())
 }
