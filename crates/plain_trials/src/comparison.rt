@@ -83,8 +83,52 @@ fn compare_counts(rt: &impl Abort, alloc: Global, core: &Core<u64>) -> Result<()
     Ok(())
 }
 
+// Steps a core, and compares its answer with the one that is due. Tells whether the journal had room for it.
+fn step(rt: &impl Abort, core: &mut Core<u64>, at: u64, input: Input, due: Answer) -> bool {
+    match core.step(0, at, input, value_of(input)) {
+        Ok((answer, _)) => {
+            assert!(rt;
+                answer == due,
+                "{answer:?} and not {due:?} to {input:?} at {at}"
+            );
+            true
+        }
+        Err(StepFault::JournalFull(_)) => false,
+        Err(StepFault::OutOfMemory(_)) => panic!(rt; "no memory for {input:?} at {at}"),
+    }
+}
+
 // Steps a core, and compares each answer with the plain one, and now and then the counts. It marks what
 // came.
+fn play(
+    rt: &impl Abort,
+    alloc: Global,
+    settings: &Settings,
+    core: &mut Core<u64>,
+    seed: u64,
+    seen: &mut [bool; 23],
+) -> Result<(), Fail> {
+    let mut dice = Dice::new(seed);
+    let (mut last, mut met, mut at) = (0, 0, 0);
+    for number in 0..STEPS {
+        at = dice.moment(at);
+        let input = dice.input(last, met, at);
+        let due = reply(alloc, settings, core.journal(), at, input)?;
+        if step(rt, core, at, input, due) {
+            seen[kind_of(due)] = true;
+            last = drawn_by(due).unwrap_or(last);
+            met = told_by(due).unwrap_or(met);
+        } else {
+            seen[FULL] = true;
+        }
+        if number % COUNTED == 0 {
+            compare_counts(rt, alloc, core)?;
+        }
+    }
+    compare_counts(rt, alloc, core)
+}
+
+// Compares on a new core.
 fn compare(
     rt: &impl Abort,
     alloc: Global,
@@ -93,27 +137,7 @@ fn compare(
     seen: &mut [bool; 23],
 ) -> Result<(), Fail> {
     let mut core = Core::open(alloc, settings)?;
-    let mut dice = Dice::new(seed);
-    let (mut last, mut met, mut at) = (0, 0, 0);
-    for number in 0..STEPS {
-        at = dice.moment(at);
-        let input = dice.input(last, met, at);
-        let due = reply(alloc, &settings, core.journal(), at, input)?;
-        match core.step(0, at, input, value_of(input)) {
-            Ok((answer, _)) => {
-                assert!(rt; answer == due, "{answer:?} and not {due:?}, step {number}");
-                seen[kind_of(due)] = true;
-                last = drawn_by(due).unwrap_or(last);
-                met = told_by(due).unwrap_or(met);
-            }
-            Err(StepFault::JournalFull(_)) => seen[FULL] = true,
-            Err(StepFault::OutOfMemory(_)) => panic!(rt; "no memory in step {number}"),
-        }
-        if number % COUNTED == 0 {
-            compare_counts(rt, alloc, &core)?;
-        }
-    }
-    compare_counts(rt, alloc, &core)
+    play(rt, alloc, &settings, &mut core, seed, seen)
 }
 
 // Compares over some seeds.
