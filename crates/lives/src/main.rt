@@ -16,17 +16,22 @@ use std::process::ExitCode;
 /// The limits of the journals.
 const LIMITS: [u64; 4] = [1, 8, 16, 30];
 
+/// How two lives of one kind ended.
+fn told(one: &Life, other: &Life) -> &'static str {
+    if !one.is_finished() || !other.is_finished() {
+        "something is left"
+    } else if !one.is_same(other) {
+        "the two differ"
+    } else {
+        "finished, the same twice"
+    }
+}
+
 /// Lives two lives of one kind, and tells how they ended.
 fn verdict(rt: &HostRuntime, limit: u64) -> Result<&'static str, AllocError> {
     let one = Life::lived(rt.alloc(), limit)?;
     let other = Life::lived(rt.alloc(), limit)?;
-    Ok(if !one.is_finished() || !other.is_finished() {
-        "something is left"
-    } else if !one.is_same(&other) {
-        "the two differ"
-    } else {
-        "finished, the same twice"
-    })
+    Ok(told(&one, &other))
 }
 
 fn main(rt: HostRuntime) -> ExitCode {
