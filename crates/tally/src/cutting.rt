@@ -14,27 +14,35 @@ use std::alloc::{AllocError, Global};
 pub fn cut_counts(alloc: Global, settings: Settings, entries: &[Entry]) -> Result<Counts, Fault> {
     let mut core = Core::open(alloc, settings)?;
     for entry in entries {
-        core = next_pool(alloc, settings, core, entry)?;
+        go_on(alloc, settings, &mut core, entry)?;
     }
     Ok(core.counts())
 }
 
-// The pool that goes on behind an entry, from one whose journal is empty.
-fn next_pool(
+// Puts in the place of a pool whose journal is empty the one that goes on behind an entry.
+fn go_on(
     alloc: Global,
     settings: Settings,
-    core: Core<u64>,
+    core: &mut Core<u64>,
     entry: &Entry,
-) -> Result<Core<u64>, Fault> {
-    let mut core = core;
+) -> Result<(), Fault> {
+    cut_behind(alloc, core, entry)?;
+    let base = reached(alloc, core)?;
+    *core = opened_from(alloc, settings, base)?;
+    Ok(())
+}
+
+// Takes the step of an entry, and cuts the journal: it has this entry alone, behind the base that was.
+fn cut_behind(alloc: Global, core: &mut Core<u64>, entry: &Entry) -> Result<(), Fault> {
     let head = core.base().head();
     let records = Vec::from_slice(alloc, core.base().records.as_slice())?;
-    take_step(&mut core, entry)?;
+    take_step(core, entry)?;
     let segment = core.cut(alloc)?;
-    if !is_one_entry(&segment, head, records.as_slice(), entry) {
-        return Err(Fault::SegmentDiffers);
+    if is_one_entry(&segment, head, records.as_slice(), entry) {
+        Ok(())
+    } else {
+        Err(Fault::SegmentDiffers)
     }
-    opened_anew(alloc, settings, core)
 }
 
 /// Takes the step of an entry, which is answered as the entry says.
@@ -54,11 +62,14 @@ fn is_one_entry(segment: &Segment, head: Head, records: &[Record], entry: &Entry
         && segment.entries.as_slice() == [*entry].as_slice()
 }
 
-// A pool that is opened from what another came to, with the values that it kept. The other was just cut, so that another
-// cut hands out that base.
-fn opened_anew(alloc: Global, settings: Settings, core: Core<u64>) -> Result<Core<u64>, Fault> {
-    let mut core = core;
-    let base = core.cut(alloc)?.base;
+// What a pool came to that was just cut: another cut hands out that base.
+fn reached(alloc: Global, core: &mut Core<u64>) -> Result<Base, Fault> {
+    let segment = core.cut(alloc)?;
+    Ok(segment.base)
+}
+
+// A pool that is opened from what another came to, with the values that it kept.
+fn opened_from(alloc: Global, settings: Settings, base: Base) -> Result<Core<u64>, Fault> {
     let values = values_of(alloc, &base)?;
     match Core::from_base(alloc, settings, base, values) {
         Ok(opened) => Ok(opened),
