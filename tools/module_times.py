@@ -38,6 +38,8 @@ def main():
         sys.exit(__doc__)
     crate = sys.argv[1]
     folder = TOP / "crates" / crate
+    if not folder.is_dir():
+        sys.exit(f"{crate}: no crate of this repository")
     kept = folder / "out" / "incremental"
     shutil.rmtree(kept, ignore_errors=True)
     status = subprocess.run(["rt", "check", "--jobs", "1", *sys.argv[2:]], cwd=folder, stdout=subprocess.DEVNULL).returncode
