@@ -72,8 +72,8 @@ def watch(command):
 
 
 def dear_edits(crate, runs):
-    """The edits of a crate that took long: each is tried in a folder of its own, in the order of their names."""
-    names = sorted(edit.stem for edit in (TOP / "crates" / crate / "must-fail").glob("*.edit"))
+    """The edits of a crate that took long: each is tried in a folder of its own, in the order of their names, after the crate as it stands."""
+    names = ["as it stands", *sorted(edit.stem for edit in (TOP / "crates" / crate / "must-fail").glob("*.edit"))]
     folders = collections.defaultdict(list)
     for run in runs:
         folders[run.folder].append(run)
