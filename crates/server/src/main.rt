@@ -17,7 +17,7 @@ use judging::is_legal;
 use pool_core::Core;
 use pool_journal::{Entry, Input};
 use pool_settings::Settings;
-use pool_shared::{Clock, Room, SharedPool, Site};
+use pool_shared::{Caller, Clock, Room, SharedPool, Site};
 use serving::serve;
 use std::alloc::Global;
 use std::marker::Brand;
@@ -68,6 +68,23 @@ struct Evening {
     answered: u64,
 }
 
+// All servers answer requests, each on a thread of its own. Their callers come back, and the number is how many had an answer.
+fn serve_all<B: Room + Send + Sync, R: Threads + Wait + Sync>(
+    rt: &R,
+    alloc: Global,
+    pool: &Connections<B>,
+    callers: Vec<Caller<B>>,
+) -> Result<(Vec<Caller<B>>, u64), Fault> {
+    let mut back = Vec::new(alloc);
+    let mut answered = 0u64;
+    for served in thread::map_vec(rt, callers, &|me| serve(rt, pool, me))? {
+        let (caller, count) = served?;
+        back.push(caller)?;
+        answered = answered.saturating_add(count);
+    }
+    Ok((back, answered))
+}
+
 // A day of the pool, with a caller for each server and one for the keeper. `B` stands for this one pool: so the check knows
 // that the callers are its own.
 fn day<B: Room + Send + Sync, R: Threads + Wait + Sync>(
@@ -93,14 +110,7 @@ fn day<B: Room + Send + Sync, R: Threads + Wait + Sync>(
     .map_err(|_| Fault::NotOpened)?;
     let mut keeper = callers.pop().ok_or(Fault::CallerMissing)?;
 
-    let mut back = Vec::new(alloc);
-    let mut answered = 0u64;
-    for served in thread::map_vec(rt, callers, &|me| serve(rt, &pool, me))? {
-        let (caller, count) = served?;
-        back.push(caller)?;
-        answered = answered.saturating_add(count);
-    }
-
+    let (mut back, answered) = serve_all(rt, alloc, &pool, callers)?;
     moment.store(EVENING, Ordering::SeqCst);
     pool.maintain(rt, &mut keeper)
         .map_err(|_| Fault::NotMaintained)?;
@@ -118,12 +128,8 @@ fn broken(journal: &[Entry]) -> usize {
         .count()
 }
 
-fn main(rt: HostRuntime) -> Result<(), Fault> {
-    let site = Site::new(rt.alloc())?;
-    let settings = Settings::from_text(rt.alloc(), SETTINGS).map_err(|_| Fault::Settings)?;
-    let moment = AtomicU64::new(MORNING);
-    let evening = day::<Brand, _>(&rt, rt.alloc(), site, settings, &moment)?;
-
+// What came of the day, and whether its journal is legal.
+fn tell(rt: &HostRuntime, settings: Settings, evening: &Evening) -> Result<(), Fault> {
     let journal = evening.core.journal();
     let counts = evening.core.counts();
     let still_open = counts.idle + counts.lent + counts.reserved;
@@ -138,4 +144,12 @@ fn main(rt: HostRuntime) -> Result<(), Fault> {
     };
     println!(rt; "the journal: {verdict}")?;
     Ok(())
+}
+
+fn main(rt: HostRuntime) -> Result<(), Fault> {
+    let site = Site::new(rt.alloc())?;
+    let settings = Settings::from_text(rt.alloc(), SETTINGS).map_err(|_| Fault::Settings)?;
+    let moment = AtomicU64::new(MORNING);
+    let evening = day::<Brand, _>(&rt, rt.alloc(), site, settings, &moment)?;
+    tell(&rt, settings, &evening)
 }
