@@ -72,12 +72,15 @@ def watch(command):
 
 
 def dear_edits(crate, runs):
-    """The edits of a crate that took long: each is tried in a folder of its own, in the order of their names, after the crate as it stands."""
+    """The edits of a crate that took long: each is tried in a folder of its own, in the order of their names, after the crate as it stands.
+    Where some were kept from an earlier run, or tried twice, which is which isn't known, and they are told by their order alone."""
     names = ["as it stands", *sorted(edit.stem for edit in (TOP / "crates" / crate / "must-fail").glob("*.edit"))]
     folders = collections.defaultdict(list)
     for run in runs:
         folders[run.folder].append(run)
     tried = sorted(folders.values(), key=lambda group: min(run.began for run in group))
+    if len(tried) != len(names):
+        names = [f"check {number}" for number, _ in enumerate(tried)]
     for name, group in zip(names, tried):
         seconds = sum(run.seconds for run in group)
         if seconds > MOST_TOLD:
