@@ -1,11 +1,11 @@
 // Journals that lie in several files.
 use crate::engines::check;
+use crate::outcomes::is_at;
 use crate::rows::with_limit;
 use pool_engines::{EngineFault, Sink};
 use pool_journal::LineFault;
 use std::alloc::Global;
 use std::process::Abort;
-use std::test::Fail;
 
 /// The entries before the cut.
 const FIRST: &str = "0 0 borrow 0 = make 0\n\
@@ -26,15 +26,27 @@ fn expect(
 ) {
     let mut written = Vec::new(alloc);
     let judged = check(alloc, with_limit(7), files, &mut written);
-    assert_eq!(rt;
-        (judged, written.as_slice()),
-        (found, told.as_bytes()),
-        "for {told}"
-    );
+    let wanted = (found, told.as_bytes());
+    is_at(rt, told, (judged, written.as_slice()), wanted);
+}
+
+/// The second file with another text for one of its own, behind the first, comes to this.
+fn expect_other(
+    rt: &impl Abort,
+    alloc: Global,
+    own: &str,
+    other: &str,
+    found: Result<bool, EngineFault>,
+    told: &str,
+) {
+    let second = SECOND.replace(alloc, own, other);
+    let second = second.expect(rt, "another second file");
+    let mut files = [FIRST.as_bytes(), second.as_bytes()];
+    expect(rt, alloc, &mut files, found, told);
 }
 
 #[test]
-fn a_cut_journal_is_legal_as_a_whole(rt: HostRuntime) -> Result<(), Fail> {
+fn a_cut_journal_is_legal_as_a_whole(rt: HostRuntime) {
     let (alloc, first, second) = (rt.alloc(), FIRST.as_bytes(), SECOND.as_bytes());
     expect(&rt, alloc, &mut [], Ok(true), "legal 0\n");
     expect(&rt, alloc, &mut [first], Ok(true), "legal 4\n");
@@ -48,56 +60,25 @@ fn a_cut_journal_is_legal_as_a_whole(rt: HostRuntime) -> Result<(), Fail> {
         Ok(false),
         "illegal base 1\n",
     );
-    Ok(())
 }
 
 #[test]
-fn a_base_that_was_not_due(rt: HostRuntime) -> Result<(), Fail> {
-    let other = SECOND.replace(rt.alloc(), "none", "0")?;
-    expect(
-        &rt,
-        rt.alloc(),
-        &mut [FIRST.as_bytes(), other.as_bytes()],
-        Ok(false),
-        "illegal base 1\n",
-    );
-
-    let other = SECOND.replace(rt.alloc(), "idle 3", "idle 2")?;
-    expect(
-        &rt,
-        rt.alloc(),
-        &mut [FIRST.as_bytes(), other.as_bytes()],
-        Ok(false),
-        "illegal base 1\n",
-    );
-
-    let zero = SECOND.replace(rt.alloc(), "idle 3", "idle 03")?;
-    let fault = EngineFault::Line(2, LineFault::BadNumber);
-    expect(
-        &rt,
-        rt.alloc(),
-        &mut [FIRST.as_bytes(), zero.as_bytes()],
-        Err(fault),
-        "",
-    );
-    Ok(())
+fn a_base_that_was_not_due(rt: HostRuntime) {
+    let (alloc, not_due) = (rt.alloc(), "illegal base 1\n");
+    expect_other(&rt, alloc, "none", "0", Ok(false), not_due);
+    expect_other(&rt, alloc, "idle 3", "idle 2", Ok(false), not_due);
+    let zero = EngineFault::Line(2, LineFault::BadNumber);
+    expect_other(&rt, alloc, "idle 3", "idle 03", Err(zero), "");
 }
 
 #[test]
-fn positions_go_on_from_file_to_file(rt: HostRuntime) -> Result<(), Fail> {
-    let wrong = SECOND.replace(rt.alloc(), "take 0", "make 1")?;
-    expect(
-        &rt,
-        rt.alloc(),
-        &mut [FIRST.as_bytes(), wrong.as_bytes()],
-        Ok(false),
-        "illegal 4 take 0\n",
-    );
-    Ok(())
+fn positions_go_on_from_file_to_file(rt: HostRuntime) {
+    let told = "illegal 4 take 0\n";
+    expect_other(&rt, rt.alloc(), "take 0", "make 1", Ok(false), told);
 }
 
 #[test]
-fn first_lines_that_cannot_be_read(rt: HostRuntime) -> Result<(), Fail> {
+fn first_lines_that_cannot_be_read(rt: HostRuntime) {
     let cut = EngineFault::Line(1, LineFault::Truncated);
     expect(
         &rt,
@@ -122,5 +103,4 @@ fn first_lines_that_cannot_be_read(rt: HostRuntime) -> Result<(), Fail> {
         Err(version),
         "",
     );
-    Ok(())
 }

@@ -2,20 +2,32 @@
 use crate::engines::{check, run, stats_of_at_most};
 use pool_engines::EngineFault;
 use pool_settings::Settings;
-use std::alloc::{AllocError, Global};
+use std::alloc::Global;
+use std::fmt::Debug;
 use std::process::Abort;
 
 /// Statistics of journals of any length.
 pub const ANY_LENGTH: u64 = u64::MAX;
 
 /// What is told of a legal journal of so many entries.
-pub fn legal(alloc: Global, entries: u64) -> Result<String, AllocError> {
-    format!(in alloc; "legal {entries}\n")
+pub fn legal(rt: &impl Abort, alloc: Global, entries: u64) -> String {
+    let told = format!(in alloc; "legal {entries}\n");
+    told.expect(rt, "what is told of a legal journal")
+}
+
+/// This was found.
+pub fn is<T: Debug + Drop + PartialEq>(rt: &impl Abort, found: T, wanted: T) {
+    assert_eq!(rt; found, wanted);
+}
+
+/// This was found at a text.
+pub fn is_at<T: Debug + Drop + PartialEq>(rt: &impl Abort, text: &str, found: T, wanted: T) {
+    assert_eq!(rt; found, wanted, "at {text}");
 }
 
 /// This was written.
 pub fn wrote(rt: &impl Abort, written: &[u8], wanted: &str) {
-    assert_eq!(rt; written, wanted.as_bytes());
+    is(rt, written, wanted.as_bytes());
 }
 
 /// A script comes to this, and this is its journal.
@@ -30,11 +42,8 @@ pub fn runs(
     let mut rest = script.as_bytes();
     let mut written = Vec::new(alloc);
     let found = run(alloc, settings, &mut rest, &mut written);
-    assert_eq!(rt;
-        (found, written.as_slice()),
-        (made, journal.as_bytes()),
-        "at {script}"
-    );
+    let wanted = (made, journal.as_bytes());
+    is_at(rt, script, (found, written.as_slice()), wanted);
 }
 
 /// A journal comes to this, and this is told of it.
@@ -48,11 +57,8 @@ pub fn judges(
 ) {
     let mut written = Vec::new(alloc);
     let found = check(alloc, settings, &mut [journal.as_bytes()], &mut written);
-    assert_eq!(rt;
-        (found, written.as_slice()),
-        (legal, told.as_bytes()),
-        "at {journal}"
-    );
+    let wanted = (legal, told.as_bytes());
+    is_at(rt, journal, (found, written.as_slice()), wanted);
 }
 
 /// The statistics of a journal of so many objects and entries at most come to this, and this is told.
@@ -67,9 +73,6 @@ pub fn sums_up(
     let mut rest = journal.as_bytes();
     let mut written = Vec::new(alloc);
     let found = stats_of_at_most(alloc, limit, &mut rest, &mut written);
-    assert_eq!(rt;
-        (found, written.as_slice()),
-        (ended, told.as_bytes()),
-        "at {journal}"
-    );
+    let wanted = (ended, told.as_bytes());
+    is_at(rt, journal, (found, written.as_slice()), wanted);
 }

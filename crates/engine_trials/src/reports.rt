@@ -1,5 +1,5 @@
 use crate::engines::write_report;
-use crate::outcomes::wrote;
+use crate::outcomes::{is, wrote};
 use crate::streams::{Failing, Stingy};
 use pool_engines::EngineFault;
 use pool_stats::Statistics;
@@ -28,7 +28,7 @@ fn lines_of_a_report(rt: HostRuntime) {
     let written = Cell::new(0);
     let mut writer = Stingy::new(rt.alloc(), 7, &written);
     let ended = write_report(rt.alloc(), u32::MAX, u64::MAX, 10, &found(), &mut writer);
-    assert_eq!(rt; ended, Ok(()));
+    is(&rt, ended, Ok(()));
     wrote(&rt, writer.bytes(), LINES);
 }
 
@@ -36,5 +36,5 @@ fn lines_of_a_report(rt: HostRuntime) {
 fn a_report_after_a_failure(rt: HostRuntime) {
     let mut broken = Failing::new(&[], 30);
     let ended = write_report(rt.alloc(), 1, 1, 10, &found(), &mut broken);
-    assert_eq!(rt; (ended, broken.taken()), (Err(EngineFault::Write), 30));
+    is(&rt, (ended, broken.taken()), (Err(EngineFault::Write), 30));
 }

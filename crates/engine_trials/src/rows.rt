@@ -1,14 +1,13 @@
 // Journals that are run and checked whole, and the faults at which an engine ends.
 use crate::engines::run;
-use crate::outcomes::{judges, legal, runs, wrote};
+use crate::outcomes::{is, judges, legal, runs, wrote};
 use crate::streams::{Failing, Pieces, Stingy};
 use pool_engines::EngineFault;
 use pool_journal::LineFault;
 use pool_settings::Settings;
-use std::alloc::{AllocError, Global};
+use std::alloc::Global;
 use std::cell::Cell;
 use std::process::Abort;
-use std::test::Fail;
 
 pub const PLAIN_LIFE: &str = "0 10 borrow 10 = make 0\n\
     0 11 ready 0 good = lent\n\
@@ -68,18 +67,23 @@ const ROWS: [&str; 6] = [
     BAD_OUTCOME,
 ];
 
+/// Adds a line to a text.
+pub fn add_line(rt: &impl Abort, text: &mut String, line: &str) {
+    text.push_str(line).expect(rt, "a line");
+    text.push_str("\n").expect(rt, "the end of a line");
+}
+
 /// The script of a journal: each line up to its ` = `.
-pub fn script_of(alloc: Global, journal: &str) -> Result<String, AllocError> {
+pub fn script_of(rt: &impl Abort, alloc: Global, journal: &str) -> String {
     let mut script = String::new(alloc);
     for line in journal.lines() {
         let asked = match line.split_once(" = ") {
             Some((asked, _)) => asked,
             None => line,
         };
-        script.push_str(asked)?;
-        script.push_str("\n")?;
+        add_line(rt, &mut script, asked);
     }
-    Ok(script)
+    script
 }
 
 /// Settings with this journal limit.
@@ -90,51 +94,51 @@ pub fn with_limit(journal_limit: u64) -> Settings {
     }
 }
 
-fn runs_and_is_legal(rt: &impl Abort, alloc: Global, journal: &str) -> Result<(), AllocError> {
+fn runs_and_is_legal(rt: &impl Abort, alloc: Global, journal: &str) {
     let count = journal.lines().count() as u64;
-    let script = script_of(alloc, journal)?;
-    let told = legal(alloc, count)?;
+    let script = script_of(rt, alloc, journal);
+    let told = legal(rt, alloc, count);
     runs(rt, alloc, Settings::default(), &script, Ok(count), journal);
     judges(rt, alloc, Settings::default(), journal, Ok(true), &told);
-    Ok(())
 }
 
 #[test]
-fn rows_run_and_are_legal(rt: HostRuntime) -> Result<(), Fail> {
+fn rows_run_and_are_legal(rt: HostRuntime) {
     for journal in ROWS {
-        runs_and_is_legal(&rt, rt.alloc(), journal)?;
+        runs_and_is_legal(&rt, rt.alloc(), journal);
     }
-    Ok(())
 }
 
+const ONE_ENTRY: &str = "0 10 borrow 10 = make 0\n";
+
+const TWO_ENTRIES: &str = "0 10 borrow 10 = make 0\n0 11 ready 0 good = lent\n";
+
 /// Journal limits and scripts, with the faults at which they end, and their journals.
-fn faulty_scripts() -> [(u64, &'static str, EngineFault, &'static str); 6] {
-    let first = "0 10 borrow 10 = make 0\n";
-    let two = "0 10 borrow 10 = make 0\n0 11 ready 0 good = lent\n";
-    [
+fn faulty_scripts() -> &'static [(u64, &'static str, EngineFault, &'static str)] {
+    &[
         (
             9,
             "0 10 borrow 10\n0 11 ready 0 good\n0 15 return 00\n",
             EngineFault::Line(3, LineFault::BadNumber),
-            two,
+            TWO_ENTRIES,
         ),
         (
             9,
             "0 10 borrow 10\n0  11 ready 0 good\n",
             EngineFault::Line(2, LineFault::NotALine),
-            first,
+            ONE_ENTRY,
         ),
         (
             9,
             "0 10 borrow 10\n0 11 ready 0 good",
             EngineFault::Line(2, LineFault::Truncated),
-            first,
+            ONE_ENTRY,
         ),
         (
             7,
             "0 10 borrow 10\n0 11 ready 0 good\n1 12 borrow 12\n0 15 return 0\n",
             EngineFault::Full(3),
-            two,
+            TWO_ENTRIES,
         ),
         (6, "0 10 borrow 10\n", EngineFault::Full(1), ""),
         (2, "0 10 borrow 10\n", EngineFault::Full(1), ""),
@@ -143,7 +147,7 @@ fn faulty_scripts() -> [(u64, &'static str, EngineFault, &'static str); 6] {
 
 #[test]
 fn runs_end_at_faults(rt: HostRuntime) {
-    for (limit, script, fault, journal) in faulty_scripts() {
+    for &(limit, script, fault, journal) in faulty_scripts() {
         runs(
             &rt,
             rt.alloc(),
@@ -160,18 +164,22 @@ fn runs_end_at_a_long_line(rt: HostRuntime) {
     let mut written = Vec::new(rt.alloc());
     let mut script = &[b'a'; 300][..];
     let made = run(rt.alloc(), Settings::default(), &mut script, &mut written);
-    assert_eq!(rt; made, Err(EngineFault::Line(1, LineFault::LineTooLong)));
+    is(&rt, made, Err(EngineFault::Line(1, LineFault::LineTooLong)));
 }
 
+const WRONG: &str =
+    "0 10 borrow 10 = make 0\n0 11 ready 0 good = lent\n0 15 return 0 = parked\nno line";
+
+const NO_ROOM: &str = "0 10 borrow 10 = make 0\n0 11 ready 0 good = lent\n1 12 borrow 12 = wait\n";
+
+const NOT_A_LINE: EngineFault = EngineFault::Line(1, LineFault::NotALine);
+
+const TRUNCATED: EngineFault = EngineFault::Line(2, LineFault::Truncated);
+
 /// Journal limits and journals, with what they come to, and what is told.
-fn judged_journals() -> [(u64, &'static str, Result<bool, EngineFault>, &'static str); 7] {
-    let wrong =
-        "0 10 borrow 10 = make 0\n0 11 ready 0 good = lent\n0 15 return 0 = parked\nno line";
-    let no_room = "0 10 borrow 10 = make 0\n0 11 ready 0 good = lent\n1 12 borrow 12 = wait\n";
-    let not_a_line = Err(EngineFault::Line(1, LineFault::NotALine));
-    let truncated = Err(EngineFault::Line(2, LineFault::Truncated));
-    [
-        (9, wrong, Ok(false), "illegal 2 check\n"),
+fn judged_journals() -> &'static [(u64, &'static str, Result<bool, EngineFault>, &'static str)] {
+    &[
+        (9, WRONG, Ok(false), "illegal 2 check\n"),
         (
             9,
             "0 10 borrow 10 = wait\n",
@@ -184,37 +192,35 @@ fn judged_journals() -> [(u64, &'static str, Result<bool, EngineFault>, &'static
             Ok(false),
             "illegal 0 refused notlent\n",
         ),
-        (9, "0 10 borrow 10\n", not_a_line, ""),
-        (9, "0 10 borrow 10 = make 0\n0", truncated, ""),
-        (2, wrong, Err(EngineFault::Full(1)), ""),
-        (7, no_room, Err(EngineFault::Full(3)), ""),
+        (9, "0 10 borrow 10\n", Err(NOT_A_LINE), ""),
+        (9, "0 10 borrow 10 = make 0\n0", Err(TRUNCATED), ""),
+        (2, WRONG, Err(EngineFault::Full(1)), ""),
+        (7, NO_ROOM, Err(EngineFault::Full(3)), ""),
     ]
 }
 
 #[test]
 fn checks_end_at_the_first_wrong_answer(rt: HostRuntime) {
-    for (limit, journal, legal, told) in judged_journals() {
+    for &(limit, journal, legal, told) in judged_journals() {
         judges(&rt, rt.alloc(), with_limit(limit), journal, legal, told);
     }
 }
 
-fn runs_in_pieces(rt: &impl Abort, alloc: Global, size: usize) -> Result<(), AllocError> {
-    let script = script_of(alloc, FAILED_ACTIVATION)?;
+fn runs_in_pieces(rt: &impl Abort, alloc: Global, size: usize) {
+    let script = script_of(rt, alloc, FAILED_ACTIVATION);
     let written = Cell::new(0);
     let mut reader = Pieces::new(script.as_bytes(), size, &written);
     let mut writer = Stingy::new(alloc, size, &written);
     let made = run(alloc, Settings::default(), &mut reader, &mut writer);
-    assert_eq!(rt; made, Ok(12));
+    is(rt, made, Ok(12));
     wrote(rt, writer.bytes(), FAILED_ACTIVATION);
-    Ok(())
 }
 
 #[test]
-fn pieces_make_no_difference(rt: HostRuntime) -> Result<(), Fail> {
+fn pieces_make_no_difference(rt: HostRuntime) {
     for size in [1, 7, 15, 100] {
-        runs_in_pieces(&rt, rt.alloc(), size)?;
+        runs_in_pieces(&rt, rt.alloc(), size);
     }
-    Ok(())
 }
 
 #[test]
@@ -224,10 +230,8 @@ fn each_line_is_answered_before_more_is_read(rt: HostRuntime) {
     let mut writer = Stingy::new(rt.alloc(), 100, &written);
     let made = run(rt.alloc(), Settings::default(), &mut reader, &mut writer);
     let first = "0 10 borrow 10 = make 0\n".len();
-    assert_eq!(rt;
-        (made, reader.written_at_second_read()),
-        (Ok(2), Some(first))
-    );
+    let found = (made, reader.written_at_second_read());
+    is(&rt, found, (Ok(2), Some(first)));
 }
 
 #[test]
@@ -236,27 +240,28 @@ fn what_stands_after_a_failed_read(rt: HostRuntime) {
     let mut reader = Failing::new(b"0 10 borrow 10\n0 11 rea", 24);
     let made = run(rt.alloc(), Settings::default(), &mut reader, &mut written);
     let first = b"0 10 borrow 10 = make 0\n".as_slice();
-    assert_eq!(rt; (made, written.as_slice()), (Err(EngineFault::Read), first));
+    let found = (made, written.as_slice());
+    is(&rt, found, (Err(EngineFault::Read), first));
 }
 
 #[test]
-fn what_stands_after_a_failed_write(rt: HostRuntime) -> Result<(), Fail> {
-    let script = script_of(rt.alloc(), PLAIN_LIFE)?;
+fn what_stands_after_a_failed_write(rt: HostRuntime) {
+    let script = script_of(&rt, rt.alloc(), PLAIN_LIFE);
     let mut rest = script.as_bytes();
     let mut broken = Failing::new(&[], 30);
     let made = run(rt.alloc(), Settings::default(), &mut rest, &mut broken);
-    assert_eq!(rt; (made, broken.taken()), (Err(EngineFault::Write), 30));
-    Ok(())
+    is(&rt, (made, broken.taken()), (Err(EngineFault::Write), 30));
 }
 
 /// What is told of a fault.
-fn told_of(alloc: Global, fault: EngineFault) -> Result<String, AllocError> {
-    format!(in alloc; "{fault}")
+fn told_of(rt: &impl Abort, alloc: Global, fault: EngineFault) -> String {
+    let told = format!(in alloc; "{fault}");
+    told.expect(rt, "what is told of a fault")
 }
 
 /// Faults, with what is told of them.
-fn told_faults() -> [(EngineFault, &'static str); 8] {
-    [
+fn told_faults() -> &'static [(EngineFault, &'static str)] {
+    &[
         (
             EngineFault::Line(3, LineFault::LineTooLong),
             "pool: line 3: line too long",
@@ -281,10 +286,9 @@ fn told_faults() -> [(EngineFault, &'static str); 8] {
 }
 
 #[test]
-fn faults_are_told(rt: HostRuntime) -> Result<(), Fail> {
-    for (fault, told) in told_faults() {
-        let found = told_of(rt.alloc(), fault)?;
-        assert_eq!(rt; found.as_str(), told);
+fn faults_are_told(rt: HostRuntime) {
+    for &(fault, told) in told_faults() {
+        let found = told_of(&rt, rt.alloc(), fault);
+        is(&rt, found.as_str(), told);
     }
-    Ok(())
 }

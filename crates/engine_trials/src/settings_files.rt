@@ -1,21 +1,22 @@
 // What settings files answer.
 use crate::engines::read_settings;
+use crate::outcomes::{is, is_at};
 use crate::streams::{Failing, Pieces};
 use pool_engines::{FileFault, Source};
 use pool_settings::Settings;
-use std::alloc::{AllocError, Global};
+use std::alloc::Global;
 use std::cell::Cell;
 use std::process::Abort;
-use std::test::Fail;
 
 const MOST: usize = 1_048_576;
 
 /// What is told of a file that gives no settings, and `read` of one that does.
-fn told<R: Source>(alloc: Global, reader: &mut R) -> Result<String, AllocError> {
-    match read_settings(alloc, reader) {
+fn told<R: Source>(rt: &impl Abort, alloc: Global, reader: &mut R) -> String {
+    let told = match read_settings(alloc, reader) {
         Ok(_) => String::from_str(alloc, "read"),
         Err(fault) => format!(in alloc; "{fault}"),
-    }
+    };
+    told.expect(rt, "what is told of a file")
 }
 
 /// Whether a file said that there are three objects.
@@ -29,24 +30,21 @@ pub fn says_three(answer: &Result<Settings, FileFault>) -> bool {
 fn read(rt: &impl Abort, alloc: Global, text: &str) -> Settings {
     match read_settings(alloc, &mut text.as_bytes()) {
         Ok(settings) => settings,
-        Err(_) => {
-            assert!(rt; false, "at {text}");
-            Settings::default()
-        }
+        Err(_) => panic!(rt; "at {text}"),
     }
 }
 
 /// A file of this length that says a number of objects.
-fn file_of(alloc: Global, length: usize) -> Result<Vec<u8>, AllocError> {
-    let mut bytes = Vec::new(alloc);
-    bytes.extend_from_slice(b"maxTotal = 3\n")?;
-    bytes.resize(length, b'\n')?;
-    Ok(bytes)
+fn file_of(rt: &impl Abort, alloc: Global, length: usize) -> Vec<u8> {
+    let line = Vec::from_slice(alloc, b"maxTotal = 3\n");
+    let mut bytes = line.expect(rt, "the line of a file");
+    bytes.resize(length, b'\n').expect(rt, "a file");
+    bytes
 }
 
 /// Files, with what is told of them.
-fn judged_files() -> [(&'static str, &'static str); 12] {
-    [
+fn judged_files() -> &'static [(&'static str, &'static str)] {
+    &[
         ("", "read"),
         ("maxTotal =", "pool: settings: not TOML"),
         ("maxTotl = 8", "pool: settings: unknown key maxTotl"),
@@ -81,12 +79,11 @@ fn judged_files() -> [(&'static str, &'static str); 12] {
 }
 
 #[test]
-fn files_are_judged(rt: HostRuntime) -> Result<(), Fail> {
-    for (text, wanted) in judged_files() {
-        let answer = told(rt.alloc(), &mut text.as_bytes())?;
-        assert_eq!(rt; answer.as_str(), wanted, "at {text}");
+fn files_are_judged(rt: HostRuntime) {
+    for &(text, wanted) in judged_files() {
+        let answer = told(&rt, rt.alloc(), &mut text.as_bytes());
+        is_at(&rt, text, answer.as_str(), wanted);
     }
-    Ok(())
 }
 
 #[test]
@@ -98,54 +95,50 @@ fn files_say_settings(rt: HostRuntime) {
     };
     let found = read(&rt, rt.alloc(), "maxTotal = -1\nlifo = false\n");
     let none = read(&rt, rt.alloc(), "");
-    assert_eq!(rt; [none, found], [Settings::default(), wanted]);
+    is(&rt, [none, found], [Settings::default(), wanted]);
 }
 
 #[test]
 fn the_least_number_is_limited(rt: HostRuntime) {
     let small = read(&rt, rt.alloc(), "minIdle = 5\nmaxIdle = 3\n").effective_min_idle();
     let unlimited = read(&rt, rt.alloc(), "minIdle = 5\nmaxIdle = -1\n").effective_min_idle();
-    assert_eq!(rt; (small, unlimited), (3, 5));
+    is(&rt, (small, unlimited), (3, 5));
 }
 
 #[test]
-fn the_longest_file_is_read(rt: HostRuntime) -> Result<(), Fail> {
-    let longest = file_of(rt.alloc(), MOST)?;
+fn the_longest_file_is_read(rt: HostRuntime) {
+    let longest = file_of(&rt, rt.alloc(), MOST);
     let answer = read_settings(rt.alloc(), &mut longest.as_slice());
     assert!(rt; says_three(&answer));
-    Ok(())
 }
 
 #[test]
-fn long_files_are_refused(rt: HostRuntime) -> Result<(), Fail> {
-    let mut too_long = file_of(rt.alloc(), MOST + 1)?;
+fn long_files_are_refused(rt: HostRuntime) {
+    let mut too_long = file_of(&rt, rt.alloc(), MOST + 1);
     let answer = read_settings(rt.alloc(), &mut too_long.as_slice());
     assert!(rt; matches!(answer, Err(FileFault::TooLong)));
 
-    too_long.push(0xff)?;
+    too_long.push(0xff).expect(&rt, "one byte more");
     let mut rest = too_long.as_slice();
-    let answer = told(rt.alloc(), &mut rest)?;
-    let last = [0xff].as_slice();
-    assert_eq!(rt; (answer.as_str(), rest), ("pool: settings: too long", last));
-    Ok(())
+    let answer = told(&rt, rt.alloc(), &mut rest);
+    let wanted = ("pool: settings: too long", [0xff].as_slice());
+    is(&rt, (answer.as_str(), rest), wanted);
 }
 
 #[test]
-fn files_that_are_not_text_are_refused(rt: HostRuntime) -> Result<(), Fail> {
+fn files_that_are_not_text_are_refused(rt: HostRuntime) {
     let bytes = b"maxTotal = 3 # \xff";
     let answer = read_settings(rt.alloc(), &mut bytes.as_slice());
     assert!(rt; matches!(answer, Err(FileFault::NotUtf8)));
-    let answer = told(rt.alloc(), &mut bytes.as_slice())?;
-    assert_eq!(rt; answer.as_str(), "pool: settings: not TOML");
-    Ok(())
+    let answer = told(&rt, rt.alloc(), &mut bytes.as_slice());
+    is(&rt, answer.as_str(), "pool: settings: not TOML");
 }
 
 #[test]
-fn a_failed_read_is_told(rt: HostRuntime) -> Result<(), Fail> {
+fn a_failed_read_is_told(rt: HostRuntime) {
     let mut reader = Failing::new(b"maxTotal = 3\n", 5);
-    let answer = told(rt.alloc(), &mut reader)?;
-    assert_eq!(rt; answer.as_str(), "pool: read failed");
-    Ok(())
+    let answer = told(&rt, rt.alloc(), &mut reader);
+    is(&rt, answer.as_str(), "pool: read failed");
 }
 
 #[test]

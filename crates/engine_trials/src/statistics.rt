@@ -1,6 +1,6 @@
 // The statistics of journals, and the faults at which they end.
 use crate::engines::stats;
-use crate::outcomes::{ANY_LENGTH, sums_up, wrote};
+use crate::outcomes::{ANY_LENGTH, is, sums_up, wrote};
 use crate::rows::PLAIN_LIFE;
 use crate::streams::{Failing, Pieces, Stingy};
 use pool_engines::EngineFault;
@@ -71,8 +71,8 @@ const OF_LONGEST_TWICE: &str = "borrowed 2\nreturned 2\ncreated 0\ndestroyed 0\n
     borrowtestfailed 0\nreclaimed 0\nlongest 18446744073709551615\ntotal 18446744073709551615\n";
 
 /// Journals, with what is told of them.
-fn legal_journals() -> [(&'static str, &'static str); 9] {
-    [
+fn legal_journals() -> &'static [(&'static str, &'static str)] {
+    &[
         ("", OF_NOTHING),
         (PLAIN_LIFE, OF_PLAIN_LIFE),
         (RECLAIMED, OF_RECLAIMED),
@@ -87,41 +87,45 @@ fn legal_journals() -> [(&'static str, &'static str); 9] {
 
 #[test]
 fn statistics_of_journals(rt: HostRuntime) {
-    for (journal, told) in legal_journals() {
+    for &(journal, told) in legal_journals() {
         sums_up(&rt, rt.alloc(), ANY_LENGTH, journal, Ok(()), told);
     }
 }
 
+const NO_NUMBER: &str = "0 10 borrow 10 = make 0\n0 11 ready 00 good = lent\n";
+
+const BAD_NUMBER: EngineFault = EngineFault::Line(2, LineFault::BadNumber);
+
+const NOT_A_LINE: EngineFault = EngineFault::Line(1, LineFault::NotALine);
+
+const TRUNCATED: EngineFault = EngineFault::Line(1, LineFault::Truncated);
+
 /// Journals of at most so many entries, with what their statistics come to, and what is told.
-fn limited_journals() -> [(u64, &'static str, Result<(), EngineFault>, &'static str); 8] {
-    let no_number = "0 10 borrow 10 = make 0\n0 11 ready 00 good = lent\n";
-    let bad_number = Err(EngineFault::Line(2, LineFault::BadNumber));
-    let not_a_line = Err(EngineFault::Line(1, LineFault::NotALine));
-    let truncated = Err(EngineFault::Line(1, LineFault::Truncated));
-    [
+fn limited_journals() -> &'static [(u64, &'static str, Result<(), EngineFault>, &'static str)] {
+    &[
         (4, PLAIN_LIFE, Ok(()), OF_PLAIN_LIFE),
         (3, PLAIN_LIFE, Err(EngineFault::Full(4)), ""),
         (0, PLAIN_LIFE, Err(EngineFault::Full(1)), ""),
         (0, "", Ok(()), OF_NOTHING),
-        (9, no_number, bad_number, ""),
+        (9, NO_NUMBER, Err(BAD_NUMBER), ""),
         // A line is read before there is found to be no room for it.
-        (1, no_number, bad_number, ""),
-        (9, "0 10 borrow 10\n", not_a_line, ""),
-        (9, "0 1 close", truncated, ""),
+        (1, NO_NUMBER, Err(BAD_NUMBER), ""),
+        (9, "0 10 borrow 10\n", Err(NOT_A_LINE), ""),
+        (9, "0 1 close", Err(TRUNCATED), ""),
     ]
 }
 
 // Where a line is no entry, or one too many, nothing is told.
 #[test]
 fn statistics_end_at_faults(rt: HostRuntime) {
-    for (limit, journal, ended, told) in limited_journals() {
+    for &(limit, journal, ended, told) in limited_journals() {
         sums_up(&rt, rt.alloc(), limit, journal, ended, told);
     }
 }
 
 /// Journals with a faulty line, its number and its fault.
-fn faulty_bases() -> [(&'static str, u64, LineFault); 12] {
-    [
+fn faulty_bases() -> &'static [(&'static str, u64, LineFault)] {
+    &[
         ("pool-journal", 1, LineFault::Truncated),
         ("pool-journal 2 4 1 open", 1, LineFault::Truncated),
         ("pool-journal 2 4 1 open\n", 1, LineFault::NotALine),
@@ -172,7 +176,7 @@ fn faulty_bases() -> [(&'static str, u64, LineFault); 12] {
 // The lines of a base are read as those of entries are, and counted with them.
 #[test]
 fn statistics_end_at_faults_of_a_base(rt: HostRuntime) {
-    for (journal, number, fault) in faulty_bases() {
+    for &(journal, number, fault) in faulty_bases() {
         let ended = Err(EngineFault::Line(number, fault));
         sums_up(&rt, rt.alloc(), ANY_LENGTH, journal, ended, "");
     }
@@ -181,7 +185,7 @@ fn statistics_end_at_faults_of_a_base(rt: HostRuntime) {
 // Objects are counted with the entries, and the first line isn't.
 #[test]
 fn statistics_of_a_segment_end_at_their_limit(rt: HostRuntime) {
-    for (limit, ended, told) in [
+    for &(limit, ended, told) in &[
         (2, Ok(()), OF_NOTHING),
         (1, Err(EngineFault::Full(3)), ""),
         (0, Err(EngineFault::Full(2)), ""),
@@ -195,7 +199,7 @@ fn statistics_in_pieces(rt: &impl Abort, alloc: Global, size: usize) {
     let mut reader = Pieces::new(CLOSED.as_bytes(), size, &written);
     let mut writer = Stingy::new(alloc, size, &written);
     let ended = stats(alloc, &mut reader, &mut writer);
-    assert_eq!(rt; ended, Ok(()));
+    is(rt, ended, Ok(()));
     wrote(rt, writer.bytes(), OF_CLOSED);
 }
 
@@ -211,12 +215,13 @@ fn statistics_after_a_failed_read(rt: HostRuntime) {
     let mut written = Vec::new(rt.alloc());
     let mut reader = Failing::new(PLAIN_LIFE.as_bytes(), 24);
     let ended = stats(rt.alloc(), &mut reader, &mut written);
-    assert_eq!(rt; (ended, written.is_empty()), (Err(EngineFault::Read), true));
+    let found = (ended, written.is_empty());
+    is(&rt, found, (Err(EngineFault::Read), true));
 }
 
 #[test]
 fn statistics_after_a_failed_write(rt: HostRuntime) {
     let mut broken = Failing::new(&[], 30);
     let ended = stats(rt.alloc(), &mut PLAIN_LIFE.as_bytes(), &mut broken);
-    assert_eq!(rt; (ended, broken.taken()), (Err(EngineFault::Write), 30));
+    is(&rt, (ended, broken.taken()), (Err(EngineFault::Write), 30));
 }

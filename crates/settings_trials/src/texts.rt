@@ -1,17 +1,33 @@
 use pool_settings::{Settings, SettingsFault};
+use std::fmt::Debug;
 use std::process::Abort;
-use std::test::Fail;
 
-/// What the program tells of a text: `ok`, or the fault's line.
-fn told(rt: &impl AllocGlobal, text: &str) -> Result<String, Fail> {
-    Ok(match Settings::from_text(rt.alloc(), text) {
-        Ok(_) => String::from_str(rt.alloc(), "ok")?,
-        Err(fault) => format!(in rt.alloc(); "{fault}")?,
-    })
+/// This was found.
+fn is<T: Debug + Drop + PartialEq>(rt: &impl Abort, found: T, wanted: T) {
+    assert_eq!(rt; found, wanted);
 }
 
-fn read(rt: &impl AllocGlobal, text: &str) -> Result<Settings, Fail> {
-    Ok(Settings::from_text(rt.alloc(), text)?)
+/// This was found at a text.
+fn is_at<T: Debug + Drop + PartialEq>(rt: &impl Abort, text: &str, found: T, wanted: T) {
+    assert_eq!(rt; found, wanted, "{text}");
+}
+
+/// The line of a fault.
+fn line_of(rt: &(impl AllocGlobal + Abort), fault: &SettingsFault) -> String {
+    let line = format!(in rt.alloc(); "{fault}");
+    line.expect(rt, "the line of a fault")
+}
+
+/// What the program tells of a text: `ok`, or the fault's line.
+fn told(rt: &(impl AllocGlobal + Abort), text: &str) -> String {
+    match Settings::from_text(rt.alloc(), text) {
+        Ok(_) => String::from_str(rt.alloc(), "ok").expect(rt, text),
+        Err(fault) => line_of(rt, &fault),
+    }
+}
+
+fn read(rt: &(impl AllocGlobal + Abort), text: &str) -> Settings {
+    Settings::from_text(rt.alloc(), text).expect(rt, text)
 }
 
 /// The numbers of settings but for the journal's limit, by the alphabet of their keys.
@@ -43,35 +59,29 @@ fn flags(settings: &Settings) -> [bool; 9] {
     ]
 }
 
-fn all_told(rt: &(impl AllocGlobal + Abort), cases: &[(&str, &str)]) -> Result<(), Fail> {
-    for (text, answer) in cases {
-        assert_eq!(rt; told(rt, text)?.as_str(), *answer, "{text}");
+fn all_told(rt: &(impl AllocGlobal + Abort), cases: &[(&str, &str)]) {
+    for &(text, answer) in cases {
+        is_at(rt, text, told(rt, text).as_str(), answer);
     }
-    Ok(())
 }
 
 // The defaults that GenericObjectPoolConfig and AbandonedConfig document, and the journal's limit.
 #[test]
-fn defaults(rt: HostRuntime) -> Result<(), Fail> {
+fn defaults(rt: HostRuntime) {
     let settings = Settings::default();
-    assert_eq!(rt; settings.journal_limit(), 1_000_000);
-    assert_eq!(rt;
-        numbers(&settings),
-        [8, 8, -1, 1_800_000, 0, 3, 300_000, -1]
-    );
-    assert_eq!(rt;
-        flags(&settings),
-        [false, true, true, false, false, false, false, false, false]
-    );
-    assert_eq!(rt; settings.effective_min_idle(), 0);
-    assert_eq!(rt; read(&rt, "")?, settings);
-    assert_eq!(rt; read(&rt, "# nothing is said\n\n")?, settings);
-    Ok(())
+    is(&rt, settings.journal_limit(), 1_000_000);
+    let wanted = [8, 8, -1, 1_800_000, 0, 3, 300_000, -1];
+    is(&rt, numbers(&settings), wanted);
+    let wanted = [false, true, true, false, false, false, false, false, false];
+    is(&rt, flags(&settings), wanted);
+    is(&rt, settings.effective_min_idle(), 0);
+    is(&rt, read(&rt, ""), settings);
+    is(&rt, read(&rt, "# nothing is said\n\n"), settings);
 }
 
 // Each setting is put at its key, all at values that are no other's.
 #[test]
-fn every_key_is_read(rt: HostRuntime) -> Result<(), Fail> {
+fn every_key_is_read(rt: HostRuntime) {
     let text = "
 blockWhenExhausted = false
 journalLimit = 20
@@ -92,15 +102,12 @@ removeAbandonedOnBorrow = true
 removeAbandonedOnMaintenance = true
 removeAbandonedTimeoutMillis = 100
 ";
-    let settings = read(&rt, text)?;
-    assert_eq!(rt; settings.journal_limit(), 20);
-    assert_eq!(rt; numbers(&settings), [3, -4, 50, 60, 7, -8, 100, 90]);
-    assert_eq!(rt;
-        flags(&settings),
-        [true, false, false, true, true, true, true, true, true]
-    );
-    assert_eq!(rt; settings.effective_min_idle(), 3);
-    Ok(())
+    let settings = read(&rt, text);
+    is(&rt, settings.journal_limit(), 20);
+    is(&rt, numbers(&settings), [3, -4, 50, 60, 7, -8, 100, 90]);
+    let wanted = [true, false, false, true, true, true, true, true, true];
+    is(&rt, flags(&settings), wanted);
+    is(&rt, settings.effective_min_idle(), 3);
 }
 
 /// Of what is true or false each one alone.
@@ -140,15 +147,14 @@ fn flags_alone() -> &'static [(&'static str, [bool; 9])] {
 }
 
 #[test]
-fn flags_are_told_apart(rt: HostRuntime) -> Result<(), Fail> {
-    for (text, told) in flags_alone() {
-        assert_eq!(rt; flags(&read(&rt, text)?), *told, "{text}");
+fn flags_are_told_apart(rt: HostRuntime) {
+    for &(text, told) in flags_alone() {
+        is_at(&rt, text, flags(&read(&rt, text)), told);
     }
-    Ok(())
 }
 
 #[test]
-fn faults_in_order(rt: HostRuntime) -> Result<(), Fail> {
+fn faults_in_order(rt: HostRuntime) {
     all_told(
         &rt,
         &[
@@ -179,16 +185,16 @@ fn faults_in_order(rt: HostRuntime) -> Result<(), Fail> {
             ("\"\" = 1\nabandoned = 1", "settings: unknown key "),
             ("Lifo = true\nabandoned = 1", "settings: unknown key Lifo"),
         ],
-    )
+    );
 }
 
 #[test]
-fn table_of_abandoned_objects(rt: HostRuntime) -> Result<(), Fail> {
-    let settings = read(&rt, "[abandoned]")?;
+fn table_of_abandoned_objects(rt: HostRuntime) {
+    let settings = read(&rt, "[abandoned]");
     assert!(rt; settings.abandoned());
     assert!(rt; !settings.remove_abandoned_on_borrow());
     assert!(rt; !settings.remove_abandoned_on_maintenance());
-    assert_eq!(rt; settings.remove_abandoned_timeout_millis(), 300_000);
+    is(&rt, settings.remove_abandoned_timeout_millis(), 300_000);
     all_told(
         &rt,
         &[
@@ -229,15 +235,13 @@ fn table_of_abandoned_objects(rt: HostRuntime) -> Result<(), Fail> {
                 "settings: unknown key abandoned.removeAbandonedOnBorrow",
             ),
         ],
-    )
+    );
 }
 
 #[test]
-fn ends_of_the_numbers_of_objects(rt: HostRuntime) -> Result<(), Fail> {
-    assert_eq!(rt;
-        read(&rt, "journalLimit = 4294967296")?.journal_limit(),
-        4_294_967_296
-    );
+fn ends_of_the_numbers_of_objects(rt: HostRuntime) {
+    let greatest = read(&rt, "journalLimit = 4294967296");
+    is(&rt, greatest.journal_limit(), 4_294_967_296);
     all_told(
         &rt,
         &[
@@ -271,7 +275,7 @@ fn ends_of_the_numbers_of_objects(rt: HostRuntime) -> Result<(), Fail> {
                 "settings: out of range numTestsPerEvictionRun",
             ),
         ],
-    )
+    );
 }
 
 const WAIT: &str = "settings: out of range maxWaitMillis";
@@ -313,14 +317,14 @@ fn times() -> &'static [(&'static str, &'static str)] {
 }
 
 #[test]
-fn ends_of_the_times(rt: HostRuntime) -> Result<(), Fail> {
-    let longest = read(&rt, "maxWaitMillis = 9007199254740992")?;
-    assert_eq!(rt; longest.max_wait_millis(), 9_007_199_254_740_992);
-    all_told(&rt, times())
+fn ends_of_the_times(rt: HostRuntime) {
+    let longest = read(&rt, "maxWaitMillis = 9007199254740992");
+    is(&rt, longest.max_wait_millis(), 9_007_199_254_740_992);
+    all_told(&rt, times());
 }
 
 #[test]
-fn every_key_has_its_type(rt: HostRuntime) -> Result<(), Fail> {
+fn every_key_has_its_type(rt: HostRuntime) {
     all_told(
         &rt,
         &[
@@ -363,7 +367,7 @@ fn every_key_has_its_type(rt: HostRuntime) -> Result<(), Fail> {
                 "settings: wrong type abandoned.removeAbandonedTimeoutMillis",
             ),
         ],
-    )
+    );
 }
 
 /// How many objects are kept idle at least.
@@ -380,16 +384,15 @@ fn least_idle() -> &'static [(&'static str, i32)] {
 }
 
 #[test]
-fn least_idle_under_the_greatest(rt: HostRuntime) -> Result<(), Fail> {
-    for (text, least) in least_idle() {
-        assert_eq!(rt; read(&rt, text)?.effective_min_idle(), *least, "{text}");
+fn least_idle_under_the_greatest(rt: HostRuntime) {
+    for &(text, least) in least_idle() {
+        is_at(&rt, text, read(&rt, text).effective_min_idle(), least);
     }
-    Ok(())
 }
 
 // Escapes are those of a basic string of TOML.
 #[test]
-fn keys_on_one_line(rt: HostRuntime) -> Result<(), Fail> {
+fn keys_on_one_line(rt: HostRuntime) {
     all_told(
         &rt,
         &[
@@ -409,26 +412,19 @@ fn keys_on_one_line(rt: HostRuntime) -> Result<(), Fail> {
                 "settings: unknown key abandoned.é\\n~",
             ),
         ],
-    )
+    );
 }
 
 #[test]
-fn names_of_unknown_keys(rt: HostRuntime) -> Result<(), Fail> {
+fn names_of_unknown_keys(rt: HostRuntime) {
     match Settings::from_text(rt.alloc(), "[abandoned]\nfoo = 1") {
-        Err(SettingsFault::UnknownKey(name)) => {
-            assert_eq!(rt; name.as_str(), "abandoned.foo");
-            Ok(())
-        }
-        _ => Err("an unknown key".into()),
+        Err(SettingsFault::UnknownKey(name)) => is(&rt, name.as_str(), "abandoned.foo"),
+        _ => panic!(rt; "no unknown key"),
     }
 }
 
 #[test]
-fn want_of_memory_as_text(rt: HostRuntime) -> Result<(), Fail> {
-    let fault = SettingsFault::OutOfMemory;
-    assert_eq!(rt;
-        format!(in rt.alloc(); "{fault}")?.as_str(),
-        "out of memory"
-    );
-    Ok(())
+fn want_of_memory_as_text(rt: HostRuntime) {
+    let line = line_of(&rt, &SettingsFault::OutOfMemory);
+    is(&rt, line.as_str(), "out of memory");
 }
