@@ -1,10 +1,9 @@
 // Objects that are lent and not used.
 use crate::playing::{ONE_LENT, PLAIN_LIFE, plays};
-use std::test::Fail;
 
 // A lent object that was not used for the timeout is reclaimed on maintenance, and is gone when it comes back.
 #[test]
-fn reclaimed(rt: HostRuntime) -> Result<(), Fail> {
+fn reclaimed(rt: HostRuntime) {
     plays(
         &rt,
         rt.alloc(),
@@ -18,7 +17,7 @@ removeAbandonedTimeoutMillis = 100",
 1 100 reclaimnext = reclaimed 0
 0 101 return 0 = gone
 ",
-    )?;
+    );
     plays(
         &rt,
         rt.alloc(),
@@ -30,7 +29,7 @@ removeAbandonedTimeoutMillis = 100",
 1 149 reclaimnext = nothing
 1 150 reclaimnext = reclaimed 0
 ",
-    )?;
+    );
     plays(
         &rt,
         rt.alloc(),
@@ -41,12 +40,12 @@ removeAbandonedTimeoutMillis = 100",
         "0 60 return 0 = check
 1 500 reclaimnext = nothing
 ",
-    )
+    );
 }
 
 // A removal on borrow takes objects from an open pool that is nearly full.
 #[test]
-fn reclaimed_on_borrow(rt: HostRuntime) -> Result<(), Fail> {
+fn reclaimed_on_borrow(rt: HostRuntime) {
     plays(
         &rt,
         rt.alloc(),
@@ -57,7 +56,7 @@ removeAbandonedTimeoutMillis = 100",
         ONE_LENT,
         "1 100 reclaim borrow = count 0
 ",
-    )?;
+    );
     plays(
         &rt,
         rt.alloc(),
@@ -69,7 +68,7 @@ removeAbandonedTimeoutMillis = 100",
         ONE_LENT,
         "1 100 reclaim borrow = count 1
 ",
-    )?;
+    );
     plays(
         &rt,
         rt.alloc(),
@@ -82,12 +81,12 @@ removeAbandonedTimeoutMillis = 100",
         "1 99 close = count 0
 1 100 reclaim borrow = count 0
 ",
-    )
+    );
 }
 
 // The timeout is five minutes, and neither removal takes objects by itself.
 #[test]
-fn reclaimed_by_default(rt: HostRuntime) -> Result<(), Fail> {
+fn reclaimed_by_default(rt: HostRuntime) {
     plays(
         &rt,
         rt.alloc(),
@@ -99,12 +98,12 @@ fn reclaimed_by_default(rt: HostRuntime) -> Result<(), Fail> {
 1 300011 reclaim maintain = count 0
 1 300011 reclaimnext = reclaimed 0
 ",
-    )
+    );
 }
 
 // Where abandoned objects are not removed, none is.
 #[test]
-fn nothing_abandoned(rt: HostRuntime) -> Result<(), Fail> {
+fn nothing_abandoned(rt: HostRuntime) {
     plays(
         &rt,
         rt.alloc(),
@@ -113,12 +112,12 @@ fn nothing_abandoned(rt: HostRuntime) -> Result<(), Fail> {
         "1 500 reclaimnext = nothing
 0 501 return 7 = refused notlent
 ",
-    )
+    );
 }
 
 // An object that is not present may have been reclaimed; one that is idle was not.
 #[test]
-fn gone(rt: HostRuntime) -> Result<(), Fail> {
+fn gone(rt: HostRuntime) {
     plays(
         &rt,
         rt.alloc(),
@@ -129,5 +128,5 @@ fn gone(rt: HostRuntime) -> Result<(), Fail> {
 0 20 use 9 = gone
 0 20 invalidate 9 = gone
 ",
-    )
+    );
 }

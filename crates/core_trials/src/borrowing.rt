@@ -1,10 +1,9 @@
 // Borrows of which not all find a place, and returns of which not all find room in the queue.
 use crate::playing::plays;
-use std::test::Fail;
 
 // With no free place a borrow waits, is refused, or has waited long enough.
 #[test]
-fn no_free_place(rt: HostRuntime) -> Result<(), Fail> {
+fn no_free_place(rt: HostRuntime) {
     plays(
         &rt,
         rt.alloc(),
@@ -13,7 +12,7 @@ fn no_free_place(rt: HostRuntime) -> Result<(), Fail> {
         "0 0 borrow 0 = make 0
 1 5 borrow 5 = wait
 ",
-    )?;
+    );
     plays(
         &rt,
         rt.alloc(),
@@ -23,7 +22,7 @@ blockWhenExhausted = false",
         "0 0 borrow 0 = make 0
 1 5 borrow 5 = exhausted
 ",
-    )?;
+    );
     plays(
         &rt,
         rt.alloc(),
@@ -34,7 +33,7 @@ maxWaitMillis = 0",
 1 5 borrow 5 = timeout
 1 3 borrow 5 = timeout
 ",
-    )?;
+    );
     plays(
         &rt,
         rt.alloc(),
@@ -46,12 +45,12 @@ maxWaitMillis = 10",
 1 15 borrow 5 = timeout
 1 3 borrow 5 = wait
 ",
-    )
+    );
 }
 
 // A pool of no places, and one without limit.
 #[test]
-fn no_place_at_all(rt: HostRuntime) -> Result<(), Fail> {
+fn no_place_at_all(rt: HostRuntime) {
     plays(
         &rt,
         rt.alloc(),
@@ -59,7 +58,7 @@ fn no_place_at_all(rt: HostRuntime) -> Result<(), Fail> {
         "",
         "0 0 borrow 0 = wait
 ",
-    )?;
+    );
     plays(
         &rt,
         rt.alloc(),
@@ -76,12 +75,12 @@ fn no_place_at_all(rt: HostRuntime) -> Result<(), Fail> {
 0 0 borrow 0 = make 8
 0 0 borrow 0 = make 9
 ",
-    )
+    );
 }
 
 // A place is held until the object was destroyed.
 #[test]
-fn place_until_destroyed(rt: HostRuntime) -> Result<(), Fail> {
+fn place_until_destroyed(rt: HostRuntime) {
     plays(
         &rt,
         rt.alloc(),
@@ -93,12 +92,12 @@ fn place_until_destroyed(rt: HostRuntime) -> Result<(), Fail> {
 0 2 destroyed 0 = freed
 1 3 borrow 1 = make 1
 ",
-    )
+    );
 }
 
 // With room for one in the queue the second is destroyed, with none both are, and without limit neither is.
 #[test]
-fn queue_limited(rt: HostRuntime) -> Result<(), Fail> {
+fn queue_limited(rt: HostRuntime) {
     plays(
         &rt,
         rt.alloc(),
@@ -113,7 +112,7 @@ fn queue_limited(rt: HostRuntime) -> Result<(), Fail> {
 1 3 return 1 = check
 1 3 park 1 good = destroy
 ",
-    )?;
+    );
     plays(
         &rt,
         rt.alloc(),
@@ -128,7 +127,7 @@ fn queue_limited(rt: HostRuntime) -> Result<(), Fail> {
 1 3 return 1 = check
 1 3 park 1 good = destroy
 ",
-    )?;
+    );
     plays(
         &rt,
         rt.alloc(),
@@ -143,5 +142,5 @@ fn queue_limited(rt: HostRuntime) -> Result<(), Fail> {
 1 3 return 1 = check
 1 3 park 1 good = parked
 ",
-    )
+    );
 }

@@ -1,10 +1,9 @@
 // Objects that are destroyed, one by one or with the pool.
 use crate::playing::{PLAIN_LIFE, TWO_OBJECTS, plays};
-use std::test::Fail;
 
 // An invalidated object is destroyed, once.
 #[test]
-fn invalidated(rt: HostRuntime) -> Result<(), Fail> {
+fn invalidated(rt: HostRuntime) {
     plays(
         &rt,
         rt.alloc(),
@@ -17,12 +16,12 @@ fn invalidated(rt: HostRuntime) -> Result<(), Fail> {
 0 12 destroyed 0 = freed
 0 12 destroyed 0 = refused notheld
 ",
-    )
+    );
 }
 
 // Idle objects are destroyed in the order in which they were parked.
 #[test]
-fn cleared(rt: HostRuntime) -> Result<(), Fail> {
+fn cleared(rt: HostRuntime) {
     plays(
         &rt,
         rt.alloc(),
@@ -35,12 +34,12 @@ fn cleared(rt: HostRuntime) -> Result<(), Fail> {
 2 6 clearnext = nothing
 2 6 destroyed 1 = freed
 ",
-    )
+    );
 }
 
 // A closed pool makes and parks nothing more; what is lent comes back and is destroyed.
 #[test]
-fn closed_in_the_middle(rt: HostRuntime) -> Result<(), Fail> {
+fn closed_in_the_middle(rt: HostRuntime) {
     plays(
         &rt,
         rt.alloc(),
@@ -62,12 +61,12 @@ fn closed_in_the_middle(rt: HostRuntime) -> Result<(), Fail> {
 1 5 return 1 = check
 1 5 park 1 good = destroy
 ",
-    )
+    );
 }
 
 // An object that was under an idle test when the pool closed is destroyed.
 #[test]
-fn closed_under_test(rt: HostRuntime) -> Result<(), Fail> {
+fn closed_under_test(rt: HostRuntime) {
     plays(
         &rt,
         rt.alloc(),
@@ -77,12 +76,12 @@ fn closed_under_test(rt: HostRuntime) -> Result<(), Fail> {
 2 21 close = count 0
 2 22 tested 0 good = destroy
 ",
-    )
+    );
 }
 
 // So is one that was being made for the queue.
 #[test]
-fn closed_while_adding(rt: HostRuntime) -> Result<(), Fail> {
+fn closed_while_adding(rt: HostRuntime) {
     plays(
         &rt,
         rt.alloc(),
@@ -93,12 +92,12 @@ fn closed_while_adding(rt: HostRuntime) -> Result<(), Fail> {
 0 2 added 0 good = destroy
 0 2 destroyed 0 = freed
 ",
-    )
+    );
 }
 
 // An object goes all its way.
 #[test]
-fn way_to_the_end(rt: HostRuntime) -> Result<(), Fail> {
+fn way_to_the_end(rt: HostRuntime) {
     plays(
         &rt,
         rt.alloc(),
@@ -112,5 +111,5 @@ fn way_to_the_end(rt: HostRuntime) -> Result<(), Fail> {
 0 1 clearnext = destroyidle 0
 0 1 destroyed 0 = freed
 ",
-    )
+    );
 }

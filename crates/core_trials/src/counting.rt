@@ -3,10 +3,9 @@ use crate::playing::{PLAIN_LIFE, counted, opened, play};
 use pool_stats::Counts;
 use std::alloc::Global;
 use std::process::Abort;
-use std::test::Fail;
 
-/// Counts, from their numbers in the order of the fields.
-pub fn numbers(all: [u64; 8]) -> Counts {
+// Counts, from their numbers in the order of the fields.
+fn numbers(all: [u64; 8]) -> Counts {
     let [
         steps,
         idle,
@@ -29,18 +28,16 @@ pub fn numbers(all: [u64; 8]) -> Counts {
     }
 }
 
+/// What is counted comes to these numbers, in the order of the fields.
+pub fn come_to(rt: &impl Abort, found: Counts, wanted: [u64; 8]) {
+    assert_eq!(rt; found, numbers(wanted));
+}
+
 // Plays lines on a new pool, and compares what is counted then.
-fn counts(
-    rt: &impl Abort,
-    alloc: Global,
-    settings: &str,
-    lines: &str,
-    wanted: [u64; 8],
-) -> Result<(), Fail> {
-    let mut core = opened(alloc, settings)?;
-    play(rt, alloc, &mut core, lines)?;
-    assert_eq!(rt; counted(&core), numbers(wanted));
-    Ok(())
+fn counts(rt: &impl Abort, alloc: Global, settings: &str, lines: &str, wanted: [u64; 8]) {
+    let mut core = opened(rt, alloc, settings);
+    play(rt, alloc, &mut core, lines);
+    come_to(rt, counted(&core), wanted);
 }
 
 // A lent object is reclaimed, and comes back later.
@@ -93,7 +90,7 @@ const ON_THE_WAY: &str = "0 0 add = make 0
 ";
 
 #[test]
-fn counts_of_journals(rt: HostRuntime) -> Result<(), Fail> {
+fn counts_of_journals(rt: HostRuntime) {
     for (settings, lines, wanted) in [
         ("", "", [0; 8]),
         ("", PLAIN_LIFE, [4, 1, 0, 0, 1, 0, 0, 0]),
@@ -105,7 +102,6 @@ fn counts_of_journals(rt: HostRuntime) -> Result<(), Fail> {
             [13, 1, 1, 3, 6, 1, 1, 0],
         ),
     ] {
-        counts(&rt, rt.alloc(), settings, lines, wanted)?;
+        counts(&rt, rt.alloc(), settings, lines, wanted);
     }
-    Ok(())
 }

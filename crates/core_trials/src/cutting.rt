@@ -1,15 +1,14 @@
 // Journals that are cut, and pools that are opened from what they came to.
-use crate::counting::numbers;
+use crate::counting::come_to;
 use crate::playing::{
-    FIVE_ADDED, PLAIN_LIFE, base_of, counted, cut, entries, from_base, length, opened, play,
-    refuses,
+    FIVE_ADDED, PLAIN_LIFE, base_of, counted, cut, entries, from_base, given, length, opened, play,
+    refuses, settings_of,
 };
 use pool_core::{BaseFault, Core};
 use pool_journal::{Base, Entry, Input};
 use pool_settings::Settings;
 use std::alloc::Global;
 use std::process::Abort;
-use std::test::Fail;
 
 /// A journal of seven entries, of which an object's way takes four.
 const SEVEN: &str = "journalLimit = 7";
@@ -36,42 +35,39 @@ const MOST: &str = "pool-journal 2 9223372036854775807 0 open none 0 0 0 0\n";
 
 const NEW: Input = Input::Borrow { began: 0 };
 
-/// Whether two bases are the same.
-pub fn is_same(one: &Base, other: &Base) -> bool {
+// Whether two bases are the same.
+fn is_same(one: &Base, other: &Base) -> bool {
     one.head() == other.head() && one.records.as_slice() == other.records.as_slice()
+}
+
+/// The base is the one whose lines the text is.
+pub fn is_base(rt: &impl Abort, alloc: Global, found: &Base, text: &str) {
+    let wanted = base_of(rt, alloc, text);
+    assert!(rt; is_same(found, &wanted), "{found:?}");
 }
 
 fn are_same(some: &[Entry], others: &[Entry]) -> bool {
     some == others
 }
 
+// The entries are those whose lines the text is.
+fn are_entries(rt: &impl Abort, alloc: Global, found: &[Entry], text: &str) {
+    let wanted = entries(rt, alloc, text);
+    assert!(rt; are_same(found, &wanted));
+}
+
 // Cuts the journal, which gives the base and these entries.
-fn cuts(
-    rt: &impl Abort,
-    alloc: Global,
-    core: &mut Core<u64>,
-    base: &str,
-    lines: &str,
-) -> Result<(), Fail> {
-    let wanted = entries(alloc, lines)?;
-    let base = base_of(alloc, base)?;
-    let segment = cut(alloc, core).ok_or("a segment")?;
-    assert!(rt; is_same(&segment.base, &base));
-    assert!(rt; are_same(segment.entries.as_slice(), &wanted));
+fn cuts(rt: &impl Abort, alloc: Global, core: &mut Core<u64>, base: &str, lines: &str) {
+    let segment = cut(rt, alloc, core);
+    is_base(rt, alloc, &segment.base, base);
+    are_entries(rt, alloc, segment.entries.as_slice(), lines);
     assert!(rt; length(core) == 0);
-    Ok(())
 }
 
 // Cuts the journal, which gives so many entries.
-fn cuts_off(
-    rt: &impl Abort,
-    alloc: Global,
-    core: &mut Core<u64>,
-    stored: usize,
-) -> Result<(), Fail> {
-    let segment = cut(alloc, core).ok_or("a segment")?;
+fn cuts_off(rt: &impl Abort, alloc: Global, core: &mut Core<u64>, stored: usize) {
+    let segment = cut(rt, alloc, core);
     assert!(rt; segment.entries.as_slice().len() == stored);
-    Ok(())
 }
 
 // Plays a line, cuts the journal, which gives all that was stored, and plays the next one.
@@ -81,24 +77,18 @@ fn goes_on_behind_a_cut(
     core: &mut Core<u64>,
     last: &str,
     next: &str,
-) -> Result<(), Fail> {
-    play(rt, alloc, core, last)?;
+) {
+    play(rt, alloc, core, last);
     let stored = length(core);
-    cuts_off(rt, alloc, core, stored)?;
-    play(rt, alloc, core, next)
+    cuts_off(rt, alloc, core, stored);
+    play(rt, alloc, core, next);
 }
 
 // Plays lines on a new pool, and one more before a cut and one behind it.
-fn is_cut_between(
-    rt: &impl Abort,
-    alloc: Global,
-    before: &str,
-    last: &str,
-    next: &str,
-) -> Result<(), Fail> {
-    let mut core = opened(alloc, "")?;
-    play(rt, alloc, &mut core, before)?;
-    goes_on_behind_a_cut(rt, alloc, &mut core, last, next)
+fn is_cut_between(rt: &impl Abort, alloc: Global, before: &str, last: &str, next: &str) {
+    let mut core = opened(rt, alloc, "");
+    play(rt, alloc, &mut core, before);
+    goes_on_behind_a_cut(rt, alloc, &mut core, last, next);
 }
 
 // A pool from a base that is refused; base and value come back.
@@ -138,34 +128,33 @@ fn is_opened(
     }
 }
 
-// Cuts the journal behind an object's way.
-fn cuts_one_way(rt: &impl Abort, alloc: Global, core: &mut Core<u64>) -> Result<(), Fail> {
-    play(rt, alloc, core, ONE_WAY)?;
-    cuts(rt, alloc, core, EMPTY, ONE_WAY)
+// A pool whose journal is cut behind an object's way.
+fn cut_behind_one_way(rt: &impl Abort, alloc: Global) -> Core<u64> {
+    let mut core = opened(rt, alloc, SEVEN);
+    play(rt, alloc, &mut core, ONE_WAY);
+    cuts(rt, alloc, &mut core, EMPTY, ONE_WAY);
+    core
 }
 
 // After the cut there is room for as many entries again, and the ids go on.
 #[test]
-fn cut_behind_an_object_s_way(rt: HostRuntime) -> Result<(), Fail> {
+fn cut_behind_an_object_s_way(rt: HostRuntime) {
     for line in ["0 0 borrow 0 = take 0\n", "0 0 add = make 1\n"] {
-        let mut core = opened(rt.alloc(), SEVEN)?;
-        cuts_one_way(&rt, rt.alloc(), &mut core)?;
-        play(&rt, rt.alloc(), &mut core, line)?;
+        let mut core = cut_behind_one_way(&rt, rt.alloc());
+        play(&rt, rt.alloc(), &mut core, line);
     }
-    Ok(())
 }
 
 // A second cut gives no entries, behind those that were cut before.
 #[test]
-fn cut_twice(rt: HostRuntime) -> Result<(), Fail> {
-    let mut core = opened(rt.alloc(), SEVEN)?;
-    cuts_one_way(&rt, rt.alloc(), &mut core)?;
-    cuts(&rt, rt.alloc(), &mut core, ONE_IDLE, "")
+fn cut_twice(rt: HostRuntime) {
+    let mut core = cut_behind_one_way(&rt, rt.alloc());
+    cuts(&rt, rt.alloc(), &mut core, ONE_IDLE, "");
 }
 
 // An eviction run goes on where it was; a closed pool stays closed; an object that was just made is still new; and one that was taken isn't.
 #[test]
-fn cut_between_two_steps(rt: HostRuntime) -> Result<(), Fail> {
+fn cut_between_two_steps(rt: HostRuntime) {
     for (before, last, next) in [
         (
             FIVE_ADDED,
@@ -188,70 +177,71 @@ fn cut_between_two_steps(rt: HostRuntime) -> Result<(), Fail> {
             "0 21 ready 0 makefail = refused badoutcome\n",
         ),
     ] {
-        is_cut_between(&rt, rt.alloc(), before, last, next)?;
+        is_cut_between(&rt, rt.alloc(), before, last, next);
     }
-    Ok(())
 }
 
 // Each fault in its turn; base and value come back.
-fn is_refused_thrice(rt: &impl Abort, alloc: Global) -> Result<(Base, Vec<(u64, u64)>), Fail> {
-    let seven = Settings::from_text(alloc, SEVEN)?;
-    let two = Settings::from_text(alloc, "journalLimit = 2")?;
-    let no_places = Settings::from_text(alloc, "journalLimit = 7\nmaxTotal = 0")?;
-    let base = base_of(alloc, ONE_IDLE)?;
-    let values = vec![in alloc; (0, 0)]?;
+fn is_refused_thrice(rt: &impl Abort, alloc: Global) -> (Base, Vec<(u64, u64)>) {
+    let seven = settings_of(rt, alloc, SEVEN);
+    let two = settings_of(rt, alloc, "journalLimit = 2");
+    let no_places = settings_of(rt, alloc, "journalLimit = 7\nmaxTotal = 0");
+    let base = base_of(rt, alloc, ONE_IDLE);
+    let values = given(rt, vec![in alloc; (0, 0)]);
     let none = Vec::new(alloc);
     let (base, _) = is_refused(rt, alloc, seven, base, none, BaseFault::WrongValues);
     let (base, values) = is_refused(rt, alloc, two, base, values, BaseFault::NoRoom);
-    Ok(is_refused(rt, alloc, no_places, base, values, BaseFault::NotABase))
+    is_refused(rt, alloc, no_places, base, values, BaseFault::NotABase)
+}
+
+// A pool behind an object's way takes the object, and is cut.
+fn goes_on(rt: &impl Abort, alloc: Global, core: &mut Core<u64>) {
+    let taken = "0 0 borrow 0 = take 0\n";
+    come_to(rt, counted(core), [4, 1, 0, 0, 1, 0, 0, 0]);
+    play(rt, alloc, core, taken);
+    cuts(rt, alloc, core, ONE_IDLE, taken);
 }
 
 // Refused thrice, and then a pool that goes on.
 #[test]
-fn opened_from_a_base(rt: HostRuntime) -> Result<(), Fail> {
-    let (base, values) = is_refused_thrice(&rt, rt.alloc())?;
-    let settings = Settings::from_text(rt.alloc(), SEVEN)?;
+fn opened_from_a_base(rt: HostRuntime) {
+    let (base, values) = is_refused_thrice(&rt, rt.alloc());
+    let settings = settings_of(&rt, rt.alloc(), SEVEN);
     let mut core = is_opened(&rt, rt.alloc(), settings, base, values);
-    assert!(rt; counted(&core) == numbers([4, 1, 0, 0, 1, 0, 0, 0]));
-    let taken = "0 0 borrow 0 = take 0\n";
-    play(&rt, rt.alloc(), &mut core, taken)?;
-    cuts(&rt, rt.alloc(), &mut core, ONE_IDLE, taken)
+    goes_on(&rt, rt.alloc(), &mut core);
 }
 
 // A pool from a base with no objects.
-fn opened_bare(rt: &impl Abort, alloc: Global, base: &str) -> Result<Core<u64>, Fail> {
-    let base = base_of(alloc, base)?;
-    Ok(is_opened(rt, alloc, Settings::default(), base, Vec::new(alloc)))
+fn opened_bare(rt: &impl Abort, alloc: Global, base: &str) -> Core<u64> {
+    let base = base_of(rt, alloc, base);
+    is_opened(rt, alloc, Settings::default(), base, Vec::new(alloc))
 }
 
 #[test]
-fn opened_behind_no_entries(rt: HostRuntime) -> Result<(), Fail> {
-    let empty = opened_bare(&rt, rt.alloc(), EMPTY)?;
-    assert!(rt; counted(&empty) == numbers([0; 8]));
-    Ok(())
+fn opened_behind_no_entries(rt: HostRuntime) {
+    let empty = opened_bare(&rt, rt.alloc(), EMPTY);
+    come_to(&rt, counted(&empty), [0; 8]);
 }
 
 // There is room to close the pool, and for nothing else.
-fn can_be_closed(rt: &impl Abort, alloc: Global, core: &mut Core<u64>) -> Result<(), Fail> {
+fn can_be_closed(rt: &impl Abort, alloc: Global, core: &mut Core<u64>) {
     refuses(rt, core, 0, 0, NEW);
-    play(rt, alloc, core, "0 0 close = count 0\n")?;
+    play(rt, alloc, core, "0 0 close = count 0\n");
     refuses(rt, core, 0, 0, NEW);
-    Ok(())
 }
 
 // A base behind which there is room for one entry more.
 #[test]
-fn opened_behind_most_entries(rt: HostRuntime) -> Result<(), Fail> {
-    let mut core = opened_bare(&rt, rt.alloc(), ALMOST_MOST)?;
-    can_be_closed(&rt, rt.alloc(), &mut core)
+fn opened_behind_most_entries(rt: HostRuntime) {
+    let mut core = opened_bare(&rt, rt.alloc(), ALMOST_MOST);
+    can_be_closed(&rt, rt.alloc(), &mut core);
 }
 
 // A base behind which there is none.
 #[test]
-fn refused_behind_all_entries(rt: HostRuntime) -> Result<(), Fail> {
-    let past = base_of(rt.alloc(), MOST)?;
+fn refused_behind_all_entries(rt: HostRuntime) {
+    let past = base_of(&rt, rt.alloc(), MOST);
     let none = Vec::new(rt.alloc());
     let settings = Settings::default();
     is_refused(&rt, rt.alloc(), settings, past, none, BaseFault::NotABase);
-    Ok(())
 }

@@ -1,10 +1,9 @@
 // Objects that are made for the queue, and eviction runs over it.
 use crate::playing::{FIVE_ADDED, PLAIN_LIFE, TWO_OBJECTS, plays};
-use std::test::Fail;
 
 // The queue is filled up to the least number of idle objects, those on their way counted.
 #[test]
-fn filled(rt: HostRuntime) -> Result<(), Fail> {
+fn filled(rt: HostRuntime) {
     plays(
         &rt,
         rt.alloc(),
@@ -17,12 +16,12 @@ fn filled(rt: HostRuntime) -> Result<(), Fail> {
 0 0 added 1 makefail = freed
 0 1 fill = make 2
 ",
-    )
+    );
 }
 
 // An object that is made for the queue takes a place, and can't fail as one that is lent.
 #[test]
-fn added_with_one_place(rt: HostRuntime) -> Result<(), Fail> {
+fn added_with_one_place(rt: HostRuntime) {
     plays(
         &rt,
         rt.alloc(),
@@ -36,12 +35,12 @@ fn added_with_one_place(rt: HostRuntime) -> Result<(), Fail> {
 0 0 evict = count 0
 0 0 evictnext = nothing
 ",
-    )
+    );
 }
 
 // An object is evicted once it was idle longer than the limit; 0 is no limit.
 #[test]
-fn evicted_after_a_second(rt: HostRuntime) -> Result<(), Fail> {
+fn evicted_after_a_second(rt: HostRuntime) {
     plays(
         &rt,
         rt.alloc(),
@@ -50,7 +49,7 @@ fn evicted_after_a_second(rt: HostRuntime) -> Result<(), Fail> {
         "1 1016 evictnext = keptidle 0
 1 1017 evictnext = destroyidle 0
 ",
-    )?;
+    );
     plays(
         &rt,
         rt.alloc(),
@@ -58,12 +57,12 @@ fn evicted_after_a_second(rt: HostRuntime) -> Result<(), Fail> {
         PLAIN_LIFE,
         "1 1000000 evictnext = keptidle 0
 ",
-    )
+    );
 }
 
 // The soft limit leaves the least number of idle objects.
 #[test]
-fn evicted_beyond_the_least_number(rt: HostRuntime) -> Result<(), Fail> {
+fn evicted_beyond_the_least_number(rt: HostRuntime) {
     plays(
         &rt,
         rt.alloc(),
@@ -72,7 +71,7 @@ minIdle = 1",
         PLAIN_LIFE,
         "1 100 evictnext = keptidle 0
 ",
-    )?;
+    );
     plays(
         &rt,
         rt.alloc(),
@@ -82,12 +81,12 @@ minIdle = 1",
         "2 100 evictnext = destroyidle 0
 2 100 evictnext = keptidle 1
 ",
-    )
+    );
 }
 
 // A moment before the parking is no idle time.
 #[test]
-fn parked_in_the_future(rt: HostRuntime) -> Result<(), Fail> {
+fn parked_in_the_future(rt: HostRuntime) {
     plays(
         &rt,
         rt.alloc(),
@@ -95,12 +94,12 @@ fn parked_in_the_future(rt: HostRuntime) -> Result<(), Fail> {
         PLAIN_LIFE,
         "1 5 evictnext = keptidle 0
 ",
-    )
+    );
 }
 
 // A run makes so many tests, or a part of the queue, rounded up.
 #[test]
-fn tests_of_runs(rt: HostRuntime) -> Result<(), Fail> {
+fn tests_of_runs(rt: HostRuntime) {
     for (settings, line) in [
         ("numTestsPerEvictionRun = 3", "0 1 evict = count 3\n"),
         ("numTestsPerEvictionRun = 9", "0 1 evict = count 5\n"),
@@ -111,14 +110,13 @@ fn tests_of_runs(rt: HostRuntime) -> Result<(), Fail> {
             "0 1 evict = count 1\n",
         ),
     ] {
-        plays(&rt, rt.alloc(), settings, FIVE_ADDED, line)?;
+        plays(&rt, rt.alloc(), settings, FIVE_ADDED, line);
     }
-    Ok(())
 }
 
 // A run goes on where the last one stopped, and begins again at the end.
 #[test]
-fn run_goes_on(rt: HostRuntime) -> Result<(), Fail> {
+fn run_goes_on(rt: HostRuntime) {
     plays(
         &rt,
         rt.alloc(),
@@ -131,12 +129,12 @@ fn run_goes_on(rt: HostRuntime) -> Result<(), Fail> {
 0 1 evictnext = keptidle 4
 0 1 evictnext = keptidle 0
 ",
-    )
+    );
 }
 
 // An object under an idle test is not taken, and keeps its place in the queue.
 #[test]
-fn tested_objects_keep_their_place(rt: HostRuntime) -> Result<(), Fail> {
+fn tested_objects_keep_their_place(rt: HostRuntime) {
     plays(
         &rt,
         rt.alloc(),
@@ -150,5 +148,5 @@ testWhileIdle = true",
 2 6 tested 0 good = kept
 1 7 borrow 7 = take 0
 ",
-    )
+    );
 }

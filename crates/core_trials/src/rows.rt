@@ -1,12 +1,13 @@
 // Answers that follow from what came before.
-use crate::playing::{PLAIN_LIFE, TWO_OBJECTS, opened, play, plays, refuses};
+use crate::playing::{PLAIN_LIFE, TWO_OBJECTS, length, opened, play, plays, refuses};
 use pool_journal::Input;
-use std::test::Fail;
+use std::alloc::Global;
+use std::process::Abort;
 
 #[test]
-fn rows_of_one_object(rt: HostRuntime) -> Result<(), Fail> {
-    let core = opened(rt.alloc(), "")?;
-    assert!(rt; core.journal().is_empty());
+fn rows_of_one_object(rt: HostRuntime) {
+    let core = opened(&rt, rt.alloc(), "");
+    assert!(rt; length(&core) == 0);
     plays(
         &rt,
         rt.alloc(),
@@ -17,11 +18,11 @@ fn rows_of_one_object(rt: HostRuntime) -> Result<(), Fail> {
 0 20 ready 1 good = refused notheld
 0 20 ready 0 good = lent
 ",
-    )
+    );
 }
 
 #[test]
-fn returned_twice(rt: HostRuntime) -> Result<(), Fail> {
+fn returned_twice(rt: HostRuntime) {
     plays(
         &rt,
         rt.alloc(),
@@ -33,22 +34,21 @@ fn returned_twice(rt: HostRuntime) -> Result<(), Fail> {
         "0 15 return 0 = refused notlent
 0 15 return 9 = refused notlent
 ",
-    )
+    );
 }
 
 #[test]
-fn rows_of_two_objects(rt: HostRuntime) -> Result<(), Fail> {
+fn rows_of_two_objects(rt: HostRuntime) {
     for (settings, line) in [
         ("lifo = true", "0 4 borrow 4 = take 1\n"),
         ("lifo = false", "0 4 borrow 4 = take 0\n"),
     ] {
-        plays(&rt, rt.alloc(), settings, TWO_OBJECTS, line)?;
+        plays(&rt, rt.alloc(), settings, TWO_OBJECTS, line);
     }
-    Ok(())
 }
 
 #[test]
-fn failed_activation(rt: HostRuntime) -> Result<(), Fail> {
+fn failed_activation(rt: HostRuntime) {
     plays(
         &rt,
         rt.alloc(),
@@ -59,11 +59,11 @@ fn failed_activation(rt: HostRuntime) -> Result<(), Fail> {
 0 4 destroyed 1 = freed
 0 4 borrow 4 = take 0
 ",
-    )
+    );
 }
 
 #[test]
-fn nine_borrows(rt: HostRuntime) -> Result<(), Fail> {
+fn nine_borrows(rt: HostRuntime) {
     plays(
         &rt,
         rt.alloc(),
@@ -78,27 +78,46 @@ fn nine_borrows(rt: HostRuntime) -> Result<(), Fail> {
 0 0 borrow 0 = make 7
 ",
         "0 0 borrow 0 = wait\n",
-    )
+    );
+}
+
+// Plays lines on a new pool, which then refuses a caller's borrow, and plays the next ones.
+fn refuses_between(
+    rt: &impl Abort,
+    alloc: Global,
+    settings: &str,
+    before: &str,
+    caller: u32,
+    next: &str,
+) {
+    let mut core = opened(rt, alloc, settings);
+    play(rt, alloc, &mut core, before);
+    refuses(rt, &mut core, caller, 0, Input::Borrow { began: 0 });
+    play(rt, alloc, &mut core, next);
 }
 
 // A pool of no objects has room for the entry that closes it, and no room for an object's way.
 #[test]
-fn journal_of_six(rt: HostRuntime) -> Result<(), Fail> {
-    let mut core = opened(rt.alloc(), "journalLimit = 6")?;
-    refuses(&rt, &mut core, 0, 0, Input::Borrow { began: 0 });
-    play(&rt, rt.alloc(), &mut core, "0 0 close = count 0\n")
+fn journal_of_six(rt: HostRuntime) {
+    refuses_between(
+        &rt,
+        rt.alloc(),
+        "journalLimit = 6",
+        "",
+        0,
+        "0 0 close = count 0\n",
+    );
 }
 
 // There is room for all the way of one object, whatever is refused beside it.
 #[test]
-fn journal_of_seven(rt: HostRuntime) -> Result<(), Fail> {
-    let mut core = opened(rt.alloc(), "journalLimit = 7")?;
-    play(&rt, rt.alloc(), &mut core, "0 0 borrow 0 = make 0\n")?;
-    refuses(&rt, &mut core, 1, 0, Input::Borrow { began: 0 });
-    play(
+fn journal_of_seven(rt: HostRuntime) {
+    refuses_between(
         &rt,
         rt.alloc(),
-        &mut core,
+        "journalLimit = 7",
+        "0 0 borrow 0 = make 0\n",
+        1,
         "0 0 ready 0 good = lent
 0 0 return 0 = check
 0 0 park 0 good = parked
@@ -106,5 +125,5 @@ fn journal_of_seven(rt: HostRuntime) -> Result<(), Fail> {
 0 1 clearnext = destroyidle 0
 0 1 destroyed 0 = freed
 ",
-    )
+    );
 }

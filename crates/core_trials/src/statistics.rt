@@ -1,10 +1,9 @@
 // What the statistics of journals are, at their end and at each entry.
-use crate::playing::entries;
+use crate::playing::{entries, given};
 use pool_journal::{Answer, Entry, Input, Outcome};
 use pool_stats::{Ended, RunningTally, Statistics};
-use std::alloc::{AllocError, Global};
+use std::alloc::Global;
 use std::process::Abort;
-use std::test::Fail;
 
 const PLAIN_LIFE: &str = "0 10 borrow 10 = make 0\n\
     0 11 ready 0 good = lent\n\
@@ -103,8 +102,8 @@ fn numbers(all: [u64; 9]) -> Statistics {
 }
 
 // The statistics of a journal are these.
-fn come_to(rt: &impl Abort, journal: &str, found: Statistics, wanted: [u64; 9]) {
-    assert_eq!(rt; found, numbers(wanted), "at {journal}");
+fn come_to(rt: &impl Abort, journal: &str, found: Statistics, wanted: Statistics) {
+    assert_eq!(rt; found, wanted, "at {journal}");
 }
 
 // Journals, with their statistics.
@@ -124,50 +123,53 @@ fn journals() -> [(&'static str, [u64; 9]); 9] {
 }
 
 #[test]
-fn statistics_of_journals(rt: HostRuntime) -> Result<(), Fail> {
+fn statistics_of_journals(rt: HostRuntime) {
     for (text, wanted) in journals() {
-        let entries = entries(rt.alloc(), text)?;
-        let found = Statistics::of(rt.alloc(), &entries)?;
-        come_to(&rt, text, found, wanted);
+        let entries = entries(&rt, rt.alloc(), text);
+        let found = given(&rt, Statistics::of(rt.alloc(), &entries));
+        come_to(&rt, text, found, numbers(wanted));
     }
-    Ok(())
 }
 
 // Tells a tally one entry more.
-fn tells(rt: &impl Abort, tally: &mut RunningTally, entry: &Entry) -> Result<(), AllocError> {
+fn tells(rt: &impl Abort, tally: &mut RunningTally, entry: &Entry) {
     if tally.taken() < u64::MAX {
-        tally.take(entry)
+        given(rt, tally.take(entry));
     } else {
         panic!(rt; "too many entries")
     }
 }
 
+// A tally has the statistics of these entries.
+fn is_told(rt: &impl Abort, alloc: Global, journal: &str, tally: &RunningTally, told: &[Entry]) {
+    let wanted = given(rt, Statistics::of(alloc, told));
+    come_to(rt, journal, tally.statistics(), wanted);
+    assert_eq!(rt; tally.taken(), told.len() as u64);
+}
+
 // A tally that is told entries one by one has at each of them the statistics of all that it was told.
-fn told_of(rt: &impl Abort, alloc: Global, entries: &[Entry]) -> Result<Statistics, Fail> {
+fn told_of(rt: &impl Abort, alloc: Global, journal: &str, entries: &[Entry]) -> Statistics {
     let mut tally = RunningTally::new(alloc);
     let mut told = Vec::new(alloc);
     for entry in entries {
-        tells(rt, &mut tally, entry)?;
-        told.push(*entry)?;
-        let wanted = Statistics::of(alloc, &told)?;
-        let found = (tally.taken(), tally.statistics());
-        assert_eq!(rt; found, (told.len() as u64, wanted));
+        tells(rt, &mut tally, entry);
+        given(rt, told.push(*entry));
+        is_told(rt, alloc, journal, &tally, &told);
     }
-    Ok(tally.statistics())
+    tally.statistics()
 }
 
 #[test]
-fn told_one_by_one(rt: HostRuntime) -> Result<(), Fail> {
+fn told_one_by_one(rt: HostRuntime) {
     for (text, wanted) in [
         (LENT_AGAIN, [3, 2, 2, 0, 0, 0, 0, 15, 15]),
         (RECLAIMED, [1, 0, 1, 0, 0, 0, 1, 100, 100]),
         (DESTROYED, [0, 0, 2, 2, 2, 1, 0, 0, 0]),
     ] {
-        let entries = entries(rt.alloc(), text)?;
-        let found = told_of(&rt, rt.alloc(), &entries)?;
-        come_to(&rt, text, found, wanted);
+        let entries = entries(&rt, rt.alloc(), text);
+        let found = told_of(&rt, rt.alloc(), text, &entries);
+        come_to(&rt, text, found, numbers(wanted));
     }
-    Ok(())
 }
 
 #[test]

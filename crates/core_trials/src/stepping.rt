@@ -1,14 +1,13 @@
 // Pools that keep no entries.
-use crate::counting::numbers;
-use crate::cutting::is_same;
-use crate::playing::{PLAIN_LIFE, TWO_OBJECTS, base_of, entries, value_of};
+use crate::counting::come_to;
+use crate::cutting::is_base;
+use crate::playing::{PLAIN_LIFE, TWO_OBJECTS, base_of, entries, given, settings_of, value_of};
 use pool_core::{BaseFault, StepFault, Stepper};
 use pool_journal::{Base, Entry, Input};
 use pool_settings::Settings;
 use pool_stats::Counts;
 use std::alloc::Global;
 use std::process::Abort;
-use std::test::Fail;
 
 /// What the four entries of an object's way come to: it was lent at 11 and parked at 16.
 const ONE_IDLE: &str = "pool-journal 2 4 1 open none 0 0 0 1
@@ -17,8 +16,8 @@ const ONE_IDLE: &str = "pool-journal 2 4 1 open none 0 0 0 1
 
 const NEW: Input = Input::Borrow { began: 0 };
 
-fn opened(alloc: Global, settings: &str) -> Result<Stepper<u64>, Fail> {
-    Ok(Stepper::open(alloc, Settings::from_text(alloc, settings)?))
+fn opened(rt: &impl Abort, alloc: Global, settings: &str) -> Stepper<u64> {
+    Stepper::open(alloc, settings_of(rt, alloc, settings))
 }
 
 // Hands a stepper an input with the value that it carries.
@@ -84,15 +83,9 @@ fn takes(rt: &impl Abort, stepper: &mut Stepper<u64>, entries: &[Entry]) {
 }
 
 // Takes the steps of the lines.
-fn plays(
-    rt: &impl Abort,
-    alloc: Global,
-    stepper: &mut Stepper<u64>,
-    lines: &str,
-) -> Result<(), Fail> {
-    let wanted = entries(alloc, lines)?;
+fn plays(rt: &impl Abort, alloc: Global, stepper: &mut Stepper<u64>, lines: &str) {
+    let wanted = entries(rt, alloc, lines);
     takes(rt, stepper, &wanted);
-    Ok(())
 }
 
 // A step for which there is no room hands its value back, and is not taken.
@@ -106,20 +99,19 @@ fn refuses(rt: &impl Abort, stepper: &mut Stepper<u64>, input: Input) {
 }
 
 #[test]
-fn steps_without_a_journal(rt: HostRuntime) -> Result<(), Fail> {
-    let mut stepper = opened(rt.alloc(), "")?;
-    plays(&rt, rt.alloc(), &mut stepper, TWO_OBJECTS)?;
-    plays(&rt, rt.alloc(), &mut stepper, "7 4 borrow 4 = take 1\n")?;
-    assert!(rt; counted(&stepper) == numbers([9, 1, 0, 1, 2, 0, 0, 0]));
-    Ok(())
+fn steps_without_a_journal(rt: HostRuntime) {
+    let mut stepper = opened(&rt, rt.alloc(), "");
+    plays(&rt, rt.alloc(), &mut stepper, TWO_OBJECTS);
+    plays(&rt, rt.alloc(), &mut stepper, "7 4 borrow 4 = take 1\n");
+    come_to(&rt, counted(&stepper), [9, 1, 0, 1, 2, 0, 0, 0]);
 }
 
 // There is room for all the way of one object, and for no other.
 #[test]
-fn room_without_a_journal(rt: HostRuntime) -> Result<(), Fail> {
-    let mut stepper = opened(rt.alloc(), "journalLimit = 7")?;
+fn room_without_a_journal(rt: HostRuntime) {
+    let mut stepper = opened(&rt, rt.alloc(), "journalLimit = 7");
     assert!(rt; room(&stepper) == 6);
-    plays(&rt, rt.alloc(), &mut stepper, "0 0 borrow 0 = make 0\n")?;
+    plays(&rt, rt.alloc(), &mut stepper, "0 0 borrow 0 = make 0\n");
     assert!(rt; room(&stepper) == 0);
     refuses(&rt, &mut stepper, NEW);
     plays(
@@ -131,89 +123,81 @@ fn room_without_a_journal(rt: HostRuntime) -> Result<(), Fail> {
 0 0 park 0 good = parked
 0 1 close = count 1
 ",
-    )
+    );
 }
 
-fn cut(alloc: Global, stepper: &mut Stepper<u64>) -> Option<Base> {
-    stepper.cut(alloc).ok()
+fn cut(rt: &impl Abort, alloc: Global, stepper: &mut Stepper<u64>) -> Base {
+    given(rt, stepper.cut(alloc))
 }
 
 // A cut gives what the entries came to.
-fn cuts(rt: &impl Abort, alloc: Global, stepper: &mut Stepper<u64>) -> Result<(), Fail> {
-    let base = cut(alloc, stepper).ok_or("a base")?;
-    let wanted = base_of(alloc, ONE_IDLE)?;
-    assert!(rt; is_same(&base, &wanted), "{base:?}");
-    Ok(())
+fn cuts(rt: &impl Abort, alloc: Global, stepper: &mut Stepper<u64>) {
+    let base = cut(rt, alloc, stepper);
+    is_base(rt, alloc, &base, ONE_IDLE);
 }
 
 // Behind the cut no step was taken, the counts go on, and there is room for as many steps again.
-fn goes_on_behind_a_cut(
-    rt: &impl Abort,
-    alloc: Global,
-    stepper: &mut Stepper<u64>,
-) -> Result<(), Fail> {
-    plays(rt, alloc, stepper, PLAIN_LIFE)?;
-    cuts(rt, alloc, stepper)?;
+fn goes_on_behind_a_cut(rt: &impl Abort, alloc: Global, stepper: &mut Stepper<u64>) {
+    plays(rt, alloc, stepper, PLAIN_LIFE);
+    cuts(rt, alloc, stepper);
     assert!(rt; taken(stepper) == 0);
     assert!(rt; counted(stepper).steps == 4);
-    plays(rt, alloc, stepper, "0 20 borrow 20 = take 0\n")
+    plays(rt, alloc, stepper, "0 20 borrow 20 = take 0\n");
 }
 
 #[test]
-fn cut_without_a_journal(rt: HostRuntime) -> Result<(), Fail> {
-    let mut stepper = opened(rt.alloc(), "journalLimit = 7")?;
-    goes_on_behind_a_cut(&rt, rt.alloc(), &mut stepper)
+fn cut_without_a_journal(rt: HostRuntime) {
+    let mut stepper = opened(&rt, rt.alloc(), "journalLimit = 7");
+    goes_on_behind_a_cut(&rt, rt.alloc(), &mut stepper);
 }
 
 // A stepper from a base, with a value of an object with this id.
 fn from_base(
+    rt: &impl Abort,
     alloc: Global,
     base: &mut Base,
     id: u64,
-) -> Result<Result<Stepper<u64>, (BaseFault, Vec<(u64, u64)>)>, Fail> {
-    let values = vec![in alloc; (id, 9u64)]?;
-    Ok(Stepper::from_base(alloc, Settings::default(), base, values))
+) -> Result<Stepper<u64>, (BaseFault, Vec<(u64, u64)>)> {
+    let values = given(rt, vec![in alloc; (id, 9u64)]);
+    Stepper::from_base(alloc, Settings::default(), base, values)
 }
 
 // Whether there is no stepper from a base, with a value of an object with this id.
-fn is_refused(alloc: Global, base: &mut Base, id: u64) -> Result<bool, Fail> {
-    let opened = from_base(alloc, base, id)?;
-    Ok(opened.is_err())
+fn is_refused(rt: &impl Abort, alloc: Global, base: &mut Base, id: u64) -> bool {
+    from_base(rt, alloc, base, id).is_err()
 }
 
 // A base that is refused stays as it was, and the values come back.
 #[test]
-fn refused_without_a_journal(rt: HostRuntime) -> Result<(), Fail> {
-    let mut base = base_of(rt.alloc(), ONE_IDLE)?;
-    match from_base(rt.alloc(), &mut base, 1)? {
+fn refused_without_a_journal(rt: HostRuntime) {
+    let mut base = base_of(&rt, rt.alloc(), ONE_IDLE);
+    match from_base(&rt, rt.alloc(), &mut base, 1) {
         Err((BaseFault::WrongValues, values)) => assert!(rt;
             values.as_slice() == [(1, 9)].as_slice()
         ),
         _ => panic!(rt; "not refused"),
     }
-    assert!(rt; base.head() == base_of(rt.alloc(), ONE_IDLE)?.head());
-    Ok(())
+    is_base(&rt, rt.alloc(), &base, ONE_IDLE);
 }
 
 // A stepper behind four entries takes the object with its value.
-fn goes_on(rt: &impl Abort, alloc: Global, mut stepper: Stepper<u64>) -> Result<(), Fail> {
-    let next = entries(alloc, "0 20 borrow 20 = take 0\n")?;
-    for wanted in &next {
-        let (entry, out) = take_step(rt, &mut stepper, wanted);
+fn goes_on(rt: &impl Abort, stepper: &mut Stepper<u64>, next: &[Entry]) {
+    for wanted in next {
+        let (entry, out) = take_step(rt, stepper, wanted);
         assert!(rt; entry.answer == wanted.answer);
         assert!(rt; out == Some(9));
     }
-    assert!(rt; counted(&stepper).steps == 5);
-    Ok(())
+    assert!(rt; counted(stepper).steps == 5);
 }
 
 // A stepper from a base goes on as the one that was cut.
 #[test]
-fn opened_without_a_journal(rt: HostRuntime) -> Result<(), Fail> {
-    let mut base = base_of(rt.alloc(), ONE_IDLE)?;
-    assert!(rt; is_refused(rt.alloc(), &mut base, 1)?);
-    match from_base(rt.alloc(), &mut base, 0)? {
-        Ok(stepper) => goes_on(&rt, rt.alloc(), stepper),
+fn opened_without_a_journal(rt: HostRuntime) {
+    let mut base = base_of(&rt, rt.alloc(), ONE_IDLE);
+    assert!(rt; is_refused(&rt, rt.alloc(), &mut base, 1));
+    let next = entries(&rt, rt.alloc(), "0 20 borrow 20 = take 0\n");
+    match from_base(&rt, rt.alloc(), &mut base, 0) {
+        Ok(mut stepper) => goes_on(&rt, &mut stepper, &next),
         Err(_) => panic!(rt; "refused"),
     }
 }
