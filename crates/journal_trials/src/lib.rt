@@ -4,4 +4,6 @@
 #[cfg(test)]
 mod bases;
 #[cfg(test)]
+mod checks;
+#[cfg(test)]
 mod lines;

@@ -2,10 +2,10 @@ use pool_load::{Gate, LoadFault, LoadReport, load};
 use pool_settings::Settings;
 use pool_stats::Statistics;
 use std::alloc::Global;
+use std::fmt::Debug;
 use std::process::Abort;
 use std::sync::Wait;
 use std::sync::atomic::{AtomicU64, Ordering};
-use std::test::*;
 use std::thread;
 use std::thread::Threads;
 
@@ -78,14 +78,13 @@ impl Gate for Numbers {
     }
 }
 
+/// Ends the test unless both are equal.
+fn expect_equal<T: Copy + PartialEq + Debug>(rt: &impl Abort, found: T, wanted: T) {
+    assert_eq!(rt; found, wanted);
+}
+
 fn settings_of(rt: &impl Abort, alloc: Global, text: &str) -> Settings {
-    match Settings::from_text(alloc, text) {
-        Ok(settings) => settings,
-        Err(_) => {
-            assert!(rt; false, "{text}");
-            Settings::default()
-        }
-    }
+    Settings::from_text(alloc, text).expect(rt, text)
 }
 
 /// The answer to a load behind a gate that holds nobody back, and how many passed it.
@@ -102,8 +101,20 @@ fn answer<R: Threads + Wait + Abort + Sync>(
     (report, gate.passed.load(Ordering::SeqCst))
 }
 
+/// The report of a load that isn't refused.
+fn report_of<G: Gate, R: Threads + Wait + Abort + Sync>(
+    rt: &R,
+    alloc: Global,
+    settings: Settings,
+    workers: u32,
+    rounds: u64,
+    gate: &G,
+) -> LoadReport {
+    load(rt, alloc, settings, workers, rounds, gate).expect(rt, "a report")
+}
+
 #[test]
-fn one_round(rt: HostRuntime) -> Result<(), Fail> {
+fn one_round(rt: HostRuntime) {
     let stats = Statistics {
         borrowed: 1,
         returned: 1,
@@ -115,124 +126,109 @@ fn one_round(rt: HostRuntime) -> Result<(), Fail> {
         longest: 1,
         total: 1,
     };
-    let report = LoadReport { refused: 0, stats };
-    assert_eq!(rt; answer(&rt, rt.alloc(), "", 1, 1), (Ok(report), 1));
-    assert_eq!(rt;
-        answer(&rt, rt.alloc(), "journalLimit = 7", 1, 1),
-        (Ok(report), 1)
-    );
-    Ok(())
+    let passed = (Ok(LoadReport { refused: 0, stats }), 1);
+    let alloc = rt.alloc();
+    expect_equal(&rt, answer(&rt, alloc, "", 1, 1), passed);
+    expect_equal(&rt, answer(&rt, alloc, "journalLimit = 7", 1, 1), passed);
 }
 
 #[test]
-fn no_room(rt: HostRuntime) -> Result<(), Fail> {
+fn no_room(rt: HostRuntime) {
     let full = Err(LoadFault::JournalFull);
-    assert_eq!(rt;
-        answer(&rt, rt.alloc(), "journalLimit = 7", 1, 2),
-        (full, 1)
-    );
-    assert_eq!(rt;
-        answer(&rt, rt.alloc(), "journalLimit = 6", 1, 1),
-        (full, 0)
-    );
-    Ok(())
+    let alloc = rt.alloc();
+    expect_equal(&rt, answer(&rt, alloc, "journalLimit = 7", 1, 2), (full, 1));
+    expect_equal(&rt, answer(&rt, alloc, "journalLimit = 6", 1, 1), (full, 0));
 }
 
 #[test]
-fn numbers_out_of_range(rt: HostRuntime) -> Result<(), Fail> {
+fn numbers_out_of_range(rt: HostRuntime) {
     let workers = (Err(LoadFault::WorkerCount), 0);
     let rounds = (Err(LoadFault::RoundCount), 0);
-    assert_eq!(rt; answer(&rt, rt.alloc(), "", 0, 1), workers);
-    assert_eq!(rt; answer(&rt, rt.alloc(), "", 1_024, 1), workers);
-    assert_eq!(rt; answer(&rt, rt.alloc(), "", u32::MAX, 0), workers);
-    assert_eq!(rt; answer(&rt, rt.alloc(), "", 1, 0), rounds);
-    assert_eq!(rt; answer(&rt, rt.alloc(), "", 1_023, 1_000_001), rounds);
-    assert_eq!(rt; answer(&rt, rt.alloc(), "", 1, u64::MAX), rounds);
-    Ok(())
+    let alloc = rt.alloc();
+    expect_equal(&rt, answer(&rt, alloc, "", 0, 1), workers);
+    expect_equal(&rt, answer(&rt, alloc, "", 1_024, 1), workers);
+    expect_equal(&rt, answer(&rt, alloc, "", u32::MAX, 0), workers);
+    expect_equal(&rt, answer(&rt, alloc, "", 1, 0), rounds);
+    expect_equal(&rt, answer(&rt, alloc, "", 1_023, 1_000_001), rounds);
+    expect_equal(&rt, answer(&rt, alloc, "", 1, u64::MAX), rounds);
 }
 
 #[test]
-fn four_workers(rt: HostRuntime) -> Result<(), Fail> {
+fn four_workers(rt: HostRuntime) {
     let (report, passed) = answer(&rt, rt.alloc(), "maxTotal = 4", 4, 10);
-    let LoadReport { refused, stats } = report?;
-    assert_eq!(rt; (refused, passed), (0, 40));
-    assert_eq!(rt; (stats.borrowed, stats.returned), (40, 40));
+    let LoadReport { refused, stats } = report.expect(&rt, "a report");
+    expect_equal(&rt, (refused, passed), (0, 40));
+    expect_equal(&rt, (stats.borrowed, stats.returned), (40, 40));
     assert!(rt; 1 <= stats.created && stats.created <= 4);
-    assert_eq!(rt; stats.destroyed, stats.created);
-    Ok(())
+    expect_equal(&rt, stats.destroyed, stats.created);
 }
 
 #[test]
-fn passes_with_an_object(rt: HostRuntime) -> Result<(), Fail> {
+fn passes_with_an_object(rt: HostRuntime) {
     let gate = Counter::new();
     let settings = settings_of(&rt, rt.alloc(), "maxTotal = 2");
-    let report = load(&rt, rt.alloc(), settings, 5, 20, &gate)?;
-    assert_eq!(rt; (report.refused, report.stats.borrowed), (0, 100));
+    let report = report_of(&rt, rt.alloc(), settings, 5, 20, &gate);
+    expect_equal(&rt, (report.refused, report.stats.borrowed), (0, 100));
     assert!(rt; gate.most.load(Ordering::SeqCst) <= 2);
-    Ok(())
 }
 
 #[test]
-fn refused_borrows(rt: HostRuntime) -> Result<(), Fail> {
+fn refused_borrows(rt: HostRuntime) {
     let none = "maxTotal = 0\nblockWhenExhausted = false";
     let (report, passed) = answer(&rt, rt.alloc(), none, 3, 5);
-    let LoadReport { refused, stats } = report?;
-    assert_eq!(rt; (refused, passed), (15, 0));
-    assert_eq!(rt; (stats.borrowed, stats.created), (0, 0));
+    let LoadReport { refused, stats } = report.expect(&rt, none);
+    expect_equal(&rt, (refused, passed), (15, 0));
+    expect_equal(&rt, (stats.borrowed, stats.created), (0, 0));
     let one = "maxTotal = 1\nblockWhenExhausted = false";
     let (report, passed) = answer(&rt, rt.alloc(), one, 3, 50);
-    let LoadReport { refused, stats } = report?;
-    assert_eq!(rt; stats.borrowed, passed);
-    assert_eq!(rt; stats.returned, passed);
+    let LoadReport { refused, stats } = report.expect(&rt, one);
+    expect_equal(&rt, (stats.borrowed, stats.returned), (passed, passed));
     assert!(rt; refused == 150 - passed.min(150));
-    Ok(())
 }
 
 #[test]
-fn workers_at_once(rt: HostRuntime) -> Result<(), Fail> {
+fn workers_at_once(rt: HostRuntime) {
     let gate = After {
         passed: AtomicU64::new(0),
         in_vain: AtomicU64::new(0),
     };
-    let report = load(&rt, rt.alloc(), Settings::default(), 2, 1, &gate)?;
-    assert_eq!(rt; gate.in_vain.load(Ordering::SeqCst), 0);
-    assert_eq!(rt; (report.refused, report.stats.borrowed), (0, 2));
-    Ok(())
+    let report = report_of(&rt, rt.alloc(), Settings::default(), 2, 1, &gate);
+    expect_equal(&rt, gate.in_vain.load(Ordering::SeqCst), 0);
+    expect_equal(&rt, (report.refused, report.stats.borrowed), (0, 2));
 }
 
 #[test]
-fn counted_from_0(rt: HostRuntime) -> Result<(), Fail> {
+fn counted_from_0(rt: HostRuntime) {
     let gate = Numbers {
         workers: AtomicU64::new(0),
         rounds: AtomicU64::new(0),
     };
-    let _report = load(&rt, rt.alloc(), Settings::default(), 3, 4, &gate)?;
-    assert_eq!(rt; gate.workers.load(Ordering::SeqCst), 12);
-    assert_eq!(rt; gate.rounds.load(Ordering::SeqCst), 18);
-    Ok(())
+    let _report = report_of(&rt, rt.alloc(), Settings::default(), 3, 4, &gate);
+    expect_equal(&rt, gate.workers.load(Ordering::SeqCst), 12);
+    expect_equal(&rt, gate.rounds.load(Ordering::SeqCst), 18);
+}
+
+fn has_words(rt: &impl Abort, alloc: Global, fault: LoadFault, words: &str) {
+    let text = format!(in alloc; "{fault}").expect(rt, "memory");
+    expect_equal(rt, text.as_str(), words);
 }
 
 #[test]
-fn words_of_faults(rt: HostRuntime) -> Result<(), Fail> {
-    assert_eq!(rt;
-        format!(in rt.alloc(); "{}", LoadFault::JournalFull)?.as_str(),
-        "pool: journal full"
+fn words_of_faults(rt: HostRuntime) {
+    let alloc = rt.alloc();
+    has_words(&rt, alloc, LoadFault::JournalFull, "pool: journal full");
+    has_words(&rt, alloc, LoadFault::OutOfMemory, "pool: out of memory");
+    has_words(&rt, alloc, LoadFault::NoThread, "pool: no thread");
+    has_words(
+        &rt,
+        alloc,
+        LoadFault::WorkerCount,
+        "pool: wrong number of workers",
     );
-    assert_eq!(rt;
-        format!(in rt.alloc(); "{}", LoadFault::OutOfMemory)?.as_str(),
-        "pool: out of memory"
+    has_words(
+        &rt,
+        alloc,
+        LoadFault::RoundCount,
+        "pool: wrong number of rounds",
     );
-    assert_eq!(rt;
-        format!(in rt.alloc(); "{}", LoadFault::NoThread)?.as_str(),
-        "pool: no thread"
-    );
-    assert_eq!(rt;
-        format!(in rt.alloc(); "{}", LoadFault::WorkerCount)?.as_str(),
-        "pool: wrong number of workers"
-    );
-    assert_eq!(rt;
-        format!(in rt.alloc(); "{}", LoadFault::RoundCount)?.as_str(),
-        "pool: wrong number of rounds"
-    );
-    Ok(())
 }

@@ -1,18 +1,18 @@
-ghost use Rattle.std.specs.Prelude.{◌≡◌, ◌+◌, ◌<◌, ◌≤◌, Some, OnOk, IsTrue};
+ghost use Rattle.std.specs.Prelude.{◌≡◌, ◌+◌, ◌<◌, ◌≤◌, Some, IsTrue};
 ghost use Rattle.pool_journal.specs.Queue.{record_in};
 ghost use Rattle.pool_places.specs.Changes.{opens_as};
 ghost use Rattle.pool_places.specs.Shelf.{records_in};
 ghost use Rattle.place_trials.specs.Before.{AllBefore};
 
+use crate::equal::expect_equal;
 use crate::numbers::next_number;
 use pool_journal::{Phase, Record};
 use pool_places::{Place, PlaceCounts, Places, weight_of_phase};
 use std::alloc::Global;
 use std::process::Abort;
-use std::test::Fail;
 
 // An object that comes to the pool, in a plain list.
-fn come(plain: &mut Vec<Place<u64>>, id: u64, phase: Phase) -> Result<(), Fail> {
+fn come(rt: &impl Abort, plain: &mut Vec<Place<u64>>, id: u64, phase: Phase) {
     let known = Record {
         id,
         phase,
@@ -22,8 +22,8 @@ fn come(plain: &mut Vec<Place<u64>>, id: u64, phase: Phase) -> Result<(), Fail> 
         used: 0,
         is_new: true,
     };
-    plain.push(Place { known, value: None })?;
-    Ok(())
+    let place = Place { known, value: None };
+    plain.push(place).expect(rt, "memory");
 }
 
 // What an object in a plain list becomes, as it is chosen, at a moment that is also a place in the queue.
@@ -98,14 +98,13 @@ fn take(places: &mut Places<u64>, id: u64, known: Record, choice: u64, moment: u
 }
 
 // Opens an object.
-fn open(places: &mut Places<u64>, id: u64, phase: Phase) -> Result<(), Fail>
+fn open(rt: &impl Abort, places: &mut Places<u64>, id: u64, phase: Phase)
     requires before { AllBefore id (records_in places.old.kept) }
     requires phase { IsTrue (opens_as phase) }
-    ensures { OnOk result (AllBefore (id + 1) (records_in places.new.kept)) }
+    ensures { AllBefore (id + 1) (records_in places.new.kept) }
 {
-    places.reserve_one()?;
+    places.reserve_one().expect(rt, "memory");
     places.open(id, phase);
-    Ok(())
 }
 
 // Turns one object of a plain list. Gives its id, and the value that it kept.
@@ -133,13 +132,9 @@ fn go_on(
     requires { AllBefore moment (records_in places.old.kept) }
     ensures { AllBefore (moment + 1) (records_in places.new.kept) }
 {
-    match places.find(id) {
-        None => panic!(rt; "an object is missing"),
-        Some(known) => {
-            let out = take(places, id, known, choice, moment);
-            assert_eq!(rt; out, value);
-        }
-    }
+    let known = places.find(id).expect(rt, "an object is missing");
+    let out = take(places, id, known, choice, moment);
+    expect_equal(rt, out, value);
 }
 
 // One call, by chance.
@@ -150,23 +145,19 @@ fn call(
     most: usize,
     number: u64,
     moment: u64,
-) -> Result<(), Fail>
+)
     requires { AllBefore moment (records_in places.old.kept) }
-    ensures { OnOk result (AllBefore (moment + 1) (records_in places.new.kept)) }
+    ensures { AllBefore (moment + 1) (records_in places.new.kept) }
 {
     if plain.len() < most && number % 3 == 0 {
-        come(plain, moment, Phase::Adding)?;
-        return open(places, moment, Phase::Adding);
+        come(rt, plain, moment, Phase::Adding);
+        open(rt, places, moment, Phase::Adding);
+    } else if plain.len() < most && number % 11 == 1 {
+        come(rt, plain, moment, Phase::Readying);
+        open(rt, places, moment, Phase::Readying);
+    } else if let Some((id, value)) = turn_one(plain, number, moment) {
+        go_on(rt, places, id, value, number % 8, moment);
     }
-    if plain.len() < most && number % 11 == 1 {
-        come(plain, moment, Phase::Readying)?;
-        return open(places, moment, Phase::Readying);
-    }
-    match turn_one(plain, number, moment) {
-        None => {}
-        Some((id, value)) => go_on(rt, places, id, value, number % 8, moment),
-    }
-    Ok(())
 }
 
 // Nothing that is seen changes.
@@ -294,7 +285,7 @@ pub(crate) fn ask_queue(
         last_of(plain),
         first_from(plain, position.saturating_add(1)),
     ];
-    assert_eq!(rt; told, due);
+    expect_equal(rt, told, due);
 }
 
 // Questions about lent objects.
@@ -309,32 +300,26 @@ pub(crate) fn ask_overdue(
         places.count_overdue(at, timeout),
         places.least_overdue(at, timeout),
     );
-    assert_eq!(rt; told, overdue_of(plain, at, timeout));
+    expect_equal(rt, told, overdue_of(plain, at, timeout));
 }
 
 // Questions about one object and about all.
 pub(crate) fn ask_known(rt: &impl Abort, places: &Places<u64>, plain: &[Place<u64>], id: u64) {
-    assert_eq!(rt; places.find(id), known_of(plain, id));
+    expect_equal(rt, places.find(id), known_of(plain, id));
     let counts = counts_of(plain);
-    assert_eq!(rt; places.counts(), counts);
+    expect_equal(rt, places.counts(), counts);
     let numbers = [places.present() as u64, places.queued() as u64];
-    assert_eq!(rt; numbers, [counts.present, counts.queue]);
+    expect_equal(rt, numbers, [counts.present, counts.queue]);
 }
 
 // Calls by chance, with so many objects at most, and every question after each call.
-fn many_calls(
-    rt: &impl Abort,
-    alloc: Global,
-    calls: u64,
-    most: usize,
-    seed: u64,
-) -> Result<(), Fail> {
+fn many_calls(rt: &impl Abort, alloc: Global, calls: u64, most: usize, seed: u64) {
     let mut places = Places::new(alloc);
     let mut plain = Vec::new(alloc);
     let mut state = seed;
     for moment in 1..calls {
         let number = next_number(&mut state);
-        call(rt, &mut places, &mut plain, most, number, moment)?;
+        call(rt, &mut places, &mut plain, most, number, moment);
         look(&mut places, number >> 5, moment);
         let other = next_number(&mut state);
         let back = moment.saturating_sub(other % 128);
@@ -342,20 +327,19 @@ fn many_calls(
         ask_overdue(rt, &places, &plain, moment, (other >> 7) % 64);
         ask_known(rt, &places, &plain, back);
     }
-    Ok(())
 }
 
 #[test]
-fn few_objects(rt: HostRuntime) -> Result<(), Fail> {
-    many_calls(&rt, rt.alloc(), 40_000, 3, 1)
+fn few_objects(rt: HostRuntime) {
+    many_calls(&rt, rt.alloc(), 40_000, 3, 1);
 }
 
 #[test]
-fn some_objects(rt: HostRuntime) -> Result<(), Fail> {
-    many_calls(&rt, rt.alloc(), 40_000, 9, 2)
+fn some_objects(rt: HostRuntime) {
+    many_calls(&rt, rt.alloc(), 40_000, 9, 2);
 }
 
 #[test]
-fn more_objects(rt: HostRuntime) -> Result<(), Fail> {
-    many_calls(&rt, rt.alloc(), 20_000, 40, 3)
+fn more_objects(rt: HostRuntime) {
+    many_calls(&rt, rt.alloc(), 20_000, 40, 3);
 }

@@ -1,26 +1,20 @@
-ghost use Rattle.std.specs.Prelude.{◌+◌, ◌≤◌, OnOk, ℕ};
+ghost use Rattle.std.specs.Prelude.{◌+◌, ◌≤◌, ℕ};
 ghost use Rattle.rising_index.specs.Pairs.{IdsBelow};
 
+use crate::equal::expect_equal;
 use crate::numbers::next_number;
 use rising_index::{Pair, RisingIndex};
-use std::alloc::AllocError;
+use std::alloc::Global;
 use std::process::Abort;
-use std::test::Fail;
 
 // Adds a pair to an index and to a plain list.
-fn add(
-    index: &mut RisingIndex,
-    plain: &mut Vec<Pair>,
-    id: u64,
-    key: usize,
-) -> Result<(), AllocError>
+fn add(rt: &impl Abort, index: &mut RisingIndex, plain: &mut Vec<Pair>, id: u64, key: usize)
     requires { IdsBelow id index.old.pairs }
-    ensures { OnOk result (IdsBelow (id + 1) index.new.pairs) }
+    ensures { IdsBelow (id + 1) index.new.pairs }
 {
-    index.reserve_one()?;
-    plain.push(Pair { id, key })?;
+    index.reserve_one().expect(rt, "memory");
+    plain.push(Pair { id, key }).expect(rt, "memory");
     index.push(id, key);
-    Ok(())
 }
 
 // Takes the pair of an id out of a plain list, and gives its key.
@@ -50,70 +44,73 @@ fn take(rt: &impl Abort, index: &mut RisingIndex, plain: &mut Vec<Pair>, id: u64
     let key = take_plain(plain, id);
     let found = index.find(id);
     let taken = take_indexed(index, id);
-    assert_eq!(rt; [found, taken, index.find(id)], [key, key, None]);
-    assert_eq!(rt; index.len(), plain.len());
+    expect_equal(rt, [found, taken, index.find(id)], [key, key, None]);
+    expect_equal(rt, index.len(), plain.len());
+}
+
+// The index has the pairs of the plain list.
+fn has_all(rt: &impl Abort, alloc: Global, index: &RisingIndex, plain: &[Pair]) {
+    let pairs: Vec<Pair> = index.walk().collect(alloc).expect(rt, "memory");
+    expect_equal(rt, pairs.as_slice(), plain);
 }
 
 #[test]
-fn each_call_once(rt: HostRuntime) -> Result<(), Fail> {
+fn each_call_once(rt: HostRuntime) {
     let mut index = RisingIndex::new(rt.alloc());
     assert!(rt; index.is_empty());
-    index.reserve_one()?;
+    index.reserve_one().expect(&rt, "memory");
     index.push(3, 30);
-    index.reserve_one()?;
+    index.reserve_one().expect(&rt, "memory");
     index.push(7, 70);
-    assert_eq!(rt; [index.find(3), index.find(5)], [Some(30), None]);
+    expect_equal(&rt, [index.find(3), index.find(5)], [Some(30), None]);
     let last = index.walk().last();
-    assert_eq!(rt; [index.len(), index.remove(3)], [2, 30]);
+    expect_equal(&rt, [index.len(), index.remove(3)], [2, 30]);
     let seven = Some(Pair { id: 7, key: 70 });
-    assert_eq!(rt; [last, index.walk().next()], [seven, seven]);
+    expect_equal(&rt, [last, index.walk().next()], [seven, seven]);
     assert!(rt; !index.is_empty());
-    Ok(())
 }
 
 // Pairs by their positions, before and after those that are gone are swept out.
 #[test]
-fn by_position(rt: HostRuntime) -> Result<(), Fail> {
+fn by_position(rt: HostRuntime) {
     let mut index = RisingIndex::new(rt.alloc());
-    index.reserve(3)?;
+    index.reserve(3).expect(&rt, "memory");
     index.push(3, 30);
     index.push(7, 70);
     index.push(9, 90);
     let first = index.nth(0);
-    assert_eq!(rt; index.remove(3), 30);
+    expect_equal(&rt, index.remove(3), 30);
     let second = index.nth(1);
     index.sweep();
     let three = Some(Pair { id: 3, key: 30 });
     let seven = Some(Pair { id: 7, key: 70 });
     let nine = Some(Pair { id: 9, key: 90 });
     let told = [first, second, index.nth(0), index.nth(2)];
-    assert_eq!(rt; told, [three, nine, seven, None]);
-    Ok(())
+    expect_equal(&rt, told, [three, nine, seven, None]);
 }
 
 // An id may come again once it and all above it are gone.
 #[test]
-fn an_id_twice(rt: HostRuntime) -> Result<(), Fail> {
+fn an_id_twice(rt: HostRuntime) {
     let mut index = RisingIndex::new(rt.alloc());
-    index.reserve_one()?;
+    index.reserve_one().expect(&rt, "memory");
     index.push(3, 30);
-    index.reserve_one()?;
+    index.reserve_one().expect(&rt, "memory");
     index.push(7, 70);
     let taken = index.remove(7);
-    index.reserve_one()?;
+    index.reserve_one().expect(&rt, "memory");
     index.push(7, 71);
-    assert_eq!(rt; [Some(taken), index.find(7)], [Some(70), Some(71)]);
-    Ok(())
+    expect_equal(&rt, [Some(taken), index.find(7)], [Some(70), Some(71)]);
 }
 
 #[test]
-fn as_a_plain_list(rt: HostRuntime) -> Result<(), Fail> {
+fn as_a_plain_list(rt: HostRuntime) {
     let mut index = RisingIndex::new(rt.alloc());
     let mut plain = Vec::new(rt.alloc());
     let mut state = 1;
     for id in 0..300 {
         let key = next_number(&mut state) as usize;
-        add(&mut index, &mut plain, id, key)?;
+        add(&rt, &mut index, &mut plain, id, key);
         take(&rt, &mut index, &mut plain, next_number(&mut state) % 300);
         take(
             &rt,
@@ -122,24 +119,20 @@ fn as_a_plain_list(rt: HostRuntime) -> Result<(), Fail> {
             next_number(&mut state) % (id + 1),
         );
     }
-    let pairs: Vec<Pair> = index.walk().collect(rt.alloc())?;
-    assert_eq!(rt; pairs.as_slice(), plain.as_slice());
-    Ok(())
+    has_all(&rt, rt.alloc(), &index, &plain);
 }
 
 #[test]
-fn emptied_from_the_middle(rt: HostRuntime) -> Result<(), Fail> {
+fn emptied_from_the_middle(rt: HostRuntime) {
     let mut index = RisingIndex::new(rt.alloc());
     let mut plain = Vec::new(rt.alloc());
     for id in 0..200 {
-        add(&mut index, &mut plain, id, 1000)?;
+        add(&rt, &mut index, &mut plain, id, 1000);
     }
     for distance in 0..100 {
         take(&rt, &mut index, &mut plain, 100 + distance);
         take(&rt, &mut index, &mut plain, 99 - distance);
-        let pairs: Vec<Pair> = index.walk().collect(rt.alloc())?;
-        assert_eq!(rt; pairs.as_slice(), plain.as_slice());
+        has_all(&rt, rt.alloc(), &index, &plain);
     }
     assert!(rt; index.is_empty());
-    Ok(())
 }

@@ -1,25 +1,23 @@
-ghost use Rattle.std.specs.Prelude.{◌≡◌, ◌+◌, ◌≤◌, ◌++◌, ◌∷◌, [], IfOk, IsTrue, IsSomeAnd, true, false, is_some};
+ghost use Rattle.std.specs.Prelude.{◌≡◌, ◌+◌, ◌≤◌, ◌++◌, ◌∷◌, [], IsTrue, IsSomeAnd, true, false, is_some};
 ghost use Rattle.pool_journal.specs.Journal.{is_present};
 ghost use Rattle.pool_journal.specs.Queue.{is_idle, is_queued, record_in};
 ghost use Rattle.pool_journal.specs.declared.record.Phase.TheVariants as phases;
 ghost use Rattle.pool_places.specs.Changes.{with_changed, new_record, phase_set, lent_at, used_at, parked_at, opens_as, IdsBelow, IsFreePosition, QueueBelow};
 ghost use Rattle.pool_places.specs.Shelf.{records_in};
 
+use crate::equal::expect_equal;
 use pool_journal::{Phase, Record};
 use pool_places::{PlaceCounts, Places};
 use std::process::Abort;
-use std::test::Fail;
 
 // Opens an object.
-fn open(places: &mut Places<u64>, id: u64, phase: Phase) -> Result<(), Fail>
+fn open(rt: &impl Abort, places: &mut Places<u64>, id: u64, phase: Phase)
     requires above { IdsBelow id (records_in places.old.kept) }
     requires phase { IsTrue (opens_as phase) }
-    ensures { IfOk result (λ _. records_in places.new.kept
-        ≡ records_in places.old.kept ++ new_record id phase ∷ []) }
+    ensures { records_in places.new.kept ≡ records_in places.old.kept ++ new_record id phase ∷ [] }
 {
-    places.reserve_one()?;
+    places.reserve_one().expect(rt, "memory");
     places.open(id, phase);
-    Ok(())
 }
 
 // Parks an object.
@@ -82,8 +80,8 @@ fn lend(rt: &impl Abort, places: &mut Places<u64>)
     places.set_lent(0, 11);
     places.set_used(0, 12);
     let overdue = [places.least_overdue(21, 10), places.least_overdue(22, 10)];
-    assert_eq!(rt; overdue, [None, Some(0)]);
-    assert_eq!(rt; places.count_overdue(22, 10), 1);
+    expect_equal(rt, overdue, [None, Some(0)]);
+    expect_equal(rt, places.count_overdue(22, 10), 1);
     places.set_phase(0, Phase::Returning);
 }
 
@@ -94,40 +92,39 @@ fn give_up(rt: &impl Abort, places: &mut Places<u64>)
 {
     let value = places.take_value(0, Phase::Testing);
     places.put_value(0, 71);
-    assert_eq!(rt; places.first_idle(), Some(0));
+    expect_equal(rt, places.first_idle(), Some(0));
     let values = [value, places.take_value(0, Phase::Destroying)];
-    assert_eq!(rt; values, [70, 71]);
+    expect_equal(rt, values, [70, 71]);
     places.free(0);
 }
 
 // An object from its opening until its place is free.
 #[test]
-fn one_life(rt: HostRuntime) -> Result<(), Fail> {
+fn one_life(rt: HostRuntime) {
     let mut places = Places::new(rt.alloc());
-    open(&mut places, 0, Phase::Readying)?;
+    open(&rt, &mut places, 0, Phase::Readying);
     let first_known = places.find(0);
     lend(&rt, &mut places);
     park(&mut places, 0, 3, 16, 70);
     let known = [first_known, places.find(0)];
-    assert_eq!(rt; known, [Some(opened()), Some(parked())]);
+    expect_equal(&rt, known, [Some(opened()), Some(parked())]);
     give_up(&rt, &mut places);
-    assert_eq!(rt; places.present(), 0);
-    Ok(())
+    expect_equal(&rt, places.present(), 0);
 }
 
 // Three objects, of which two are parked, the second one first.
 #[test]
-fn a_queue(rt: HostRuntime) -> Result<(), Fail> {
+fn a_queue(rt: HostRuntime) {
     let mut places: Places<u64> = Places::new(rt.alloc());
-    open(&mut places, 0, Phase::Adding)?;
-    open(&mut places, 1, Phase::Adding)?;
-    open(&mut places, 2, Phase::Adding)?;
+    open(&rt, &mut places, 0, Phase::Adding);
+    open(&rt, &mut places, 1, Phase::Adding);
+    open(&rt, &mut places, 2, Phase::Adding);
     park(&mut places, 1, 5, 50, 10);
     park(&mut places, 0, 9, 90, 0);
     let ends = [places.first_idle(), places.last_idle()];
     let next = [places.next_idle_after(5), places.next_idle_after(9)];
-    assert_eq!(rt; [ends, next], [[Some(1), Some(0)], [Some(0), None]]);
-    assert_eq!(rt; places.queued(), 2);
+    expect_equal(&rt, [ends, next], [[Some(1), Some(0)], [Some(0), None]]);
+    expect_equal(&rt, places.queued(), 2);
     let counts = PlaceCounts {
         present: 3,
         queue: 2,
@@ -136,13 +133,12 @@ fn a_queue(rt: HostRuntime) -> Result<(), Fail> {
         adding: 1,
         owed: 7,
     };
-    assert_eq!(rt; places.counts(), counts);
-    Ok(())
+    expect_equal(&rt, places.counts(), counts);
 }
 
 // Three objects that are put back, of which two are in the queue, the one that was parked later first.
 #[test]
-fn put_back(rt: HostRuntime) -> Result<(), Fail> {
+fn put_back(rt: HostRuntime) {
     let idle = Record {
         id: 4,
         phase: Phase::Idle,
@@ -164,21 +160,21 @@ fn put_back(rt: HostRuntime) -> Result<(), Fail> {
         ..idle
     };
     let mut places = Places::new(rt.alloc());
-    places.reserve(3)?;
+    places.reserve(3).expect(&rt, "memory");
     restore(&mut places, idle, Some(40));
     restore(&mut places, tested, None);
     restore(&mut places, lent, None);
     places.look_through();
     let told = [places.nth(0), places.nth(1), places.nth(2), places.nth(3)];
-    assert_eq!(rt; told, [Some(idle), Some(tested), Some(lent), None]);
+    expect_equal(&rt, told, [Some(idle), Some(tested), Some(lent), None]);
     places.put_value(6, 60);
     let ids = [
         places.first_idle(),
         places.last_idle(),
         places.least_overdue(90, 10),
     ];
-    assert_eq!(rt; ids, [Some(6), Some(4), Some(7)]);
-    assert_eq!(rt; places.take_value(4, Phase::Readying), 40);
+    expect_equal(&rt, ids, [Some(6), Some(4), Some(7)]);
+    expect_equal(&rt, places.take_value(4, Phase::Readying), 40);
     let counts = PlaceCounts {
         present: 3,
         queue: 1,
@@ -187,6 +183,5 @@ fn put_back(rt: HostRuntime) -> Result<(), Fail> {
         adding: 0,
         owed: 11,
     };
-    assert_eq!(rt; places.counts(), counts);
-    Ok(())
+    expect_equal(&rt, places.counts(), counts);
 }

@@ -1,16 +1,16 @@
-ghost use Rattle.std.specs.Prelude.{◌≡◌, ◌+◌, ◌≤◌, IsTrue, IfOk, is_some};
+ghost use Rattle.std.specs.Prelude.{◌≡◌, ◌+◌, ◌≤◌, IsTrue, is_some};
 ghost use Rattle.pool_journal.specs.Journal.{is_present};
 ghost use Rattle.pool_journal.specs.Queue.{is_idle};
 ghost use Rattle.pool_places.specs.Changes.{IdsBelow, IsFreePosition};
 ghost use Rattle.pool_places.specs.Shelf.{records_in};
 
 use crate::calls::{ask_known, ask_overdue, ask_queue};
+use crate::equal::expect_equal;
 use crate::numbers::next_number;
 use pool_journal::{Phase, Record};
 use pool_places::{Place, Places};
 use std::alloc::Global;
 use std::process::Abort;
-use std::test::Fail;
 
 // A phase of an object that is present.
 fn some_phase(number: u64) -> Phase
@@ -76,33 +76,33 @@ fn is_free(plain: &[Place<u64>], position: u64) -> bool
 
 // Puts an object back into the places and into a plain list.
 fn put_back(
+    rt: &impl Abort,
     places: &mut Places<u64>,
     plain: &mut Vec<Place<u64>>,
     place: Place<u64>,
-) -> Result<(), Fail>
+)
     requires same { places.old.kept ≡ plain.old.items }
     requires reserved { 1 ≤ places.old.spare }
     requires above { IdsBelow place.known.id (records_in plain.old.items) }
     requires phase { IsTrue (is_present place.known.phase) }
     requires valued { is_some place.value ≡ is_idle place.known.phase }
     requires free { IsFreePosition place.known.parked (records_in plain.old.items) }
-    ensures same { IfOk result (λ _. places.new.kept ≡ plain.new.items) }
-    ensures spare { IfOk result (λ _. places.new.spare + 1 ≡ places.old.spare) }
-    ensures below { IfOk result (λ _. IdsBelow (place.known.id + 1) (records_in plain.new.items)) }
+    ensures same { places.new.kept ≡ plain.new.items }
+    ensures spare { places.new.spare + 1 ≡ places.old.spare }
+    ensures below { IdsBelow (place.known.id + 1) (records_in plain.new.items) }
 {
     places.restore(place.known, place.value);
-    plain.push(place)?;
-    Ok(())
+    plain.push(place).expect(rt, "memory");
 }
 
 // Each object by its position, and none behind them.
 fn ask_positions(rt: &impl Abort, places: &Places<u64>, plain: &[Place<u64>]) {
     let mut position = 0u64;
     for place in plain {
-        assert_eq!(rt; places.nth(position), Some(place.known));
+        expect_equal(rt, places.nth(position), Some(place.known));
         position = position.wrapping_add(1);
     }
-    assert_eq!(rt; places.nth(position), None);
+    expect_equal(rt, places.nth(position), None);
 }
 
 // Takes each value, the first parked first.
@@ -110,24 +110,25 @@ fn take_all(rt: &impl Abort, places: &mut Places<u64>, count: u64) {
     for _ in 0..count {
         match places.first_idle() {
             None => {}
-            Some(id) => assert_eq!(rt; places.take_value(id, Phase::Destroying), id),
+            Some(id) => expect_equal(rt, places.take_value(id, Phase::Destroying), id),
         }
     }
-    assert_eq!(rt; places.counts().idle, 0);
+    expect_equal(rt, places.counts().idle, 0);
 }
 
 // Puts objects back by chance, and asks every question after each.
-fn many_restores(rt: &impl Abort, alloc: Global, count: u64, seed: u64) -> Result<(), Fail> {
+fn many_restores(rt: &impl Abort, alloc: Global, count: u64, seed: u64) {
     let mut places = Places::new(alloc);
     let mut plain = Vec::new(alloc);
     let mut state = seed;
     for id in 0..count {
         let number = next_number(&mut state);
         let position = (number >> 8) % 1_000;
-        places.reserve(2)?;
+        places.reserve(2).expect(rt, "memory");
         places.look_from(number % 64);
         if is_free(&plain, position) {
-            put_back(&mut places, &mut plain, some_place(id, number, position))?;
+            let place = some_place(id, number, position);
+            put_back(rt, &mut places, &mut plain, place);
         }
         ask_queue(rt, &places, &plain, number % 1_000);
         ask_overdue(rt, &places, &plain, 100, number % 64);
@@ -135,15 +136,14 @@ fn many_restores(rt: &impl Abort, alloc: Global, count: u64, seed: u64) -> Resul
         ask_positions(rt, &places, &plain);
     }
     take_all(rt, &mut places, count);
-    Ok(())
 }
 
 #[test]
-fn put_back_by_chance(rt: HostRuntime) -> Result<(), Fail> {
-    many_restores(&rt, rt.alloc(), 120, 1)
+fn put_back_by_chance(rt: HostRuntime) {
+    many_restores(&rt, rt.alloc(), 120, 1);
 }
 
 #[test]
-fn put_back_by_another_chance(rt: HostRuntime) -> Result<(), Fail> {
-    many_restores(&rt, rt.alloc(), 60, 2)
+fn put_back_by_another_chance(rt: HostRuntime) {
+    many_restores(&rt, rt.alloc(), 60, 2);
 }
