@@ -4,7 +4,7 @@ ghost use Rattle.std.specs.Prelude.{◌≡◌};
 use crate::clocks::Still;
 use crate::deeds::{Deed, Reply, Row, borrows, counts, cut, does, expects, gives_back};
 use crate::items::{Failing, Item, Items, Record, Waiting};
-use crate::openings::{NUMBER, Pool, finished, open, three};
+use crate::openings::{NUMBER, Pool, finished, open, settings_of, site, three};
 use crate::turns::{Flags, TURNS};
 use pool_core::Core;
 use pool_journal::Segment;
@@ -15,7 +15,6 @@ use std::alloc::Global;
 use std::marker::Brand;
 use std::process::Abort;
 use std::sync::Wait;
-use std::test::Fail;
 use std::thread;
 use std::thread::Threads;
 
@@ -185,6 +184,42 @@ pub type Left = (Core<Item>, Vec<Segment>);
 /// What the callers of a trial go through.
 pub type Parts<'a> = [&'a [Row]; 3];
 
+// The callers 0, 1 and 2 again.
+fn together<B: Room>(
+    rt: &impl Abort,
+    alloc: Global,
+    zero: Caller<B>,
+    one: Caller<B>,
+    two: Caller<B>,
+) -> Vec<Caller<B>> {
+    let mut callers = Vec::new(alloc);
+    callers.push(zero).expect(rt, "the first caller");
+    callers.push(one).expect(rt, "the second caller");
+    callers.push(two).expect(rt, "the third caller");
+    callers
+}
+
+// Has the callers 1 and 2 go through their rows, each in a thread of its own. Answers with both, and the segments that 2 cut.
+fn both<B: Room + Send + Sync, R: Threads + Wait + Abort + Sync>(
+    rt: &R,
+    alloc: Global,
+    pool: &Pool<B>,
+    flags: &Flags,
+    one: Caller<B>,
+    two: Caller<B>,
+    second: &[Row],
+    third: &[Row],
+) -> (Caller<B>, Caller<B>, Vec<Segment>) {
+    let (one, two) = thread::join(
+        rt,
+        move || takes_part::<B, R>(rt, alloc, pool, flags, one, second),
+        move || takes_part::<B, R>(rt, alloc, pool, flags, two, third),
+    );
+    let (one, _) = one;
+    let (two, segments) = two;
+    (one, two, segments)
+}
+
 // Has each caller go through its rows in a thread of its own.
 fn all_three<B: Room + Send + Sync, R: Threads + Wait + Abort + Sync>(
     rt: &R,
@@ -193,29 +228,17 @@ fn all_three<B: Room + Send + Sync, R: Threads + Wait + Abort + Sync>(
     flags: &Flags,
     callers: (Caller<B>, Caller<B>, Caller<B>),
     parts: Parts,
-) -> Result<(Vec<Caller<B>>, Vec<Segment>), Fail> {
+) -> (Vec<Caller<B>>, Vec<Segment>) {
     let (zero, one, two) = callers;
     let [first, second, third] = parts;
     let (zero, others) = thread::join(
         rt,
         move || takes_part::<B, R>(rt, alloc, pool, flags, zero, first),
-        move || {
-            thread::join(
-                rt,
-                move || takes_part::<B, R>(rt, alloc, pool, flags, one, second),
-                move || takes_part::<B, R>(rt, alloc, pool, flags, two, third),
-            )
-        },
+        move || both::<B, R>(rt, alloc, pool, flags, one, two, second, third),
     );
     let (zero, _) = zero;
-    let (one, two) = others;
-    let (one, _) = one;
-    let (two, segments) = two;
-    let mut callers = Vec::new(alloc);
-    callers.push(zero)?;
-    callers.push(one)?;
-    callers.push(two)?;
-    Ok((callers, segments))
+    let (one, two, segments) = others;
+    (together(rt, alloc, zero, one, two), segments)
 }
 
 fn lives<B: Room + Send + Sync, R: Threads + Wait + Abort + Sync>(
@@ -227,14 +250,13 @@ fn lives<B: Room + Send + Sync, R: Threads + Wait + Abort + Sync>(
     clock: Still,
     flags: &Flags,
     parts: Parts,
-) -> Result<Left, Fail>
+) -> Left
     requires { (site ≡ B.table) × (settings ≡ B.settings) × (3 ≡ B.callers) }
 {
-    let (pool, callers) = open::<B, R>(rt, alloc, site, settings, NUMBER, 3, items, clock)?;
-    let callers = three(callers).ok_or("three callers")?;
-    let (callers, segments) = all_three(rt, alloc, &pool, flags, callers, parts)?;
-    let core = finished(rt, pool, callers).ok_or("a core")?;
-    Ok((core, segments))
+    let (pool, callers) = open::<B, R>(rt, alloc, site, settings, NUMBER, 3, items, clock);
+    let callers = three(rt, callers);
+    let (callers, segments) = all_three(rt, alloc, &pool, flags, callers, parts);
+    (finished(rt, pool, callers), segments)
 }
 
 /// What waits at the gate of a trial.
@@ -273,10 +295,10 @@ pub fn tries<R: Threads + Wait + Abort + Sync>(
     failing: Failing,
     gated: Gated,
     parts: Parts,
-) -> Result<Left, Fail> {
-    let site = Site::new(alloc)?;
-    let settings = Settings::from_text(alloc, settings)?;
-    let record = Record::new(alloc, 8)?;
+) -> Left {
+    let site = site(rt, alloc);
+    let settings = settings_of(rt, alloc, settings);
+    let record = Record::new(rt, alloc, 8);
     let flags = Flags::new();
     let items = Items {
         record: &record,
@@ -284,7 +306,7 @@ pub fn tries<R: Threads + Wait + Abort + Sync>(
         waiting: waiting(gated, &flags),
     };
     let clock = clock(gated, &flags);
-    let left = lives::<Brand, R>(rt, alloc, site, settings, items, clock, &flags, parts)?;
+    let left = lives::<Brand, R>(rt, alloc, site, settings, items, clock, &flags, parts);
     assert!(rt; !flags.have_run_out(), "the turns ran out at the gate");
-    Ok(left)
+    left
 }

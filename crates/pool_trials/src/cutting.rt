@@ -3,9 +3,9 @@ ghost use Rattle.std.specs.Prelude.{◌≡◌};
 
 use crate::beside::{Gated, Parts, tries};
 use crate::clocks::Still;
-use crate::deeds::{Deed, Row, copied, cut, goes_through};
+use crate::deeds::{Deed, Row, copied, cut, expect_equal, goes_through};
 use crate::items::{Failing, Item, Items, Record, Waiting};
-use crate::openings::{NUMBER, Pool, finished, open};
+use crate::openings::{NUMBER, Pool, finished, open, settings_of, site};
 use pool_core::Core;
 use pool_journal::{Answer, Base, Entry, Segment};
 use pool_settings::Settings;
@@ -15,7 +15,6 @@ use std::alloc::Global;
 use std::marker::Brand;
 use std::process::Abort;
 use std::sync::Wait;
-use std::test::Fail;
 
 // After a borrow and a return there is room for the end alone.
 const BEFORE: [Row; 3] = [
@@ -46,17 +45,11 @@ fn behind() -> &'static [Row] {
 }
 
 // The first cut gives four entries, behind no others, and leaves none.
-fn cuts_four<B: Room, R: Wait + Abort>(
-    rt: &R,
-    alloc: Global,
-    pool: &Pool<B>,
-    me: &mut Caller<B>,
-) -> Result<(), Fail> {
-    let segment = cut(rt, alloc, pool, me).ok_or("a segment")?;
-    assert_eq!(rt; segment.base.first, 0);
-    assert_eq!(rt; segment.entries.as_slice().len(), 4);
-    assert_eq!(rt; copied(rt, alloc, pool, me), Some(0));
-    Ok(())
+fn cuts_four<B: Room, R: Wait + Abort>(rt: &R, alloc: Global, pool: &Pool<B>, me: &mut Caller<B>) {
+    let segment = cut(rt, alloc, pool, me).expect(rt, "a segment");
+    expect_equal(rt, segment.base.first, 0);
+    expect_equal(rt, segment.entries.as_slice().len(), 4);
+    expect_equal(rt, copied(rt, alloc, pool, me), 0);
 }
 
 fn borrows_behind_a_cut<B: Room, R: Wait + Abort>(
@@ -64,13 +57,12 @@ fn borrows_behind_a_cut<B: Room, R: Wait + Abort>(
     alloc: Global,
     pool: &Pool<B>,
     me: &mut Caller<B>,
-) -> Result<(), Fail> {
+) {
     let mut held = None;
     goes_through(rt, pool, me, &mut held, before());
-    cuts_four(rt, alloc, pool, me)?;
+    cuts_four(rt, alloc, pool, me);
     goes_through(rt, pool, me, &mut held, behind());
-    assert_eq!(rt; copied(rt, alloc, pool, me), Some(2));
-    Ok(())
+    expect_equal(rt, copied(rt, alloc, pool, me), 2);
 }
 
 fn one_caller_cuts<B: Room, R: Wait + Abort>(
@@ -79,21 +71,19 @@ fn one_caller_cuts<B: Room, R: Wait + Abort>(
     site: Site,
     settings: Settings,
     items: Items,
-) -> Result<(), Fail>
+)
     requires { (site ≡ B.table) × (settings ≡ B.settings) × (1 ≡ B.callers) }
 {
     let clock = Still { held: None };
-    let (pool, mut callers) = open::<B, R>(rt, alloc, site, settings, NUMBER, 1, items, clock)?;
-    let me = callers.last_mut().ok_or("a caller")?;
-    borrows_behind_a_cut(rt, alloc, &pool, me)?;
-    let core = finished(rt, pool, callers).ok_or("a core")?;
-    is_left(rt, &core);
-    Ok(())
+    let (pool, mut callers) = open::<B, R>(rt, alloc, site, settings, NUMBER, 1, items, clock);
+    let me = callers.last_mut().expect(rt, "a caller");
+    borrows_behind_a_cut(rt, alloc, &pool, me);
+    is_left(rt, &finished(rt, pool, callers));
 }
 
 // What is left behind the cut: two entries, and an object that is lent.
 fn is_left(rt: &impl Abort, core: &Core<Item>) {
-    assert_eq!(rt; core.journal().len(), 2);
+    expect_equal(rt, core.journal().len(), 2);
     let counts = Counts {
         steps: 6,
         idle: 0,
@@ -104,90 +94,82 @@ fn is_left(rt: &impl Abort, core: &Core<Item>) {
         evicted: 0,
         reclaimed: 0,
     };
-    assert_eq!(rt; core.counts(), counts);
+    expect_equal(rt, core.counts(), counts);
 }
 
 #[test]
-fn a_cut_makes_room(rt: HostRuntime) -> Result<(), Fail> {
-    let site = Site::new(rt.alloc())?;
-    let settings = Settings::from_text(rt.alloc(), "journalLimit = 7")?;
-    let record = Record::new(rt.alloc(), 8)?;
+fn a_cut_makes_room(rt: HostRuntime) {
+    let site = site(&rt, rt.alloc());
+    let settings = settings_of(&rt, rt.alloc(), "journalLimit = 7");
+    let record = Record::new(&rt, rt.alloc(), 8);
     let items = Items {
         record: &record,
         failing: Failing::Never,
         waiting: Waiting::Nowhere,
     };
-    one_caller_cuts::<Brand, _>(&rt, rt.alloc(), site, settings, items)
+    one_caller_cuts::<Brand, _>(&rt, rt.alloc(), site, settings, items);
 }
 
-// What a core answers to the input of an entry; none where the step is refused.
-fn answers(core: &mut Core<u64>, entry: &Entry) -> Option<Answer> {
+// What a core answers to the input of an entry.
+fn answers(rt: &impl Abort, core: &mut Core<u64>, entry: &Entry) -> Answer {
     let value = if entry.input.carries() { Some(0) } else { None };
     let step = core.step(entry.caller, entry.at, entry.input, value);
-    Some(step.ok()?.0)
+    step.ok().expect(rt, "an answer").0
 }
 
 // Each entry is answered again as it was.
-fn answers_again<R: Abort>(rt: &R, core: &mut Core<u64>, entries: &[Entry]) -> Result<(), Fail> {
+fn answers_again(rt: &impl Abort, core: &mut Core<u64>, entries: &[Entry]) {
     for entry in entries {
-        let answer = answers(core, entry).ok_or("an answer")?;
-        assert_eq!(rt; answer, entry.answer);
+        expect_equal(rt, answers(rt, core, entry), entry.answer);
     }
-    Ok(())
 }
 
 fn is_same(one: &Base, other: &Base) -> bool {
     one.head() == other.head() && one.records.as_slice() == other.records.as_slice()
 }
 
-// A new core of numbers; none where there is no memory.
-fn another(alloc: Global, settings: Settings) -> Option<Core<u64>> {
-    Core::open(alloc, settings).ok()
+// A new core of numbers.
+fn another(rt: &impl Abort, alloc: Global, settings: Settings) -> Core<u64> {
+    Core::open(alloc, settings).expect(rt, "a core")
 }
 
-// Cuts a core's journal; none where there is no memory.
-fn cut_again(alloc: Global, core: &mut Core<u64>) -> Option<Segment> {
-    core.cut(alloc).ok()
+// Cuts a core's journal.
+fn cut_again(rt: &impl Abort, alloc: Global, core: &mut Core<u64>) -> Segment {
+    core.cut(alloc).expect(rt, "a segment")
 }
 
 // Takes the steps of a segment, and is cut where it was.
-fn cuts_again<R: Abort>(
-    rt: &R,
-    alloc: Global,
-    core: &mut Core<u64>,
-    segment: &Segment,
-) -> Result<(), Fail> {
-    answers_again(rt, core, segment.entries.as_slice())?;
-    let again = cut_again(alloc, core).ok_or("a segment")?;
+fn cuts_again(rt: &impl Abort, alloc: Global, core: &mut Core<u64>, segment: &Segment) {
+    answers_again(rt, core, segment.entries.as_slice());
+    let again = cut_again(rt, alloc, core);
     assert!(rt; is_same(&again.base, &segment.base), "{again:?}");
-    Ok(())
 }
 
 // Takes the steps of all segments and is cut where they were, and then takes those that were stored at the end.
-fn takes_all<R: Abort>(
-    rt: &R,
+fn takes_all(
+    rt: &impl Abort,
     alloc: Global,
     core: &mut Core<u64>,
     segments: &[Segment],
     stored: &[Entry],
-) -> Result<(), Fail> {
+) {
     for segment in segments {
-        cuts_again(rt, alloc, core, segment)?;
+        cuts_again(rt, alloc, core, segment);
     }
-    answers_again(rt, core, stored)
+    answers_again(rt, core, stored);
 }
 
 // What a core of its own counts that takes the same steps.
-fn plays_again<R: Abort>(
-    rt: &R,
+fn plays_again(
+    rt: &impl Abort,
     alloc: Global,
     settings: Settings,
     segments: &[Segment],
     stored: &[Entry],
-) -> Result<Counts, Fail> {
-    let mut core = another(alloc, settings).ok_or("a core")?;
-    takes_all(rt, alloc, &mut core, segments, stored)?;
-    Ok(core.counts())
+) -> Counts {
+    let mut core = another(rt, alloc, settings);
+    takes_all(rt, alloc, &mut core, segments, stored);
+    core.counts()
 }
 
 const TURNS: [Row; 1] = [(Deed::TakeTurns(500), "done", 500)];
@@ -200,23 +182,17 @@ fn parts() -> Parts<'static> {
 }
 
 // What is left answers and counts as a core that takes the steps of its segments.
-fn are_one_history(
-    rt: &impl Abort,
-    alloc: Global,
-    core: &Core<Item>,
-    segments: &[Segment],
-) -> Result<(), Fail> {
-    assert_eq!(rt; segments.len(), 200);
+fn are_one_history(rt: &impl Abort, alloc: Global, core: &Core<Item>, segments: &[Segment]) {
+    expect_equal(rt, segments.len(), 200);
     let settings = Settings::default();
-    let counts = plays_again(rt, alloc, settings, segments, core.journal())?;
-    assert_eq!(rt; core.counts(), counts);
-    assert_eq!(rt; counts.steps, 4_000);
-    Ok(())
+    let counts = plays_again(rt, alloc, settings, segments, core.journal());
+    expect_equal(rt, core.counts(), counts);
+    expect_equal(rt, counts.steps, 4_000);
 }
 
 #[test]
-fn segments_are_one_history(rt: HostRuntime) -> Result<(), Fail> {
+fn segments_are_one_history(rt: HostRuntime) {
     let never = Failing::Never;
-    let (core, segments) = tries(&rt, rt.alloc(), "", never, Gated::Nothing, parts())?;
-    are_one_history(&rt, rt.alloc(), &core, &segments)
+    let (core, segments) = tries(&rt, rt.alloc(), "", never, Gated::Nothing, parts());
+    are_one_history(&rt, rt.alloc(), &core, &segments);
 }

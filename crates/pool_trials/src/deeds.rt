@@ -8,6 +8,7 @@ use pool_shared::{
 };
 use pool_stats::Counts;
 use std::alloc::Global;
+use std::fmt::Debug;
 use std::process::Abort;
 use std::sync::Wait;
 
@@ -240,14 +241,14 @@ pub fn cut<B: Room, R: Wait>(
     pool.cut(rt, alloc, me).ok()
 }
 
-/// How many entries a copy of the journal has; none where there is no memory.
-pub fn copied<B: Room, R: Wait>(
+/// How many entries a copy of the journal has.
+pub fn copied<B: Room, R: Wait + Abort>(
     rt: &R,
     alloc: Global,
     pool: &Pool<B>,
     me: &mut Caller<B>,
-) -> Option<usize> {
-    Some(pool.journal_copy(rt, alloc, me).ok()?.len())
+) -> usize {
+    pool.journal_copy(rt, alloc, me).expect(rt, "a copy").len()
 }
 
 /// What the caller counts.
@@ -316,6 +317,11 @@ pub fn expects(rt: &impl Abort, deed: Deed, told: Reply, wanted: Reply) {
         word == wanted.0 && number == wanted.1,
         "{deed:?} came to {word} {number}"
     );
+}
+
+/// Compares what was found with what was wanted.
+pub fn expect_equal<T: Copy + PartialEq + Debug>(rt: &impl Abort, found: T, wanted: T) {
+    assert_eq!(rt; found, wanted);
 }
 
 /// Does the deeds of rows in turn, and compares what each came to.

@@ -2,14 +2,15 @@
 ghost use Rattle.std.specs.Prelude.{◌≡◌};
 
 use crate::clocks::Still;
-use crate::openings::NUMBER;
+use crate::deeds::expect_equal;
+use crate::openings::{NUMBER, site};
 use pool_settings::Settings;
 use pool_shared::{Caller, Factory, Lent, Room, SharedPool, Site};
 use std::alloc::{AllocError, Global};
 use std::marker::Brand;
+use std::process::Abort;
 use std::sync::Wait;
 use std::sync::atomic::{AtomicU64, Ordering};
-use std::test::Fail;
 
 /// An object with memory of its own. It is counted as long as it is there.
 struct Counted<'a> {
@@ -126,109 +127,94 @@ fn drop_in_order<P: Drop, C: Drop, L: Drop>(order: Order, pool: P, callers: C, l
     }
 }
 
-// Borrows an object; none where none is lent.
-fn borrows<'a, B: Room, R: Wait>(
+// Borrows an object.
+fn borrows<'a, B: Room, R: Wait + Abort>(
     rt: &R,
     pool: &Counts<'a, B>,
     me: &mut Caller<B>,
-) -> Option<Lent<Counted<'a>>> {
-    pool.borrow(rt, me).ok()
+) -> Lent<Counted<'a>> {
+    pool.borrow(rt, me).ok().expect(rt, "an object")
 }
 
-// Gives an object back. Answers whether it was taken.
-fn gives_back<'a, B: Room, R: Wait>(
+// Gives an object back.
+fn gives_back<'a, B: Room, R: Wait + Abort>(
     rt: &R,
     pool: &Counts<'a, B>,
     me: &mut Caller<B>,
     lent: Lent<Counted<'a>>,
-) -> bool {
-    pool.give_back(rt, me, lent).is_ok()
-}
-
-// Borrows two objects, and gives one back.
-fn holds_one_of_two<'a, B: Room, R: Wait>(
-    rt: &R,
-    pool: &Counts<'a, B>,
-    me: &mut Caller<B>,
-) -> Option<Lent<Counted<'a>>> {
-    let lent = borrows(rt, pool, me)?;
-    let other = borrows(rt, pool, me)?;
-    if gives_back(rt, pool, me, other) {
-        Some(lent)
-    } else {
-        None
-    }
+) {
+    let is_taken = pool.give_back(rt, me, lent).is_ok();
+    assert!(rt; is_taken, "not taken back");
 }
 
 // What the last of the callers holds, who borrowed two objects and gave one back.
-fn lends_one<'a, B: Room, R: Wait>(
+fn lends_one<'a, B: Room, R: Wait + Abort>(
     rt: &R,
     pool: &Counts<'a, B>,
     callers: &mut Vec<Caller<B>>,
-) -> Result<Lent<Counted<'a>>, Fail> {
-    let me = callers.last_mut().ok_or("a caller")?;
-    Ok(holds_one_of_two(rt, pool, me).ok_or("an object")?)
+) -> Lent<Counted<'a>> {
+    let me = callers.last_mut().expect(rt, "a caller");
+    let lent = borrows(rt, pool, me);
+    let other = borrows(rt, pool, me);
+    gives_back(rt, pool, me, other);
+    lent
 }
 
 // A pool with an idle object and a lent one is dropped with them.
-fn drops<B: Room, R: Wait>(
+fn drops<B: Room, R: Wait + Abort>(
     rt: &R,
     alloc: Global,
     site: Site,
     settings: Settings,
     present: &AtomicU64,
     order: Order,
-) -> Result<(), Fail>
+)
     requires { (site ≡ B.table) × (settings ≡ B.settings) × (2 ≡ B.callers) }
 {
     let objects = Counting { alloc, present };
     let clock = Still { held: None };
     let (pool, mut callers) = Counts::<B>::open(
         rt, alloc, site, settings, NUMBER, 2, objects, clock,
-    )?;
-    let lent = lends_one(rt, &pool, &mut callers)?;
+    ).expect(rt, "a pool");
+    let lent = lends_one(rt, &pool, &mut callers);
     drop_in_order(order, pool, callers, lent);
-    Ok(())
 }
 
 #[test]
-fn nothing_stays_in_any_order(rt: HostRuntime) -> Result<(), Fail> {
+fn nothing_stays_in_any_order(rt: HostRuntime) {
     let present = AtomicU64::new(0);
     for order in ORDERS {
-        let site = Site::new(rt.alloc())?;
-        drops::<Brand, _>(&rt, rt.alloc(), site, Settings::default(), &present, order)?;
+        let site = site(&rt, rt.alloc());
+        drops::<Brand, _>(&rt, rt.alloc(), site, Settings::default(), &present, order);
         assert_eq!(rt; present.load(Ordering::SeqCst), 0, "at {order:?}");
     }
-    Ok(())
 }
 
 // A pool is finished while an object is lent, and the core is dropped with the idle one.
-fn finishes<B: Room, R: Wait>(
+fn finishes<B: Room, R: Wait + Abort>(
     rt: &R,
     alloc: Global,
     site: Site,
     settings: Settings,
     present: &AtomicU64,
-) -> Result<(), Fail>
+)
     requires { (site ≡ B.table) × (settings ≡ B.settings) × (1 ≡ B.callers) }
 {
     let objects = Counting { alloc, present };
     let clock = Still { held: None };
     let (pool, mut callers) = Counts::<B>::open(
         rt, alloc, site, settings, NUMBER, 1, objects, clock,
-    )?;
-    let lent = lends_one(rt, &pool, &mut callers)?;
-    let core = pool.finish(rt, callers).ok().ok_or("a core")?;
+    ).expect(rt, "a pool");
+    let lent = lends_one(rt, &pool, &mut callers);
+    let core = pool.finish(rt, callers).ok().expect(rt, "a core");
     drop(core);
     drop(lent);
-    Ok(())
 }
 
 #[test]
-fn nothing_stays_of_a_finished_pool(rt: HostRuntime) -> Result<(), Fail> {
+fn nothing_stays_of_a_finished_pool(rt: HostRuntime) {
     let present = AtomicU64::new(0);
-    let site = Site::new(rt.alloc())?;
-    finishes::<Brand, _>(&rt, rt.alloc(), site, Settings::default(), &present)?;
-    assert_eq!(rt; present.load(Ordering::SeqCst), 0);
-    Ok(())
+    let site = site(&rt, rt.alloc());
+    finishes::<Brand, _>(&rt, rt.alloc(), site, Settings::default(), &present);
+    expect_equal(&rt, present.load(Ordering::SeqCst), 0);
 }

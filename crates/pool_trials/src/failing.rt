@@ -2,16 +2,15 @@
 ghost use Rattle.std.specs.Prelude.{◌≡◌};
 
 use crate::clocks::Still;
-use crate::deeds::{Deed, Row, borrows, counts, does, gives_back, goes_through};
+use crate::deeds::{Deed, Row, borrows, counts, does, expect_equal, gives_back, goes_through};
 use crate::items::{Failing, Items, Record, Waiting};
-use crate::openings::{NUMBER, Pool, open, single};
+use crate::openings::{NUMBER, Pool, open, settings_of, single, site};
 use pool_settings::Settings;
 use pool_shared::{Caller, Room, Site};
 use std::alloc::Global;
 use std::marker::Brand;
 use std::process::Abort;
 use std::sync::Wait;
-use std::test::Fail;
 
 const ALL_TESTS: &str =
     "testOnCreate = true\ntestOnBorrow = true\ntestOnReturn = true\ntestWhileIdle = true\n";
@@ -54,8 +53,8 @@ fn adds_and_ends<B: Room, R: Wait + Abort>(rt: &R, pool: &Pool<B>, me: &mut Call
     let (word, _) = does(rt, pool, me, &mut held, Deed::Close);
     assert!(rt; word == "count");
     let counts = counts(rt, pool, me);
-    assert_eq!(rt; counts.reserved, 0);
-    assert_eq!(rt; counts.destroyed, counts.created);
+    expect_equal(rt, counts.reserved, 0);
+    expect_equal(rt, counts.destroyed, counts.created);
 }
 
 fn lives<B: Room, R: Wait + Abort>(
@@ -64,32 +63,35 @@ fn lives<B: Room, R: Wait + Abort>(
     site: Site,
     settings: Settings,
     items: Items,
-) -> Result<(), Fail>
+)
     requires { (site ≡ B.table) × (settings ≡ B.settings) × (1 ≡ B.callers) }
 {
     let clock = Still { held: None };
-    let (pool, callers) = open::<B, R>(rt, alloc, site, settings, NUMBER, 1, items, clock)?;
-    let mut me = single(callers).ok_or("a caller")?;
+    let (pool, callers) = open::<B, R>(rt, alloc, site, settings, NUMBER, 1, items, clock);
+    let mut me = single(rt, callers);
     borrows_and_gives_back(rt, &pool, &mut me);
     borrows_and_gives_back(rt, &pool, &mut me);
     adds_and_ends(rt, &pool, &mut me);
-    Ok(())
+}
+
+// Each object was destroyed once, and the call with this number was made, where there is one.
+fn has_failed(rt: &impl Abort, record: &Record, number: u64) {
+    assert!(rt; record.is_even(), "at {number}");
+    assert_eq!(rt; record.calls() < number, number > CALLS, "at {number}");
 }
 
 #[test]
-fn each_call_of_the_factory_fails_once(rt: HostRuntime) -> Result<(), Fail> {
-    let settings = Settings::from_text(rt.alloc(), ALL_TESTS)?;
+fn each_call_of_the_factory_fails_once(rt: HostRuntime) {
+    let settings = settings_of(&rt, rt.alloc(), ALL_TESTS);
     for number in 1..=CALLS + 1 {
-        let site = Site::new(rt.alloc())?;
-        let record = Record::new(rt.alloc(), 8)?;
+        let site = site(&rt, rt.alloc());
+        let record = Record::new(&rt, rt.alloc(), 8);
         let items = Items {
             record: &record,
             failing: Failing::Nth(number),
             waiting: Waiting::Nowhere,
         };
-        lives::<Brand, _>(&rt, rt.alloc(), site, settings, items)?;
-        assert!(rt; record.is_even(), "at {number}");
-        assert_eq!(rt; record.calls() < number, number > CALLS, "at {number}");
+        lives::<Brand, _>(&rt, rt.alloc(), site, settings, items);
+        has_failed(&rt, &record, number);
     }
-    Ok(())
 }

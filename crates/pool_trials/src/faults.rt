@@ -6,14 +6,13 @@ use crate::deeds::Deed;
 use crate::items::{
     Call, Failing, Items, NOT_ACTIVATED, NOT_MADE, NOT_PASSIVATED, Record, Waiting,
 };
-use crate::openings::{NUMBER, open};
+use crate::openings::{NUMBER, Pool, site};
 use crate::solo::tries;
 use pool_settings::Settings;
 use pool_shared::{OpenFault, Room, Site};
 use std::alloc::Global;
 use std::marker::Brand;
 use std::sync::Wait;
-use std::test::Fail;
 
 // Opens a pool for so many callers.
 fn opens<B: Room, R: Wait>(
@@ -32,15 +31,15 @@ fn opens<B: Room, R: Wait>(
         waiting: Waiting::Nowhere,
     };
     let clock = Still { held: None };
-    let (_, _) = open::<B, R>(rt, alloc, site, settings, NUMBER, callers, items, clock)?;
+    Pool::<B>::open(rt, alloc, site, settings, NUMBER, callers, items, clock)?;
     Ok(())
 }
 
 #[test]
-fn pools_have_1_to_1024_callers(rt: HostRuntime) -> Result<(), Fail> {
-    let record = Record::new(rt.alloc(), 8)?;
+fn pools_have_1_to_1024_callers(rt: HostRuntime) {
+    let record = Record::new(&rt, rt.alloc(), 8);
     for (callers, is_refused) in [(0, true), (1025, true), (1, false), (1024, false)] {
-        let site = Site::new(rt.alloc())?;
+        let site = site(&rt, rt.alloc());
         let opened = opens::<Brand, _>(
             &rt,
             rt.alloc(),
@@ -55,11 +54,10 @@ fn pools_have_1_to_1024_callers(rt: HostRuntime) -> Result<(), Fail> {
         );
         assert!(rt; opened.is_ok() != is_refused, "at {callers}");
     }
-    Ok(())
 }
 
 #[test]
-fn a_borrow_is_refused(rt: HostRuntime) -> Result<(), Fail> {
+fn a_borrow_is_refused(rt: HostRuntime) {
     let never = Failing::Never;
     let untested = Failing::All(Call::Validate);
     for (settings, failing, word, number) in [
@@ -93,21 +91,19 @@ fn a_borrow_is_refused(rt: HostRuntime) -> Result<(), Fail> {
         ("journalLimit = 7", never, "lent", 0),
     ] {
         let rows = [(Deed::Borrow, word, number)];
-        tries(&rt, rt.alloc(), settings, failing, &rows)?;
+        tries(&rt, rt.alloc(), settings, failing, &rows);
     }
-    Ok(())
 }
 
 #[test]
-fn what_stays_awake_is_destroyed(rt: HostRuntime) -> Result<(), Fail> {
+fn what_stays_awake_is_destroyed(rt: HostRuntime) {
     let rows = [(Deed::Borrow, "lent", 0), (Deed::GiveBack, "destroyed", 0)];
     let failing = Failing::All(Call::Passivate);
-    assert!(rt; tries(&rt, rt.alloc(), "", failing, &rows)?);
-    Ok(())
+    assert!(rt; tries(&rt, rt.alloc(), "", failing, &rows));
 }
 
 #[test]
-fn an_addition_is_refused(rt: HostRuntime) -> Result<(), Fail> {
+fn an_addition_is_refused(rt: HostRuntime) {
     let never = Failing::Never;
     for (settings, failing, word, number) in [
         (
@@ -139,13 +135,12 @@ fn an_addition_is_refused(rt: HostRuntime) -> Result<(), Fail> {
         ("journalLimit = 5", never, "idle", 0),
     ] {
         let rows = [(Deed::Add, word, number)];
-        tries(&rt, rt.alloc(), settings, failing, &rows)?;
+        tries(&rt, rt.alloc(), settings, failing, &rows);
     }
-    Ok(())
 }
 
 #[test]
-fn a_closed_pool_takes_nothing_on(rt: HostRuntime) -> Result<(), Fail> {
+fn a_closed_pool_takes_nothing_on(rt: HostRuntime) {
     let rows = [
         (Deed::Close, "count", 0),
         (Deed::Evict, "closed", 0),
@@ -153,6 +148,5 @@ fn a_closed_pool_takes_nothing_on(rt: HostRuntime) -> Result<(), Fail> {
         (Deed::Fill, "count", 0),
         (Deed::Maintain, "closed", 0),
     ];
-    tries(&rt, rt.alloc(), "minIdle = 1", Failing::Never, &rows)?;
-    Ok(())
+    tries(&rt, rt.alloc(), "minIdle = 1", Failing::Never, &rows);
 }

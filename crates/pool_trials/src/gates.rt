@@ -3,7 +3,15 @@ use crate::beside::{Gated, Parts, tries};
 use crate::deeds::{Deed, Row};
 use crate::items::Failing;
 use crate::turns::Flag;
-use std::test::Fail;
+use std::alloc::Global;
+use std::process::Abort;
+use std::sync::Wait;
+use std::thread::Threads;
+
+// Has three callers go through their parts, where nothing fails.
+fn pass<R: Threads + Wait + Abort + Sync>(rt: &R, alloc: Global, gated: Gated, parts: Parts) {
+    tries(rt, alloc, "", Failing::Never, gated, parts);
+}
 
 const NOTHING: [Row; 0] = [];
 
@@ -21,9 +29,8 @@ fn makes() -> Parts<'static> {
 }
 
 #[test]
-fn objects_are_made_side_by_side(rt: HostRuntime) -> Result<(), Fail> {
-    tries(&rt, rt.alloc(), "", Failing::Never, Gated::Making, makes())?;
-    Ok(())
+fn objects_are_made_side_by_side(rt: HostRuntime) {
+    pass(&rt, rt.alloc(), Gated::Making, makes());
 }
 
 // A caller borrows and gives back, and looks at the counts after each.
@@ -46,16 +53,8 @@ fn counts() -> Parts<'static> {
 }
 
 #[test]
-fn counts_know_what_has_returned(rt: HostRuntime) -> Result<(), Fail> {
-    tries(
-        &rt,
-        rt.alloc(),
-        "",
-        Failing::Never,
-        Gated::Nothing,
-        counts(),
-    )?;
-    Ok(())
+fn counts_know_what_has_returned(rt: HostRuntime) {
+    pass(&rt, rt.alloc(), Gated::Nothing, counts());
 }
 
 const RECLAIMS: [Row; 1] = [(Deed::Reclaim, "count", 0)];
@@ -72,14 +71,6 @@ fn counts_beside() -> Parts<'static> {
 }
 
 #[test]
-fn counts_are_told_beside_a_section(rt: HostRuntime) -> Result<(), Fail> {
-    tries(
-        &rt,
-        rt.alloc(),
-        "",
-        Failing::Never,
-        Gated::Telling,
-        counts_beside(),
-    )?;
-    Ok(())
+fn counts_are_told_beside_a_section(rt: HostRuntime) {
+    pass(&rt, rt.alloc(), Gated::Telling, counts_beside());
 }

@@ -3,7 +3,8 @@ ghost use Rattle.std.specs.Prelude.{◌≡◌, true, false};
 
 use crate::turns::Flags;
 use pool_shared::Factory;
-use std::alloc::{AllocError, Global};
+use std::alloc::Global;
+use std::process::Abort;
 use std::sync::atomic::{AtomicU64, Ordering};
 
 /// What a make fails for.
@@ -57,18 +58,19 @@ struct Row {
 
 impl Record {
     /// A record of the objects with ids below `ids`.
-    pub fn new(alloc: Global, ids: usize) -> Result<Record, AllocError> {
+    pub fn new(rt: &impl Abort, alloc: Global, ids: usize) -> Record {
         let mut rows = Vec::new(alloc);
         for _ in 0..ids {
             rows.push(Row {
                 made: AtomicU64::new(0),
                 destroyed: AtomicU64::new(0),
-            })?;
+            })
+            .expect(rt, "a row");
         }
-        Ok(Record {
+        Record {
             calls: AtomicU64::new(0),
             rows,
-        })
+        }
     }
 
     /// How many calls there were that can fail.

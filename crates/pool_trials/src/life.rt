@@ -2,9 +2,9 @@
 ghost use Rattle.std.specs.Prelude.{◌≡◌};
 
 use crate::clocks::Still;
-use crate::deeds::{Deed, Row, copied, goes_through};
+use crate::deeds::{Deed, Row, copied, expect_equal, goes_through};
 use crate::items::{Failing, Item, Items, Record, Waiting};
-use crate::openings::{NUMBER, Pool, finished, open, pair};
+use crate::openings::{NUMBER, Pool, finished, open, pair, settings_of, site};
 use pool_core::Core;
 use pool_settings::Settings;
 use pool_shared::{Caller, FinishFault, Room, Site};
@@ -13,7 +13,6 @@ use std::alloc::Global;
 use std::marker::Brand;
 use std::process::Abort;
 use std::sync::Wait;
-use std::test::Fail;
 
 // The first caller borrows, touches and gives back; cares for the idle objects, and clears them away.
 const FIRST: [Row; 26] = [
@@ -87,25 +86,25 @@ fn takes_parts<B: Room, R: Wait + Abort>(
     goes_through(rt, pool, one, &mut held, second());
     pool.meet(rt, zero, one);
     goes_through(rt, pool, zero, &mut held, end());
-    assert_eq!(rt; copied(rt, alloc, pool, zero), Some(27));
+    expect_equal(rt, copied(rt, alloc, pool, zero), 27);
     goes_through(rt, pool, zero, &mut held, behind_the_end());
 }
 
 // The pool is not finished without the second caller.
-fn lacks_a_caller<'a, B: Room, R: Wait>(
+fn lacks_a_caller<'a, B: Room, R: Wait + Abort>(
     rt: &R,
     pool: Pool<'a, B>,
     callers: Vec<Caller<B>>,
-) -> Result<(Pool<'a, B>, Vec<Caller<B>>), Fail> {
+) -> (Pool<'a, B>, Vec<Caller<B>>) {
     match pool.finish(rt, callers) {
-        Err((FinishFault::CallersMissing, pool, callers)) => Ok((pool, callers)),
-        Ok(_) => Err("finished without a caller".into()),
+        Err((FinishFault::CallersMissing, pool, callers)) => (pool, callers),
+        Ok(_) => panic!(rt; "finished without a caller"),
     }
 }
 
 // What is left of the pool.
 fn comes_to(rt: &impl Abort, core: &Core<Item>) {
-    assert_eq!(rt; core.journal().len(), 28);
+    expect_equal(rt, core.journal().len(), 28);
     let counts = Counts {
         steps: 28,
         idle: 0,
@@ -116,7 +115,7 @@ fn comes_to(rt: &impl Abort, core: &Core<Item>) {
         evicted: 0,
         reclaimed: 0,
     };
-    assert_eq!(rt; core.counts(), counts);
+    expect_equal(rt, core.counts(), counts);
 }
 
 // The pool is finished once both callers are back.
@@ -126,14 +125,12 @@ fn finishes<B: Room, R: Wait + Abort>(
     pool: Pool<B>,
     zero: Caller<B>,
     one: Caller<B>,
-) -> Result<(), Fail> {
+) {
     let mut callers = Vec::new(alloc);
-    callers.push(zero)?;
-    let (pool, mut callers) = lacks_a_caller(rt, pool, callers)?;
-    callers.push(one)?;
-    let core = finished(rt, pool, callers).ok_or("a core")?;
-    comes_to(rt, &core);
-    Ok(())
+    callers.push(zero).expect(rt, "the first caller");
+    let (pool, mut callers) = lacks_a_caller(rt, pool, callers);
+    callers.push(one).expect(rt, "the second caller");
+    comes_to(rt, &finished(rt, pool, callers));
 }
 
 fn lives<B: Room, R: Wait + Abort>(
@@ -142,27 +139,26 @@ fn lives<B: Room, R: Wait + Abort>(
     site: Site,
     settings: Settings,
     items: Items,
-) -> Result<(), Fail>
+)
     requires { (site ≡ B.table) × (settings ≡ B.settings) × (2 ≡ B.callers) }
 {
     let clock = Still { held: None };
-    let (pool, callers) = open::<B, R>(rt, alloc, site, settings, NUMBER, 2, items, clock)?;
-    let (mut zero, mut one) = pair(callers).ok_or("two callers")?;
+    let (pool, callers) = open::<B, R>(rt, alloc, site, settings, NUMBER, 2, items, clock);
+    let (mut zero, mut one) = pair(rt, callers);
     takes_parts(rt, alloc, &pool, &mut zero, &mut one);
-    finishes(rt, alloc, pool, zero, one)
+    finishes(rt, alloc, pool, zero, one);
 }
 
 #[test]
-fn two_callers_live_through_all_calls(rt: HostRuntime) -> Result<(), Fail> {
-    let site = Site::new(rt.alloc())?;
-    let settings = Settings::from_text(rt.alloc(), "minIdle = 1")?;
-    let record = Record::new(rt.alloc(), 8)?;
+fn two_callers_live_through_all_calls(rt: HostRuntime) {
+    let site = site(&rt, rt.alloc());
+    let settings = settings_of(&rt, rt.alloc(), "minIdle = 1");
+    let record = Record::new(&rt, rt.alloc(), 8);
     let items = Items {
         record: &record,
         failing: Failing::Never,
         waiting: Waiting::Nowhere,
     };
-    lives::<Brand, _>(&rt, rt.alloc(), site, settings, items)?;
+    lives::<Brand, _>(&rt, rt.alloc(), site, settings, items);
     assert!(rt; record.is_even());
-    Ok(())
 }

@@ -5,8 +5,9 @@ use crate::clocks::Still;
 use crate::items::{Item, Items};
 use pool_core::Core;
 use pool_settings::Settings;
-use pool_shared::{Caller, OpenFault, Room, SharedPool, Site};
+use pool_shared::{Caller, Room, SharedPool, Site};
 use std::alloc::Global;
+use std::process::Abort;
 use std::sync::Wait;
 
 /// The number of a pool where it doesn't matter.
@@ -14,8 +15,18 @@ pub const NUMBER: u64 = 5;
 
 pub type Pool<'a, B> = SharedPool<Item, u8, Items<'a>, Still<'a>, B>;
 
+/// The table of a new pool.
+pub fn site(rt: &impl Abort, alloc: Global) -> Site {
+    Site::new(alloc).expect(rt, "a site")
+}
+
+/// The settings of a text.
+pub fn settings_of(rt: &impl Abort, alloc: Global, text: &str) -> Settings {
+    Settings::from_text(alloc, text).expect(rt, "settings")
+}
+
 /// A new pool with this number, and its callers.
-pub fn open<'a, B: Room, R: Wait>(
+pub fn open<'a, B: Room, R: Wait + Abort>(
     rt: &R,
     alloc: Global,
     site: Site,
@@ -24,40 +35,43 @@ pub fn open<'a, B: Room, R: Wait>(
     callers: u32,
     items: Items<'a>,
     clock: Still<'a>,
-) -> Result<(Pool<'a, B>, Vec<Caller<B>>), OpenFault>
+) -> (Pool<'a, B>, Vec<Caller<B>>)
     requires { (site ≡ B.table) × (settings ≡ B.settings) × (callers ≡ B.callers) }
 {
-    Pool::<B>::open(rt, alloc, site, settings, number, callers, items, clock)
+    Pool::<B>::open(rt, alloc, site, settings, number, callers, items, clock).expect(rt, "a pool")
 }
 
 /// The core of a pool whose callers are all back.
-pub fn finished<B: Room, R: Wait>(
+pub fn finished<B: Room, R: Wait + Abort>(
     rt: &R,
     pool: Pool<B>,
     callers: Vec<Caller<B>>,
-) -> Option<Core<Item>> {
-    pool.finish(rt, callers).ok()
+) -> Core<Item> {
+    pool.finish(rt, callers).ok().expect(rt, "a core")
 }
 
 /// The only caller.
-pub fn single<B: Room>(callers: Vec<Caller<B>>) -> Option<Caller<B>> {
+pub fn single<B: Room>(rt: &impl Abort, callers: Vec<Caller<B>>) -> Caller<B> {
     let mut callers = callers;
-    callers.pop()
+    callers.pop().expect(rt, "a caller")
 }
 
 /// The callers 0 and 1, of two.
-pub fn pair<B: Room>(callers: Vec<Caller<B>>) -> Option<(Caller<B>, Caller<B>)> {
+pub fn pair<B: Room>(rt: &impl Abort, callers: Vec<Caller<B>>) -> (Caller<B>, Caller<B>) {
     let mut callers = callers;
-    let one = callers.pop()?;
-    let zero = callers.pop()?;
-    Some((zero, one))
+    let one = callers.pop().expect(rt, "two callers");
+    let zero = callers.pop().expect(rt, "two callers");
+    (zero, one)
 }
 
 /// The callers 0, 1 and 2, of three.
-pub fn three<B: Room>(callers: Vec<Caller<B>>) -> Option<(Caller<B>, Caller<B>, Caller<B>)> {
+pub fn three<B: Room>(
+    rt: &impl Abort,
+    callers: Vec<Caller<B>>,
+) -> (Caller<B>, Caller<B>, Caller<B>) {
     let mut callers = callers;
-    let two = callers.pop()?;
-    let one = callers.pop()?;
-    let zero = callers.pop()?;
-    Some((zero, one, two))
+    let two = callers.pop().expect(rt, "three callers");
+    let one = callers.pop().expect(rt, "three callers");
+    let zero = callers.pop().expect(rt, "three callers");
+    (zero, one, two)
 }

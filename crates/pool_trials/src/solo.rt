@@ -4,14 +4,13 @@ ghost use Rattle.std.specs.Prelude.{◌≡◌};
 use crate::clocks::Still;
 use crate::deeds::{Row, goes_through};
 use crate::items::{Failing, Items, Record, Waiting};
-use crate::openings::{NUMBER, open, single};
+use crate::openings::{NUMBER, open, settings_of, single, site};
 use pool_settings::Settings;
 use pool_shared::{Room, Site};
 use std::alloc::Global;
 use std::marker::Brand;
 use std::process::Abort;
 use std::sync::Wait;
-use std::test::Fail;
 
 fn lives<B: Room, R: Wait + Abort>(
     rt: &R,
@@ -20,15 +19,14 @@ fn lives<B: Room, R: Wait + Abort>(
     settings: Settings,
     items: Items,
     rows: &[Row],
-) -> Result<(), Fail>
+)
     requires { (site ≡ B.table) × (settings ≡ B.settings) × (1 ≡ B.callers) }
 {
     let clock = Still { held: None };
-    let (pool, callers) = open::<B, R>(rt, alloc, site, settings, NUMBER, 1, items, clock)?;
-    let mut me = single(callers).ok_or("a caller")?;
+    let (pool, callers) = open::<B, R>(rt, alloc, site, settings, NUMBER, 1, items, clock);
+    let mut me = single(rt, callers);
     let mut held = None;
     goes_through(rt, &pool, &mut me, &mut held, rows);
-    Ok(())
 }
 
 /// Goes through rows over a factory that fails so, under the settings of a text. Answers whether each object that was made was
@@ -39,15 +37,15 @@ pub fn tries<R: Wait + Abort>(
     settings: &str,
     failing: Failing,
     rows: &[Row],
-) -> Result<bool, Fail> {
-    let site = Site::new(alloc)?;
-    let settings = Settings::from_text(alloc, settings)?;
-    let record = Record::new(alloc, 8)?;
+) -> bool {
+    let site = site(rt, alloc);
+    let settings = settings_of(rt, alloc, settings);
+    let record = Record::new(rt, alloc, 8);
     let items = Items {
         record: &record,
         failing,
         waiting: Waiting::Nowhere,
     };
-    lives::<Brand, R>(rt, alloc, site, settings, items, rows)?;
-    Ok(record.is_even())
+    lives::<Brand, R>(rt, alloc, site, settings, items, rows);
+    record.is_even()
 }

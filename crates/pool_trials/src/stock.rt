@@ -2,13 +2,12 @@
 use crate::deeds::Deed;
 use crate::items::{Call, Failing, NOT_MADE, NOT_PASSIVATED};
 use crate::solo::tries;
-use std::test::Fail;
 
 /// One place, and new objects are tested.
 const ONE_PLACE: &str = "maxTotal = 1\ntestOnCreate = true";
 
 #[test]
-fn added(rt: HostRuntime) -> Result<(), Fail> {
+fn added(rt: HostRuntime) {
     let rows = [
         (Deed::Add, "idle", 0),
         (Deed::Idle, "idle", 1),
@@ -18,12 +17,11 @@ fn added(rt: HostRuntime) -> Result<(), Fail> {
         (Deed::Add, "closed", 0),
         (Deed::Fill, "count", 0),
     ];
-    tries(&rt, rt.alloc(), ONE_PLACE, Failing::Never, &rows)?;
-    Ok(())
+    tries(&rt, rt.alloc(), ONE_PLACE, Failing::Never, &rows);
 }
 
 #[test]
-fn none_added(rt: HostRuntime) -> Result<(), Fail> {
+fn none_added(rt: HostRuntime) {
     for (failing, word, number) in [
         (Call::Make, "not made", u64::from(NOT_MADE)),
         (Call::Validate, "new one failed its test", 0),
@@ -37,15 +35,14 @@ fn none_added(rt: HostRuntime) -> Result<(), Fail> {
             (Deed::Add, "closed", 0),
             (Deed::Fill, "count", 0),
         ];
-        tries(&rt, rt.alloc(), ONE_PLACE, Failing::All(failing), &rows)?;
+        tries(&rt, rt.alloc(), ONE_PLACE, Failing::All(failing), &rows);
     }
-    Ok(())
 }
 
 // Up to the number wanted, to the last place, and to where a make fails: the third call of the factory that can fail makes the second
 // object.
 #[test]
-fn filled(rt: HostRuntime) -> Result<(), Fail> {
+fn filled(rt: HostRuntime) {
     for (settings, failing, word, number, idle) in [
         ("minIdle = 3", Failing::Never, "count", 3, 3),
         ("minIdle = 3\nmaxTotal = 2", Failing::Never, "count", 2, 2),
@@ -58,9 +55,8 @@ fn filled(rt: HostRuntime) -> Result<(), Fail> {
         ),
     ] {
         let rows = [(Deed::Fill, word, number), (Deed::Idle, "idle", idle)];
-        tries(&rt, rt.alloc(), settings, failing, &rows)?;
+        tries(&rt, rt.alloc(), settings, failing, &rows);
     }
-    Ok(())
 }
 
 /// All are kept, and a run examines them all.
@@ -72,7 +68,7 @@ numTestsPerEvictionRun = -1
 
 // A stock of many is filled, gone over by an eviction run, and cleared.
 #[test]
-fn stocked_with_many(rt: HostRuntime) -> Result<(), Fail> {
+fn stocked_with_many(rt: HostRuntime) {
     let rows = [
         (Deed::Fill, "count", 20_000),
         (Deed::Evict, "examined", 20_000),
@@ -80,6 +76,5 @@ fn stocked_with_many(rt: HostRuntime) -> Result<(), Fail> {
         (Deed::Clear, "count", 20_000),
         (Deed::Destroyed, "destroyed", 20_000),
     ];
-    tries(&rt, rt.alloc(), MANY, Failing::Never, &rows)?;
-    Ok(())
+    tries(&rt, rt.alloc(), MANY, Failing::Never, &rows);
 }

@@ -4,24 +4,23 @@ ghost use Rattle.std.specs.Prelude.{◌≡◌};
 use crate::clocks::Still;
 use crate::deeds::{Deed, goes_through};
 use crate::items::{Failing, Items, Record, Waiting};
-use crate::openings::{Pool, open, single};
+use crate::openings::{Pool, open, single, site};
 use pool_settings::Settings;
 use pool_shared::{Caller, Room, Site};
 use std::alloc::Global;
 use std::marker::Brand;
 use std::process::Abort;
 use std::sync::Wait;
-use std::test::Fail;
 
 // Opens a pool with this number, for one caller.
-fn opens<'a, B: Room, R: Wait>(
+fn opens<'a, B: Room, R: Wait + Abort>(
     rt: &R,
     alloc: Global,
     site: Site,
     settings: Settings,
     number: u64,
     record: &'a Record,
-) -> Result<(Pool<'a, B>, Caller<B>), Fail>
+) -> (Pool<'a, B>, Caller<B>)
     requires { (site ≡ B.table) × (settings ≡ B.settings) × (1 ≡ B.callers) }
 {
     let items = Items {
@@ -30,9 +29,8 @@ fn opens<'a, B: Room, R: Wait>(
         waiting: Waiting::Nowhere,
     };
     let clock = Still { held: None };
-    let (pool, callers) = open::<B, R>(rt, alloc, site, settings, number, 1, items, clock)?;
-    let me = single(callers).ok_or("a caller")?;
-    Ok((pool, me))
+    let (pool, callers) = open::<B, R>(rt, alloc, site, settings, number, 1, items, clock);
+    (pool, single(rt, callers))
 }
 
 // An object of a pool with the number 5 is offered to another pool, with this number, which refuses it as not lent, or as foreign.
@@ -67,25 +65,23 @@ fn offers<A: Room, B: Room, R: Wait + Abort>(
     settings: Settings,
     number: u64,
     record: &Record,
-) -> Result<(), Fail>
+)
     requires first { (first ≡ A.table) × (settings ≡ A.settings) × (1 ≡ A.callers) }
     requires second { (second ≡ B.table) × (settings ≡ B.settings) × (1 ≡ B.callers) }
 {
-    let (own, mut me) = opens::<A, R>(rt, alloc, first, settings, 5, record)?;
-    let (other, mut stranger) = opens::<B, R>(rt, alloc, second, settings, number, record)?;
+    let (own, mut me) = opens::<A, R>(rt, alloc, first, settings, 5, record);
+    let (other, mut stranger) = opens::<B, R>(rt, alloc, second, settings, number, record);
     is_offered(rt, &own, &mut me, &other, &mut stranger, number);
-    Ok(())
 }
 
 #[test]
-fn objects_go_back_to_their_own_pool(rt: HostRuntime) -> Result<(), Fail> {
+fn objects_go_back_to_their_own_pool(rt: HostRuntime) {
     let a = rt.alloc();
-    let record = Record::new(a, 8)?;
+    let record = Record::new(&rt, a, 8);
     let settings = Settings::default();
     for number in [5, 6] {
-        let first = Site::new(a)?;
-        let second = Site::new(a)?;
-        offers::<Brand, Brand, _>(&rt, a, first, second, settings, number, &record)?;
+        let first = site(&rt, a);
+        let second = site(&rt, a);
+        offers::<Brand, Brand, _>(&rt, a, first, second, settings, number, &record);
     }
-    Ok(())
 }

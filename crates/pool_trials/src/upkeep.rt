@@ -2,11 +2,10 @@
 use crate::deeds::Deed;
 use crate::items::{Call, Failing};
 use crate::solo::tries;
-use std::test::Fail;
 
 // Two idle objects are examined: they are kept as they lie, kept after a test, and destroyed after one.
 #[test]
-fn evicted(rt: HostRuntime) -> Result<(), Fail> {
+fn evicted(rt: HostRuntime) {
     let untested = Failing::All(Call::Validate);
     for (settings, failing, word, evicted) in [
         ("minIdle = 2", untested, "examined", 0),
@@ -28,9 +27,8 @@ fn evicted(rt: HostRuntime) -> Result<(), Fail> {
             (Deed::Evict, word, 2),
             (Deed::Evicted, "evicted", evicted),
         ];
-        tries(&rt, rt.alloc(), settings, failing, &rows)?;
+        tries(&rt, rt.alloc(), settings, failing, &rows);
     }
-    Ok(())
 }
 
 /// What is lent is abandoned at once.
@@ -42,7 +40,7 @@ removeAbandonedTimeoutMillis = 0
 
 // An abandoned object is reclaimed, and the stock is filled again.
 #[test]
-fn maintained(rt: HostRuntime) -> Result<(), Fail> {
+fn maintained(rt: HostRuntime) {
     let rows = [
         (Deed::Borrow, "lent", 0),
         (Deed::Reclaim, "count", 1),
@@ -50,32 +48,29 @@ fn maintained(rt: HostRuntime) -> Result<(), Fail> {
         (Deed::Maintain, "done", 0),
         (Deed::Idle, "idle", 3),
     ];
-    tries(&rt, rt.alloc(), FORGETFUL, Failing::Never, &rows)?;
-    Ok(())
+    tries(&rt, rt.alloc(), FORGETFUL, Failing::Never, &rows);
 }
 
 // Maintenance of a closed pool.
 #[test]
-fn closed(rt: HostRuntime) -> Result<(), Fail> {
+fn closed(rt: HostRuntime) {
     let rows = [
         (Deed::Close, "count", 0),
         (Deed::Evict, "closed", 0),
         (Deed::Reclaim, "count", 0),
         (Deed::Maintain, "closed", 0),
     ];
-    tries(&rt, rt.alloc(), "", Failing::Never, &rows)?;
-    Ok(())
+    tries(&rt, rt.alloc(), "", Failing::Never, &rows);
 }
 
 // A journal with room for one entry and that of a close.
 #[test]
-fn short_of_room(rt: HostRuntime) -> Result<(), Fail> {
+fn short_of_room(rt: HostRuntime) {
     let rows = [
         (Deed::Evict, "examined", 0),
         (Deed::Evict, "full", 0),
         (Deed::Reclaim, "full", 0),
         (Deed::Maintain, "full", 0),
     ];
-    tries(&rt, rt.alloc(), "journalLimit = 2", Failing::Never, &rows)?;
-    Ok(())
+    tries(&rt, rt.alloc(), "journalLimit = 2", Failing::Never, &rows);
 }

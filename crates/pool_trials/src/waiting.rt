@@ -1,11 +1,10 @@
 // A borrow that waits is woken: by an object that comes back, by a place that is free again, and by the end of the pool.
-use crate::beside::{Gated, Left, tries};
+use crate::beside::{Gated, tries};
 use crate::deeds::{Deed, Row};
 use crate::items::Failing;
 use std::alloc::Global;
 use std::process::Abort;
 use std::sync::Wait;
-use std::test::Fail;
 use std::thread::Threads;
 
 /// One place. What is lent is abandoned at once.
@@ -23,7 +22,7 @@ fn wakes<R: Threads + Wait + Abort + Sync>(
     ending: Row,
     has_come: Deed,
     came: (&'static str, u64),
-) -> Result<Left, Fail> {
+) {
     let ends = [
         (Deed::Borrow, "lent", 0),
         (Deed::UntilSteps(3), "done", 0),
@@ -36,33 +35,29 @@ fn wakes<R: Threads + Wait + Abort + Sync>(
         (Deed::Borrow, word, number),
     ];
     let parts = [ends.as_slice(), waits.as_slice(), [].as_slice()];
-    tries(rt, alloc, SETTINGS, Failing::Never, Gated::Nothing, parts)
+    tries(rt, alloc, SETTINGS, Failing::Never, Gated::Nothing, parts);
 }
 
 #[test]
-fn what_comes_back_goes_to_who_waits(rt: HostRuntime) -> Result<(), Fail> {
+fn what_comes_back_goes_to_who_waits(rt: HostRuntime) {
     let ending = (Deed::GiveBack, "parked", 0);
-    wakes(&rt, rt.alloc(), ending, Deed::UntilLent, ("lent", 0))?;
-    Ok(())
+    wakes(&rt, rt.alloc(), ending, Deed::UntilLent, ("lent", 0));
 }
 
 #[test]
-fn the_place_of_a_broken_object_goes_to_who_waits(rt: HostRuntime) -> Result<(), Fail> {
+fn the_place_of_a_broken_object_goes_to_who_waits(rt: HostRuntime) {
     let ending = (Deed::Invalidate, "destroyed", 0);
-    wakes(&rt, rt.alloc(), ending, Deed::UntilLent, ("lent", 1))?;
-    Ok(())
+    wakes(&rt, rt.alloc(), ending, Deed::UntilLent, ("lent", 1));
 }
 
 #[test]
-fn the_place_of_a_forgotten_object_goes_to_who_waits(rt: HostRuntime) -> Result<(), Fail> {
+fn the_place_of_a_forgotten_object_goes_to_who_waits(rt: HostRuntime) {
     let ending = (Deed::Reclaim, "count", 1);
-    wakes(&rt, rt.alloc(), ending, Deed::UntilLent, ("lent", 1))?;
-    Ok(())
+    wakes(&rt, rt.alloc(), ending, Deed::UntilLent, ("lent", 1));
 }
 
 #[test]
-fn who_waits_learns_of_the_end(rt: HostRuntime) -> Result<(), Fail> {
+fn who_waits_learns_of_the_end(rt: HostRuntime) {
     let ending = (Deed::Close, "count", 0);
-    wakes(&rt, rt.alloc(), ending, Deed::UntilSteps(5), ("closed", 0))?;
-    Ok(())
+    wakes(&rt, rt.alloc(), ending, Deed::UntilSteps(5), ("closed", 0));
 }

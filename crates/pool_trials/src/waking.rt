@@ -1,13 +1,12 @@
 // A borrow that waits is woken by what another caller does with the factory: an object that is made or tested for the queue,
 // and a place that is free again after a failed make.
-use crate::beside::{Gated, Left, tries};
+use crate::beside::{Gated, tries};
 use crate::deeds::{Deed, Row};
 use crate::items::{Failing, NOT_MADE};
 use crate::turns::Flag;
 use std::alloc::Global;
 use std::process::Abort;
 use std::sync::Wait;
-use std::test::Fail;
 use std::thread::Threads;
 
 const SETTINGS: &str = "maxTotal = 1\ntestWhileIdle = true\n";
@@ -28,7 +27,7 @@ fn wakes<R: Threads + Wait + Abort + Sync>(
     work: Work,
     begun: u64,
     object: u64,
-) -> Result<Left, Fail> {
+) {
     let waits = [
         (Deed::UntilSet(Flag::Begun), "done", 0),
         (Deed::Borrow, "lent", object),
@@ -41,23 +40,22 @@ fn wakes<R: Threads + Wait + Abort + Sync>(
         (Deed::UntilSteps(begun.saturating_add(4)), "done", 0),
     ];
     let parts = [work.rows, waits.as_slice(), opens.as_slice()];
-    tries(rt, alloc, SETTINGS, work.failing, work.gated, parts)
+    tries(rt, alloc, SETTINGS, work.failing, work.gated, parts);
 }
 
 #[test]
-fn who_waits_is_woken_by_an_addition(rt: HostRuntime) -> Result<(), Fail> {
+fn who_waits_is_woken_by_an_addition(rt: HostRuntime) {
     let work = Work {
         rows: &[(Deed::Add, "idle", 0)],
         failing: Failing::Never,
         gated: Gated::Making,
     };
-    wakes(&rt, rt.alloc(), work, 1, 0)?;
-    Ok(())
+    wakes(&rt, rt.alloc(), work, 1, 0);
 }
 
 // The make fails, in an addition or in a borrow.
 #[test]
-fn who_waits_is_woken_by_a_failed_make(rt: HostRuntime) -> Result<(), Fail> {
+fn who_waits_is_woken_by_a_failed_make(rt: HostRuntime) {
     for deed in [Deed::Add, Deed::Borrow] {
         let rows = [(deed, "not made", u64::from(NOT_MADE))];
         let work = Work {
@@ -65,18 +63,16 @@ fn who_waits_is_woken_by_a_failed_make(rt: HostRuntime) -> Result<(), Fail> {
             failing: Failing::Nth(1),
             gated: Gated::Making,
         };
-        wakes(&rt, rt.alloc(), work, 1, 1)?;
+        wakes(&rt, rt.alloc(), work, 1, 1);
     }
-    Ok(())
 }
 
 #[test]
-fn who_waits_is_woken_by_an_idle_test(rt: HostRuntime) -> Result<(), Fail> {
+fn who_waits_is_woken_by_an_idle_test(rt: HostRuntime) {
     let work = Work {
         rows: &[(Deed::Add, "idle", 0), (Deed::Evict, "examined", 1)],
         failing: Failing::Never,
         gated: Gated::Testing,
     };
-    wakes(&rt, rt.alloc(), work, 4, 0)?;
-    Ok(())
+    wakes(&rt, rt.alloc(), work, 4, 0);
 }

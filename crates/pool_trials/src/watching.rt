@@ -1,8 +1,7 @@
 // A third caller counts, while two borrow and give back.
 use crate::beside::{Gated, Parts, tries};
-use crate::deeds::{Deed, Row};
+use crate::deeds::{Deed, Row, expect_equal};
 use crate::items::Failing;
-use std::test::Fail;
 
 const TURNS: [Row; 1] = [(Deed::TakeTurns(1_000), "done", 1_000)];
 
@@ -14,9 +13,8 @@ fn parts() -> Parts<'static> {
 
 // In all that the third sees, all objects that were made are somewhere, and the steps never fall.
 #[test]
-fn counts_add_up_at_every_moment(rt: HostRuntime) -> Result<(), Fail> {
+fn counts_add_up_at_every_moment(rt: HostRuntime) {
     let never = Failing::Never;
-    let (core, _) = tries(&rt, rt.alloc(), "", never, Gated::Nothing, parts())?;
-    assert_eq!(rt; core.journal().len(), 8_000);
-    Ok(())
+    let (core, _) = tries(&rt, rt.alloc(), "", never, Gated::Nothing, parts());
+    expect_equal(&rt, core.journal().len(), 8_000);
 }
