@@ -27,57 +27,89 @@ pub struct Order {
     pub transfer: i64,
 }
 
+/// Where books are kept, over connections of a type `C`.
+pub trait Shelf<C> {
+    /// Connects to what stands at a path, and makes it where there is nothing.
+    fn open(&self, path: &str) -> Result<C, Error>;
+
+    /// Closes a connection. What was committed is kept, also where that fails.
+    fn close(&self, connection: C) -> Result<(), Error>;
+}
+
+/// Books in files. What calls this is proved over any shelf, and the check looks in two methods and `main` at what a store of files is.
+#[derive(Clone, Copy)]
+pub struct Files {
+    rt: HostRuntime,
+}
+
+impl Files {
+    pub fn new(rt: &HostRuntime) -> Files {
+        Files { rt: *rt }
+    }
+}
+
+impl Shelf<Connection<FileStore<File>>> for Files {
+    fn open(&self, path: &str) -> Result<Connection<FileStore<File>>, Error> {
+        Connection::open(&self.rt, path)
+    }
+
+    fn close(&self, connection: Connection<FileStore<File>>) -> Result<(), Error> {
+        connection.close()
+    }
+}
+
 /// A connection to a book. SQLite keeps the file locked until it is closed or dropped.
-pub struct Book {
-    connection: Connection<FileStore<File>>,
+pub struct Book<S: Alter> {
+    connection: Connection<S>,
 }
 
 // It is written out, so that who drops a book doesn't prove again how each part of a connection is dropped.
-impl Drop for Book {
+impl<S: Alter + Drop> Drop for Book<S> {
     fn drop(self) {
         let Book { connection: _ } = self;
     }
 }
 
-impl Book {
+impl<S: Alter> Book<S> {
     /// Opens the book at a path, and makes it where there is none.
-    pub fn open(rt: &HostRuntime, path: &str) -> Result<Book, Error> {
+    pub fn open<H: Shelf<Connection<S>>>(shelf: &H, path: &str) -> Result<Book<S>, Error> {
         Ok(Book {
-            connection: Connection::open(rt, path)?,
+            connection: shelf.open(path)?,
         })
     }
 
     /// Writes the accounts into a new book.
     pub fn found(&mut self) -> Result<(), Error> {
-        found(&mut self.connection)
+        self.connection.execute_batch(ACCOUNTS)
     }
 
-    /// Carries an order out, whole or not at all.
+    /// Carries an order out, whole or not at all: a transaction that is dropped before it is committed leaves nothing.
     pub fn carry_out(&mut self, order: Order) -> Result<(), Error> {
-        carry_out(&mut self.connection, order)
+        if !self.connection.is_autocommit() {
+            return Err(Error::SqliteFailure(ErrorCode::TransactionState));
+        }
+        let mut transaction = self.connection.transaction();
+        change(&mut transaction, PUT, order.account, order.deposit)?;
+        change(&mut transaction, TAKE, order.account, order.transfer)?;
+        change(&mut transaction, PUT, order.other, order.transfer)?;
+        transaction.commit()
     }
 
     /// What an account holds by this book.
     pub fn balance(&mut self, account: i64) -> Result<i64, Error> {
-        balance(&mut self.connection, account)
+        self.connection.query_row(BALANCE, params![account])?.get(0)
     }
 
     /// Breaks the connection, for the example: from now on it refuses each statement that reads a row.
     pub fn break_down(&mut self) {
-        break_down(&mut self.connection);
+        self.connection.set_step_limit(Some(0));
     }
 
     /// Closes it. What was committed is kept, also where that fails.
-    pub fn close(self) -> Result<(), Error> {
+    pub fn close<H: Shelf<Connection<S>>>(self, shelf: &H) -> Result<(), Error> {
         let Book { connection } = self;
-        connection.close()
+        shelf.close(connection)
     }
-}
-
-// What follows is written over any store, of which the check then knows nothing but what is needed.
-
-fn found<S: Alter>(connection: &mut Connection<S>) -> Result<(), Error> {
-    connection.execute_batch(ACCOUNTS)
 }
 
 // Puts an amount on an account, or takes it off.
@@ -89,24 +121,4 @@ fn change<S: Alter>(
 ) -> Result<(), Error> {
     transaction.execute(how, params![account, amount])?;
     Ok(())
-}
-
-// A transaction that is dropped before it is committed leaves nothing.
-fn carry_out<S: Alter>(connection: &mut Connection<S>, order: Order) -> Result<(), Error> {
-    if !connection.is_autocommit() {
-        return Err(Error::SqliteFailure(ErrorCode::TransactionState));
-    }
-    let mut transaction = connection.transaction();
-    change(&mut transaction, PUT, order.account, order.deposit)?;
-    change(&mut transaction, TAKE, order.account, order.transfer)?;
-    change(&mut transaction, PUT, order.other, order.transfer)?;
-    transaction.commit()
-}
-
-fn balance<S: Alter>(connection: &mut Connection<S>, account: i64) -> Result<i64, Error> {
-    connection.query_row(BALANCE, params![account])?.get(0)
-}
-
-fn break_down<S: Alter>(connection: &mut Connection<S>) {
-    connection.set_step_limit(Some(0));
 }

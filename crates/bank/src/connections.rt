@@ -1,7 +1,7 @@
 // The connections that the pool lends, and how they are opened, tested and closed.
-use crate::books::{BOOKS, Book, Order};
+use crate::books::{BOOKS, Book, Order, Shelf};
 use pool_shared::Factory;
-use sqlite::{Error, ErrorCode};
+use sqlite::{Alter, Connection, Error, ErrorCode};
 use std::cell::RefCell;
 
 /// What a clerk asks of a connection.
@@ -14,17 +14,17 @@ pub trait Connected: Send + Drop {
 }
 
 /// A connection to one of the books. It stands in a cell, since a test has it by a shared reference, and runs a query.
-pub struct Link {
-    book: RefCell<Book>,
+pub struct Link<S: Alter> {
+    book: RefCell<Book<S>>,
 }
 
-impl Drop for Link {
+impl<S: Alter + Drop> Drop for Link<S> {
     fn drop(self) {
         let Link { book: _ } = self;
     }
 }
 
-impl Connected for Link {
+impl<S: Alter + Drop + Send> Connected for Link<S> {
     fn carry_out(&mut self, order: Order) -> Result<(), Error> {
         self.book.get_mut().carry_out(order)
     }
@@ -34,26 +34,26 @@ impl Connected for Link {
     }
 }
 
-impl Link {
-    fn close(self) -> Result<(), Error> {
+impl<S: Alter> Link<S> {
+    fn close<H: Shelf<Connection<S>>>(self, shelf: &H) -> Result<(), Error> {
         let Link { book } = self;
-        book.into_inner().close()
+        book.into_inner().close(shelf)
     }
 }
 
-/// Opens connections to the books.
+/// Opens connections to the books on a shelf.
 #[derive(Clone, Copy)]
-pub struct Opener {
-    rt: HostRuntime,
+pub struct Opener<H> {
+    shelf: H,
 }
 
-impl Opener {
-    pub fn new(rt: &HostRuntime) -> Opener {
-        Opener { rt: *rt }
+impl<H: Copy> Opener<H> {
+    pub fn new(shelf: &H) -> Opener<H> {
+        Opener { shelf: *shelf }
     }
 }
 
-impl Factory<Link, Error> for Opener {
+impl<S: Alter + Drop, H: Shelf<Connection<S>> + Sync> Factory<Link<S>, Error> for Opener<H> {
     ghost use Rattle.std.specs.Prelude.{⊤};
 
     ghost active = { λ link. ⊤ };
@@ -69,9 +69,9 @@ impl Factory<Link, Error> for Opener {
     ghost from_passivate = { λ error. ⊤ };
 
     /// Opens the first book that isn't open. There is one, since the pool has as many places as there are books.
-    fn make(&self, _id: u64) -> Result<Link, Error> {
+    fn make(&self, _id: u64) -> Result<Link<S>, Error> {
         for path in BOOKS {
-            match Book::open(&self.rt, path) {
+            match Book::open(&self.shelf, path) {
                 Ok(book) => {
                     return Ok(Link {
                         book: RefCell::new(book),
@@ -84,23 +84,23 @@ impl Factory<Link, Error> for Opener {
         Err(Error::SqliteFailure(ErrorCode::DatabaseBusy))
     }
 
-    fn activate(&self, _link: &mut Link) -> Result<(), Error> {
+    fn activate(&self, _link: &mut Link<S>) -> Result<(), Error> {
         Ok(())
     }
 
     /// Runs a query.
-    fn validate(&self, link: &Link) -> bool {
+    fn validate(&self, link: &Link<S>) -> bool {
         match link.book.try_borrow_mut() {
             Ok(mut book) => book.balance(0).is_ok(),
             Err(_) => false,
         }
     }
 
-    fn passivate(&self, _link: &mut Link) -> Result<(), Error> {
+    fn passivate(&self, _link: &mut Link<S>) -> Result<(), Error> {
         Ok(())
     }
 
-    fn destroy(&self, link: Link) {
-        let _ = link.close();
+    fn destroy(&self, link: Link<S>) {
+        let _ = link.close(&self.shelf);
     }
 }

@@ -17,7 +17,7 @@ mod clock;
 mod connections;
 mod fault;
 
-use books::{BOOKS, Book};
+use books::{BOOKS, Book, Files, Shelf};
 use clerk::work;
 use clock::OfficeClock;
 use connections::{Connected, Link, Opener};
@@ -26,7 +26,7 @@ use pool_core::Core;
 use pool_journal::print_entry;
 use pool_settings::Settings;
 use pool_shared::{Caller, Factory, Room, SharedPool, Site};
-use sqlite::Error;
+use sqlite::{Alter, Connection, Error};
 use std::alloc::Global;
 use std::marker::Brand;
 use std::sync::Wait;
@@ -137,29 +137,35 @@ fn day<
 }
 
 // New books, with the accounts in each.
-fn found(rt: &HostRuntime) -> Result<(), Fault> {
+fn found<S: Alter + Drop, H: Shelf<Connection<S>>>(
+    rt: &HostRuntime,
+    shelf: &H,
+) -> Result<(), Fault> {
     for path in BOOKS {
         let log = format!(in rt.alloc(); "{path}-wal")?;
         let _ = fs::remove_file(rt, path);
         let _ = fs::remove_file(rt, log.as_str());
-        let mut book = Book::open(rt, path)?;
+        let mut book = Book::<S>::open(shelf, path)?;
         book.found()?;
-        book.close()?;
+        book.close(shelf)?;
     }
     Ok(())
 }
 
 // All books, opened.
-fn open_all(rt: &HostRuntime) -> Result<Vec<Book>, Fault> {
+fn open_all<S: Alter + Drop, H: Shelf<Connection<S>>>(
+    rt: &HostRuntime,
+    shelf: &H,
+) -> Result<Vec<Book<S>>, Fault> {
     let mut all = Vec::new(rt.alloc());
     for path in BOOKS {
-        all.push(Book::open(rt, path)?)?;
+        all.push(Book::open(shelf, path)?)?;
     }
     Ok(all)
 }
 
 // What an account holds by all books.
-fn balance(all: &mut [Book], account: i64) -> Result<i64, Error> {
+fn balance<S: Alter>(all: &mut [Book<S>], account: i64) -> Result<i64, Error> {
     let mut sum = 0i64;
     for book in all {
         sum = sum.saturating_add(book.balance(account)?);
@@ -168,8 +174,11 @@ fn balance(all: &mut [Book], account: i64) -> Result<i64, Error> {
 }
 
 // What the accounts hold in the end.
-fn tell_accounts(rt: &HostRuntime) -> Result<(), Fault> {
-    let mut all = open_all(rt)?;
+fn tell_accounts<S: Alter + Drop, H: Shelf<Connection<S>>>(
+    rt: &HostRuntime,
+    shelf: &H,
+) -> Result<(), Fault> {
+    let mut all = open_all::<S, H>(rt, shelf)?;
     let mut total = 0i64;
     for account in 0..i64::from(CLERKS) {
         let balance = balance(all.as_mut_slice(), account)?;
@@ -181,7 +190,7 @@ fn tell_accounts(rt: &HostRuntime) -> Result<(), Fault> {
 }
 
 // What the pool did, by its counts.
-fn tell_pool(rt: &HostRuntime, core: &Core<Link>) -> Result<(), Fault> {
+fn tell_pool<L>(rt: &HostRuntime, core: &Core<L>) -> Result<(), Fault> {
     let counts = core.counts();
     let still_open = counts.idle + counts.lent + counts.reserved;
     println!(rt; "connections opened: {}", counts.created)?;
@@ -191,7 +200,7 @@ fn tell_pool(rt: &HostRuntime, core: &Core<Link>) -> Result<(), Fault> {
 }
 
 // Writes the pool's journal.
-fn write_journal(rt: &HostRuntime, core: &Core<Link>) -> Result<(), Fault> {
+fn write_journal<L>(rt: &HostRuntime, core: &Core<L>) -> Result<(), Fault> {
     let mut text = Vec::new(rt.alloc());
     for entry in core.journal() {
         print_entry(entry, &mut text)?;
@@ -200,14 +209,30 @@ fn write_journal(rt: &HostRuntime, core: &Core<Link>) -> Result<(), Fault> {
     Ok(())
 }
 
+// A day at a new bank, whose books are on a shelf, and what it came to.
+fn keep_books<
+    S: Alter + Drop + Send,
+    H: Shelf<Connection<S>> + Copy + Send + Sync,
+    R: Threads + Wait + Sync,
+>(rt: &HostRuntime, threads: &R, settings: Settings, shelf: H) -> Result<(), Fault> {
+    found::<S, H>(rt, &shelf)?;
+    let site = Site::new(rt.alloc())?;
+    let opener = Opener::new(&shelf);
+    let clock = OfficeClock::start(rt)?;
+    let core = day::<Link<S>, Opener<H>, Brand, R>(
+        threads,
+        rt.alloc(),
+        site,
+        settings,
+        opener,
+        clock,
+    )?;
+    tell_accounts::<S, H>(rt, &shelf)?;
+    tell_pool(rt, &core)?;
+    write_journal(rt, &core)
+}
+
 fn main(rt: HostRuntime) -> Result<(), Fault> {
     let settings = Settings::from_text(rt.alloc(), SETTINGS).map_err(|_| Fault::Settings)?;
-    found(&rt)?;
-    let site = Site::new(rt.alloc())?;
-    let opener = Opener::new(&rt);
-    let clock = OfficeClock::start(&rt)?;
-    let core = day::<Link, Opener, Brand, _>(&rt, rt.alloc(), site, settings, opener, clock)?;
-    tell_accounts(&rt)?;
-    tell_pool(&rt, &core)?;
-    write_journal(&rt, &core)
+    keep_books(&rt, &rt, settings, Files::new(&rt))
 }

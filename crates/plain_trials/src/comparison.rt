@@ -2,6 +2,7 @@
 ghost use Rattle.std.specs.Prelude.{◌≡◌, ◌<◌, is_some};
 ghost use Rattle.pool_journal.specs.Carrying.{carries};
 
+use crate::checks::{expect_answer, expect_equal};
 use crate::dice::Dice;
 use pool_core::{Core, StepFault};
 use pool_journal::{Answer, Input};
@@ -9,7 +10,6 @@ use pool_plain::{counts, reply};
 use pool_settings::Settings;
 use std::alloc::Global;
 use std::process::Abort;
-use std::test::Fail;
 
 const STEPS: usize = 400;
 
@@ -77,24 +77,37 @@ fn told_by(answer: Answer) -> Option<u64> {
 }
 
 // Compares the counts of a core with the plain ones.
-fn compare_counts(rt: &impl Abort, alloc: Global, core: &Core<u64>) -> Result<(), Fail> {
-    let plain = counts(alloc, core.journal())?;
-    assert_eq!(rt; core.counts(), plain);
-    Ok(())
+fn compare_counts(rt: &impl Abort, alloc: Global, core: &Core<u64>) {
+    let plain = counts(alloc, core.journal()).expect(rt, "memory");
+    expect_equal(rt, core.counts(), plain);
 }
 
-// Steps a core, and compares its answer with the one that is due. Tells whether the journal had room for it.
-fn step(rt: &impl Abort, core: &mut Core<u64>, at: u64, input: Input, due: Answer) -> bool {
-    match core.step(0, at, input, value_of(input)) {
+// Hands a core an input with the value that it carries.
+fn step(
+    core: &mut Core<u64>,
+    at: u64,
+    input: Input,
+) -> Result<(Answer, Option<u64>), StepFault<u64>> {
+    core.step(0, at, input, value_of(input))
+}
+
+// Steps a core, and compares its answer with the plain one. None is given where the journal is full.
+fn step_both(
+    rt: &impl Abort,
+    alloc: Global,
+    settings: &Settings,
+    core: &mut Core<u64>,
+    at: u64,
+    input: Input,
+) -> Option<Answer> {
+    let due = reply(alloc, settings, core.journal(), at, input).expect(rt, "memory");
+    match step(core, at, input) {
         Ok((answer, _)) => {
-            assert!(rt;
-                answer == due,
-                "{answer:?} and not {due:?} to {input:?} at {at}"
-            );
-            true
+            expect_answer(rt, at, input, answer, due);
+            Some(answer)
         }
-        Err(StepFault::JournalFull(_)) => false,
-        Err(StepFault::OutOfMemory(_)) => panic!(rt; "no memory for {input:?} at {at}"),
+        Err(StepFault::JournalFull(_)) => None,
+        Err(StepFault::OutOfMemory(_)) => panic!(rt; "no memory for a step"),
     }
 }
 
@@ -107,50 +120,37 @@ fn play(
     core: &mut Core<u64>,
     seed: u64,
     seen: &mut [bool; 23],
-) -> Result<(), Fail> {
+) {
     let mut dice = Dice::new(seed);
     let (mut last, mut met, mut at) = (0, 0, 0);
     for number in 0..STEPS {
         at = dice.moment(at);
         let input = dice.input(last, met, at);
-        let due = reply(alloc, settings, core.journal(), at, input)?;
-        if step(rt, core, at, input, due) {
-            seen[kind_of(due)] = true;
-            last = drawn_by(due).unwrap_or(last);
-            met = told_by(due).unwrap_or(met);
+        if let Some(answer) = step_both(rt, alloc, settings, core, at, input) {
+            seen[kind_of(answer)] = true;
+            last = drawn_by(answer).unwrap_or(last);
+            met = told_by(answer).unwrap_or(met);
         } else {
             seen[FULL] = true;
         }
         if number % COUNTED == 0 {
-            compare_counts(rt, alloc, core)?;
+            compare_counts(rt, alloc, core);
         }
     }
-    compare_counts(rt, alloc, core)
+    compare_counts(rt, alloc, core);
 }
 
 // Compares on a new core.
-fn compare(
-    rt: &impl Abort,
-    alloc: Global,
-    settings: Settings,
-    seed: u64,
-    seen: &mut [bool; 23],
-) -> Result<(), Fail> {
-    let mut core = Core::open(alloc, settings)?;
-    play(rt, alloc, &settings, &mut core, seed, seen)
+fn compare(rt: &impl Abort, alloc: Global, settings: Settings, seed: u64, seen: &mut [bool; 23]) {
+    let mut core = Core::open(alloc, settings).expect(rt, "memory");
+    play(rt, alloc, &settings, &mut core, seed, seen);
 }
 
 // Compares over some seeds.
-fn compare_all(
-    rt: &impl Abort,
-    alloc: Global,
-    settings: Settings,
-    seen: &mut [bool; 23],
-) -> Result<(), Fail> {
+fn compare_all(rt: &impl Abort, alloc: Global, settings: Settings, seen: &mut [bool; 23]) {
     for seed in 0..4 {
-        compare(rt, alloc, settings, seed, seen)?;
+        compare(rt, alloc, settings, seed, seen);
     }
-    Ok(())
 }
 
 // Few objects, of which one may be idle.
@@ -227,27 +227,25 @@ fn many() -> [Settings; 8] {
 }
 
 #[test]
-fn core_is_as_plain(rt: HostRuntime) -> Result<(), Fail> {
+fn core_is_as_plain(rt: HostRuntime) {
     let mut seen = [false; 23];
     for settings in many() {
-        compare_all(&rt, rt.alloc(), settings, &mut seen)?;
+        compare_all(&rt, rt.alloc(), settings, &mut seen);
     }
     let mut all_but_full = [true; 23];
     all_but_full[FULL] = false;
-    assert!(rt; seen == all_but_full, "{seen:?}");
-    Ok(())
+    expect_equal(&rt, seen, all_but_full);
 }
 
 #[test]
-fn core_is_as_plain_until_the_journal_is_full(rt: HostRuntime) -> Result<(), Fail> {
+fn core_is_as_plain_until_the_journal_is_full(rt: HostRuntime) {
     let mut seen = [false; 23];
     for journal_limit in [1, 7, 40, 200] {
         let limited = Settings {
             journal_limit,
             ..evicting()
         };
-        compare_all(&rt, rt.alloc(), limited, &mut seen)?;
+        compare_all(&rt, rt.alloc(), limited, &mut seen);
     }
     assert!(rt; seen[FULL]);
-    Ok(())
 }

@@ -1,10 +1,10 @@
 // Short histories, with the answer of each step.
+use crate::checks::expect_answer;
 use pool_journal::{Answer, Cause, Entry, Input, Outcome, When};
 use pool_plain::reply;
 use pool_settings::Settings;
 use std::alloc::Global;
 use std::process::Abort;
-use std::test::Fail;
 
 // A moment, an input, and the answer that is due.
 type Line = (u64, Input, Answer);
@@ -42,29 +42,32 @@ fn tested(id: u64) -> Input {
 }
 
 // Answers each line after those before it, and compares.
-fn play(
+fn answer_lines(
     rt: &impl Abort,
     alloc: Global,
     settings: &Settings,
-    lines: &[&[Line]],
-) -> Result<(), Fail> {
-    let mut entries = Vec::new(alloc);
-    for part in lines {
-        for (at, input, due) in *part {
-            let answer = reply(alloc, settings, &entries, *at, *input)?;
-            assert!(rt;
-                answer == *due,
-                "{answer:?} and not {due:?} to {input:?} at {at}"
-            );
-            entries.push(Entry {
-                caller: 0,
-                at: *at,
-                input: *input,
-                answer,
-            })?;
-        }
+    entries: &mut Vec<Entry>,
+    lines: &[Line],
+) {
+    for (at, input, due) in lines {
+        let (at, input) = (*at, *input);
+        let answer = reply(alloc, settings, entries, at, input).expect(rt, "memory");
+        expect_answer(rt, at, input, answer, *due);
+        let entry = Entry {
+            caller: 0,
+            at,
+            input,
+            answer,
+        };
+        entries.push(entry).expect(rt, "memory");
     }
-    Ok(())
+}
+
+// Answers lines after those that come before.
+fn play(rt: &impl Abort, alloc: Global, settings: Settings, before: &[Line], lines: &[Line]) {
+    let mut entries = Vec::new(alloc);
+    answer_lines(rt, alloc, &settings, &mut entries, before);
+    answer_lines(rt, alloc, &settings, &mut entries, lines);
 }
 
 fn one_life() -> [Line; 4] {
@@ -90,7 +93,7 @@ fn two_lives() -> [Line; 8] {
 }
 
 #[test]
-fn borrows_from_an_end_of_the_queue(rt: HostRuntime) -> Result<(), Fail> {
+fn borrows_from_an_end_of_the_queue(rt: HostRuntime) {
     let last_first = Settings::default();
     let first_first = Settings {
         lifo: false,
@@ -98,12 +101,12 @@ fn borrows_from_an_end_of_the_queue(rt: HostRuntime) -> Result<(), Fail> {
     };
     let newest = [(4, borrow(4), Answer::Take(1))];
     let oldest = [(4, borrow(4), Answer::Take(0))];
-    play(&rt, rt.alloc(), &last_first, &[&two_lives(), &newest])?;
-    play(&rt, rt.alloc(), &first_first, &[&two_lives(), &oldest])
+    play(&rt, rt.alloc(), last_first, &two_lives(), &newest);
+    play(&rt, rt.alloc(), first_first, &two_lives(), &oldest);
 }
 
 #[test]
-fn waits_for_a_place(rt: HostRuntime) -> Result<(), Fail> {
+fn waits_for_a_place(rt: HostRuntime) {
     let waiting = Settings {
         max_total: 1,
         ..Settings::default()
@@ -132,36 +135,33 @@ fn waits_for_a_place(rt: HostRuntime) -> Result<(), Fail> {
         (15, borrow(5), Answer::TimedOut),
         (3, borrow(5), Answer::Wait),
     ];
-    play(&rt, rt.alloc(), &waiting, &[&full, &waits])?;
-    play(&rt, rt.alloc(), &refusing, &[&full, &exhausted])?;
-    play(&rt, rt.alloc(), &impatient, &[&full, &late])?;
-    play(&rt, rt.alloc(), &patient, &[&full, &in_time])
+    play(&rt, rt.alloc(), waiting, &full, &waits);
+    play(&rt, rt.alloc(), refusing, &full, &exhausted);
+    play(&rt, rt.alloc(), impatient, &full, &late);
+    play(&rt, rt.alloc(), patient, &full, &in_time);
 }
 
 // Two objects come back where `max_idle` is the greatest number of idle ones.
-fn returns(max_idle: i32, first: Answer, second: Answer) -> (Settings, [Line; 8]) {
-    let mut lines = two_lives();
-    lines[5].2 = first;
-    lines[7].2 = second;
+fn play_returns(rt: &impl Abort, alloc: Global, max_idle: i32, first: Answer, second: Answer) {
     let settings = Settings {
         max_idle,
         ..Settings::default()
     };
-    (settings, lines)
+    let mut lines = two_lives();
+    lines[5].2 = first;
+    lines[7].2 = second;
+    play(rt, alloc, settings, &[], &lines);
 }
 
 #[test]
-fn parks_while_there_is_room(rt: HostRuntime) -> Result<(), Fail> {
-    let (none, both_go) = returns(0, Answer::Destroy, Answer::Destroy);
-    let (one, second_goes) = returns(1, Answer::Parked, Answer::Destroy);
-    let (endless, both_stay) = returns(-1, Answer::Parked, Answer::Parked);
-    play(&rt, rt.alloc(), &none, &[&both_go])?;
-    play(&rt, rt.alloc(), &one, &[&second_goes])?;
-    play(&rt, rt.alloc(), &endless, &[&both_stay])
+fn parks_while_there_is_room(rt: HostRuntime) {
+    play_returns(&rt, rt.alloc(), 0, Answer::Destroy, Answer::Destroy);
+    play_returns(&rt, rt.alloc(), 1, Answer::Parked, Answer::Destroy);
+    play_returns(&rt, rt.alloc(), -1, Answer::Parked, Answer::Parked);
 }
 
 #[test]
-fn closes_in_the_middle(rt: HostRuntime) -> Result<(), Fail> {
+fn closes_in_the_middle(rt: HostRuntime) {
     let closed = Answer::Refused(Cause::Closed);
     let lines = [
         (0, borrow(0), Answer::Make(0)),
@@ -180,11 +180,11 @@ fn closes_in_the_middle(rt: HostRuntime) -> Result<(), Fail> {
         (5, Input::GiveBack { id: 1 }, Answer::Check),
         (5, park(1), Answer::Destroy),
     ];
-    play(&rt, rt.alloc(), &Settings::default(), &[&lines])
+    play(&rt, rt.alloc(), Settings::default(), &[], &lines);
 }
 
 #[test]
-fn closes_during_a_test(rt: HostRuntime) -> Result<(), Fail> {
+fn closes_during_a_test(rt: HostRuntime) {
     let testing = Settings {
         test_while_idle: true,
         ..Settings::default()
@@ -194,7 +194,7 @@ fn closes_during_a_test(rt: HostRuntime) -> Result<(), Fail> {
         (21, Input::Close, Answer::Count(0)),
         (22, tested(0), Answer::Destroy),
     ];
-    play(&rt, rt.alloc(), &testing, &[&one_life(), &lines])
+    play(&rt, rt.alloc(), testing, &one_life(), &lines);
 }
 
 fn evicts_after(min_evictable_idle_millis: i64) -> Settings {
@@ -205,25 +205,20 @@ fn evicts_after(min_evictable_idle_millis: i64) -> Settings {
 }
 
 #[test]
-fn evicts_what_was_idle_for_longer(rt: HostRuntime) -> Result<(), Fail> {
+fn evicts_what_was_idle_for_longer(rt: HostRuntime) {
     let second = [
         (1016, Input::EvictNext, Answer::KeptIdle(0)),
         (1017, Input::EvictNext, Answer::DestroyIdle(0)),
     ];
     let never = [(1_000_000, Input::EvictNext, Answer::KeptIdle(0))];
     let earlier = [(5, Input::EvictNext, Answer::KeptIdle(0))];
-    play(
-        &rt,
-        rt.alloc(),
-        &evicts_after(1000),
-        &[&one_life(), &second],
-    )?;
-    play(&rt, rt.alloc(), &evicts_after(0), &[&one_life(), &never])?;
-    play(&rt, rt.alloc(), &evicts_after(1), &[&one_life(), &earlier])
+    play(&rt, rt.alloc(), evicts_after(1000), &one_life(), &second);
+    play(&rt, rt.alloc(), evicts_after(0), &one_life(), &never);
+    play(&rt, rt.alloc(), evicts_after(1), &one_life(), &earlier);
 }
 
 #[test]
-fn evicts_down_to_the_least_number(rt: HostRuntime) -> Result<(), Fail> {
+fn evicts_down_to_the_least_number(rt: HostRuntime) {
     let one_stays = Settings {
         soft_min_evictable_idle_millis: 10,
         min_idle: 1,
@@ -234,35 +229,37 @@ fn evicts_down_to_the_least_number(rt: HostRuntime) -> Result<(), Fail> {
         (100, Input::EvictNext, Answer::DestroyIdle(0)),
         (100, Input::EvictNext, Answer::KeptIdle(1)),
     ];
-    play(&rt, rt.alloc(), &one_stays, &[&one_life(), &alone])?;
-    play(&rt, rt.alloc(), &one_stays, &[&two_lives(), &first_goes])
+    play(&rt, rt.alloc(), one_stays, &one_life(), &alone);
+    play(&rt, rt.alloc(), one_stays, &two_lives(), &first_goes);
 }
 
 // Five objects are idle, and an eviction run begins.
-fn play_five(rt: &impl Abort, alloc: Global, number: i32, tests: u64) -> Result<(), Fail> {
+fn play_five(rt: &impl Abort, alloc: Global, number: i32, tests: u64) {
     let settings = Settings {
         num_tests_per_eviction_run: number,
         ..Settings::default()
     };
-    let mut five = Vec::new(alloc);
+    let mut entries = Vec::new(alloc);
     for id in 0..5 {
-        five.push((0, Input::Add, Answer::Make(id)))?;
-        five.push((0, added(id), Answer::Parked))?;
+        let addition = [
+            (0, Input::Add, Answer::Make(id)),
+            (0, added(id), Answer::Parked),
+        ];
+        answer_lines(rt, alloc, &settings, &mut entries, &addition);
     }
     let run = [(1, Input::Evict, Answer::Count(tests))];
-    play(rt, alloc, &settings, &[&five, &run])
+    answer_lines(rt, alloc, &settings, &mut entries, &run);
 }
 
 #[test]
-fn counts_the_tests_of_a_run(rt: HostRuntime) -> Result<(), Fail> {
+fn counts_the_tests_of_a_run(rt: HostRuntime) {
     for (number, tests) in [(3, 3), (9, 5), (-2, 3), (0, 0), (i32::MIN, 1)] {
-        play_five(&rt, rt.alloc(), number, tests)?;
+        play_five(&rt, rt.alloc(), number, tests);
     }
-    Ok(())
 }
 
 #[test]
-fn tests_keep_their_place_in_the_queue(rt: HostRuntime) -> Result<(), Fail> {
+fn tests_keep_their_place_in_the_queue(rt: HostRuntime) {
     let settings = Settings {
         lifo: false,
         test_while_idle: true,
@@ -276,11 +273,13 @@ fn tests_keep_their_place_in_the_queue(rt: HostRuntime) -> Result<(), Fail> {
         (6, tested(0), Answer::Kept),
         (7, borrow(7), Answer::Take(0)),
     ];
-    play(&rt, rt.alloc(), &settings, &[&two_lives(), &lines])
+    play(&rt, rt.alloc(), settings, &two_lives(), &lines);
 }
 
-fn lent_once() -> [Line; 2] {
-    [(0, borrow(0), Answer::Make(0)), (0, ready(0), Answer::Lent)]
+// Answers lines after an object was lent.
+fn play_lent(rt: &impl Abort, alloc: Global, settings: Settings, lines: &[Line]) {
+    let lent = [(0, borrow(0), Answer::Make(0)), (0, ready(0), Answer::Lent)];
+    play(rt, alloc, settings, &lent, lines);
 }
 
 // Abandoned objects are reclaimed during maintenance, after 100 milliseconds.
@@ -294,7 +293,7 @@ fn reclaiming() -> Settings {
 }
 
 #[test]
-fn reclaims_what_was_not_used(rt: HostRuntime) -> Result<(), Fail> {
+fn reclaims_what_was_not_used(rt: HostRuntime) {
     let on = When::Maintain;
     let unused = [
         (99, Input::Reclaim { on }, Answer::Count(0)),
@@ -312,13 +311,13 @@ fn reclaims_what_was_not_used(rt: HostRuntime) -> Result<(), Fail> {
         (60, Input::GiveBack { id: 0 }, Answer::Check),
         (500, Input::ReclaimNext, Answer::Nothing),
     ];
-    play(&rt, rt.alloc(), &reclaiming(), &[&lent_once(), &unused])?;
-    play(&rt, rt.alloc(), &reclaiming(), &[&lent_once(), &used])?;
-    play(&rt, rt.alloc(), &reclaiming(), &[&lent_once(), &returned])
+    play_lent(&rt, rt.alloc(), reclaiming(), &unused);
+    play_lent(&rt, rt.alloc(), reclaiming(), &used);
+    play_lent(&rt, rt.alloc(), reclaiming(), &returned);
 }
 
 #[test]
-fn reclaims_for_a_borrow_where_objects_are_scarce(rt: HostRuntime) -> Result<(), Fail> {
+fn reclaims_for_a_borrow_where_objects_are_scarce(rt: HostRuntime) {
     let on = When::Borrow;
     let ample = Settings {
         remove_abandoned_on_borrow: true,
@@ -330,14 +329,17 @@ fn reclaims_for_a_borrow_where_objects_are_scarce(rt: HostRuntime) -> Result<(),
     };
     let none = [(100, Input::Reclaim { on }, Answer::Count(0))];
     let one = [(100, Input::Reclaim { on }, Answer::Count(1))];
-    let close = [(99, Input::Close, Answer::Count(0))];
-    play(&rt, rt.alloc(), &ample, &[&lent_once(), &none])?;
-    play(&rt, rt.alloc(), &scarce, &[&lent_once(), &one])?;
-    play(&rt, rt.alloc(), &scarce, &[&lent_once(), &close, &none])
+    let closed = [
+        (99, Input::Close, Answer::Count(0)),
+        (100, Input::Reclaim { on }, Answer::Count(0)),
+    ];
+    play_lent(&rt, rt.alloc(), ample, &none);
+    play_lent(&rt, rt.alloc(), scarce, &one);
+    play_lent(&rt, rt.alloc(), scarce, &closed);
 }
 
 #[test]
-fn reclaims_nothing_unless_told(rt: HostRuntime) -> Result<(), Fail> {
+fn reclaims_nothing_unless_told(rt: HostRuntime) {
     let lines = [
         (500, Input::ReclaimNext, Answer::Nothing),
         (
@@ -346,13 +348,12 @@ fn reclaims_nothing_unless_told(rt: HostRuntime) -> Result<(), Fail> {
             Answer::Refused(Cause::NotLent),
         ),
     ];
-    let settings = Settings::default();
-    play(&rt, rt.alloc(), &settings, &[&lent_once(), &lines])
+    play_lent(&rt, rt.alloc(), Settings::default(), &lines);
 }
 
 // Limits at the ends of their types.
 #[test]
-fn takes_any_limit(rt: HostRuntime) -> Result<(), Fail> {
+fn takes_any_limit(rt: HostRuntime) {
     let least = Settings {
         abandoned: true,
         max_idle: i32::MIN,
@@ -378,9 +379,9 @@ fn takes_any_limit(rt: HostRuntime) -> Result<(), Fail> {
         (u64::MAX, Input::Reclaim { on }, Answer::Count(0)),
         (u64::MAX, Input::ReclaimNext, Answer::Nothing),
         (u64::MAX, Input::EvictNext, Answer::Nothing),
+        (u64::MAX, Input::Fill, Answer::Enough),
     ];
-    let enough = [(u64::MAX, Input::Fill, Answer::Enough)];
     let more = [(u64::MAX, Input::Fill, Answer::Make(1))];
-    play(&rt, rt.alloc(), &least, &[&lent_once(), &nothing, &enough])?;
-    play(&rt, rt.alloc(), &greatest, &[&lent_once(), &more])
+    play_lent(&rt, rt.alloc(), least, &nothing);
+    play_lent(&rt, rt.alloc(), greatest, &more);
 }

@@ -145,6 +145,9 @@ fn play<B: Room + Send + Sync, R: Threads + Wait + Sync>(
 ) -> Result<Verdict, Fault>
     requires { (site ≡ B.table) × (settings ≡ B.settings) × (4 ≡ B.callers) }
 {
+    let segments: Segments = Mutex::new(Vec::with_capacity(alloc, CUTS)?);
+    let back = Vec::with_capacity(alloc, CALLERS as usize)?;
+    let mut all = Vec::with_capacity(alloc, CALLERS as usize)?;
     let things = Fickle { tally, seed };
     let clock = Ticking::new();
     let opened = Pool::<B>::open(rt, alloc, site, settings, seed, CALLERS, things, clock);
@@ -152,10 +155,7 @@ fn play<B: Room + Send + Sync, R: Threads + Wait + Sync>(
         refusals.note(Call::Open);
     }
     let (pool, callers) = opened?;
-    let segments: Segments = Mutex::new(Vec::with_capacity(alloc, CUTS)?);
     let players = players_of(alloc, callers, seed, manner, &segments)?;
-    let back = Vec::with_capacity(alloc, CALLERS as usize)?;
-    let mut all = Vec::with_capacity(alloc, CALLERS as usize)?;
     let core = play_on(rt, pool, players, back, &mut all, refusals)?;
     let segments = segments.into_inner();
     judge(alloc, settings, &segments, &core, all.as_slice(), tally)

@@ -1,4 +1,4 @@
-use Rattle.std.proofs.Common.{◌∙◌, arith}
+use Rattle.std.proofs.Common.{◌∙◌, arith, rules}
 use Rattle.pool_load.proofs.Rows.{rounds_more}
 use Rattle.pool_load.proofs.rounds.work.Goals as goal
 
@@ -7,3 +7,6 @@ loop-done-preserved g c =
     let i = c.loop-done.invariant in
     let most = c.in-Ok.ensures.most in
     (c.in-Ok.ensures.number ∙ i.0, c.in-Ok.ensures.uncut ∙ i.1, omega (arith, i.2, most), rounds_more g.B.Room.settings c.loop-done.done c.loop-done.refused c.in-Ok.more c.args.me.now c.loop-done.me c.round.new.me i.3 c.in-Ok.ensures.row)
+
+pub returns-clause-rows : goal.returns-clause-rows
+returns-clause-rows g c = search rules
