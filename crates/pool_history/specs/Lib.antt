@@ -3,3 +3,4 @@ pub mod Rule
 pub mod Standings
 pub mod Ends
 pub mod Stored
+pub mod Answers

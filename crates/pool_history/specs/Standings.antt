@@ -4,7 +4,7 @@ use Rattle.atomic_table.specs.Seated.{TableId}
 use Rattle.pool_journal.specs.declared.entry.Entry.{Entry}
 use Rattle.pool_settings.specs.declared.settings.Settings.{Settings}
 use Rattle.pool_core.specs.Legal.{IsLegal}
-use Rattle.pool_history.specs.Tended.{IsTended}
+use Rattle.pool_history.specs.Tended.{IsTended, NoneMisused}
 use Rattle.pool_history.specs.declared.room.Hand.{Hand}
 use Rattle.pool_history.specs.declared.room.View.{View}
 use Rattle.pool_history.specs.Rule.{own, carrier, hand, Begins}
@@ -42,12 +42,13 @@ pub record IsCaller (table : TableId) (s : Settings) (id : TableId) (number : �
   pub tended : IsTended (seen_in v.hands)
   pub all : made_in v.hands ≡ own number (seen_in v.hands)
 
--- a caller has seen a legal history, which begins with what it had seen; it is the same caller, what it made is all that stands there under its number, and it cut the journal no more often
+-- a caller has seen a legal and tended history, which begins with what it had seen and in which nobody was refused as one who doesn't hold an object; it is the same caller, what it made is all that stands there under its number, and it cut the journal no more often
 pub record Goes (s : Settings) (before after : Standing) : Type 0 where
   pub number : after.number ≡ before.number
   pub later : Begins before.seen after.seen
   pub legal : IsLegal s after.seen
   pub tended : IsTended after.seen
+  pub none_misused : NoneMisused after.seen
   pub all : after.made ≡ own after.number after.seen
   pub uncut : after.cuts ≡ before.cuts
   pub later_cuts : Begins before.cut_at after.cut_at

@@ -7,12 +7,13 @@ use Rattle.pool_journal.specs.declared.answer.Answer.{Answer}
 use Rattle.pool_journal.specs.declared.answer.Answer.TheVariants as answers
 use Rattle.pool_settings.specs.declared.settings.Settings.{Settings}
 use Rattle.pool_core.specs.declared.step_fault.StepFault.{StepFault}
-use Rattle.pool_core.specs.declared.step_fault.StepFault.TheVariants.{JournalFull}
+use Rattle.pool_core.specs.declared.step_fault.StepFault.TheVariants.{JournalFull, OutOfMemory}
 use Rattle.pool_core.specs.Finishing.{finishes}
 use Rattle.pool_core.specs.Legal.{entry_of}
 use Rattle.pool_core.specs.Reply.{reply}
 use Rattle.pool_history.specs.Standings.{Standing}
-use Rattle.pool_desk.specs.Sections.{Makes, Refuses, CanTest}
+use Rattle.pool_history.specs.Tended.{CanTest}
+use Rattle.pool_desk.specs.Sections.{Makes, Refuses}
 use Rattle.pool_shared.specs.declared.evicting.EvictRun.{EvictRun}
 use Rattle.pool_shared.specs.declared.evicting.Fate.{Fate}
 use Rattle.pool_shared.specs.declared.evicting.Fate.TheVariants as fates
@@ -22,7 +23,7 @@ use Rattle.pool_shared.specs.Walks.{EndsWithMade}
 use Rattle.pool_shared.specs.Evicts as evicts
 use Rattle.pool_shared.specs.Evicts.{Stage, begins, examines, tests, destroys, through, closed, none_yet, one_more, one_gone, fared, after_test, after_one, Goes_on, IsSpared, IsStopped, EvictEnds, EvictsFrom, EvictRow, IsFailedTest, IsUnfit}
 use Rattle.pool_shared.proofs.Walking.{walk_one, walk_on}
-use Rattle.pool_shared.proofs.Rowing.{row_at, row_stopped, full_for}
+use Rattle.pool_shared.proofs.Rowing.{row_at, row_stopped, full_for, short_for}
 
 -- one entry, whose answer is known
 step : (from to : Stage) (input : Input) (x a : Answer) (b c : Standing) → x ≡ a → Makes input x b c
@@ -77,10 +78,10 @@ spared _ is = tt
 
 -- an EvictNext was refused
 pub stops_full : {T : Type 0} (s : Settings) (f : StepFault T) (out : Option T) (b c : Standing) → f ≡ JournalFull out → Refuses s EvictNext None f b c → IsStopped s faults.JournalFull c
-stops_full s f out b c is r = (full_for s EvictNext f out b c is r, (r.there.at, spared (reply s c.seen r.there.at EvictNext) r.there.unfinished))
+stops_full s f out b c is refuses = let full = full_for s EvictNext f out b c is refuses in (full.0, full.1, spared (reply s c.seen full.0 EvictNext) full.1.unfinished)
 
-pub stops_short : {T : Type 0} (s : Settings) (f : StepFault T) (b c : Standing) → Refuses s EvictNext None f b c → IsStopped s faults.OutOfMemory c
-stops_short s f b c r = (tt, (r.there.at, spared (reply s c.seen r.there.at EvictNext) r.there.unfinished))
+pub stops_short : {T : Type 0} (s : Settings) (f : StepFault T) (out : Option T) (b c : Standing) → f ≡ OutOfMemory out → Refuses s EvictNext None f b c → IsStopped s faults.OutOfMemory c
+stops_short s f out b c is refuses = let short = short_for s EvictNext f out b c is refuses in (short.0, short.1, spared (reply s c.seen short.0 EvictNext) short.1.unfinished)
 
 -- a run that stopped at a fault
 pub stopped : (s : Settings) (count left : ℕ) (run : EvictRun) (f : PoolFault) (a b c : Standing) → 0 < left → Goes_on (examines count none_yet) a b (examines left run) → c.made ≡ b.made → IsStopped s f c

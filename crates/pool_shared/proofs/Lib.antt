@@ -10,3 +10,4 @@ pub mod Removals
 pub mod Losses
 pub mod Stocking
 pub mod Upkeep
+pub mod Keeping

@@ -8,7 +8,7 @@ use Rattle.pool_journal.specs.declared.input.Input.TheVariants.{Invalidate}
 use Rattle.pool_journal.specs.declared.answer.Answer.TheVariants as answers
 use Rattle.pool_settings.specs.declared.settings.Settings.{Settings}
 use Rattle.pool_core.specs.declared.step_fault.StepFault.{StepFault}
-use Rattle.pool_core.specs.declared.step_fault.StepFault.TheVariants.{JournalFull}
+use Rattle.pool_core.specs.declared.step_fault.StepFault.TheVariants.{JournalFull, OutOfMemory}
 use Rattle.pool_core.specs.Finishing.{finishes}
 use Rattle.pool_core.specs.Reply.{reply, lent_reply}
 use Rattle.pool_history.specs.Standings.{Standing}
@@ -16,6 +16,7 @@ use Rattle.pool_shared.specs.declared.faults.ReturnFault.TheVariants as faults
 use Rattle.pool_shared.specs.declared.lent.Lent.{Lent}
 use Rattle.pool_desk.specs.Sections.{Refuses}
 use Rattle.pool_shared.specs.Invalidates.{InvalidateRow}
+use Rattle.pool_shared.proofs.Rowing.{full_for, short_for}
 
 not_lent : (s : Settings) (at i : ℕ) (seen : List Entry) → finishes (reply s seen at (Invalidate i)) (Invalidate i) ≡ false → phase i seen ≡ phases.Lent → ⊥
 not_lent s at i seen unfinished lent =
@@ -25,16 +26,17 @@ not_lent s at i seen unfinished lent =
 -- an invalidation that was refused for want of room
 pub full_row : {T : Type 0} (s : Settings) (number : ℕ) (l : Lent T) (f : StepFault T) (out : Option T) (before after : Standing) → f ≡ JournalFull out → l.pool ≡ number → Refuses s (Invalidate l.id) None f before after
     → InvalidateRow s number l (Err (faults.JournalFull, l)) before after
-full_row {T} s number l f out before after is pool refuses =
-    let r : Refuses s (Invalidate l.id) None (JournalFull out) before after = subst (λ (g : StepFault T). Refuses s (Invalidate l.id) None g before after) is refuses in (
+full_row s number l f out before after is pool refuses =
+    let full = full_for s (Invalidate l.id) f out before after is refuses in (
       pool,
-      record { es = []; made = r.same ∙ sym (append-nil before.made); due = tt; ends = tt; leaves = (r.there.why.0, not_lent s r.there.at l.id after.seen r.there.unfinished) },
+      record { es = []; made = refuses.same ∙ sym (append-nil before.made); due = tt; ends = tt; leaves = (full, not_lent s full.0 l.id after.seen full.1.unfinished) },
     )
 
 -- so for want of memory
-pub short_row : {T : Type 0} (s : Settings) (number : ℕ) (l : Lent T) (f : StepFault T) (before after : Standing) → l.pool ≡ number → Refuses s (Invalidate l.id) None f before after
+pub short_row : {T : Type 0} (s : Settings) (number : ℕ) (l : Lent T) (f : StepFault T) (out : Option T) (before after : Standing) → f ≡ OutOfMemory out → l.pool ≡ number → Refuses s (Invalidate l.id) None f before after
     → InvalidateRow s number l (Err (faults.OutOfMemory, l)) before after
-short_row s number l f before after pool r = (
-  pool,
-  record { es = []; made = r.same ∙ sym (append-nil before.made); due = tt; ends = tt; leaves = not_lent s r.there.at l.id after.seen r.there.unfinished },
-)
+short_row s number l f out before after is pool refuses =
+    let short = short_for s (Invalidate l.id) f out before after is refuses in (
+      pool,
+      record { es = []; made = refuses.same ∙ sym (append-nil before.made); due = tt; ends = tt; leaves = (short, not_lent s short.0 l.id after.seen short.1.unfinished) },
+    )

@@ -9,17 +9,18 @@ use Rattle.pool_journal.specs.Queue.{first_of}
 use Rattle.pool_journal.specs.declared.record.Record.{Record}
 use Rattle.pool_settings.specs.declared.settings.Settings.{Settings}
 use Rattle.pool_core.specs.declared.step_fault.StepFault.{StepFault}
+use Rattle.pool_core.specs.declared.step_fault.StepFault.TheVariants.{JournalFull, OutOfMemory}
 use Rattle.pool_core.specs.Finishing.{finishes}
-use Rattle.pool_core.specs.Reply.{forgotten, reclaim_next_reply}
+use Rattle.pool_core.specs.Reply.{reply, forgotten, reclaim_next_reply}
 use Rattle.pool_history.specs.Standings.{Standing}
-use Rattle.pool_desk.specs.Sections.{Makes, IsRefused}
+use Rattle.pool_desk.specs.Sections.{Makes, Refuses}
 use Rattle.pool_shared.specs.declared.faults.PoolFault.{PoolFault}
-use Rattle.pool_shared.specs.Clears.{IsRoomFault}
+use Rattle.pool_shared.specs.declared.faults.PoolFault.TheVariants as faults
 use Rattle.pool_shared.specs.Walks.{EndsWithMade}
 use Rattle.pool_shared.specs.Reclaims as removals
-use Rattle.pool_shared.specs.Reclaims.{Stage, begins, reclaims, through, Goes_on, NoneAbandoned, ReclaimEnds, ReclaimsFrom, ReclaimRow}
+use Rattle.pool_shared.specs.Reclaims.{Stage, begins, reclaims, through, Goes_on, IsStopped, ReclaimEnds, ReclaimsFrom, ReclaimRow}
 use Rattle.pool_shared.proofs.Walking.{walk_one, walk_on}
-use Rattle.pool_shared.proofs.Rowing.{row_at, row_on, row_stopped}
+use Rattle.pool_shared.proofs.Rowing.{row_at, row_on, row_stopped, full_for, short_for}
 
 -- an object was taken away
 pub took_away : (time : When) (count left taken i : ℕ) (x : Answer) (a b c : Standing) → 0 < left → Goes_on time (reclaims count 0) a b (reclaims left taken) → x ≡ answers.Reclaimed i → Makes ReclaimNext x b c
@@ -49,17 +50,23 @@ takes_none true (Some r) is = absurd (true≢false is)
 takes_none true None is = refl
 takes_none false o is = refl
 
--- a ReclaimNext that is refused would have taken nothing
-pub none_there : {T : Type 0} (s : Settings) (handed : Option T) (f : StepFault T) (me : Standing) → IsRefused s ReclaimNext handed f me → NoneAbandoned s me
-none_there s handed f me r = (r.at, takes_none s.abandoned (first_of (forgotten s r.at (records me.seen))) r.unfinished)
+-- a ReclaimNext was refused, when it would have taken nothing
+none_there : (s : Settings) (at : ℕ) (me : Standing) → finishes (reply s me.seen at ReclaimNext) ReclaimNext ≡ false → reply s me.seen at ReclaimNext ≡ answers.Nothing
+none_there s at me unfinished = takes_none s.abandoned (first_of (forgotten s at (records me.seen))) unfinished
+
+pub stops_full : {T : Type 0} (s : Settings) (f : StepFault T) (out : Option T) (b c : Standing) → f ≡ JournalFull out → Refuses s ReclaimNext None f b c → IsStopped s faults.JournalFull c
+stops_full s f out b c is refuses = let full = full_for s ReclaimNext f out b c is refuses in (full.0, full.1, none_there s full.0 c full.1.unfinished)
+
+pub stops_short : {T : Type 0} (s : Settings) (f : StepFault T) (out : Option T) (b c : Standing) → f ≡ OutOfMemory out → Refuses s ReclaimNext None f b c → IsStopped s faults.OutOfMemory c
+stops_short s f out b c is refuses = let short = short_for s ReclaimNext f out b c is refuses in (short.0, short.1, none_there s short.0 c short.1.unfinished)
 
 -- a removal that stopped at a fault
-pub stopped : (s : Settings) (time : When) (count left taken : ℕ) (f : PoolFault) (a b c : Standing) → 0 < left → Goes_on time (reclaims count 0) a b (reclaims left taken) → c.made ≡ b.made → IsRoomFault s ReclaimNext f c → NoneAbandoned s c
+pub stopped : (s : Settings) (time : When) (count left taken : ℕ) (f : PoolFault) (a b c : Standing) → 0 < left → Goes_on time (reclaims count 0) a b (reclaims left taken) → c.made ≡ b.made → IsStopped s f c
     → ReclaimsFrom s time (reclaims count 0) (Err f) a c
-stopped s time count left taken f a b c some w same room none =
+stopped s time count left taken f a b c some w same room =
     let more : left ≡ suc (left - 1) = omega (arith, some) in
     row_stopped (removals.Due time) removals.next (ReclaimEnds s time) (reclaims count 0) (reclaims (suc (left - 1)) taken) (Err f) a b c
-    (subst (λ k. Goes_on time (reclaims count 0) a b (reclaims k taken)) more w) same (room, none)
+    (subst (λ k. Goes_on time (reclaims count 0) a b (reclaims k taken)) more w) same room
 
 -- a whole removal
 pub removal : (s : Settings) (time : When) (n : ℕ) (r : Result ℕ PoolFault) (x : Answer) (a b c : Standing) → x ≡ answers.Count n → Makes (Reclaim time) x a b → ReclaimsFrom s time (reclaims n 0) r b c → ReclaimRow s time r a c

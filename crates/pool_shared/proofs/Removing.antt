@@ -78,15 +78,15 @@ module _ (s : Settings) (began : ℕ) where
   unfolding as_borrow
   full_there T E number removals.begins me ends = (tt, ends)
   full_there T E number (removals.reclaims zero taken) me ends = absurd ends
-  full_there T E number (removals.reclaims (suc left) taken) me ends = (tt, ends.0)
+  full_there T E number (removals.reclaims (suc left) taken) me ends = (tt, (ends.0, ends.1))
   full_there T E number _ me ends = absurd ends
 
   short_there : (T E : Type 0) (number : ℕ) (st : removals.Stage) (me : Standing) → ReclaimEnds s times.Borrow st (Err pool_faults.OutOfMemory) me
-      → IsResult {T = T} {E = E} number (as_borrow st) (Err faults.OutOfMemory)
+      → IsResult {T = T} {E = E} number (as_borrow st) (Err faults.OutOfMemory) × Leaves {T = T} {E = E} s began (as_borrow st) (Err faults.OutOfMemory) me
   unfolding as_borrow
-  short_there T E number removals.begins me ends = tt
+  short_there T E number removals.begins me ends = (tt, ends)
   short_there T E number (removals.reclaims zero taken) me ends = absurd ends
-  short_there T E number (removals.reclaims (suc left) taken) me ends = tt
+  short_there T E number (removals.reclaims (suc left) taken) me ends = (tt, (ends.0, ends.1))
   short_there T E number _ me ends = absurd ends
 
   -- a removal that was refused
@@ -101,7 +101,8 @@ module _ (s : Settings) (began : ℕ) where
   removal_short {T} {E} number f a b is made =
       let row : ReclaimRow s times.Borrow (Err pool_faults.OutOfMemory) a b = subst (λ x. ReclaimRow s times.Borrow (Err x) a b) is made in
       let to = walked removals.next removals.begins row.es in
-      finishes s number began removes (as_borrow to) (Err faults.OutOfMemory) a b (along (Err pool_faults.OutOfMemory) a b row) (short_there T E number to b row.ends) tt
+      let why = short_there T E number to b row.ends in
+      finishes s number began removes (as_borrow to) (Err faults.OutOfMemory) a b (along (Err pool_faults.OutOfMemory) a b row) why.0 why.1
 
 -- a borrow that asks after its removal
 pub asks_then : {T E : Type 0} (s : Settings) (number began : ℕ) (r : Result (Lent T) (BorrowFault E)) (a b c : Standing) → s.remove_abandoned_on_borrow ≡ true → Goes_on s began removes a b asks → Finishes s number began asks r b c

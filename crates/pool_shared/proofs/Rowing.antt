@@ -6,7 +6,7 @@ use Rattle.pool_settings.specs.declared.settings.Settings.{Settings}
 use Rattle.pool_core.specs.declared.step_fault.StepFault.{StepFault}
 use Rattle.pool_core.specs.declared.step_fault.StepFault.TheVariants.{JournalFull, OutOfMemory}
 use Rattle.pool_history.specs.Standings.{Standing}
-use Rattle.pool_desk.specs.Sections.{Refuses, IsFullFor}
+use Rattle.pool_desk.specs.Sections.{Refuses, IsWhy, IsFullFor, IsShortFor}
 use Rattle.pool_shared.specs.Walks.{walked, AllDue, Walks}
 use Rattle.pool_shared.specs.Rows.{Row}
 use Rattle.pool_shared.proofs.Walking.{walk_on, walk_none}
@@ -45,17 +45,16 @@ module _ {A B : Type 0} (Due : A → Entry → Type 0) (next : A → Entry → A
   walk_along from to a b w =
       record { es = w.es; made = w.made; due = due_along from w.es w.due; comes = walked_along from w.es w.due ∙ ap f w.comes }
 
--- why a section was refused for want of room
+-- why a section was refused
 pub full_for : {T : Type 0} (s : Settings) (input : Input) (f : StepFault T) (out : Option T) (b c : Standing) → f ≡ JournalFull out → Refuses s input None f b c → IsFullFor s input c
-full_for {T} s input f out b c is refuses =
-    let r : Refuses s input None (JournalFull out) b c = subst (λ (g : StepFault T). Refuses s input None g b c) is refuses in
-    r.there.why.0
+full_for {T} s input f out b c is refuses = (subst (λ (g : StepFault T). IsWhy s input None g c) is refuses.why).0
+
+pub short_for : {T : Type 0} (s : Settings) (input : Input) (f : StepFault T) (out : Option T) (b c : Standing) → f ≡ OutOfMemory out → Refuses s input None f b c → IsShortFor s input c
+short_for {T} s input f out b c is refuses = (subst (λ (g : StepFault T). IsWhy s input None g c) is refuses.why).0
 
 -- a section to which nothing was handed was refused, with nothing to hand back
 pub full_plainly : {T : Type 0} (s : Settings) (input : Input) (f : StepFault T) (out : Option T) (b c : Standing) → f ≡ JournalFull out → Refuses s input None f b c → Refuses {T = T} s input None (JournalFull None) b c
-full_plainly {T} s input f out b c is refuses =
-    let r : Refuses s input None (JournalFull out) b c = subst (λ (g : StepFault T). Refuses s input None g b c) is refuses in
-    record { same = r.same; there = record { at = r.there.at; unfinished = r.there.unfinished; why = (r.there.why.0, refl) } }
+full_plainly s input f out b c is refuses = record { same = refuses.same; why = (full_for s input f out b c is refuses, refl) }
 
-pub short_plainly : {T : Type 0} (s : Settings) (input : Input) (f : StepFault T) (b c : Standing) → Refuses s input None f b c → Refuses {T = T} s input None (OutOfMemory None) b c
-short_plainly s input f b c r = record { same = r.same; there = record { at = r.there.at; unfinished = r.there.unfinished; why = refl } }
+pub short_plainly : {T : Type 0} (s : Settings) (input : Input) (f : StepFault T) (out : Option T) (b c : Standing) → f ≡ OutOfMemory out → Refuses s input None f b c → Refuses {T = T} s input None (OutOfMemory None) b c
+short_plainly s input f out b c is refuses = record { same = refuses.same; why = (short_for s input f out b c is refuses, refl) }

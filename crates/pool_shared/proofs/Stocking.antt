@@ -11,7 +11,7 @@ use Rattle.pool_journal.specs.declared.answer.Answer.{Answer}
 use Rattle.pool_journal.specs.declared.answer.Answer.TheVariants as answers
 use Rattle.pool_settings.specs.declared.settings.Settings.{Settings}
 use Rattle.pool_core.specs.declared.step_fault.StepFault.{StepFault}
-use Rattle.pool_core.specs.declared.step_fault.StepFault.TheVariants.{JournalFull}
+use Rattle.pool_core.specs.declared.step_fault.StepFault.TheVariants.{JournalFull, OutOfMemory}
 use Rattle.pool_core.specs.Legal.{entry_of}
 use Rattle.pool_history.specs.Rule.{own}
 use Rattle.pool_history.specs.Standings.{Standing, Goes}
@@ -19,13 +19,14 @@ use Rattle.pool_shared.specs.declared.faults.Addition.{Addition}
 use Rattle.pool_shared.specs.declared.faults.Addition.TheVariants as additions
 use Rattle.pool_shared.specs.declared.faults.AddFault.{AddFault}
 use Rattle.pool_shared.specs.declared.faults.AddFault.TheVariants as faults
-use Rattle.pool_desk.specs.Sections.{HasInHand, Makes, Refuses, IsFullFor}
+use Rattle.pool_desk.specs.Sections.{HasInHand, Makes, Refuses}
 use Rattle.pool_shared.specs.Walks.{walked, AllDue, EndsWithMade}
 use Rattle.pool_shared.specs.Adds as addition
 use Rattle.pool_shared.specs.Adds.{makes, ending, Leaves, IsStocked}
 use Rattle.pool_shared.specs.Fills as fills
 use Rattle.pool_shared.specs.Fills.{Stage, asks, adds, adding, through, failed, lost, Goes_on, Finishes, FillRow, Turns}
 use Rattle.pool_shared.proofs.Walking.{walk_none, walk_one, walk_on}
+use Rattle.pool_shared.proofs.Rowing.{full_for, short_for}
 
 stocked_leaves : {E : Type 0} (s : Settings) (input : Input) (r : Result Addition (AddFault E)) (me : Standing) → IsStocked r → EndsWithMade me → Leaves s input r me
 stocked_leaves s input (Ok a) me is ends = ends
@@ -49,11 +50,6 @@ pub has_shut_out : (i : ℕ) (a : Answer) (before after : Standing) → a ≡ an
 has_shut_out i a before after is made =
     let m : Makes (Added i outcomes.Good) answers.Destroy before after = subst (λ b. Makes (Added i outcomes.Good) b before after) is made in
     (false, record { made = before.made; e = entry_of before.number m.0 (Added i outcomes.Good) answers.Destroy; last = m.1.more; moved = refl; is_new = refl })
-
-full_for : {T : Type 0} (s : Settings) (input : Input) (f : StepFault T) (out : Option T) (before after : Standing) → f ≡ JournalFull out → Refuses s input None f before after → IsFullFor s input after
-full_for {T} s input f out before after is refuses =
-    let r : Refuses s input None (JournalFull out) before after = subst (λ (g : StepFault T). Refuses s input None g before after) is refuses in
-    r.there.why.0
 
 -- an addition within a fill
 module _ (s : Settings) (n : ℕ) where
@@ -96,8 +92,9 @@ module _ (s : Settings) (n : ℕ) where
       record { to = asks n; made = walk_none (fills.Due s) fills.next (asks n) before after refuses.same; ends = tt; leaves = full_for s Fill f out before after is refuses }
 
   -- so for want of memory
-  pub short_turn : {T E : Type 0} (f : StepFault T) (before after : Standing) → Refuses s Fill None f before after → Turns {E = E} s n (Err faults.OutOfMemory) before after
-  short_turn f before after refuses = record { to = asks n; made = walk_none (fills.Due s) fills.next (asks n) before after refuses.same; ends = tt; leaves = tt }
+  pub short_turn : {T E : Type 0} (f : StepFault T) (out : Option T) (before after : Standing) → f ≡ OutOfMemory out → Refuses s Fill None f before after → Turns {E = E} s n (Err faults.OutOfMemory) before after
+  short_turn f out before after is refuses =
+      record { to = asks n; made = walk_none (fills.Due s) fills.next (asks n) before after refuses.same; ends = tt; leaves = short_for s Fill f out before after is refuses }
 
 -- how many are parked at a stage
 reached : Stage → ℕ

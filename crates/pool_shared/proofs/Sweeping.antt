@@ -9,18 +9,20 @@ use Rattle.pool_journal.specs.declared.answer.Answer.{Answer}
 use Rattle.pool_journal.specs.declared.answer.Answer.TheVariants as answers
 use Rattle.pool_settings.specs.declared.settings.Settings.{Settings}
 use Rattle.pool_core.specs.declared.step_fault.StepFault.{StepFault}
-use Rattle.pool_core.specs.declared.step_fault.StepFault.TheVariants.{JournalFull}
+use Rattle.pool_core.specs.declared.step_fault.StepFault.TheVariants.{JournalFull, OutOfMemory}
 use Rattle.pool_core.specs.Finishing.{finishes}
 use Rattle.pool_core.specs.Reply.{reply, clear_next_reply}
 use Rattle.pool_history.specs.Standings.{Standing, Goes, Knows}
+use Rattle.pool_history.proofs.Answering.{none_misused}
 use Rattle.pool_history.proofs.Hands.{begins_trans, begins_self}
 use Rattle.pool_shared.specs.declared.faults.PoolFault.{PoolFault}
 use Rattle.pool_shared.specs.declared.faults.PoolFault.TheVariants as faults
 use Rattle.pool_desk.specs.Sections.{Makes, Refuses}
 use Rattle.pool_shared.specs.Walks.{EndsWithMade}
 use Rattle.pool_shared.specs.Clears as clears
-use Rattle.pool_shared.specs.Clears.{Stage, begins, sweeps, destroys, through, Goes_on, NoneIdle, IsOver, Sweeps, ClearEnds, CloseEnds, ClearRow, CloseRow}
+use Rattle.pool_shared.specs.Clears.{Stage, begins, sweeps, destroys, through, Goes_on, NoneIdle, IsRoomFault, IsOver, Sweeps, ClearEnds, CloseEnds, ClearRow, CloseRow}
 use Rattle.pool_shared.proofs.Walking.{walk_one, walk_on, walk_none}
+use Rattle.pool_shared.proofs.Rowing.{full_for, short_for}
 
 pub goes_then : (s : Settings) (a b c : Standing) → Goes s a b → Goes s b c → Goes s a c
 goes_then s a b c p q =
@@ -29,13 +31,14 @@ goes_then s a b c p q =
       later = begins_trans a.seen b.seen c.seen p.later q.later;
       legal = q.legal;
       tended = q.tended;
+      none_misused = q.none_misused;
       all = q.all;
       uncut = q.uncut ∙ p.uncut;
       later_cuts = begins_trans a.cut_at b.cut_at c.cut_at p.later_cuts q.later_cuts;
     }
 
 pub goes_self : (s : Settings) (a : Standing) → Knows s a → Goes s a a
-goes_self s a k = record { number = refl; later = begins_self a.seen; legal = k.legal; tended = k.tended; all = k.all; uncut = refl; later_cuts = begins_self a.cut_at }
+goes_self s a k = record { number = refl; later = begins_self a.seen; legal = k.legal; tended = k.tended; none_misused = none_misused s a.seen k.legal k.tended; all = k.all; uncut = refl; later_cuts = begins_self a.cut_at }
 
 pub took_one : (first : Input) (count left taken i : ℕ) (a b c d : Standing) → 0 < left → Goes_on first (sweeps count 0) a b (sweeps left taken) → Makes ClearNext (answers.DestroyIdle i) b c → Makes (Destroyed i) answers.Freed c d
     → Goes_on first (sweeps count 0) a d (sweeps (left - 1) (taken + 1))
@@ -71,29 +74,29 @@ shut false n is = absurd (true≢false is)
 pub was_closed : (s : Settings) (at : ℕ) (me : Standing) → finishes (reply s me.seen at Close) Close ≡ false → closed me.seen ≡ true
 was_closed s at me unfinished = shut (closed me.seen) (length (idle_queue (records me.seen))) unfinished
 
--- a sweep that was refused
-pub refused_full : {T : Type 0} (s : Settings) (first : Input) (count left taken : ℕ) (f : StepFault T) (out : Option T) (a b c : Standing) → f ≡ JournalFull out → 0 < left → Goes_on first (sweeps count 0) a b (sweeps left taken)
-    → Refuses s ClearNext None f b c → Sweeps s first count (Err (taken, faults.JournalFull)) a c
-refused_full {T} s first count left taken f out a b c is some w refuses =
-    let r : Refuses s ClearNext None (JournalFull out) b c = subst (λ (g : StepFault T). Refuses s ClearNext None g b c) is refuses in
+-- a sweep whose next section was refused, when it would have found no object
+stopped : (s : Settings) (first : Input) (count left taken : ℕ) (f : PoolFault) (a b c : Standing) → 0 < left → Goes_on first (sweeps count 0) a b (sweeps left taken)
+    → c.made ≡ b.made → IsRoomFault s ClearNext f c → NoneIdle c → Sweeps s first count (Err (taken, f)) a c
+stopped s first count left taken f a b c some w same room none =
     let more : left ≡ suc (left - 1) = omega (arith, some) in (
       left - 1,
       subst (λ (k : ℕ). Goes_on first (sweeps count 0) a c (sweeps k taken)) more
-          (walk_on (clears.Due first) clears.next (sweeps count 0) (sweeps left taken) (sweeps left taken) a b c w (walk_none (clears.Due first) clears.next (sweeps left taken) b c r.same)),
-      r.there.why.0,
-      none_idle s r.there.at c r.there.unfinished,
+          (walk_on (clears.Due first) clears.next (sweeps count 0) (sweeps left taken) (sweeps left taken) a b c w (walk_none (clears.Due first) clears.next (sweeps left taken) b c same)),
+      room,
+      none,
     )
 
-pub refused_memory : {T : Type 0} (s : Settings) (first : Input) (count left taken : ℕ) (f : StepFault T) (a b c : Standing) → 0 < left → Goes_on first (sweeps count 0) a b (sweeps left taken)
+pub refused_full : {T : Type 0} (s : Settings) (first : Input) (count left taken : ℕ) (f : StepFault T) (out : Option T) (a b c : Standing) → f ≡ JournalFull out → 0 < left → Goes_on first (sweeps count 0) a b (sweeps left taken)
+    → Refuses s ClearNext None f b c → Sweeps s first count (Err (taken, faults.JournalFull)) a c
+refused_full s first count left taken f out a b c is some w refuses =
+    let full = full_for s ClearNext f out b c is refuses in
+    stopped s first count left taken faults.JournalFull a b c some w refuses.same full (none_idle s full.0 c full.1.unfinished)
+
+pub refused_memory : {T : Type 0} (s : Settings) (first : Input) (count left taken : ℕ) (f : StepFault T) (out : Option T) (a b c : Standing) → f ≡ OutOfMemory out → 0 < left → Goes_on first (sweeps count 0) a b (sweeps left taken)
     → Refuses s ClearNext None f b c → Sweeps s first count (Err (taken, faults.OutOfMemory)) a c
-refused_memory s first count left taken f a b c some w r =
-    let more : left ≡ suc (left - 1) = omega (arith, some) in (
-      left - 1,
-      subst (λ (k : ℕ). Goes_on first (sweeps count 0) a c (sweeps k taken)) more
-          (walk_on (clears.Due first) clears.next (sweeps count 0) (sweeps left taken) (sweeps left taken) a b c w (walk_none (clears.Due first) clears.next (sweeps left taken) b c r.same)),
-      tt,
-      none_idle s r.there.at c r.there.unfinished,
-    )
+refused_memory s first count left taken f out a b c is some w refuses =
+    let short = short_for s ClearNext f out b c is refuses in
+    stopped s first count left taken faults.OutOfMemory a b c some w refuses.same short (none_idle s short.0 c short.1.unfinished)
 
 begun : (first : Input) (n : ℕ) (a : Answer) (b c : Standing) → a ≡ answers.Count n → Makes first a b c → Goes_on first begins b c (sweeps n 0)
 begun first n a b c is made =
@@ -136,11 +139,19 @@ shut_down_part s n taken f a b c d is made swept =
 
 -- where the first section was refused
 pub clear_full : {T : Type 0} (s : Settings) (f : StepFault T) (out : Option T) (b c : Standing) → f ≡ JournalFull out → Refuses s Clear None f b c → ClearRow s (Err faults.JournalFull) b c
-clear_full {T} s f out b c is refuses =
-    let r : Refuses s Clear None (JournalFull out) b c = subst (λ (g : StepFault T). Refuses s Clear None g b c) is refuses in
-    clear_from s (Err faults.JournalFull) begins b c (walk_none (clears.Due Clear) clears.next begins b c r.same) r.there.why.0
+clear_full s f out b c is refuses =
+    clear_from s (Err faults.JournalFull) begins b c (walk_none (clears.Due Clear) clears.next begins b c refuses.same) (full_for s Clear f out b c is refuses)
+
+pub clear_short : {T : Type 0} (s : Settings) (f : StepFault T) (out : Option T) (b c : Standing) → f ≡ OutOfMemory out → Refuses s Clear None f b c → ClearRow s (Err faults.OutOfMemory) b c
+clear_short s f out b c is refuses =
+    clear_from s (Err faults.OutOfMemory) begins b c (walk_none (clears.Due Clear) clears.next begins b c refuses.same) (short_for s Clear f out b c is refuses)
 
 pub close_full : {T : Type 0} (s : Settings) (f : StepFault T) (out : Option T) (b c : Standing) → f ≡ JournalFull out → Refuses s Close None f b c → CloseRow s (Err faults.JournalFull) b c
-close_full {T} s f out b c is refuses =
-    let r : Refuses s Close None (JournalFull out) b c = subst (λ (g : StepFault T). Refuses s Close None g b c) is refuses in
-    close_from s (Err faults.JournalFull) begins b c (walk_none (clears.Due Close) clears.next begins b c r.same) (r.there.why.0, was_closed s r.there.at c r.there.unfinished)
+close_full s f out b c is refuses =
+    let full = full_for s Close f out b c is refuses in
+    close_from s (Err faults.JournalFull) begins b c (walk_none (clears.Due Close) clears.next begins b c refuses.same) (full, was_closed s full.0 c full.1.unfinished)
+
+pub close_short : {T : Type 0} (s : Settings) (f : StepFault T) (out : Option T) (b c : Standing) → f ≡ OutOfMemory out → Refuses s Close None f b c → CloseRow s (Err faults.OutOfMemory) b c
+close_short s f out b c is refuses =
+    let short = short_for s Close f out b c is refuses in
+    close_from s (Err faults.OutOfMemory) begins b c (walk_none (clears.Due Close) clears.next begins b c refuses.same) (short, was_closed s short.0 c short.1.unfinished)

@@ -8,12 +8,14 @@ use Rattle.pool_core.specs.Legal.{entry_of}
 use Rattle.pool_history.specs.Rule.{Begins}
 use Rattle.pool_history.specs.Standings.{Standing, Goes}
 use Rattle.pool_history.proofs.Hands.{begins_self, begins_trans}
-use Rattle.pool_journal.specs.declared.input.Input.TheVariants.{Borrow}
+use Rattle.pool_journal.specs.declared.input.Input.TheVariants.{Borrow, Ready}
+use Rattle.pool_journal.specs.declared.input.Outcome.TheVariants as outcomes
 use Rattle.pool_journal.specs.declared.answer.Answer.TheVariants as answers
 use Rattle.pool_shared.specs.declared.faults.BorrowFault.{BorrowFault}
 use Rattle.pool_shared.specs.declared.lent.Lent.{Lent}
 use Rattle.pool_journal.specs.declared.answer.Cause.TheVariants as causes
-use Rattle.pool_desk.specs.Sections.{Makes, IsAnswerTo}
+use Rattle.pool_history.specs.Answers.{IsAnswerTo}
+use Rattle.pool_desk.specs.Sections.{Makes}
 use Rattle.pool_shared.specs.Walks.{walked, AllDue, Walks, Ends}
 use Rattle.pool_shared.specs.Borrows as borrows
 use Rattle.pool_shared.specs.Borrows.{asks, after_asking, Stage, Goes_on, Finishes, IsResult, Leaves}
@@ -125,7 +127,7 @@ once_more s began first now after come w goes more =
 pub goes_far : (s : Settings) (first now after : Standing) → ComesFrom first now → Goes s now after → Goes s first after
 goes_far s first now after come goes =
     let on = comes_on s first now after come goes in
-    record { number = on.number; later = on.later; legal = goes.legal; tended = goes.tended; all = goes.all; uncut = on.uncut; later_cuts = on.later_cuts }
+    record { number = on.number; later = on.later; legal = goes.legal; tended = goes.tended; none_misused = goes.none_misused; all = goes.all; uncut = on.uncut; later_cuts = on.later_cuts }
 
 pub is_found : (began : ℕ) (a : Answer) → IsAnswerTo (Borrow began) a → (a ≡ answers.Wait → ⊥) → borrows.IsFound a
 is_found began (answers.Take i) it other = tt
@@ -136,3 +138,7 @@ is_found began answers.TimedOut it other = tt
 is_found began (answers.Refused causes.Closed) it other = tt
 is_found began (answers.Refused _) it other = absurd it
 is_found began _ it other = absurd it
+
+-- a value that is lent names the object that its last entry lends
+pub lent_ends : (i j : ℕ) (me : Standing) → j ≡ i → Ends (Ready i outcomes.Good) answers.Lent me → Ends (Ready j outcomes.Good) answers.Lent me
+lent_ends i j me is ends = subst (λ k. Ends (Ready k outcomes.Good) answers.Lent me) (sym is) ends

@@ -10,7 +10,7 @@ use Rattle.pool_journal.specs.declared.answer.Answer.TheVariants as answers
 use Rattle.pool_journal.specs.declared.answer.Cause.TheVariants as causes
 use Rattle.pool_settings.specs.declared.settings.Settings.{Settings}
 use Rattle.pool_history.specs.Standings.{Standing}
-use Rattle.pool_desk.specs.Sections.{IsFullFor}
+use Rattle.pool_desk.specs.Sections.{IsFullFor, IsShortFor}
 use Rattle.pool_shared.specs.declared.faults.Addition.{Addition}
 use Rattle.pool_shared.specs.declared.faults.Addition.TheVariants as additions
 use Rattle.pool_shared.specs.declared.faults.AddFault.{AddFault}
@@ -82,10 +82,10 @@ ending (Err (faults.PassivateFailed f)) = gone outcomes.PassivateFailed
 ending (Err faults.JournalFull) = asks
 ending (Err faults.OutOfMemory) = asks
 
--- what is seen then: the last entry at its end, or, where the section was refused, a journal in which it doesn't fit if that is why
+-- what is seen then: the last entry at its end, or, where the section was refused, a journal in which its entry doesn't fit, or does, as the fault says
 abbrev pub Leaves : {A E : Type 0} → Settings → Input → Result A (AddFault E) → Standing → Type 0
 Leaves s input (Err faults.JournalFull) me = IsFullFor s input me
-Leaves s input (Err faults.OutOfMemory) me = Unit {0}
+Leaves s input (Err faults.OutOfMemory) me = IsShortFor s input me
 Leaves s input _ me = EndsWithMade me
 
 -- what an addition made

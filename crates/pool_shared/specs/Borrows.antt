@@ -16,8 +16,9 @@ use Rattle.pool_shared.specs.declared.faults.BorrowFault.TheVariants as faults
 use Rattle.pool_shared.specs.declared.lent.Lent.{Lent}
 use Rattle.pool_shared.specs.declared.borrowing.Unready.{Unready}
 use Rattle.pool_shared.specs.declared.borrowing.Unready.TheVariants as unready
-use Rattle.pool_desk.specs.Sections.{IsAnswerTo, IsFullFor}
-use Rattle.pool_shared.specs.Walks.{walked, AllDue, Walks, EndsWithMade}
+use Rattle.pool_history.specs.Answers.{IsAnswerTo}
+use Rattle.pool_desk.specs.Sections.{IsFullFor, IsShortFor}
+use Rattle.pool_shared.specs.Walks.{walked, AllDue, Walks, Ends, EndsWithMade}
 
 -- where a borrow stands: it removes abandoned objects; it goes over so many; it asks; it readies an object, which it made or took; it destroys one, which came out so; it has lent one; it failed; it was refused
 pub data Stage : Type 0 where
@@ -115,18 +116,18 @@ IsResult number (reclaims left) (Err f) = IsRoomFault f
 IsResult number asks (Err f) = IsRoomFault f
 IsResult number _ _ = ⊥
 
--- the entry that is due there doesn't fit after what is seen
-abbrev pub IsFullAt : Settings → ℕ → Stage → Standing → Type 0
-IsFullAt s began removes me = IsFullFor s (Reclaim times.Borrow) me
-IsFullAt s began (reclaims left) me = IsFullFor s ReclaimNext me
-IsFullAt s began asks me = IsFullFor s (Borrow began) me
-IsFullAt s began _ me = ⊥
+-- the section that was next there was refused so
+abbrev pub IsRefusedThere : (Settings → Input → Standing → Type 0) → Settings → ℕ → Stage → Standing → Type 0
+IsRefusedThere Why s began removes me = Why s (Reclaim times.Borrow) me
+IsRefusedThere Why s began (reclaims left) me = Why s ReclaimNext me
+IsRefusedThere Why s began asks me = Why s (Borrow began) me
+IsRefusedThere Why s began _ me = ⊥
 
--- what is seen then: the last entry at its end, or, where a section was refused, a journal in which it doesn't fit if that is why
+-- what is seen then: the last entry at its end, which lends the object where there is one, or, where a section was refused, a journal in which its entry doesn't fit, or does, as the fault says
 abbrev pub Leaves : {T E : Type 0} → Settings → ℕ → Stage → Result (Lent T) (BorrowFault E) → Standing → Type 0
-Leaves s began stage (Ok l) me = EndsWithMade me
-Leaves s began stage (Err faults.JournalFull) me = IsFullAt s began stage me
-Leaves s began stage (Err faults.OutOfMemory) me = Unit {0}
+Leaves s began stage (Ok l) me = Ends (Ready l.id outcomes.Good) answers.Lent me
+Leaves s began stage (Err faults.JournalFull) me = IsRefusedThere IsFullFor s began stage me
+Leaves s began stage (Err faults.OutOfMemory) me = IsRefusedThere IsShortFor s began stage me
 Leaves s began stage (Err _) me = EndsWithMade me
 
 -- what a borrow made from one stage on, up to its result

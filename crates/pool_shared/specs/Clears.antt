@@ -9,7 +9,7 @@ use Rattle.pool_journal.specs.Journal.{closed, records}
 use Rattle.pool_journal.specs.Queue.{idle_queue}
 use Rattle.pool_settings.specs.declared.settings.Settings.{Settings}
 use Rattle.pool_history.specs.Standings.{Standing}
-use Rattle.pool_desk.specs.Sections.{IsFullFor}
+use Rattle.pool_desk.specs.Sections.{LacksRoom, LacksMemory}
 use Rattle.pool_shared.specs.declared.faults.PoolFault.{PoolFault}
 use Rattle.pool_shared.specs.declared.faults.PoolFault.TheVariants as faults
 use Rattle.pool_shared.specs.Walks.{walked, AllDue, Walks, EndsWithMade}
@@ -52,11 +52,15 @@ Goes_on first from before after to = Walks (Due first) next from before after to
 abbrev pub NoneIdle : Standing → Type 0
 NoneIdle me = idle_queue (records me.seen) ≡ []
 
--- the next section was refused
+-- the next section was refused at this moment, for the fault that is told
+abbrev pub IsRoomFaultAt : Settings → Input → PoolFault → Standing → ℕ → Type 0
+IsRoomFaultAt s input faults.JournalFull me at = LacksRoom s input me at
+IsRoomFaultAt s input faults.OutOfMemory me at = LacksMemory s input me at
+IsRoomFaultAt s input faults.Closed me at = ⊥
+
+-- so it was, at some moment
 abbrev pub IsRoomFault : Settings → Input → PoolFault → Standing → Type 0
-IsRoomFault s input faults.JournalFull me = IsFullFor s input me
-IsRoomFault s input faults.OutOfMemory me = Unit {0}
-IsRoomFault s input faults.Closed me = ⊥
+IsRoomFault s input f me = (at : ℕ) × IsRoomFaultAt s input f me at
 
 -- a sweep is over that stands there
 abbrev pub IsOver : Stage → ℕ → Type 0

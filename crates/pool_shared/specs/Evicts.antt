@@ -11,7 +11,7 @@ use Rattle.pool_journal.specs.declared.answer.Cause.TheVariants as causes
 use Rattle.pool_settings.specs.declared.settings.Settings.{Settings}
 use Rattle.pool_core.specs.Reply.{reply}
 use Rattle.pool_history.specs.Standings.{Standing}
-use Rattle.pool_desk.specs.Sections.{CanTest}
+use Rattle.pool_history.specs.Tended.{CanTest}
 use Rattle.pool_shared.specs.declared.evicting.EvictRun.{EvictRun}
 use Rattle.pool_shared.specs.declared.evicting.Fate.{Fate}
 use Rattle.pool_shared.specs.declared.evicting.Fate.TheVariants as fates
@@ -19,7 +19,7 @@ use Rattle.pool_shared.specs.declared.faults.PoolFault.{PoolFault}
 use Rattle.pool_shared.specs.declared.faults.PoolFault.TheVariants as faults
 use Rattle.pool_shared.specs.Walks.{Walks, EndsWithMade}
 use Rattle.pool_shared.specs.Rows.{Row}
-use Rattle.pool_shared.specs.Clears.{IsRoomFault}
+use Rattle.pool_shared.specs.Clears.{IsRoomFault, IsRoomFaultAt}
 
 -- where an eviction run stands: it begins; it examines so many objects more, after so many; it tests one; it destroys one; it is through; the pool is closed
 pub data Stage : Type 0 where
@@ -87,9 +87,9 @@ abbrev pub IsSpared : Answer → Type 0
 IsSpared (answers.DestroyIdle i) = ⊥
 IsSpared a = Unit {0}
 
--- an EvictNext was refused, which would have destroyed nothing at this moment
+-- an EvictNext was refused at a moment at which it would have destroyed nothing
 abbrev pub IsStopped : Settings → PoolFault → Standing → Type 0
-IsStopped s f me = IsRoomFault s EvictNext f me × ((at : ℕ) × IsSpared (reply s me.seen at EvictNext))
+IsStopped s f me = (at : ℕ) × IsRoomFaultAt s EvictNext f me at × IsSpared (reply s me.seen at EvictNext)
 
 -- what an eviction run answers that stands there, and what is seen then
 abbrev pub EvictEnds : Settings → Stage → Result EvictRun PoolFault → Standing → Type 0

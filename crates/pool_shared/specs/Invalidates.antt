@@ -9,7 +9,7 @@ use Rattle.pool_journal.specs.declared.answer.Cause.TheVariants as causes
 use Rattle.pool_journal.specs.declared.record.Phase.TheVariants as phases
 use Rattle.pool_settings.specs.declared.settings.Settings.{Settings}
 use Rattle.pool_history.specs.Standings.{Standing}
-use Rattle.pool_desk.specs.Sections.{IsFullFor}
+use Rattle.pool_desk.specs.Sections.{IsFullFor, IsShortFor}
 use Rattle.pool_shared.specs.declared.faults.ReturnFault.{ReturnFault}
 use Rattle.pool_shared.specs.declared.faults.ReturnFault.TheVariants as faults
 use Rattle.pool_shared.specs.declared.faults.Returned.{Returned}
@@ -54,7 +54,7 @@ IsResult _ _ = ⊥
 -- what is seen then: the last entry at its end, or, where the section was refused, a journal in which the object isn't lent
 abbrev pub Leaves : {T : Type 0} → Settings → ℕ → Result Returned (ReturnFault × Lent T) → Standing → Type 0
 Leaves s i (Err (faults.JournalFull, l)) me = IsFullFor s (Invalidate i) me × (phase i me.seen ≢ phases.Lent)
-Leaves s i (Err (faults.OutOfMemory, l)) me = phase i me.seen ≢ phases.Lent
+Leaves s i (Err (faults.OutOfMemory, l)) me = IsShortFor s (Invalidate i) me × (phase i me.seen ≢ phases.Lent)
 Leaves s i _ me = EndsWithMade me
 
 -- what an invalidation made, up to its result

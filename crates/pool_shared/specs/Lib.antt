@@ -11,3 +11,4 @@ pub mod Invalidates
 pub mod Adds
 pub mod Fills
 pub mod Maintains
+pub mod Promises

@@ -11,7 +11,7 @@ use Rattle.pool_history.specs.Standings.{Standing}
 use Rattle.pool_shared.specs.declared.faults.PoolFault.{PoolFault}
 use Rattle.pool_shared.specs.Walks.{Walks, EndsWithMade}
 use Rattle.pool_shared.specs.Rows.{Row}
-use Rattle.pool_shared.specs.Clears.{IsRoomFault}
+use Rattle.pool_shared.specs.Clears.{IsRoomFault, IsRoomFaultAt}
 
 -- where a removal stands: it begins; it goes over so many objects more, and reclaimed so many; it is through
 pub data Stage : Type 0 where
@@ -43,16 +43,16 @@ Due time _ e = ⊥
 abbrev pub Goes_on : When → Stage → Standing → Standing → Stage → Type 0
 Goes_on time from before after to = Walks (Due time) next from before after to
 
--- no object is abandoned at this moment
-abbrev pub NoneAbandoned : Settings → Standing → Type 0
-NoneAbandoned s me = (at : ℕ) × (reply s me.seen at ReclaimNext ≡ answers.Nothing)
+-- a ReclaimNext was refused at a moment at which no object was abandoned
+abbrev pub IsStopped : Settings → PoolFault → Standing → Type 0
+IsStopped s f me = (at : ℕ) × IsRoomFaultAt s ReclaimNext f me at × (reply s me.seen at ReclaimNext ≡ answers.Nothing)
 
 -- what a removal answers that stands there, and what is seen then; a ReclaimNext is refused only where it would take nothing
 abbrev pub ReclaimEnds : Settings → When → Stage → Result ℕ PoolFault → Standing → Type 0
 ReclaimEnds s time (through taken) (Ok n) me = (n ≡ taken) × EndsWithMade me
 ReclaimEnds s time (reclaims zero taken) (Ok n) me = (n ≡ taken) × EndsWithMade me
 ReclaimEnds s time begins (Err f) me = IsRoomFault s (Reclaim time) f me
-ReclaimEnds s time (reclaims (suc left) taken) (Err f) me = IsRoomFault s ReclaimNext f me × NoneAbandoned s me
+ReclaimEnds s time (reclaims (suc left) taken) (Err f) me = IsStopped s f me
 ReclaimEnds s time _ _ me = ⊥
 
 -- what a removal made from one stage on, up to its result

@@ -9,7 +9,7 @@ use Rattle.pool_shared.specs.declared.faults.ReturnFault.{ReturnFault}
 use Rattle.pool_shared.specs.declared.faults.ReturnFault.TheVariants as faults
 use Rattle.pool_shared.specs.declared.faults.Touched.{Touched}
 use Rattle.pool_shared.specs.declared.faults.Touched.TheVariants as touched
-use Rattle.pool_desk.specs.Sections.{Makes, IsFullFor}
+use Rattle.pool_desk.specs.Sections.{Makes, IsFullFor, IsShortFor}
 
 -- one entry, or none where the object is of another pool or the section was refused
 abbrev pub TouchRow : Settings → ℕ → ℕ → ℕ → Result Touched ReturnFault → Standing → Standing → Type 0
@@ -18,4 +18,4 @@ TouchRow s number pool i (Ok touched.Gone) before after = (pool ≡ number) × M
 TouchRow s number pool i (Err faults.ForeignObject) before after = (pool ≢ number) × (after ≡ before)
 TouchRow s number pool i (Err faults.NotLent) before after = (pool ≡ number) × Makes (Use i) (answers.Refused causes.NotLent) before after
 TouchRow s number pool i (Err faults.JournalFull) before after = (pool ≡ number) × (after.made ≡ before.made) × IsFullFor s (Use i) after
-TouchRow s number pool i (Err faults.OutOfMemory) before after = (pool ≡ number) × (after.made ≡ before.made)
+TouchRow s number pool i (Err faults.OutOfMemory) before after = (pool ≡ number) × (after.made ≡ before.made) × IsShortFor s (Use i) after

@@ -5,8 +5,11 @@ ghost use Rattle.pool_journal.specs.declared.record.Phase.TheVariants as phases;
 ghost use Rattle.pool_journal.specs.declared.answer.Answer.TheVariants as answers;
 ghost use Rattle.pool_journal.specs.declared.input.Input.TheVariants as inputs;
 ghost use Rattle.pool_journal.specs.declared.input.Outcome.TheVariants as outcomes;
+ghost use Rattle.pool_core.specs.Laws.{AtMostMaxTotal};
 ghost use Rattle.pool_history.specs.Standings.{Goes};
-ghost use Rattle.pool_desk.specs.Sections.{HasInHand, MayAsk, IsAnswerTo, Makes, Gets, IsRefused, goes_on};
+ghost use Rattle.pool_history.specs.Answers.{IsAnswerTo};
+ghost use Rattle.pool_desk.specs.Sections.{HasInHand, MayAsk, Makes, Gets, IsWhy, goes_on};
+ghost use Rattle.pool_shared.specs.Promises.{IsAlone};
 ghost use Rattle.pool_shared.specs.Walks.{Ends};
 ghost use Rattle.pool_shared.specs.Borrows.{removes, asks, readies, lent, after_asking, after_destroying, Goes_on, Finishes, BorrowRow, IsLentWell, IsFaultFrom, IsWhyUnready, IsFound, taken_to, IsFailure};
 
@@ -78,7 +81,7 @@ impl<T: Drop, E: Drop, F: Factory<T, E> + Drop, C: Clock + Drop, B: Room> Shared
         ensures ends { IfOk result (λ r. Ends (inputs.Borrow began) r.0 me.new) }
         ensures out { IfOk result (λ r. Gets F.passive r.0 None r.1) }
         ensures none { IfErr result (λ f. Goes_on B.settings began asks me.old me.new asks) }
-        ensures refused { IfErr result (λ f. IsRefused B.settings (inputs.Borrow began) None f me.new) }
+        ensures refused { IfErr result (λ f. IsWhy B.settings (inputs.Borrow began) None f me.new) }
     {
         let input = Input::Borrow { began };
         let mut desk = self.desk.lock(rt);
@@ -175,7 +178,7 @@ impl<T: Drop, E: Drop, F: Factory<T, E> + Drop, C: Clock + Drop, B: Room> Shared
         ensures goes { Goes B.settings me.old me.new }
         ensures walk { (began : ℕ) → Goes_on B.settings began (readies id false) me.old me.new (taken_to id result) }
         ensures lent { IfSome result (λ l. (l.pool ≡ self.now.number) × (l.id ≡ id) × IsLentWell B.settings F.active F.valid l.value) }
-        ensures ends { IfSome result (λ l. Ends (inputs.Ready id outcomes.Good) answers.Lent me.new) }
+        ensures ends { IfSome result (λ l. Ends (inputs.Ready l.id outcomes.Good) answers.Lent me.new) }
     {
         let mut value = value;
         match self.activate(&mut value) {
@@ -315,10 +318,13 @@ impl<T: Drop, E: Drop, F: Factory<T, E> + Drop, C: Clock + Drop, B: Room> Shared
         }
     }
 
-    /// Lends an object: an idle one, or a new one where there is a free place.
+    /// Lends an object: an idle one, or a new one where there is a free place. Nobody else holds it, and at most `maxTotal`
+    /// objects are present.
     pub fn borrow<R: Wait>(&self, rt: &R, me: &mut Caller<B>) -> Result<Lent<T>, BorrowFault<E>>
         ensures goes { Goes B.settings me.old me.new }
         ensures row { BorrowRow B.settings self.now.number result me.old me.new }
+        ensures alone { IfOk result (λ l. IsAlone l.id me.new) }
+        ensures within { AtMostMaxTotal B.settings me.new.seen }
         ensures lent { IfOk result (λ l. IsLentWell B.settings F.active F.valid l.value) }
         ensures fault { IfErr result (IsFaultFrom F.from_make F.from_activate) }
     {

@@ -12,7 +12,7 @@ pub returns-in-Err-JournalFull-clause-turn : goal.returns-in-Err-JournalFull-cla
 returns-in-Err-JournalFull-clause-turn g c n = full_turn g.B.Room.settings n _ _ _ _ (ap refusal c.in-Err-JournalFull.field-0-is) c.in-Err-JournalFull.ensures.refused
 
 pub returns-in-Err-OutOfMemory-clause-turn : goal.returns-in-Err-OutOfMemory-clause-turn
-returns-in-Err-OutOfMemory-clause-turn g c n = short_turn g.B.Room.settings n _ _ _ c.in-Err-OutOfMemory.ensures.refused
+returns-in-Err-OutOfMemory-clause-turn g c n = short_turn g.B.Room.settings n _ _ _ _ (ap refusal c.in-Err-OutOfMemory.field-0-is) c.in-Err-OutOfMemory.ensures.refused
 
 pub returns-in-Ok-Make-clause-few : goal.returns-in-Ok-Make-clause-few
 returns-in-Ok-Make-clause-few g c =

@@ -15,4 +15,4 @@ pub returns-in-Err-JournalFull-clause-refused : goal.returns-in-Err-JournalFull-
 returns-in-Err-JournalFull-clause-refused g c = stops_full g.B.Room.settings _ _ _ _ c.in-Err-JournalFull.field-0-is c.in-Err-JournalFull.ensures.refused
 
 pub returns-clause-refused : goal.returns-clause-refused
-returns-clause-refused g c = stops_short g.B.Room.settings _ _ _ c.in-Err-OutOfMemory.ensures.refused
+returns-clause-refused g c = stops_short g.B.Room.settings _ _ _ _ c.in-Err-OutOfMemory.field-0-is c.in-Err-OutOfMemory.ensures.refused

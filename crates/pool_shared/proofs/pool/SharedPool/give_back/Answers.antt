@@ -11,4 +11,4 @@ returns-in-Err-JournalFull-clause-row g c =
 pub returns-in-Err-OutOfMemory-clause-row : goal.returns-in-Err-OutOfMemory-clause-row
 returns-in-Err-OutOfMemory-clause-row g c =
     let pool : c.args.lent.pool ≡ c.args.self.now.number = search rules in
-    short_row g.B.Room.settings c.args.self.now.number c.args.lent _ _ _ pool c.in-Err-OutOfMemory.ensures.refused
+    short_row g.B.Room.settings c.args.self.now.number c.args.lent _ _ _ _ (ap refusal c.in-Err-OutOfMemory.field-0-is) pool c.in-Err-OutOfMemory.ensures.refused

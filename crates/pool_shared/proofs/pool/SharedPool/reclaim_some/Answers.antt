@@ -1,11 +1,9 @@
 use Rattle.std.proofs.Common.{ap, ◌≡◌, ◌<◌, ◌-◌, refl, arith}
-use Rattle.pool_journal.specs.declared.input.Input.TheVariants.{ReclaimNext}
 use Rattle.pool_shared.specs.Reclaims as removals
 use Rattle.pool_shared.specs.Reclaims.{reclaims}
 use Rattle.pool_shared.proofs.Walking.{walk_none, ends_of}
 use Rattle.pool_shared.proofs.Sweeping.{goes_self, goes_then}
-use Rattle.pool_shared.proofs.Rowing.{full_for}
-use Rattle.pool_shared.proofs.Removals.{took_away, none_abandoned, all_taken, none_there, stopped}
+use Rattle.pool_shared.proofs.Removals.{took_away, none_abandoned, all_taken, stops_full, stops_short, stopped}
 use Rattle.pool_shared.specs.Pools.{refusal}
 use Rattle.pool_shared.proofs.pool.SharedPool.reclaim_some.Goals as goal
 
@@ -55,12 +53,11 @@ returns-in-Err-JournalFull-clause-row g c time =
     let i = c.loop-taken.invariant in
     let some : 0 < i.left = omega (arith, i.all, c.loop-taken-test.true) in
     let refused = c.in-Err-JournalFull.ensures.refused in
-    stopped g.B.Room.settings time c.args.count i.left c.loop-taken.taken _ _ _ _ some (i.walk time) refused.same (full_for g.B.Room.settings ReclaimNext _ _ _ _ (ap refusal c.in-Err-JournalFull.field-0-is) refused)
-    (none_there g.B.Room.settings _ _ _ refused.there)
+    stopped g.B.Room.settings time c.args.count i.left c.loop-taken.taken _ _ _ _ some (i.walk time) refused.same (stops_full g.B.Room.settings _ _ _ _ (ap refusal c.in-Err-JournalFull.field-0-is) refused)
 
 pub returns-in-Err-OutOfMemory-clause-row : goal.returns-in-Err-OutOfMemory-clause-row
 returns-in-Err-OutOfMemory-clause-row g c time =
     let i = c.loop-taken.invariant in
     let some : 0 < i.left = omega (arith, i.all, c.loop-taken-test.true) in
-    stopped g.B.Room.settings time c.args.count i.left c.loop-taken.taken _ _ _ _ some (i.walk time) c.in-Err-OutOfMemory.ensures.refused.same tt
-    (none_there g.B.Room.settings _ _ _ c.in-Err-OutOfMemory.ensures.refused.there)
+    let refused = c.in-Err-OutOfMemory.ensures.refused in
+    stopped g.B.Room.settings time c.args.count i.left c.loop-taken.taken _ _ _ _ some (i.walk time) refused.same (stops_short g.B.Room.settings _ _ _ _ (ap refusal c.in-Err-OutOfMemory.field-0-is) refused)

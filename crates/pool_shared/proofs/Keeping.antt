@@ -1,0 +1,46 @@
+-- What a borrower may rely on follows from the laws of what it has seen.
+use Rattle.std.proofs.Common.{◌≡◌, ◌<◌, ℕ, zero, suc, true, List, [], ◌∷◌, ◌++◌, length, slice_get, Some, Result, Ok, Err, eq-eqb, refl, sym, ap, ◌∙◌, subst, arith}
+use Rattle.std.specs.Prelude.{IfOk}
+use Rattle.pool_journal.specs.Journal.{lends, phase}
+use Rattle.pool_journal.specs.declared.entry.Entry.{Entry}
+use Rattle.pool_journal.specs.declared.answer.Answer.TheVariants.{Lent as is_lent}
+use Rattle.pool_journal.specs.declared.input.Input.TheVariants.{Ready}
+use Rattle.pool_journal.specs.declared.input.Outcome.TheVariants.{Good}
+use Rattle.pool_journal.specs.declared.record.Phase.TheVariants as phases
+use Rattle.pool_settings.specs.declared.settings.Settings.{Settings}
+use Rattle.pool_core.specs.Laws.{Laws, LeavesLent}
+use Rattle.pool_core.specs.Legal.{IsLegal, entry_of}
+use Rattle.pool_core.proofs.Lawful.{keeps_laws}
+use Rattle.pool_history.specs.Standings.{Standing}
+use Rattle.pool_history.proofs.Tending.{at_seam, last_here}
+use Rattle.pool_shared.specs.declared.faults.BorrowFault.{BorrowFault}
+use Rattle.pool_shared.specs.declared.lent.Lent.{Lent}
+use Rattle.pool_shared.specs.Borrows.{BorrowRow}
+use Rattle.pool_shared.specs.Promises.{IsAlone}
+use Rattle.pool_shared.specs.Walks.{Ends}
+
+-- an element of the front of a list stands there in the list
+front_has : {A : Type 0} (front rest : List A) (k : ℕ) (x : A) → slice_get front k ≡ Some x → (slice_get (front ++ rest) k ≡ Some x) × (k < length front)
+front_has [] rest k x at = absurd (cc at)
+front_has (y ∷ ys) rest zero x at = (at, omega arith)
+front_has (y ∷ ys) rest (suc k) x at = let later = front_has ys rest k x at in (later.0, omega (arith, later.1))
+
+pub alone : (s : Settings) (i : ℕ) (me : Standing) → IsLegal s me.seen → Ends (Ready i Good) is_lent me → IsAlone i me
+alone s i me legal ends =
+    let e = entry_of me.number ends.at (Ready i Good) is_lent in
+    let there : lends i e ≡ true = eq-eqb i i refl in
+    let laws = keeps_laws s me.seen legal in
+    record {
+      by = ends;
+      lent = subst (λ J. phase i J ≡ phases.Lent) (sym ends.last_seen) (last_here i phases.Lent ends.found e refl).is_in;
+      ended =
+          λ k x at is.
+              let early = front_has ends.found (e ∷ []) k x at in
+              laws.lent_in_turn i k (length ends.found) x e early.1 (subst (λ J. slice_get J k ≡ Some x) (sym ends.last_seen) early.0)
+              (subst (λ J. slice_get J (length ends.found) ≡ Some e) (sym ends.last_seen) (at_seam ends.found [] e).0) is there;
+    }
+
+-- a borrow that lends
+pub alone_of : {T E : Type 0} (s : Settings) (number : ℕ) (r : Result (Lent T) (BorrowFault E)) (before after : Standing) → IsLegal s after.seen → BorrowRow s number r before after → IfOk r (λ l. IsAlone l.id after)
+alone_of s number (Ok l) before after legal row = alone s l.id after legal row.1.leaves
+alone_of s number (Err f) before after legal row = tt
