@@ -8,16 +8,20 @@ use Rattle.pool_journal.specs.declared.input.Input.TheVariants.{Ready}
 use Rattle.pool_journal.specs.declared.input.Outcome.TheVariants.{Good}
 use Rattle.pool_journal.specs.declared.record.Phase.TheVariants as phases
 use Rattle.pool_settings.specs.declared.settings.Settings.{Settings}
-use Rattle.pool_core.specs.Laws.{Laws, LeavesLent}
+use Rattle.atomic_table.specs.Seated.{TableId}
+use Rattle.pool_core.specs.Laws.{AtMostMaxTotal}
 use Rattle.pool_core.specs.Legal.{IsLegal, entry_of}
 use Rattle.pool_core.proofs.Lawful.{keeps_laws}
-use Rattle.pool_history.specs.Standings.{Standing}
+use Rattle.pool_history.specs.declared.room.View.{View}
+use Rattle.pool_history.specs.Standings.{Standing, Goes, Knows, IsCaller}
 use Rattle.pool_history.proofs.Tending.{at_seam, last_here}
 use Rattle.pool_shared.specs.declared.faults.BorrowFault.{BorrowFault}
 use Rattle.pool_shared.specs.declared.lent.Lent.{Lent}
-use Rattle.pool_shared.specs.Borrows.{BorrowRow}
+use Rattle.pool_desk.proofs.Sections.{standing}
+use Rattle.pool_shared.specs.Borrows.{Stage, Finishes}
 use Rattle.pool_shared.specs.Promises.{IsAlone}
 use Rattle.pool_shared.specs.Walks.{Ends}
+use Rattle.pool_shared.proofs.Sweeping.{goes_self}
 
 -- an element of the front of a list stands there in the list
 front_has : {A : Type 0} (front rest : List A) (k : ℕ) (x : A) → slice_get front k ≡ Some x → (slice_get (front ++ rest) k ≡ Some x) × (k < length front)
@@ -41,6 +45,14 @@ alone s i me legal ends =
     }
 
 -- a borrow that lends
-pub alone_of : {T E : Type 0} (s : Settings) (number : ℕ) (r : Result (Lent T) (BorrowFault E)) (before after : Standing) → IsLegal s after.seen → BorrowRow s number r before after → IfOk r (λ l. IsAlone l.id after)
-alone_of s number (Ok l) before after legal row = alone s l.id after legal row.1.leaves
-alone_of s number (Err f) before after legal row = tt
+pub alone_of : {T E : Type 0} (s : Settings) (number began : ℕ) (from : Stage) (r : Result (Lent T) (BorrowFault E)) (before after : Standing) → Goes s before after → Finishes s number began from r before after → IfOk r (λ l. IsAlone l.id after)
+alone_of s number began from (Ok l) before after goes made = alone s l.id after goes.legal made.leaves
+alone_of s number began from (Err f) before after goes made = tt
+
+-- no more objects are present in what is seen than the settings allow
+pub within : (s : Settings) (before after : Standing) → Goes s before after → AtMostMaxTotal s after.seen
+within s before after goes = (keeps_laws s after.seen goes.legal).at_most_max_total
+
+-- a caller that was not touched
+pub untouched : (table : TableId) (s : Settings) (id : TableId) (n : ℕ) (v : View) (me : Standing) → IsCaller table s id n v → standing n v ≡ me → Goes s me me
+untouched table s id n v me known is = subst (λ (t : Standing). Goes s t t) is (goes_self s (standing n v) record { legal = known.legal; tended = known.tended; all = known.all })
