@@ -16,6 +16,7 @@ use Rattle.pool_shared.specs.declared.faults.ReturnFault.{ReturnFault}
 use Rattle.pool_shared.specs.declared.faults.ReturnFault.TheVariants as refusals
 use Rattle.pool_shared.specs.declared.faults.Returned.{Returned}
 use Rattle.pool_shared.specs.declared.lent.Lent.{Lent}
+use Rattle.pool_desk.specs.Sections.{IsFullFor}
 use Rattle.pool_shared.specs.Walks.{walked}
 use Rattle.pool_shared.specs.Borrows as borrows
 use Rattle.pool_shared.specs.Returns as returns
@@ -98,7 +99,7 @@ kept_round E {T} s number l m f a b c is row back =
     both E s number l a b c row there.1.es there.1.made (record { due = there.1.due; ends = through_not_lent (walked returns.next returns.gives there.1.es) m there.1.ends })
 
 -- where a borrow was refused for want of room, an entry was due that doesn't fit
-full_there : (s : Settings) (began : ℕ) (st : borrows.Stage) (me : Standing) → IsLegal s me.seen → borrows.IsFullAt s began st me → IsFull s me
+full_there : (s : Settings) (began : ℕ) (st : borrows.Stage) (me : Standing) → IsLegal s me.seen → borrows.IsRefusedThere IsFullFor s began st me → IsFull s me
 full_there s began borrows.removes me legal is = record { legal = legal; input = inputs.Reclaim times.Borrow; full = is }
 full_there s began (borrows.reclaims left) me legal is = record { legal = legal; input = inputs.ReclaimNext; full = is }
 full_there s began borrows.asks me legal is = record { legal = legal; input = inputs.Borrow began; full = is }

@@ -11,7 +11,7 @@ use Rattle.pool_stats.specs.declared.statistics.Statistics.{Statistics}
 use Rattle.pool_core.specs.Legal.{IsLegal}
 use Rattle.pool_history.specs.Ends.{EachMade, AllUnder, NoneCut}
 use Rattle.pool_history.specs.Rule.{own, AllBelow}
-use Rattle.pool_history.specs.Standings.{Standing, newcomer_at}
+use Rattle.pool_history.specs.Standings.{Standing, Goes, newcomer_at}
 use Rattle.pool_shared.specs.Clears.{CloseRow}
 use Rattle.pool_load.specs.Rounds.{IsWorked, MakesRounds}
 use Rattle.pool_load.specs.Workers.{AllWorked}
@@ -102,22 +102,23 @@ module _ (s : Settings) (rounds workers : ℕ) (front after : List Standing) (la
       (all_back new worked (same ∙ ap (λ (c : Standing). c.number) new.end) (uncut ∙ ap (λ (c : Standing). c.cuts) new.end) k c at).1
 
   pub loaded : (refused taken : ℕ) (stats : Statistics) (all : List Standing) → length all ≡ workers + 1 → ((k : ℕ) → k < workers + 1 → slice_get all k ≡ Some (newcomer_at k)) → all ≡ front ++ last ∷ []
-      → AllWorked s rounds front after (map Ok fs) → last'.number ≡ last.number → last'.cuts ≡ last.cuts → CloseRow s (Ok taken) last last'
+      → AllWorked s rounds front after (map Ok fs) → Goes s last last' → CloseRow s (Ok taken) last last'
       → IsLegal s H → EachMade (after ++ last' ∷ []) H → AllUnder (after ++ last' ∷ []) H → refused ≡ sum fs → stats ≡ statistics_of H → IsLoad s workers rounds refused stats
-  loaded refused taken stats all long is cut worked same uncut row legal made under sums told =
+  loaded refused taken stats all long is cut worked goes row legal made under sums told =
       let new = newcomers workers all front last long is cut in
-      let number : last'.number ≡ workers = same ∙ ap (λ (c : Standing). c.number) new.end in
+      let number : last'.number ≡ workers = goes.number ∙ ap (λ (c : Standing). c.number) new.end in
       let closes = made (length after) last' (at_end after last') in
       record {
         journal = H;
         legal = legal;
-        below = below_of (workers + 1) H (λ k e at. let u = under k e at in let n = (all_back new worked number (uncut ∙ ap (λ (c : Standing). c.cuts) new.end) u.0 u.1 u.2).0 in let m = u.3 in omega (arith, n, m));
+        below = below_of (workers + 1) H (λ k e at. let u = under k e at in let n = (all_back new worked number (goes.uncut ∙ ap (λ (c : Standing). c.cuts) new.end) u.0 u.1 u.2).0 in let m = u.3 in omega (arith, n, m));
         refusals = fs;
         each = sym (length-map fs Ok) ∙ worked.results ∙ new.long;
         worked = λ w lt. by_worker w (worker new worked w lt);
         closed = record {
           taken = taken;
           after = last';
+          goes = subst (λ c. Goes s c last') new.end goes;
           made = closes.0 ∙ ap (λ n. own n H) number;
           seen = closes.1;
           row = subst (λ c. CloseRow s (Ok taken) c last') new.end row;

@@ -6,7 +6,7 @@ use Rattle.pool_stats.specs.Statistics.{statistics_of}
 use Rattle.pool_stats.specs.declared.statistics.Statistics.{Statistics}
 use Rattle.pool_core.specs.Legal.{IsLegal}
 use Rattle.pool_history.specs.Rule.{own, AllBelow, Begins}
-use Rattle.pool_history.specs.Standings.{Standing, newcomer_at}
+use Rattle.pool_history.specs.Standings.{Standing, Goes, newcomer_at}
 use Rattle.pool_shared.specs.Clears.{CloseRow}
 use Rattle.pool_load.specs.declared.load_fault.LoadFault.{LoadFault}
 use Rattle.pool_load.specs.declared.load_fault.LoadFault.TheVariants.{WorkerCount, RoundCount}
@@ -20,10 +20,11 @@ pub record IsInRange (workers rounds : ℕ) : Type 0 where
   pub some_rounds : 0 < rounds
   pub few_rounds : rounds ≤ 1000000
 
--- all that the caller of this number made in a history is one close, the first and the last of its calls
+-- all that the caller of this number made in a history is one whole close, the first and the last of its calls: as a newcomer it went on to see a legal history, up to its last entry at least, and made there what a close makes, up to the stage at which one ends
 pub record OnlyCloses (s : Settings) (n : ℕ) (journal : List Entry) : Type 0 where
   pub taken : ℕ
   pub after : Standing
+  pub goes : Goes s (newcomer_at n) after
   pub made : after.made ≡ own n journal
   pub seen : Begins after.seen journal
   pub row : CloseRow s (Ok taken) (newcomer_at n) after

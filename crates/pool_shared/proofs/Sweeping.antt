@@ -135,7 +135,7 @@ shut_down s n taken a b c d is made swept ends =
 
 pub shut_down_part : (s : Settings) (n taken : ℕ) (f : PoolFault) (a : Answer) (b c d : Standing) → a ≡ answers.Count n → Makes Close a b c → Sweeps s Close n (Err (taken, f)) c d → CloseRow s (Ok taken) b d
 shut_down_part s n taken f a b c d is made swept =
-    close_from s (Ok taken) (sweeps (suc swept.0) taken) b d (walk_on (clears.Due Close) clears.next begins (sweeps n 0) (sweeps (suc swept.0) taken) b c d (begun Close n a b c is made) swept.1) (refl, swept.3)
+    close_from s (Ok taken) (sweeps (suc swept.0) taken) b d (walk_on (clears.Due Close) clears.next begins (sweeps n 0) (sweeps (suc swept.0) taken) b c d (begun Close n a b c is made) swept.1) (refl, (f, swept.2), swept.3)
 
 -- where the first section was refused
 pub clear_full : {T : Type 0} (s : Settings) (f : StepFault T) (out : Option T) (b c : Standing) → f ≡ JournalFull out → Refuses s Clear None f b c → ClearRow s (Err faults.JournalFull) b c

@@ -86,7 +86,7 @@ ClearEnds s _ _ me = ⊥
 abbrev pub CloseEnds : Settings → Stage → Result ℕ PoolFault → Standing → Type 0
 CloseEnds s (through taken) (Ok n) me = (n ≡ taken) × EndsWithMade me
 CloseEnds s (sweeps zero taken) (Ok n) me = (n ≡ taken) × EndsWithMade me
-CloseEnds s (sweeps (suc left) taken) (Ok n) me = (n ≡ taken) × NoneIdle me
+CloseEnds s (sweeps (suc left) taken) (Ok n) me = (n ≡ taken) × ((f : PoolFault) × IsRoomFault s ClearNext f me) × NoneIdle me
 CloseEnds s begins (Err f) me = IsRoomFault s Close f me × (closed me.seen ≡ true)
 CloseEnds s _ _ me = ⊥
 
