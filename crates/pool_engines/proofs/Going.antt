@@ -4,7 +4,9 @@ use Rattle.std.specs.Io.KnownBytes.{Appends, Consumes, IsAtEnd, Keeps}
 use Rattle.std.proofs.KnownBytes.{Appends-trans, Consumes-trans, Consumes-kept, Consumes-nil, Appends-nil}
 use Rattle.std.proofs.lemmas.Bool.{false≢true}
 use Rattle.pool_engines.specs.Handing.{AppendsFront}
-use Rattle.pool_engines.specs.Faults.{is_write_failure}
+use Rattle.std.specs.Prelude.{Contains}
+use Rattle.pool_journal.specs.Text.{line_feed}
+use Rattle.pool_engines.specs.Faults.{is_read_failure, is_write_failure}
 use Rattle.pool_engines.specs.Leaving.{read_ahead}
 use Rattle.pool_engines.specs.Engine.{Tells, Gives, Passes}
 use Rattle.pool_engines.specs.declared.engine_fault.EngineFault.{EngineFault}
@@ -13,6 +15,13 @@ use Rattle.pool_engines.specs.declared.engine_fault.EngineFault.TheVariants.{Lin
 -- the bytes that are told were given to the writer, but for those that wait
 abbrev pub Gave : List ℕ → Option (List ℕ) → Option (List ℕ) → List ℕ → Type 0
 Gave told held written waiting = (sent : List ℕ) × (told ≡ sent ++ waiting) × Appends held written sent
+
+-- if the reader failed, the bytes that are left contain no whole line
+abbrev pub LeavesNoLine : Result (Unit {0}) EngineFault → List ℕ → Type 0
+LeavesNoLine result pending = is_read_failure result ≡ true → ¬ Contains pending line_feed
+
+pub leaves_other : (result : Result (Unit {0}) EngineFault) (pending : List ℕ) → is_read_failure result ≡ false → LeavesNoLine result pending
+leaves_other result pending other = λ told. absurd (false≢true (sym other ∙ told))
 
 -- more is told
 pub Gave-more : (told held_told : List ℕ) (held written : Option (List ℕ)) (before after words : List ℕ) → Gave told held written before → after ≡ before ++ words → held_told ≡ told ++ words → Gave held_told held written after
@@ -58,23 +67,23 @@ module _ {E F : Type 0} (settings : E → F) (taken told : E → List ℕ) (stan
   Gives-gave (Err Write) engine written waiting (sent, parts, given) = (sent, waiting, parts, given)
 
   -- the engine ends before what is pending
-  pub Passes-ended : (result : Result (Unit {0}) EngineFault) (old new : E) (now written : Option (List ℕ)) (pending before after shown : List ℕ) → Going old now written pending before → shown ≡ pending
+  pub Passes-ended : (result : Result (Unit {0}) EngineFault) (old new : E) (now written : Option (List ℕ)) (pending before after shown : List ℕ) → Going old now written pending before → LeavesNoLine result pending → shown ≡ pending
       → taken new ≡ taken old → Tells settings taken told stands is_partial ends old new before after → ((more : List ℕ) → ends new (shown ++ more) result)
       → Passes settings taken told stands is_partial ends result begun new known now held written after
-  Passes-ended result old new now written pending before after shown going all same (words, grown, is, stay) ended = record {
+  Passes-ended result old new now written pending before after shown going leaves all same (words, grown, is, stay) ended = record {
     rest = pending ++ left now;
     same = stay ∙ going.same;
     stream = IfSome-consumed known now (taken new) pending (subst (λ l. Consumes known now (l ++ pending)) (sym same) going.took);
-    leaves = (pending, subst (λ l. Consumes known now (l ++ pending)) (sym same) going.took, going.ahead);
+    leaves = (pending, subst (λ l. Consumes known now (l ++ pending)) (sym same) going.took, going.ahead, leaves);
     ended = subst (λ l. ends new (l ++ left now) result) all (ended (left now));
     gave = Gives-gave result new written after (Gave-more (told old) (told new) held written before after words going.gave grown is);
   }
 
   -- the engine is stopped
-  pub Passes-stopped : (result : Result (Unit {0}) EngineFault) (engine : E) (now written : Option (List ℕ)) (pending waiting : List ℕ) → Going engine now written pending waiting
+  pub Passes-stopped : (result : Result (Unit {0}) EngineFault) (engine : E) (now written : Option (List ℕ)) (pending waiting : List ℕ) → Going engine now written pending waiting → LeavesNoLine result pending
       → ((rest : List ℕ) → ends engine rest result) → Passes settings taken told stands is_partial ends result begun engine known now held written waiting
-  Passes-stopped result engine now written pending waiting going ended =
-      Passes-ended result engine engine now written pending waiting waiting pending going refl refl ([], sym (append-nil waiting), sym (append-nil (told engine)), refl) (λ more. ended (pending ++ more))
+  Passes-stopped result engine now written pending waiting going leaves ended =
+      Passes-ended result engine engine now written pending waiting waiting pending going leaves refl refl ([], sym (append-nil waiting), sym (append-nil (told engine)), refl) (λ more. ended (pending ++ more))
 
   -- the writer fails
   pub Passes-failed : (engine : E) (now mid written : Option (List ℕ)) (pending before after : List ℕ) → Going engine now mid pending before → AppendsFront mid written before
@@ -83,7 +92,7 @@ module _ {E F : Type 0} (settings : E → F) (taken told : E → List ℕ) (stan
     rest = pending ++ left now;
     same = going.same;
     stream = IfSome-consumed known now (taken engine) pending going.took;
-    leaves = (pending, going.took, going.ahead);
+    leaves = (pending, going.took, going.ahead, λ told. absurd (false≢true told));
     ended = ended (pending ++ left now);
     gave = Gave-failed (told engine) held mid written before going.gave failed;
   }
@@ -139,14 +148,14 @@ module _ {E F : Type 0} (settings : E → F) (taken told : E → List ℕ) (stan
   }
 
   -- the stream is at its end
-  pub Passes-finished : (result : Result (Unit {0}) EngineFault) (old new : E) (now written : Option (List ℕ)) (pending before after shown : List ℕ) → Going old now written pending before → shown ≡ pending → IsAtEnd now
+  pub Passes-finished : (result : Result (Unit {0}) EngineFault) (old new : E) (now written : Option (List ℕ)) (pending before after shown : List ℕ) → Going old now written pending before → LeavesNoLine result pending → shown ≡ pending → IsAtEnd now
       → taken new ≡ taken old → Tells settings taken told stands is_partial ends old new before after → ends new shown result
       → Passes settings taken told stands is_partial ends result begun new known now held written after
-  Passes-finished result old new now written pending before after shown going all at_end same (words, grown, is, stay) ended = record {
+  Passes-finished result old new now written pending before after shown going leaves all at_end same (words, grown, is, stay) ended = record {
     rest = pending ++ left now;
     same = stay ∙ going.same;
     stream = IfSome-consumed known now (taken new) pending (subst (λ l. Consumes known now (l ++ pending)) (sym same) going.took);
-    leaves = (pending, subst (λ l. Consumes known now (l ++ pending)) (sym same) going.took, going.ahead);
+    leaves = (pending, subst (λ l. Consumes known now (l ++ pending)) (sym same) going.took, going.ahead, leaves);
     ended = subst (λ l. ends new l result) (sym (ap (λ l. pending ++ l) (left-at_end now at_end) ∙ append-nil pending ∙ sym all)) ended;
     gave = Gives-gave result new written after (Gave-more (told old) (told new) held written before after words going.gave grown is);
   }
@@ -191,7 +200,7 @@ module _ {E F : Type 0} (settings : E → F) (taken told : E → List ℕ) (stan
   -- the writer fails at the end
   pub Passes-unhanded : (result : Result (Unit {0}) EngineFault) (engine : E) (now mid written : Option (List ℕ)) (waiting : List ℕ) → is_write_failure result ≡ false → Passes settings taken told stands is_partial ends result begun engine known now held mid waiting → AppendsFront mid written waiting
       → ((rest : List ℕ) → ends engine rest result → ends engine rest (Err Write)) → Passes settings taken told stands is_partial ends (Err Write) begun engine known now held written []
-  Passes-unhanded result engine now mid written waiting works p failed fails = record { rest = p.rest; same = p.same; stream = p.stream; leaves = p.leaves; ended = fails p.rest p.ended; gave = Gave-failed (told engine) held mid written waiting (Gave-from result engine mid waiting works p.gave) failed }
+  Passes-unhanded result engine now mid written waiting works p failed fails = record { rest = p.rest; same = p.same; stream = p.stream; leaves = (p.leaves.0, p.leaves.1, p.leaves.2, λ told. absurd (false≢true told)); ended = fails p.rest p.ended; gave = Gave-failed (told engine) held mid written waiting (Gave-from result engine mid waiting works p.gave) failed }
 
   -- the writer had failed before
   pub Passes-broken : (result : Result (Unit {0}) EngineFault) (engine : E) (now written : Option (List ℕ)) (waiting : List ℕ) → is_write_failure result ≡ true → Passes settings taken told stands is_partial ends result begun engine known now held written waiting

@@ -9,6 +9,7 @@ pub mod Empty
 pub mod Parts
 pub mod Tallying
 pub mod Naming
+pub mod Numbering
 pub mod Filing
 pub mod Verdicts
 pub mod OneFile

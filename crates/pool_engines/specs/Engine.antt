@@ -1,6 +1,8 @@
 -- What an engine does with the lines of a stream.
 use Rattle.std.specs.Prelude.{◌≡◌, ⊤, ℕ, ◌<◌, ◌≤◌, List, ◌++◌, length, take, Option, Result, Ok, Err, IfSome}
 use Rattle.std.specs.Io.KnownBytes.{Appends}
+use Rattle.pool_engines.specs.Faults.{is_read_failure}
+use Rattle.pool_engines.specs.Files.{IsPartial}
 use Rattle.pool_engines.specs.Handing.{AppendsFront}
 use Rattle.pool_engines.specs.Leaving.{IsLeftAfter}
 use Rattle.pool_engines.specs.declared.engine_fault.EngineFault.{EngineFault}
@@ -41,7 +43,7 @@ module _ {E F : Type 0} (settings : E → F) (taken told : E → List ℕ) (stan
   -- one turn of the engine, before these bytes
   abbrev pub Turns : Result Turn EngineFault → E → E → List ℕ → List ℕ → List ℕ → Type 0
   Turns (Ok (Took count)) old new bytes before after = stands new × ((0 < count) × (count ≤ length bytes)) × (taken new ≡ taken old ++ take count bytes) × Tells old new before after
-  Turns (Ok Unfinished) old new bytes before after = (new ≡ old) × (after ≡ before) × (length bytes < 256) × is_partial bytes
+  Turns (Ok Unfinished) old new bytes before after = (new ≡ old) × (after ≡ before) × IsPartial bytes × is_partial bytes
   Turns (Ok Done) old new bytes before after = (taken new ≡ taken old) × Tells old new before after × ((more : List ℕ) → ends new (bytes ++ more) (Ok tt))
   Turns (Err fault) old new bytes before after = (taken new ≡ taken old) × Tells old new before after × ((more : List ℕ) → ends new (bytes ++ more) (Err fault))
 
@@ -59,7 +61,7 @@ module _ {E F : Type 0} (settings : E → F) (taken told : E → List ℕ) (stan
     pub rest : List ℕ
     pub same : settings engine ≡ settings begun
     pub stream : IfSome known (λ bytes. bytes ≡ taken engine ++ rest)
-    pub leaves : IsLeftAfter known left (taken engine)
+    pub leaves : IsLeftAfter (is_read_failure result) known left (taken engine)
     pub ended : ends engine rest result
     pub gave : Gives result engine held written waiting
 

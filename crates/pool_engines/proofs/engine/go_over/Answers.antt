@@ -13,7 +13,7 @@ returns-in-Err-clause-passed g c =
     let r = c.requires in
     let begun = e.with_past c.args.engine.now e.none in
     let going = Going-begun e.settings e.taken e.told e.stands e.is_partial e.ends begun (g.R.Read.remaining c.args.reader.now) (g.W.Write.contents c.args.writer.now) r.stands r.none_taken r.none_told in
-    (e.none, r.keeps, Passes-stopped e.settings e.taken e.told e.stands e.is_partial e.ends begun _ _ _ begun _ _ _ _ going (λ rest. g.met.E.Engine.stops_at_first begun rest r.stands r.is_new))
+    (e.none, r.keeps, Passes-stopped e.settings e.taken e.told e.stands e.is_partial e.ends begun _ _ _ begun _ _ _ _ going (λ told. absurd (false≢true told)) (λ rest. g.met.E.Engine.stops_at_first begun rest r.stands r.is_new))
 
 pub returns-in_err-hand_on-clause-passed : goal.returns-in_err-hand_on-clause-passed
 returns-in_err-hand_on-clause-passed g c =

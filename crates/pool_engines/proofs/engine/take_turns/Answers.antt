@@ -1,7 +1,9 @@
-use Rattle.std.proofs.Common.{Ok, Err, length, refl, ap, sym, ◌∙◌, arith}
+use Rattle.std.proofs.Common.{ℕ, List, Ok, Err, length, refl, ap, sym, ◌∙◌, subst, arith}
+use Rattle.std.specs.Prelude.{Contains}
+use Rattle.pool_journal.specs.Text.{line_feed}
 use Rattle.std.proofs.lemmas.Bool.{false≢true}
 use Rattle.std.proofs.lemmas.Result.{err_from_is_err_and}
-use Rattle.pool_engines.proofs.Going.{Going-begun, Passes-ended, Passes-stopped, Passes-failed, Passes-finished, Going-took, Going-sent, Going-emptied, Going-filled, Going-kept, Going-same}
+use Rattle.pool_engines.proofs.Going.{leaves_other, Going-begun, Passes-ended, Passes-stopped, Passes-failed, Passes-finished, Going-took, Going-sent, Going-emptied, Going-filled, Going-kept, Going-same}
 use Rattle.pool_engines.proofs.Telling.{own_reads, own_writes, untold}
 use Rattle.pool_engines.specs.declared.engine_fault.EngineFault.TheVariants as faults
 use Rattle.pool_engines.proofs.engine.take_turns.Goals as goal
@@ -12,14 +14,14 @@ returns-in_err-count-clause-passed g c =
     let i = c.loop-count.invariant in
     let (past, keeps, h) = c.in_err-count.ensures.turned i.past i.keeps i.going.standing in
     let p = err_from_is_err_and c.from_residual.result c.from_residual.ensures.1 in
-    rw (p.1, p.2) (past, keeps, Passes-ended e.settings e.taken e.told e.stands e.is_partial e.ends (e.with_past c.args.engine.now e.none) _ _ _ (e.with_past c.loop-count.engine i.past) (e.with_past c.turn.new.self past) _ _ c.loop-count.incoming _ _ c.bytes.result.now i.going c.bytes.ensures h.0 h.1 h.2)
+    rw (p.1, p.2) (past, keeps, Passes-ended e.settings e.taken e.told e.stands e.is_partial e.ends (e.with_past c.args.engine.now e.none) _ _ _ (e.with_past c.loop-count.engine i.past) (e.with_past c.turn.new.self past) _ _ c.loop-count.incoming _ _ c.bytes.result.now i.going (leaves_other (Err c.in_err-count.field-0.0) c.loop-count.incoming (own_reads {A = Unit {0}} (Err c.in_err-count.field-0.0) c.in_err-count.ensures.own)) c.bytes.ensures h.0 h.1 h.2)
 
 pub returns-in-Done-clause-passed : goal.returns-in-Done-clause-passed
 returns-in-Done-clause-passed g c =
     let e = g.E.Engine in
     let i = c.loop-count.invariant in
     let (past, keeps, h) = (rw c.in-Done.is at c.in_ok-count.ensures.turned) i.past i.keeps i.going.standing in
-    (past, keeps, Passes-ended e.settings e.taken e.told e.stands e.is_partial e.ends (e.with_past c.args.engine.now e.none) _ _ _ (e.with_past c.loop-count.engine i.past) (e.with_past c.turn.new.self past) _ _ c.loop-count.incoming _ _ c.bytes.result.now i.going c.bytes.ensures h.0 h.1 h.2)
+    (past, keeps, Passes-ended e.settings e.taken e.told e.stands e.is_partial e.ends (e.with_past c.args.engine.now e.none) _ _ _ (e.with_past c.loop-count.engine i.past) (e.with_past c.turn.new.self past) _ _ c.loop-count.incoming _ _ c.bytes.result.now i.going (leaves_other (Ok tt) c.loop-count.incoming refl) c.bytes.ensures h.0 h.1 h.2)
 
 pub returns-in_err-make_room-in-Took-clause-passed : goal.returns-in_err-make_room-in-Took-clause-passed
 returns-in_err-make_room-in-Took-clause-passed g c =
@@ -49,7 +51,7 @@ returns-in_err-fill-in-Unfinished-clause-passed g c =
     let ok = c.in_ok-hand_on-in-Unfinished.ensures.ok in
     let given = Going-emptied e.settings e.taken e.told e.stands e.is_partial e.ends (e.with_past c.args.engine.now e.none) _ _ (e.with_past c.turn.new.self past) _ _ _ _ _ _ going ok.0 ok.1 in
     let kept = Going-kept e.settings e.taken e.told e.stands e.is_partial e.ends (e.with_past c.args.engine.now e.none) _ _ (e.with_past c.turn.new.self past) _ _ _ _ _ given c.in_err-fill-in-Unfinished.ensures.err.1 in
-    rw (p.1, p.2, c.in_err-fill-in-Unfinished.ensures.fault) (past, keeps, Passes-stopped e.settings e.taken e.told e.stands e.is_partial e.ends (e.with_past c.args.engine.now e.none) _ _ _ (e.with_past c.turn.new.self past) _ _ _ _ kept (λ rest. g.met.E.Engine.stops_anywhere (e.with_past c.turn.new.self past) rest faults.Read going.standing tt))
+    rw (p.1, p.2, c.in_err-fill-in-Unfinished.ensures.fault) (past, keeps, Passes-stopped e.settings e.taken e.told e.stands e.is_partial e.ends (e.with_past c.args.engine.now e.none) _ _ _ (e.with_past c.turn.new.self past) _ _ _ _ kept (λ told. subst (λ (l : List ℕ). ¬ Contains l line_feed) c.bytes.ensures h.2.1) (λ rest. g.met.E.Engine.stops_anywhere (e.with_past c.turn.new.self past) rest faults.Read going.standing tt))
 
 pub returns-then-branch-eq0-clause-passed : goal.returns-then-branch-eq0-clause-passed
 returns-then-branch-eq0-clause-passed g c =
@@ -63,7 +65,7 @@ returns-then-branch-eq0-clause-passed g c =
     let filled = Going-filled e.settings e.taken e.told e.stands e.is_partial e.ends (e.with_past c.args.engine.now e.none) _ _ (e.with_past c.turn.new.self past) _ _ _ _ _ more _ given grown c.in_ok-fill-in-Unfinished.ensures.ahead came in
     let at_end = c.in_ok-fill-in-Unfinished.ensures.end (ap Ok c.if-branch-eq0.true) in
     let (last, kept, f) = c.finish.ensures.finished past keeps going.standing in
-    (last, kept, Passes-finished e.settings e.taken e.told e.stands e.is_partial e.ends (e.with_past c.args.engine.now e.none) _ _ c.finish.result (e.with_past c.turn.new.self past) (e.with_past c.finish.new.self last) _ _ _ _ _ c.bytes-then-branch-eq0.result.now filled c.bytes-then-branch-eq0.ensures at_end f.0 f.1 f.2)
+    (last, kept, Passes-finished e.settings e.taken e.told e.stands e.is_partial e.ends (e.with_past c.args.engine.now e.none) _ _ c.finish.result (e.with_past c.turn.new.self past) (e.with_past c.finish.new.self last) _ _ _ _ _ c.bytes-then-branch-eq0.result.now filled (leaves_other c.finish.result _ (own_reads c.finish.result c.finish.ensures.own)) c.bytes-then-branch-eq0.ensures at_end f.0 f.1 f.2)
 
 pub loop-count-preserved-in_ok-make_room-in-Took : goal.loop-count-preserved-in_ok-make_room-in-Took
 loop-count-preserved-in_ok-make_room-in-Took g c =
