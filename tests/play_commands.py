@@ -5,11 +5,12 @@ play_commands.py POOL  The last line is 'N passed, M failed'.
 
 A block is what a page indents by four spaces, and the man page's section of examples. Each must be of commands, which are run one after the
 other with the repository's examples at hand, or as one where they have a loop; the lines of a journal, which must be legal with the default
-settings, cut into segments or not; the form of a line; or the kit's name. The command ./check is not run, since it runs this, nor are tools/,
+settings, cut into segments or not; the form of a line; or the line of `rt version` of a kit with the logic of this one. The command ./check is not run, since it runs this, nor are tools/,
 since it has built the programs: there must be such a tool and crate. Blocks between fences are not run: check_readme.py holds those of Rust and
 C against the sources. Names are for check_names.py. Cargo's commands are left out where no cargo runs.
 """
 
+import functools
 import pathlib
 import re
 import subprocess
@@ -21,6 +22,7 @@ COMMAND = re.compile(r"(\./pool|\./check|pool|crates/\S+|\(cd|mkdir|printf|pytho
 ENTRY = re.compile(r"\d+ \d+ .* = ")
 BASE = re.compile(r"pool-journal 2 |\d+ (readying|adding|lent|returning|idle|testing|destroying) ")
 FORM = "<caller> <at> <input>"
+KIT = re.compile(r"rattle-kit-\S+ logic ([0-9a-f]+)")
 
 
 def blocks(page):
@@ -88,7 +90,7 @@ class Place:
                 yield from ((line, self.fault_of_command(line)) for line in commands(block))
             elif all(ENTRY.match(line) or BASE.match(line) for line in block):
                 shown += block
-            elif block not in ([FORM], [kit()]):
+            elif block != [FORM] and not (len(block) == 1 and is_kit(block[0])):
                 yield block[0], "neither a command nor a journal"
         for segments in journals(shown):
             yield segments[0][0], self.fault_of_journal(segments)
@@ -106,6 +108,13 @@ def journals(lines):
     return found
 
 
+def is_kit(line):
+    """Whether a line is that of `rt version` of a kit, of any name, whose logic has the checksum of this machine's."""
+    here, there = KIT.fullmatch(kit()), KIT.fullmatch(line)
+    return bool(here and there) and here[1] == there[1]
+
+
+@functools.cache
 def kit():
     return subprocess.run(["rt", "version"], capture_output=True, text=True).stdout.strip()
 
