@@ -5,8 +5,9 @@
 
 POOL is the program. Its allocations, the bytes that it holds, its reads and its writes are counted by a preloaded library
 (tests/count.c, built with the C compiler that CC names, or cc). Allocations and bytes must be within a quarter of what is said
-below of lists and their elements; reads and writes within bounds that follow from the size of the buffers. Segments that are judged side
-by side must each be read once, so what was found of them ahead must be used: a segment that was judged again would be read twice.
+below of lists and their elements; reads and writes within bounds that follow from the size of the buffers. The allocations of clap, which
+depend on the words alone, are counted apart, and must be exactly those below. Segments that are judged side by side must each be read once,
+so what was found of them ahead must be used: a segment that was judged again would be read twice.
 
 TALLY is the test program crates/tally, which cuts a pool of up to 100,000 objects, reads the base that tests/pool_model.py tells, compares
 and prints it, and opens a pool from it, which goes on as the model does. The allocations of each of these calls are counted.
@@ -45,6 +46,12 @@ BYTES = 8
 # How many objects stand at least in a node of the map of those in the queue, and at most.
 NODE = 7, 15
 
+# The allocations of clap, which builds the program's command with its subcommands and then reads the words, for each command.
+CLAP = {"run": 65, "check": 66, "stats": 58, "load": 75}
+
+# What clap allocates more for several journals: at most this for each time that their number doubles.
+CLAP_MORE = 4
+
 # The calls of TALLY, in their order.
 CALLS = ["step", "cut", "read", "print", "open", "goon"]
 
@@ -71,7 +78,7 @@ class Script:
     lent: int = 0
 
     def needs(self, command):
-        """The allocations of a command on it, and the most bytes that are held."""
+        """The allocations of a command on it, without those of clap, and the most bytes that are held."""
         words = {"run": 4, "check": 4, "stats": 3}[command]
         # Each word and the look for one more, the list of the words, and once more.
         allocations = words + 3
@@ -116,9 +123,12 @@ class Counter:
         self.file.unlink()
         return {name: int(number) for name, number in (line.split() for line in lines)}
 
-    def count(self, arguments):
-        """Runs the program to its end: what is counted."""
-        subprocess.run([self.pool, *arguments], cwd=self.folder, env=self.environment, stdout=subprocess.DEVNULL, timeout=60, check=True)
+    def count(self, arguments, status=0):
+        """Runs the program to its end, which must have this status: what is counted."""
+        streams = {"stdout": subprocess.DEVNULL, "stderr": subprocess.DEVNULL if status else None}
+        done = subprocess.run([self.pool, *arguments], cwd=self.folder, env=self.environment, timeout=60, **streams)
+        if done.returncode != status:
+            raise RuntimeError(f"{arguments[:4]}: status {done.returncode}")
         return self.counted()
 
     def play(self, script, command):
@@ -128,7 +138,7 @@ class Counter:
         counted = self.count([command, *(["settings.toml"] if command != "stats" else []), "text"])
         name = f"{command} of {script.name}"
         allocations, most = script.needs(command)
-        self.expect(f"{name}: allocations", counted["allocations"], allocations * 3 // 4, allocations * 5 // 4)
+        self.expect(f"{name}: allocations", counted["allocations"] - CLAP[command], allocations * 3 // 4, allocations * 5 // 4)
         self.expect(f"{name}: bytes held", counted["most"], most * 3 // 4, most * 5 // 4)
         self.streams(name, command, counted, len(text), len(journal))
 
@@ -170,6 +180,24 @@ class Counter:
         self.expect(f"{name}: the program left the text", int(given < 1 << 24), 1, 1)
         # Pipes give less than is asked for.
         self.expect(f"{name}: bytes read", self.counted()["read"], len(front) + 1, len(front) + len(line) + 1000 * LINE + 2 * BUFFER)
+
+
+def play_words(counter):
+    """Uses whose first file is missing, so that they end once the words are read."""
+    uses = {"run": ["missing", "x"], "check": ["missing", "x"], "stats": ["missing"], "load": ["missing", "1", "1"]}
+    for command, words in uses.items():
+        counter.expect(f"words of {command}: allocations", allocations_of_clap(counter, [command, *words]), CLAP[command], CLAP[command])
+    for count in (2, 10, 100, 10_000):
+        most = CLAP["check"] + CLAP_MORE * (count - 1).bit_length()
+        found = allocations_of_clap(counter, ["check", "missing", *["x"] * count])
+        counter.expect(f"words of a check of {count} journals: allocations", found, CLAP["check"], most)
+
+
+def allocations_of_clap(counter, words):
+    """The allocations of a use whose first file is missing, without those of the words, which `needs` counts (the program's name is one), of
+    the list of the journals, and of the path."""
+    others = len(words) + 1 + 3 + (words[0] == "check") + 1
+    return counter.count(words, status=3)["allocations"] - others
 
 
 def play_endless(counter):
@@ -263,6 +291,7 @@ def main(pool, tally):
         for script in scripts():
             for command in ("run", "check", "stats"):
                 counter.play(script, command)
+        play_words(counter)
         play_endless(counter)
         play_side_by_side(counter)
         play_cuts(counter, str(pathlib.Path(tally).resolve()))

@@ -5,9 +5,10 @@ play_commands.py POOL  The last line is 'N passed, M failed'.
 
 A block is what a page indents by four spaces, and the man page's section of examples. Each must be of commands, which are run one after the
 other with the repository's examples at hand, or as one where they have a loop; the lines of a journal, which must be legal with the default
-settings, cut into segments or not; the form of a line; or the line of `rt version` of a kit with the logic of this one. The command ./check is not run, since it runs this, nor are tools/,
-since it has built the programs: there must be such a tool and crate. Blocks between fences are not run: check_readme.py holds those of Rust and
-C against the sources. Names are for check_names.py. Cargo's commands are left out where no cargo runs.
+settings, cut into segments or not; the form of a line; or the line of `rt version` of a kit with the logic of this one. The command ./check
+is not run, since it runs this, nor are tools/, since it has built the programs: there must be such a tool and crate. Blocks between fences are
+not run: check_readme.py holds those of Rust and C against the sources. Names are for check_names.py. Cargo's commands are left out where no
+cargo runs.
 """
 
 import functools

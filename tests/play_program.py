@@ -3,7 +3,8 @@
 
     play_program.py POOL
 
-POOL is the program. The files that it is shown are made in a temporary folder.
+POOL is the program. The files that it is shown are made in a temporary folder. It also runs the program over thousands of lists of
+words, and compares each answer with a reading of the rules in Python (argument_rules.py).
 
 Prints each case that differs, and in the end the line 'N passed, M failed'.
 """
@@ -16,6 +17,8 @@ import shutil
 import subprocess
 import sys
 import tempfile
+
+from argument_rules import compare, version
 
 TOP = pathlib.Path(__file__).resolve().parent.parent
 
@@ -86,14 +89,16 @@ TOLD_PATHS = {
 NOBODY = 65534
 
 WRONG_ARGUMENTS = [
-    "play", "replay", "journal", "settings", "counts", "run ", " run", "ru", "nonsense", "RUN", "", "-", "--", "-x", "--version", "-V", "version",
-    "run", "check", "Help", "--help=run", "-help", "run help",
+    "play", "replay", "journal", "settings", "counts", "run ", " run", "ru", "nonsense", "RUN", "", "-", "--", "-x", "version", "Version",
+    "run", "check", "Help", "--help=run", "-help", "run help", "runs", "--version=1", "-Vx", "-- --version", "-- -V",
+    "run --version", "run -V", "check --version", "stats -V", "load --version", "run defaults.toml plain.script --version",
     "run defaults.toml", "check defaults.toml", "run defaults.toml plain.script more", "run missing missing missing",
-    "check defaults.toml plain.journal -x", "check defaults.toml plain.journal missing -- missing", "run -x defaults.toml plain.script", "run --settings defaults.toml plain.script",
+    "check defaults.toml plain.journal -x", "check defaults.toml plain.journal -x -- missing", "run -x defaults.toml plain.script", "run --settings defaults.toml plain.script",
     "run defaults.toml --script=plain.script", "-- run defaults.toml plain.script", "-q run defaults.toml plain.script",
     "defaults.toml plain.script", "run run", "run --", "run -- defaults.toml",
+    "run defaults.toml plain.script -- more", "run defaults.toml plain.script -- --", "check defaults.toml --", "check -- defaults.toml",
     "stats", "STATS plain.journal", "stats plain.journal more", "stats defaults.toml plain.journal",
-    "stats -x plain.journal", "stats --journal plain.journal", "stats --",
+    "stats -x plain.journal", "stats --journal plain.journal", "stats --journal=plain.journal", "stats --",
     "load", "LOAD defaults.toml 1 1", "load defaults.toml", "load defaults.toml 1", "load defaults.toml 1 1 1",
     "load -x defaults.toml 1 1", "load defaults.toml --workers=1 1", "load defaults.toml -1 1", "load defaults.toml 1 -1",
     # Numbers out of their ranges, where the settings are good.
@@ -105,7 +110,11 @@ WRONG_ARGUMENTS = [
 HELP = [
     "--help", "-h", "help", "run --help", "run -h", "check --help", "help run", "help check", "stats --help", "stats -h", "help stats",
     "load --help", "help load", "help help", "nonsense -h", "run defaults.toml plain.script -h", "help no such thing",
+    "--version --help", "--version -h", "-V --help", "--help --version", "-h -V", "help --version",
 ]
+
+# Other wrong arguments, which ask for the version and not for help.
+VERSION = ["--version", "-V", "--version run", "-V run defaults.toml plain.script", "--version help", "--version --", "-V -x", "--version --version"]
 
 # Words that are no numbers of the format. They are told before any file is opened.
 NO_NUMBERS = ["", " ", "x", "01", "00", "+1", "1.0", "1e3", "0x1", "1_000", " 1", "1 ", "\u0661", "18446744073709551616", "9" * 300]
@@ -221,6 +230,8 @@ def play_good(play):
         play.expect(["check", settings, "empty"], b"legal 0\n", b"", 0)
         play.expect(["check", settings, "illegal.journal"], b"illegal 2 check\n", b"", 1)
     play.expect(["run", "--", "-hyphen.toml", "plain.script"], journal, b"", 0)
+    play.expect(["run", "defaults.toml", "plain.script", "--"], journal, b"", 0)
+    play.expect(["check", "defaults.toml", "plain.journal", "--"], b"legal 4\n", b"", 0)
     play.expect(["run", "/dev/stdin", "plain.script"], journal, b"", 0, input=b"maxTotal = 1\n")
     play.expect(["run", "small.toml", "/dev/stdin"], journal, b"", 0, input=script)
     # The settings that the file says are those that hold.
@@ -318,9 +329,27 @@ def play_wrong_arguments(play):
     for words in HELP:
         done = play.run(words.split(" "))
         play.note(is_help(done.stdout) and (done.stderr, done.returncode) == wrong[1:], f"{words}: {done}")
+    for words in VERSION:
+        play.expect(words.split(" "), version(), *wrong[1:])
     # These name files.
     play.expect(["run", "--", "-h", "--help"], b"", *fault("cannot open -h"))
     play.expect(["stats", "help"], b"", *fault("cannot open help"))
+    play.expect(["stats", "--", "--help"], b"", *fault("cannot open --help"))
+    play.expect(["stats", "--", "--version"], b"", *fault("cannot open --version"))
+    play.expect(["stats", "--", "--"], b"", *fault("cannot open --"))
+    play.expect(["check", "defaults.toml", "plain.journal", "missing", "--", "-x"], b"", *fault("cannot open missing"))
+    play.expect(["check", "defaults.toml", "plain.journal", "--", "plain.journal", "-x"], b"", *fault("cannot open -x"))
+
+
+def play_all_words(play):
+    """Lists of words, for each of which the rules say the answer."""
+    folder = play.folder / "words"
+    folder.mkdir()
+    count, wrong = compare(play.pool, folder, is_help)
+    play.passed += count - len(wrong)
+    play.failed += len(wrong)
+    for line in wrong:
+        print(line)
 
 
 def play_settings_faults(play):
@@ -365,7 +394,8 @@ def play_segments(play):
             (play.folder / name).write_bytes(text)
         play.expect(["check", "defaults.toml", *names], *wanted)
         play.expect(["check", "--", "defaults.toml", *names], *wanted)
-        play.expect(["check", "defaults.toml", names[0], "--", *names[1:]], *wanted)
+        for at in range(len(names) + 1):
+            play.expect(["check", "defaults.toml", *names[:at], "--", *names[at:]], *wanted)
     (play.folder / "second").write_bytes(SECOND_SEGMENT)
     names = b"borrowed returned created destroyed evicted borrowtestfailed reclaimed longest total".split()
     play.expect(["stats", "second"], b"".join(name + b" 0\n" for name in names), b"", 0)
@@ -459,6 +489,7 @@ def main(pool):
         play_loads(play)
         play_load_faults(play)
         play_wrong_arguments(play)
+        play_all_words(play)
         play_settings_faults(play)
         play_segments(play)
         play_stream_faults(play)

@@ -7,7 +7,7 @@ POOL is the program. It is used with files and with standard input, with wrong a
 every EACH-th script of tests/cases. Each use is run once for each of its allocations, which is refused then (tests/refuse.c, built
 with the C compiler that CC names, or cc). It must then answer what it answers else; or end with status 3, after some whole lines
 from the front of that answer, and the line 'pool: out of memory', 'pool: no thread' where it starts threads, or 'pool: cannot open
-..' for one of its files.
+..' for one of its files. If the words are wrong, only status 3 with 'pool: out of memory' and no output may replace the answer.
 
 Prints each run that is wrong, and in the end the line 'N passed, M failed'.
 """
@@ -21,9 +21,13 @@ import subprocess
 import sys
 import tempfile
 
+from argument_rules import WRONG, version
 from preloading import preloaded
 
 CASES = pathlib.Path(__file__).resolve().parent / "cases"
+
+# The file with the uses of the program, one constant.
+HELP = CASES.parent.parent / "crates/pool/src/help.rt"
 
 EACH = 4
 
@@ -58,11 +62,12 @@ FILES = {
 
 @dataclasses.dataclass
 class Use:
-    """Arguments of the program, what is on its standard input, and its answer: output, error, status."""
+    """Arguments of the program, what is on its standard input, its answer: output, error, status; and whether the words name a task."""
 
     arguments: list
     answer: tuple
     given: bytes = b""
+    is_task: bool = True
 
 
 def fault(told):
@@ -78,12 +83,13 @@ def uses():
         (["check", "/dev/stdin", "journal"], b"legal 4\n", FILES["a.toml"]), (["run", "a.toml", "empty"], b"", b""),
         (["stats", "journal"], STATISTICS, b""), (["stats", "/dev/stdin"], STATISTICS, JOURNAL),
         (["load", "a.toml", "1", "1"], LOAD, b""), (["load", "/dev/stdin", "1", "1"], LOAD, FILES["all.toml"]),
+        (["check", "a.toml", "empty", "--", "journal"], b"legal 4\n", b""), (["stats", "journal", "--"], STATISTICS, b""),
     ]
     for arguments, output, given in good:
         yield Use(arguments, (output, b"", 0), given)
     yield Use(["check", "a.toml", "illegal"], (b"illegal 2 check\n", b"", 1))
-    for words in ["nonsense", "run", "run a.toml", "run a.toml script more", "stats", "load a.toml 0 1", "load a.toml 1 x"]:
-        yield Use(words.split(), (b"", b"pool: wrong arguments\n", 2))
+    yield Use(["load", "a.toml", "0", "1"], (b"", WRONG, 2))
+    yield from wrong_words()
     told = {
         "key.toml": b"unknown key a long key that no setting has", "table.toml": b"unknown key abandoned.none", "type.toml": b"wrong type lifo",
         "range.toml": b"out of range minIdle", "not.toml": b"not TOML", "bytes.toml": b"not TOML", "long.toml": b"too long",
@@ -99,6 +105,26 @@ def uses():
     yield Use(["stats", "script"], fault(b"line 1: not a line"))
     yield Use(["run", "two.toml", "script"], fault(b"line 1: journal full"))
     yield Use(["load", "seven.toml", "1", "2"], fault(b"journal full"))
+
+
+def wrong_words():
+    """Uses with words that name no task."""
+    answers = {
+        b"": [
+            "nonsense", "--", "run", "run a.toml", "run a.toml script more", "run a.toml -- script more", "run -x a.toml script", "run --version",
+            "check a.toml", "check a.toml journal journal -x", "stats", "load a.toml 1", "load a.toml 1 x", "load a.toml 1 01",
+        ],
+        printed_uses(): ["help", "--help", "-h", "run --help", "check a.toml journal -h"],
+        version(): ["--version", "-V"],
+    }
+    for output, lines in answers.items():
+        for words in lines:
+            yield Use(words.split(), (output, WRONG, 2), is_task=False)
+
+
+def printed_uses():
+    """The uses that the program prints if it is asked for help."""
+    return HELP.read_text().partition('USES: &str = "\\\n')[2].partition('";')[0].encode()
 
 
 def uses_of_cases():
@@ -135,6 +161,8 @@ def uses_of_segments():
 
 def is_refused(use, answer):
     """Whether the answer says that memory ran out, and nothing else."""
+    if not use.is_task:
+        return answer == (b"", b"pool: out of memory\n", 3)
     output, error, status = answer
     told = {b"pool: out of memory\n"} | {b"pool: cannot open %s\n" % path.encode() for path in use.arguments[1:]}
     if use.arguments[:1] == ["load"]:

@@ -5,25 +5,24 @@
 //! file, `check SETTINGS JOURNAL..` judges a journal in one file or more, `stats JOURNAL` tells its statistics, and `load SETTINGS
 //! WORKERS ROUNDS` lets workers borrow and give back. It writes to standard output. The status is 0 where all
 //! went well, 1 for a journal that isn't legal, 2 for any other arguments, and 3 at a fault; what is wrong is
-//! told in one line on standard error. Where the other arguments ask for help, the uses are written too.
+//! told in one line on standard error. If the other arguments ask for help or for the version, the uses or the version are
+//! written too.
 #![tactic(auto)]
 
-mod arguments;
 mod fault;
 mod files;
 mod help;
 mod progress;
 
-use arguments::{Task, task_of};
 use fault::Fault;
 use files::Files;
-use help::{USES, asks_for_help};
+use help::{USES, VERSION, asks_for_help, asks_for_version};
+use pool_arguments::{Task, task_of};
 use pool_load::{
     EngineFault, Gate, check, check_side_by_side, load, read_settings, run, stats, write_report,
 };
 use pool_settings::Settings;
 use progress::{Progress, Watched, Wiped};
-use std::alloc::{AllocError, Global};
 use std::fs::File;
 use std::io::Write;
 use std::process::ExitCode;
@@ -63,16 +62,12 @@ fn perform<'a, R: Threads + Wait + Sync>(
     threads: &R,
     arguments: &'a [String],
 ) -> Result<ExitCode, Fault<'a>> {
-    match task_of(arguments) {
+    match task_of(rt.alloc(), arguments)? {
         Some(Task::RunInput) => run_input(rt),
         Some(Task::Run { settings, script }) => run_script(rt, settings, script),
-        Some(
-            Task::Check {
-                settings,
-                first,
-                others,
-            },
-        ) => check_journal(rt, threads, settings, first, others),
+        Some(Task::Check { settings, journals }) => {
+            check_journal(rt, threads, settings, &journals)
+        }
         Some(Task::Stats { journal }) => tell_statistics(rt, journal),
         Some(
             Task::Load {
@@ -85,10 +80,13 @@ fn perform<'a, R: Threads + Wait + Sync>(
     }
 }
 
-/// Why the arguments are refused. Where they ask for help, the uses are written first, as far as they can be.
+/// Returns the fault of wrong arguments. If they ask for help or for the version, writes the uses or the version first, and
+/// ignores a failed write.
 fn refuse<'a>(rt: &HostRuntime, arguments: &[String]) -> Fault<'a> {
     if asks_for_help(arguments) {
         let _ = rt.stdout().write_all(USES.as_bytes());
+    } else if asks_for_version(arguments) {
+        let _ = rt.stdout().write_all(VERSION.as_bytes());
     }
     Fault::WrongArguments
 }
@@ -114,34 +112,18 @@ fn check_journal<'a, R: Threads + Sync>(
     rt: &HostRuntime,
     threads: &R,
     settings: &'a str,
-    first: &'a str,
-    others: &'a [String],
+    journals: &[&'a str],
 ) -> Result<ExitCode, Fault<'a>> {
     let settings = settings_in(rt, settings)?;
-    let paths = paths_of(rt.alloc(), first, others)?;
-    let is_legal = match width(threads, rt, &paths) {
-        Some(width) => check_files(rt, threads, settings, &paths, width)?,
-        None => check_in_turn(rt, settings, &paths)?,
+    let is_legal = match width(threads, rt, journals) {
+        Some(width) => check_files(rt, threads, settings, journals, width)?,
+        None => check_in_turn(rt, settings, journals)?,
     };
     if is_legal {
         Ok(ExitCode::SUCCESS)
     } else {
         Ok(ExitCode::from(ILLEGAL))
     }
-}
-
-/// The paths of all files.
-fn paths_of<'a>(
-    alloc: Global,
-    first: &'a str,
-    others: &'a [String],
-) -> Result<Vec<&'a str>, AllocError> {
-    let mut paths = Vec::new(alloc);
-    paths.push(first)?;
-    for path in others {
-        paths.push(path.as_str())?;
-    }
-    Ok(paths)
 }
 
 /// How many files are judged side by side. None where they are judged in turn: where there is one alone or one processor, and

@@ -42,7 +42,7 @@ pub enum Task<'a> {
 
 /// Returns the task that the arguments name, or `None` if they are wrong. The first argument is the program's name.
 ///
-/// Fails if an allocation fails: clap allocates for its command before it reads the words.
+/// May fail for lack of memory, also if the arguments are wrong: clap allocates for its command before it reads the words.
 pub fn task_of<'a>(alloc: Global, arguments: &'a [String]) -> Result<Option<Task<'a>>, AllocError>
     ensures { IfOk result (λ task. option_map Spec.asked task
         ≡ Spec.task_of (drop 1 (map string_bytes arguments.entry.now))) }
