@@ -5,6 +5,7 @@ So an answer takes no time and is known from the words alone: this module never 
 """
 
 import concurrent.futures
+import functools
 import itertools
 import os
 import pathlib
@@ -162,11 +163,11 @@ def faults(program, folder, is_help, chosen):
     """A line for each of the lists whose answer is wrong."""
     os.chdir(folder)
     signal.alarm(PATIENCE)
-    runner = Runner(program)
+    runner, is_uses = Runner(program), functools.lru_cache(is_help)
     wrong = []
     for words in chosen:
         output, error, status = runner.run(words)
-        found = USES if output and is_help(output) else output, error, status
+        found = USES if output and is_uses(output) else output, error, status
         if found != answer(words):
             wrong.append(f"{words}: {(output, error, status)}, and should be {answer(words)}")
     signal.alarm(0)

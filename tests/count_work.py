@@ -6,8 +6,8 @@
 POOL is the program. Its allocations, the bytes that it holds, its reads and its writes are counted by a preloaded library
 (tests/count.c, built with the C compiler that CC names, or cc). Allocations and bytes must be within a quarter of what is said
 below of lists and their elements; reads and writes within bounds that follow from the size of the buffers. The allocations of clap, which
-depend on the words alone, are counted apart, and must be exactly those below. Segments that are judged side by side must each be read once,
-so what was found of them ahead must be used: a segment that was judged again would be read twice.
+depend on the words alone, are counted first, and left out of the others. Segments that are judged side by side must each be read once, so
+what was found of them ahead must be used: a segment that was judged again would be read twice.
 
 TALLY is the test program crates/tally, which cuts a pool of up to 100,000 objects, reads the base that tests/pool_model.py tells, compares
 and prints it, and opens a pool from it, which goes on as the model does. The allocations of each of these calls are counted.
@@ -46,10 +46,11 @@ BYTES = 8
 # How many objects stand at least in a node of the map of those in the queue, and at most.
 NODE = 7, 15
 
-# The allocations of clap, which builds the program's command with its subcommands and then reads the words, for each command.
-CLAP = {"run": 65, "check": 66, "stats": 58, "load": 75}
+# The allocations of clap for each command: it builds the program's command with its subcommands, and then reads the words. A count must be
+# within a quarter of its number.
+CLAP = {"run": 63, "check": 64, "stats": 56, "load": 73}
 
-# What clap allocates more for several journals: at most this for each time that their number doubles.
+# For several journals clap allocates at most this more for each time that their number doubles.
 CLAP_MORE = 4
 
 # The calls of TALLY, in their order.
@@ -107,6 +108,8 @@ class Counter:
         self.pool, self.folder = pool, folder
         self.library, self.file = preloaded("count", folder), folder / "counted"
         self.passed = self.failed = 0
+        # The allocations of clap that were counted, by the command.
+        self.clap = {}
         self.environment = {"LD_PRELOAD": str(self.library), "COUNTED": str(self.file)}
         (folder / "settings.toml").write_text(NO_LIMITS)
 
@@ -138,7 +141,7 @@ class Counter:
         counted = self.count([command, *(["settings.toml"] if command != "stats" else []), "text"])
         name = f"{command} of {script.name}"
         allocations, most = script.needs(command)
-        self.expect(f"{name}: allocations", counted["allocations"] - CLAP[command], allocations * 3 // 4, allocations * 5 // 4)
+        self.expect(f"{name}: allocations", counted["allocations"] - self.clap[command], allocations * 3 // 4, allocations * 5 // 4)
         self.expect(f"{name}: bytes held", counted["most"], most * 3 // 4, most * 5 // 4)
         self.streams(name, command, counted, len(text), len(journal))
 
@@ -186,17 +189,18 @@ def play_words(counter):
     """Uses whose first file is missing, so that they end once the words are read."""
     uses = {"run": ["missing", "x"], "check": ["missing", "x"], "stats": ["missing"], "load": ["missing", "1", "1"]}
     for command, words in uses.items():
-        counter.expect(f"words of {command}: allocations", allocations_of_clap(counter, [command, *words]), CLAP[command], CLAP[command])
+        counter.clap[command] = found = allocations_of_clap(counter, [command, *words])
+        counter.expect(f"words of {command}: allocations", found, CLAP[command] * 3 // 4, CLAP[command] * 5 // 4)
+    least = counter.clap["check"]
     for count in (2, 10, 100, 10_000):
-        most = CLAP["check"] + CLAP_MORE * (count - 1).bit_length()
         found = allocations_of_clap(counter, ["check", "missing", *["x"] * count])
-        counter.expect(f"words of a check of {count} journals: allocations", found, CLAP["check"], most)
+        counter.expect(f"words of a check of {count} journals: allocations", found, least, least + CLAP_MORE * (count - 1).bit_length())
 
 
 def allocations_of_clap(counter, words):
-    """The allocations of a use whose first file is missing, without those of the words, which `needs` counts (the program's name is one), of
-    the list of the journals, and of the path."""
-    others = len(words) + 1 + 3 + (words[0] == "check") + 1
+    """The allocations of a use whose first file is missing, without those of the words, which `needs` counts (the program's name is one), and
+    of the list of the journals."""
+    others = len(words) + 1 + 3 + (words[0] == "check")
     return counter.count(words, status=3)["allocations"] - others
 
 
@@ -288,10 +292,10 @@ def play_cuts(counter, tally):
 def main(pool, tally):
     with tempfile.TemporaryDirectory() as made:
         counter = Counter(str(pathlib.Path(pool).resolve()), pathlib.Path(made))
+        play_words(counter)
         for script in scripts():
             for command in ("run", "check", "stats"):
                 counter.play(script, command)
-        play_words(counter)
         play_endless(counter)
         play_side_by_side(counter)
         play_cuts(counter, str(pathlib.Path(tally).resolve()))
