@@ -1,5 +1,4 @@
 -- What can be answered to an input in a history of callers that keep to what they hold.
-use Rattle.std.specs.Prelude.{◌≡◌, ℕ}
 use Rattle.pool_journal.specs.declared.input.Input.{Input}
 use Rattle.pool_journal.specs.declared.input.Input.TheVariants.{Borrow, Ready, GiveBack, Park, Invalidate, Use, Add, Fill, Added, Evict, EvictNext, Tested, Reclaim, ReclaimNext, Clear, ClearNext, Destroyed, Close}
 use Rattle.pool_journal.specs.declared.input.Outcome.TheVariants as outcomes

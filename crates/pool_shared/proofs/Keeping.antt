@@ -39,9 +39,9 @@ alone s i me legal ends =
       lent = subst (λ J. phase i J ≡ phases.Lent) (sym ends.last_seen) (last_here i phases.Lent ends.found e refl).is_in;
       ended =
           λ k x at is.
-              let early = front_has ends.found (e ∷ []) k x at in
-              laws.lent_in_turn i k (length ends.found) x e early.1 (subst (λ J. slice_get J k ≡ Some x) (sym ends.last_seen) early.0)
-              (subst (λ J. slice_get J (length ends.found) ≡ Some e) (sym ends.last_seen) (at_seam ends.found [] e).0) is there;
+          let early = front_has ends.found (e ∷ []) k x at in
+          laws.lent_in_turn i k (length ends.found) x e early.1 (subst (λ J. slice_get J k ≡ Some x) (sym ends.last_seen) early.0)
+          (subst (λ J. slice_get J (length ends.found) ≡ Some e) (sym ends.last_seen) (at_seam ends.found [] e).0) is there;
     }
 
 -- a borrow that lends
