@@ -1,4 +1,4 @@
-use Rattle.std.proofs.Common.{rules, ap, refl, true, map, option_map, subst, sym, length, ◌≤◌, ℕ, List, [], Some, ◌≡◌, ◌∙◌, inl, inr}
+use Rattle.std.proofs.Common.{rules, ap, refl, true, map, option_map, subst, sym, length, ◌≤◌, ℕ, List, [], ◌≡◌, ◌∙◌, inl, inr}
 use Rattle.std.proofs.lemmas.Result.{IfOk-from_err, IfOk-weaker}
 use Rattle.std.specs.Prelude.{string_bytes}
 use Rattle.clap.specs.Lexer.{usize_max}
