@@ -1,11 +1,11 @@
 // Three callers beside one another, each in a thread of its own, or fewer where some do nothing.
 ghost use Rattle.std.specs.Prelude.{◌≡◌};
 
-use crate::clocks::Still;
+use crate::clocks::TestClock;
 use crate::deeds::{Deed, Reply, Row, borrows, counts, cut, does, expects, gives_back};
 use crate::items::{Failing, Item, Items, Record, Waiting};
 use crate::openings::{NUMBER, Pool, finished, open, settings_of, site, three};
-use crate::turns::{Flags, TURNS};
+use crate::turns::{Flag, Flags, TURNS};
 use pool_core::Core;
 use pool_journal::Segment;
 use pool_settings::Settings;
@@ -65,6 +65,26 @@ fn takes_turns<B: Room, R: Wait>(rt: &R, pool: &Pool<B>, me: &mut Caller<B>, rou
         }
     }
     ("done", number)
+}
+
+// Borrows, and sets the flag of the result: `Lent` or `TimedOut`.
+fn borrows_or_times_out<B: Room, R: Wait>(
+    rt: &R,
+    pool: &Pool<B>,
+    flags: &Flags,
+    me: &mut Caller<B>,
+    held: &mut Option<Lent<Item>>,
+) -> Reply {
+    let (word, number) = borrows(rt, pool, me, held);
+    if word == "lent" {
+        flags.set(Flag::Lent);
+        ("done", 0)
+    } else if word == "timed out" {
+        flags.set(Flag::TimedOut);
+        ("done", 0)
+    } else {
+        (word, number)
+    }
 }
 
 // Whether all that were made are somewhere.
@@ -127,6 +147,11 @@ fn does_beside<B: Room, R: Wait>(
             flags.set(flag);
             ("done", 0)
         }
+        Deed::SetTime(time) => {
+            flags.set_time(time);
+            ("done", 0)
+        }
+        Deed::BorrowOrTimeOut => borrows_or_times_out(rt, pool, flags, me, held),
         Deed::TakeTurns(rounds) => takes_turns(rt, pool, me, rounds),
         Deed::Watch(looks) => watches(rt, pool, me, looks),
         _ => does(rt, pool, me, held, deed),
@@ -247,7 +272,7 @@ fn lives<B: Room + Send + Sync, R: Threads + Wait + Abort + Sync>(
     site: Site,
     settings: Settings,
     items: Items,
-    clock: Still,
+    clock: TestClock,
     flags: &Flags,
     parts: Parts,
 ) -> Left
@@ -279,10 +304,10 @@ fn waiting(gated: Gated, flags: &Flags) -> Waiting<'_> {
     }
 }
 
-fn clock(gated: Gated, flags: &Flags) -> Still<'_> {
+fn clock(gated: Gated, flags: &Flags) -> TestClock<'_> {
     match gated {
-        Gated::Telling => Still { held: Some(flags) },
-        Gated::Nothing | Gated::Making | Gated::Testing => Still { held: None },
+        Gated::Telling => TestClock::Held(flags),
+        Gated::Nothing | Gated::Making | Gated::Testing => TestClock::Set(flags),
     }
 }
 

@@ -1,19 +1,28 @@
-// The clock of the trials.
+// The clock of the tests.
 use crate::turns::{Flag, Flags};
 use pool_shared::Clock;
 
-/// A clock that always tells 0: where it has flags, it tells that it is read, and waits at the gate.
+/// A clock that the test controls.
 #[derive(Drop)]
-pub struct Still<'a> {
-    pub held: Option<&'a Flags>,
+pub enum TestClock<'a> {
+    /// Returns 0.
+    Still,
+    /// Returns the time that the flags have.
+    Set(&'a Flags),
+    /// Sets `Read` when it is read, waits at the gate, and returns 0.
+    Held(&'a Flags),
 }
 
-impl Clock for Still<'_> {
+impl Clock for TestClock<'_> {
     fn now(&self) -> u64 {
-        if let Some(flags) = self.held {
-            flags.set(Flag::Read);
-            flags.wait_at_the_gate();
+        match self {
+            TestClock::Still => 0,
+            TestClock::Set(flags) => flags.time(),
+            TestClock::Held(flags) => {
+                flags.set(Flag::Read);
+                flags.wait_at_the_gate();
+                0
+            }
         }
-        0
     }
 }

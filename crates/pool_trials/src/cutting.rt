@@ -2,7 +2,7 @@
 ghost use Rattle.std.specs.Prelude.{◌≡◌};
 
 use crate::beside::{Gated, Parts, tries};
-use crate::clocks::Still;
+use crate::clocks::TestClock;
 use crate::deeds::{Deed, Row, copied, cut, expect_equal, goes_through};
 use crate::items::{Failing, Item, Items, Record, Waiting};
 use crate::openings::{NUMBER, Pool, finished, open, settings_of, site};
@@ -74,7 +74,7 @@ fn one_caller_cuts<B: Room, R: Wait + Abort>(
 )
     requires { (site ≡ B.table) × (settings ≡ B.settings) × (1 ≡ B.callers) }
 {
-    let clock = Still { held: None };
+    let clock = TestClock::Still;
     let (pool, mut callers) = open::<B, R>(rt, alloc, site, settings, NUMBER, 1, items, clock);
     let me = callers.last_mut().expect(rt, "a caller");
     borrows_behind_a_cut(rt, alloc, &pool, me);

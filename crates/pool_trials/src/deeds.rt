@@ -44,6 +44,10 @@ pub enum Deed {
     UntilLent,
     Set(Flag),
     UntilSet(Flag),
+    /// Sets the time that the clock returns (milliseconds).
+    SetTime(u64),
+    /// Borrows, and sets the flag of the result: `Lent` or `TimedOut`.
+    BorrowOrTimeOut,
     /// Borrows and gives back so many times.
     TakeTurns(u32),
     /// Looks so many times whether the counts add up.

@@ -1,7 +1,7 @@
 // A pool, its callers and what it lent are dropped in every order, and no object stays.
 ghost use Rattle.std.specs.Prelude.{◌≡◌};
 
-use crate::clocks::Still;
+use crate::clocks::TestClock;
 use crate::deeds::expect_equal;
 use crate::openings::{NUMBER, site};
 use pool_settings::Settings;
@@ -70,7 +70,7 @@ impl<'a> Factory<Counted<'a>, AllocError> for Counting<'a> {
     }
 }
 
-type Counts<'a, B> = SharedPool<Counted<'a>, AllocError, Counting<'a>, Still<'static>, B>;
+type Counts<'a, B> = SharedPool<Counted<'a>, AllocError, Counting<'a>, TestClock<'static>, B>;
 
 /// The orders in which the three are dropped.
 #[derive(Clone, Copy, Debug)]
@@ -172,7 +172,7 @@ fn drops<B: Room, R: Wait + Abort>(
     requires { (site ≡ B.table) × (settings ≡ B.settings) × (2 ≡ B.callers) }
 {
     let objects = Counting { alloc, present };
-    let clock = Still { held: None };
+    let clock = TestClock::Still;
     let (pool, mut callers) = Counts::<B>::open(
         rt, alloc, site, settings, NUMBER, 2, objects, clock,
     ).expect(rt, "a pool");
@@ -201,7 +201,7 @@ fn finishes<B: Room, R: Wait + Abort>(
     requires { (site ≡ B.table) × (settings ≡ B.settings) × (1 ≡ B.callers) }
 {
     let objects = Counting { alloc, present };
-    let clock = Still { held: None };
+    let clock = TestClock::Still;
     let (pool, mut callers) = Counts::<B>::open(
         rt, alloc, site, settings, NUMBER, 1, objects, clock,
     ).expect(rt, "a pool");

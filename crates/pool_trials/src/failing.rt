@@ -1,7 +1,7 @@
 // A factory whose calls fail in turn: nothing is left in a call's hands, and each object is destroyed once.
 ghost use Rattle.std.specs.Prelude.{◌≡◌};
 
-use crate::clocks::Still;
+use crate::clocks::TestClock;
 use crate::deeds::{Deed, Row, borrows, counts, does, expect_equal, gives_back, goes_through};
 use crate::items::{Failing, Items, Record, Waiting};
 use crate::openings::{NUMBER, Pool, open, settings_of, single, site};
@@ -66,7 +66,7 @@ fn lives<B: Room, R: Wait + Abort>(
 )
     requires { (site ≡ B.table) × (settings ≡ B.settings) × (1 ≡ B.callers) }
 {
-    let clock = Still { held: None };
+    let clock = TestClock::Still;
     let (pool, callers) = open::<B, R>(rt, alloc, site, settings, NUMBER, 1, items, clock);
     let mut me = single(rt, callers);
     borrows_and_gives_back(rt, &pool, &mut me);

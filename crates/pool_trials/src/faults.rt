@@ -1,7 +1,7 @@
 // What each call is refused for, by one caller of a new pool.
 ghost use Rattle.std.specs.Prelude.{◌≡◌};
 
-use crate::clocks::Still;
+use crate::clocks::TestClock;
 use crate::deeds::Deed;
 use crate::items::{
     Call, Failing, Items, NOT_ACTIVATED, NOT_MADE, NOT_PASSIVATED, Record, Waiting,
@@ -30,7 +30,7 @@ fn opens<B: Room, R: Wait>(
         failing: Failing::Never,
         waiting: Waiting::Nowhere,
     };
-    let clock = Still { held: None };
+    let clock = TestClock::Still;
     Pool::<B>::open(rt, alloc, site, settings, NUMBER, callers, items, clock)?;
     Ok(())
 }
@@ -67,7 +67,6 @@ fn a_borrow_is_refused(rt: HostRuntime) {
             "exhausted",
             0,
         ),
-        ("maxTotal = 0\nmaxWaitMillis = 0", never, "timed out", 0),
         (
             "",
             Failing::All(Call::Make),

@@ -24,6 +24,8 @@ mod items;
 #[cfg(test)]
 mod life;
 #[cfg(test)]
+mod limits;
+#[cfg(test)]
 mod openings;
 #[cfg(test)]
 mod solo;

@@ -1,7 +1,7 @@
 // A pool's life, by two callers of one thread. The journal's length is looked at after each call.
 ghost use Rattle.std.specs.Prelude.{◌≡◌};
 
-use crate::clocks::Still;
+use crate::clocks::TestClock;
 use crate::deeds::{Deed, Row, copied, expect_equal, goes_through};
 use crate::items::{Failing, Item, Items, Record, Waiting};
 use crate::openings::{NUMBER, Pool, finished, open, pair, settings_of, site};
@@ -142,7 +142,7 @@ fn lives<B: Room, R: Wait + Abort>(
 )
     requires { (site ≡ B.table) × (settings ≡ B.settings) × (2 ≡ B.callers) }
 {
-    let clock = Still { held: None };
+    let clock = TestClock::Still;
     let (pool, callers) = open::<B, R>(rt, alloc, site, settings, NUMBER, 2, items, clock);
     let (mut zero, mut one) = pair(rt, callers);
     takes_parts(rt, alloc, &pool, &mut zero, &mut one);

@@ -1,7 +1,7 @@
 // Pools as the trials open them.
 ghost use Rattle.std.specs.Prelude.{◌≡◌};
 
-use crate::clocks::Still;
+use crate::clocks::TestClock;
 use crate::items::{Item, Items};
 use pool_core::Core;
 use pool_settings::Settings;
@@ -13,7 +13,7 @@ use std::sync::Wait;
 /// The number of a pool where it doesn't matter.
 pub const NUMBER: u64 = 5;
 
-pub type Pool<'a, B> = SharedPool<Item, u8, Items<'a>, Still<'a>, B>;
+pub type Pool<'a, B> = SharedPool<Item, u8, Items<'a>, TestClock<'a>, B>;
 
 /// The table of a new pool.
 pub fn site(rt: &impl Abort, alloc: Global) -> Site {
@@ -34,7 +34,7 @@ pub fn open<'a, B: Room, R: Wait + Abort>(
     number: u64,
     callers: u32,
     items: Items<'a>,
-    clock: Still<'a>,
+    clock: TestClock<'a>,
 ) -> (Pool<'a, B>, Vec<Caller<B>>)
     requires { (site ≡ B.table) × (settings ≡ B.settings) × (callers ≡ B.callers) }
 {

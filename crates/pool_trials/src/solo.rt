@@ -1,7 +1,7 @@
 // The only caller of a new pool.
 ghost use Rattle.std.specs.Prelude.{◌≡◌};
 
-use crate::clocks::Still;
+use crate::clocks::TestClock;
 use crate::deeds::{Row, goes_through};
 use crate::items::{Failing, Items, Record, Waiting};
 use crate::openings::{NUMBER, open, settings_of, single, site};
@@ -22,7 +22,7 @@ fn lives<B: Room, R: Wait + Abort>(
 )
     requires { (site ≡ B.table) × (settings ≡ B.settings) × (1 ≡ B.callers) }
 {
-    let clock = Still { held: None };
+    let clock = TestClock::Still;
     let (pool, callers) = open::<B, R>(rt, alloc, site, settings, NUMBER, 1, items, clock);
     let mut me = single(rt, callers);
     let mut held = None;

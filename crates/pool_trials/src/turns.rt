@@ -1,5 +1,5 @@
 // Waiting that gives up.
-use std::sync::atomic::{AtomicBool, Ordering};
+use std::sync::atomic::{AtomicBool, AtomicU64, Ordering};
 use std::thread;
 
 /// How often a trial looks before it gives up.
@@ -11,25 +11,39 @@ pub enum Flag {
     Begun,
     Read,
     Gate,
+    /// An object was lent.
+    Lent,
+    /// A borrow timed out.
+    TimedOut,
+    /// A borrow has its result.
+    Answered,
 }
 
-/// The flags of a trial, and whether a wait at the gate has run out of turns.
+/// The flags of a test, whether a wait at the gate has run out of turns, and the time of the clock.
 #[derive(Drop)]
 pub struct Flags {
     begun: AtomicBool,
     read: AtomicBool,
     gate: AtomicBool,
+    lent: AtomicBool,
+    timed_out: AtomicBool,
+    answered: AtomicBool,
     ran_out: AtomicBool,
+    time: AtomicU64,
 }
 
 impl Flags {
-    /// Flags that are not set.
+    /// Returns flags that are not set, at time 0.
     pub fn new() -> Flags {
         Flags {
             begun: AtomicBool::new(false),
             read: AtomicBool::new(false),
             gate: AtomicBool::new(false),
+            lent: AtomicBool::new(false),
+            timed_out: AtomicBool::new(false),
+            answered: AtomicBool::new(false),
             ran_out: AtomicBool::new(false),
+            time: AtomicU64::new(0),
         }
     }
 
@@ -38,6 +52,9 @@ impl Flags {
             Flag::Begun => &self.begun,
             Flag::Read => &self.read,
             Flag::Gate => &self.gate,
+            Flag::Lent => &self.lent,
+            Flag::TimedOut => &self.timed_out,
+            Flag::Answered => &self.answered,
         }
     }
 
@@ -55,6 +72,16 @@ impl Flags {
             thread::yield_now();
         }
         false
+    }
+
+    /// Sets the time of the clock (milliseconds).
+    pub fn set_time(&self, time: u64) {
+        self.time.store(time, Ordering::SeqCst);
+    }
+
+    /// Returns the time that was set last, or 0.
+    pub fn time(&self) -> u64 {
+        self.time.load(Ordering::SeqCst)
     }
 
     /// Waits until the gate is open, or the turns run out, which is noted.

@@ -1,7 +1,7 @@
 // Two pools of one kind: an object goes back to its own alone.
 ghost use Rattle.std.specs.Prelude.{◌≡◌};
 
-use crate::clocks::Still;
+use crate::clocks::TestClock;
 use crate::deeds::{Deed, goes_through};
 use crate::items::{Failing, Items, Record, Waiting};
 use crate::openings::{Pool, open, single, site};
@@ -28,7 +28,7 @@ fn opens<'a, B: Room, R: Wait + Abort>(
         failing: Failing::Never,
         waiting: Waiting::Nowhere,
     };
-    let clock = Still { held: None };
+    let clock = TestClock::Still;
     let (pool, callers) = open::<B, R>(rt, alloc, site, settings, number, 1, items, clock);
     (pool, single(rt, callers))
 }

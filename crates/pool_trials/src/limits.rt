@@ -1,0 +1,195 @@
+// A borrow whose wait has a limit. At each wake it looks at the clock, which the test sets.
+use crate::beside::{Gated, Parts, tries};
+use crate::deeds::{Deed, Row};
+use crate::items::Failing;
+use crate::turns::Flag;
+use std::alloc::Global;
+use std::process::Abort;
+use std::sync::Wait;
+use std::thread::Threads;
+
+// Settings with a limit, and the time at which a borrow that began at time 0 is woken.
+type Waking = (&'static str, u64);
+
+// One millisecond before the limit.
+const BEFORE: [Waking; 3] = [
+    ("maxTotal = 1\njournalLimit = 100\nmaxWaitMillis = 1", 0),
+    ("maxTotal = 1\njournalLimit = 100\nmaxWaitMillis = 5", 4),
+    (
+        "maxTotal = 1\njournalLimit = 100\nmaxWaitMillis = 9007199254740992",
+        9_007_199_254_740_991,
+    ),
+];
+
+fn before() -> &'static [Waking] {
+    &BEFORE
+}
+
+// At the limit, and after it.
+const REACHED: [Waking; 4] = [
+    ("maxTotal = 1\njournalLimit = 100\nmaxWaitMillis = 1", 1),
+    ("maxTotal = 1\njournalLimit = 100\nmaxWaitMillis = 5", 5),
+    ("maxTotal = 1\njournalLimit = 100\nmaxWaitMillis = 5", 6),
+    (
+        "maxTotal = 1\njournalLimit = 100\nmaxWaitMillis = 9007199254740992",
+        9_007_199_254_740_992,
+    ),
+];
+
+fn reached() -> &'static [Waking] {
+    &REACHED
+}
+
+// Has the callers go through their parts, where nothing fails.
+fn passes<R: Threads + Wait + Abort + Sync>(rt: &R, alloc: Global, settings: &str, parts: Parts) {
+    tries(rt, alloc, settings, Failing::Never, Gated::Nothing, parts);
+}
+
+// Caller 0 takes the only object, and caller 1 waits for it: the third entry of the journal says so. The journal would be full after a
+// while if caller 1 did not sleep. Then caller 0 sets the clock and ends the wait.
+fn ends_wait<R: Threads + Wait + Abort + Sync>(
+    rt: &R,
+    alloc: Global,
+    waking: Waking,
+    ending: Row,
+    word: &'static str,
+) {
+    let (settings, time) = waking;
+    let ends = [
+        (Deed::Borrow, "lent", 0),
+        (Deed::UntilSteps(3), "done", 0),
+        (Deed::Watch(10_000), "done", 10_000),
+        (Deed::SetTime(time), "done", 0),
+        ending,
+        (Deed::UntilSet(Flag::Answered), "done", 0),
+    ];
+    let waits = [
+        (Deed::UntilSteps(2), "done", 0),
+        (Deed::Borrow, word, 0),
+        (Deed::Set(Flag::Answered), "done", 0),
+    ];
+    let parts = [ends.as_slice(), waits.as_slice(), [].as_slice()];
+    passes(rt, alloc, settings, parts);
+}
+
+// Ends a wait before each limit.
+fn ends_each_wait<R: Threads + Wait + Abort + Sync>(
+    rt: &R,
+    alloc: Global,
+    ending: Row,
+    word: &'static str,
+) {
+    for waking in before() {
+        ends_wait(rt, alloc, *waking, ending, word);
+    }
+}
+
+#[test]
+fn a_return_ends_a_wait_with_a_limit(rt: HostRuntime) {
+    let ending = (Deed::GiveBack, "parked", 0);
+    ends_each_wait(&rt, rt.alloc(), ending, "lent");
+}
+
+#[test]
+fn a_close_ends_a_wait_with_a_limit(rt: HostRuntime) {
+    let ending = (Deed::Close, "count", 0);
+    ends_each_wait(&rt, rt.alloc(), ending, "closed");
+}
+
+/// What callers 1 and 2 do about the only object, and what caller 0 looks for once it has returned it.
+#[derive(Clone, Copy)]
+struct Contest {
+    rows: &'static [Row],
+    looks: Deed,
+}
+
+// Caller 0 returns the only object at this time, while callers 1 and 2 wait for it since time 0: the third and the fourth entry of the
+// journal say so. Both are woken, and one of them gets the object.
+fn returns_to_two<R: Threads + Wait + Abort + Sync>(
+    rt: &R,
+    alloc: Global,
+    waking: Waking,
+    contest: Contest,
+) {
+    let (settings, time) = waking;
+    let returns = [
+        (Deed::Borrow, "lent", 0),
+        (Deed::UntilSteps(4), "done", 0),
+        (Deed::SetTime(time), "done", 0),
+        (Deed::GiveBack, "parked", 0),
+        (contest.looks, "done", 0),
+    ];
+    let parts = [returns.as_slice(), contest.rows, contest.rows];
+    passes(rt, alloc, settings, parts);
+}
+
+// Once a caller has the object, the journal has eight entries. The caller keeps the object until the ninth says that the other waits
+// on. Once that one has the object too, the journal has 13.
+const WAITS_ON: [Row; 5] = [
+    (Deed::UntilSteps(2), "done", 0),
+    (Deed::Borrow, "lent", 0),
+    (Deed::UntilSteps(9), "done", 0),
+    (Deed::GiveBack, "parked", 0),
+    (Deed::UntilSteps(13), "done", 0),
+];
+
+fn waits_on() -> Contest {
+    Contest {
+        rows: &WAITS_ON,
+        looks: Deed::UntilSteps(8),
+    }
+}
+
+#[test]
+fn a_wake_before_the_limit_is_no_timeout(rt: HostRuntime) {
+    for waking in before() {
+        returns_to_two(&rt, rt.alloc(), *waking, waits_on());
+    }
+}
+
+// One caller keeps the object until the other has timed out.
+const TIMES_OUT: [Row; 4] = [
+    (Deed::UntilSteps(2), "done", 0),
+    (Deed::BorrowOrTimeOut, "done", 0),
+    (Deed::UntilSet(Flag::Lent), "done", 0),
+    (Deed::UntilSet(Flag::TimedOut), "done", 0),
+];
+
+fn times_out() -> Contest {
+    Contest {
+        rows: &TIMES_OUT,
+        looks: Deed::UntilSet(Flag::TimedOut),
+    }
+}
+
+#[test]
+fn a_wake_at_the_limit_is_a_timeout(rt: HostRuntime) {
+    for waking in reached() {
+        returns_to_two(&rt, rt.alloc(), *waking, times_out());
+    }
+}
+
+const LENDS_THE_ONLY_ONE: [Row; 2] = [
+    (Deed::Borrow, "lent", 0),
+    (Deed::UntilSet(Flag::Answered), "done", 0),
+];
+
+// The one entry of the borrow is the third of the journal.
+const TIMES_OUT_AT_ONCE: [Row; 4] = [
+    (Deed::UntilSteps(2), "done", 0),
+    (Deed::Borrow, "timed out", 0),
+    (Deed::Steps, "steps", 3),
+    (Deed::Set(Flag::Answered), "done", 0),
+];
+
+const NOTHING: [Row; 0] = [];
+
+fn without_a_wait() -> Parts<'static> {
+    [&LENDS_THE_ONLY_ONE, &TIMES_OUT_AT_ONCE, &NOTHING]
+}
+
+#[test]
+fn a_limit_of_0_is_no_wait(rt: HostRuntime) {
+    let settings = "maxTotal = 1\nmaxWaitMillis = 0";
+    passes(&rt, rt.alloc(), settings, without_a_wait());
+}
