@@ -41,21 +41,19 @@ impl Gate for Counter {
     }
 }
 
-/// Holds worker 0 back until worker 1 has passed. Notes where it waited in vain.
+/// Holds each worker until all of them are at the gate. Notes whether one waited in vain.
 #[derive(Drop)]
-struct After {
-    passed: AtomicU64,
+struct Meeting {
+    workers: u64,
+    arrived: AtomicU64,
     in_vain: AtomicU64,
 }
 
-impl Gate for After {
-    fn pass(&self, worker: u32, _round: u64) {
-        if worker == 1 {
-            self.passed.store(1, Ordering::SeqCst);
-            return;
-        }
+impl Gate for Meeting {
+    fn pass(&self, _worker: u32, _round: u64) {
+        self.arrived.fetch_add(1, Ordering::SeqCst);
         for _ in 0..TURNS {
-            if self.passed.load(Ordering::SeqCst) == 1 {
+            if self.arrived.load(Ordering::SeqCst) >= self.workers {
                 return;
             }
             thread::yield_now();
@@ -188,13 +186,14 @@ fn refused_borrows(rt: HostRuntime) {
 
 #[test]
 fn workers_at_once(rt: HostRuntime) {
-    let gate = After {
-        passed: AtomicU64::new(0),
+    let gate = Meeting {
+        workers: 4,
+        arrived: AtomicU64::new(0),
         in_vain: AtomicU64::new(0),
     };
-    let report = report_of(&rt, rt.alloc(), Settings::default(), 2, 1, &gate);
+    let report = report_of(&rt, rt.alloc(), Settings::default(), 4, 1, &gate);
     expect_equal(&rt, gate.in_vain.load(Ordering::SeqCst), 0);
-    expect_equal(&rt, (report.refused, report.stats.borrowed), (0, 2));
+    expect_equal(&rt, (report.refused, report.stats.borrowed), (0, 4));
 }
 
 #[test]
