@@ -1,8 +1,7 @@
 -- What a borrower may rely on follows from the laws of what it has seen.
-use Rattle.std.proofs.Common.{◌≡◌, ◌<◌, ℕ, zero, suc, true, List, [], ◌∷◌, ◌++◌, length, slice_get, Some, Result, Ok, Err, eq-eqb, refl, sym, ap, ◌∙◌, subst, arith}
+use Rattle.std.proofs.Common.{◌≡◌, ◌<◌, ℕ, zero, suc, true, List, [], ◌∷◌, ◌++◌, length, slice_get, Some, Result, Ok, Err, eq-eqb, refl, sym, subst, arith}
 use Rattle.std.specs.Prelude.{IfOk}
 use Rattle.pool_journal.specs.Journal.{lends, phase}
-use Rattle.pool_journal.specs.declared.entry.Entry.{Entry}
 use Rattle.pool_journal.specs.declared.answer.Answer.TheVariants.{Lent as is_lent}
 use Rattle.pool_journal.specs.declared.input.Input.TheVariants.{Ready}
 use Rattle.pool_journal.specs.declared.input.Outcome.TheVariants.{Good}
@@ -13,7 +12,7 @@ use Rattle.pool_core.specs.Laws.{AtMostMaxTotal}
 use Rattle.pool_core.specs.Legal.{IsLegal, entry_of}
 use Rattle.pool_core.proofs.Lawful.{keeps_laws}
 use Rattle.pool_history.specs.declared.room.View.{View}
-use Rattle.pool_history.specs.Standings.{Standing, Goes, Knows, IsCaller}
+use Rattle.pool_history.specs.Standings.{Standing, Goes, IsCaller}
 use Rattle.pool_history.proofs.Tending.{at_seam, last_here}
 use Rattle.pool_shared.specs.declared.faults.BorrowFault.{BorrowFault}
 use Rattle.pool_shared.specs.declared.lent.Lent.{Lent}

@@ -1,5 +1,5 @@
 -- The entries of an invalidation.
-use Rattle.std.proofs.Common.{◌≡◌, ℕ, false, true≢false, List, [], Option, None, Err, append-nil, sym, ap, ◌∙◌, subst}
+use Rattle.std.proofs.Common.{◌≡◌, ℕ, false, true≢false, List, [], Option, None, Err, append-nil, sym, ap, ◌∙◌}
 use Rattle.pool_journal.specs.Journal.{phase}
 use Rattle.pool_journal.specs.declared.entry.Entry.{Entry}
 use Rattle.pool_journal.specs.declared.record.Phase.{Phase}
