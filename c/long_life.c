@@ -22,16 +22,16 @@ struct object {
 static uint64_t now; /* in milliseconds; a server asks its clock */
 
 static bool step(struct zuphinka *pool, uint32_t input, uint64_t number, struct object *object, struct zuphinka_reply *reply) {
-  struct zuphinka_request request = {.at = now, .number = number, .object = object, .input = input, .outcome = ZUPHINKA_GOOD};
+  struct zuphinka_request request = {.at = now, .number = number, .object = object, .input = input, .outcome = ZUPHINKA_OUTCOME_GOOD};
   uint32_t status = zuphinka_step(pool, &request, reply);
-  if (status != ZUPHINKA_DONE) fprintf(stderr, "long_life: input %u: status %u\n", input, status);
-  return status == ZUPHINKA_DONE;
+  if (status != ZUPHINKA_STATUS_DONE) fprintf(stderr, "long_life: input %u: status %u\n", input, status);
+  return status == ZUPHINKA_STATUS_DONE;
 }
 
 /* Makes the object that a borrow is answered, or has its token. */
 static struct object *object_of(const struct zuphinka_reply *reply) {
-  if (reply->answer == ZUPHINKA_TAKE) return reply->object;
-  struct object *made = reply->answer == ZUPHINKA_MAKE ? malloc(sizeof *made) : NULL;
+  if (reply->answer == ZUPHINKA_ANSWER_TAKE) return reply->object;
+  struct object *made = reply->answer == ZUPHINKA_ANSWER_MAKE ? malloc(sizeof *made) : NULL;
   if (made) made->id = reply->number;
   return made;
 }
@@ -39,7 +39,7 @@ static struct object *object_of(const struct zuphinka_reply *reply) {
 /* Destroys an object that the pool gave up. */
 static bool end(struct zuphinka *pool, struct object *object) {
   struct zuphinka_reply reply;
-  bool ended = step(pool, ZUPHINKA_DESTROYED, object->id, NULL, &reply);
+  bool ended = step(pool, ZUPHINKA_INPUT_DESTROYED, object->id, NULL, &reply);
   free(object);
   return ended;
 }
@@ -47,20 +47,21 @@ static bool end(struct zuphinka *pool, struct object *object) {
 /* Borrows an object, and gives it back: it is parked, or destroyed where the settings say so. */
 static bool lend(struct zuphinka *pool) {
   struct zuphinka_reply reply;
-  if (!step(pool, ZUPHINKA_BORROW, now, NULL, &reply)) return false;
+  if (!step(pool, ZUPHINKA_INPUT_BORROW, now, NULL, &reply)) return false;
   struct object *object = object_of(&reply);
-  if (!object || !step(pool, ZUPHINKA_READY, object->id, NULL, &reply) || reply.answer != ZUPHINKA_LENT) return false;
+  if (!object || !step(pool, ZUPHINKA_INPUT_READY, object->id, NULL, &reply) || reply.answer != ZUPHINKA_ANSWER_LENT) return false;
   now++;
-  if (!step(pool, ZUPHINKA_RETURN, object->id, NULL, &reply)) return false;
-  if (reply.answer == ZUPHINKA_CHECK && !step(pool, ZUPHINKA_PARK, object->id, object, &reply)) return false;
-  return reply.answer == ZUPHINKA_DESTROY ? end(pool, object) : reply.answer == ZUPHINKA_PARKED;
+  if (!step(pool, ZUPHINKA_INPUT_RETURN, object->id, NULL, &reply)) return false;
+  if (reply.answer == ZUPHINKA_ANSWER_CHECK && !step(pool, ZUPHINKA_INPUT_PARK, object->id, object, &reply)) return false;
+  return reply.answer == ZUPHINKA_ANSWER_DESTROY ? end(pool, object) : reply.answer == ZUPHINKA_ANSWER_PARKED;
 }
 
 /* Closes the pool, and destroys what lies idle in it. */
 static bool close_all(struct zuphinka *pool) {
   struct zuphinka_reply reply;
-  bool goes_on = step(pool, ZUPHINKA_CLOSE, 0, NULL, &reply);
-  while (goes_on && step(pool, ZUPHINKA_CLEAR_NEXT, 0, NULL, &reply) && reply.answer == ZUPHINKA_DESTROY_IDLE) goes_on = end(pool, reply.object);
+  bool goes_on = step(pool, ZUPHINKA_INPUT_CLOSE, 0, NULL, &reply);
+  while (goes_on && step(pool, ZUPHINKA_INPUT_CLEAR_NEXT, 0, NULL, &reply) && reply.answer == ZUPHINKA_ANSWER_DESTROY_IDLE)
+    goes_on = end(pool, reply.object);
   return goes_on;
 }
 
@@ -72,7 +73,7 @@ static bool write_lines(telling *tell, struct zuphinka *pool, FILE *file) {
   uint64_t size;
   for (uint64_t position = 0;; position++) {
     uint32_t status = tell(pool, position, line, sizeof line, &size);
-    if (status != ZUPHINKA_DONE) return status == ZUPHINKA_NO_ENTRY;
+    if (status != ZUPHINKA_STATUS_DONE) return status == ZUPHINKA_STATUS_NO_ENTRY;
     if (fwrite(line, 1, size, file) != size) return false;
   }
 }
@@ -82,12 +83,12 @@ static bool cut(struct zuphinka *pool, const char *folder) {
   struct zuphinka_counts counts;
   uint64_t steps;
   char path[1024];
-  if (zuphinka_counts(pool, &counts) != ZUPHINKA_DONE || zuphinka_steps(pool, &steps) != ZUPHINKA_DONE) return false;
+  if (zuphinka_counts(pool, &counts) != ZUPHINKA_STATUS_DONE || zuphinka_steps(pool, &steps) != ZUPHINKA_STATUS_DONE) return false;
   int length = snprintf(path, sizeof path, "%s/segment-%020" PRIu64, folder, counts.steps - steps);
   FILE *file = length > 0 && (size_t)length < sizeof path ? fopen(path, "wb") : NULL;
   if (!file) return false;
   bool written = write_lines(zuphinka_base, pool, file) && write_lines(zuphinka_line, pool, file);
-  return fclose(file) == 0 && written && zuphinka_cut(pool) == ZUPHINKA_DONE;
+  return fclose(file) == 0 && written && zuphinka_cut(pool) == ZUPHINKA_STATUS_DONE;
 }
 
 /* Opens a pool with the settings of a file. */
@@ -98,7 +99,7 @@ static bool open_pool(struct zuphinka *pool, const char *path) {
   size_t length = fread(settings, 1, sizeof settings, file);
   bool whole = feof(file) && !ferror(file);
   fclose(file);
-  return whole && zuphinka_open(pool, settings, length) == ZUPHINKA_DONE;
+  return whole && zuphinka_open(pool, settings, length) == ZUPHINKA_STATUS_DONE;
 }
 
 int main(int count, char **arguments) {
@@ -110,7 +111,7 @@ int main(int count, char **arguments) {
   bool goes_on = true;
   for (uint64_t rounds = strtoull(arguments[3], NULL, 10); goes_on && rounds > 0; rounds--) {
     uint64_t room = 0;
-    goes_on = zuphinka_room(&pool, &room) == ZUPHINKA_DONE && (room >= FEW || cut(&pool, arguments[2])) && lend(&pool);
+    goes_on = zuphinka_room(&pool, &room) == ZUPHINKA_STATUS_DONE && (room >= FEW || cut(&pool, arguments[2])) && lend(&pool);
   }
   goes_on = goes_on && close_all(&pool) && cut(&pool, arguments[2]);
   zuphinka_drop(&pool);

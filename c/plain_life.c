@@ -35,8 +35,8 @@ static void destroy(struct connection *connection) { free(connection); }
 /* Takes a step. One that is refused, for want of memory or of room in the journal, has changed nothing. */
 static bool step(struct zuphinka *pool, struct zuphinka_request request, struct zuphinka_reply *reply) {
   uint32_t status = zuphinka_step(pool, &request, reply);
-  if (status != ZUPHINKA_DONE) fprintf(stderr, "plain_life: input %u: status %u\n", request.input, status);
-  return status == ZUPHINKA_DONE;
+  if (status != ZUPHINKA_STATUS_DONE) fprintf(stderr, "plain_life: input %u: status %u\n", request.input, status);
+  return status == ZUPHINKA_STATUS_DONE;
 }
 
 /* Reports what was done to an object. Such a step finishes what was begun: it is never refused. */
@@ -50,7 +50,7 @@ static struct zuphinka_reply report(struct zuphinka *pool, uint32_t input, struc
 
 /* Destroys an object that the pool gave up, and so frees its place. */
 static void end(struct zuphinka *pool, struct connection *connection) {
-  report(pool, ZUPHINKA_DESTROYED, connection, 0);
+  report(pool, ZUPHINKA_INPUT_DESTROYED, connection, 0);
   destroy(connection);
 }
 
@@ -58,33 +58,34 @@ static void end(struct zuphinka *pool, struct connection *connection) {
 static struct connection *borrow(struct zuphinka *pool) {
   struct zuphinka_reply reply;
   uint64_t began = now();
-  if (!step(pool, (struct zuphinka_request){.at = began, .number = began, .caller = CALLER, .input = ZUPHINKA_BORROW}, &reply)) return NULL;
-  if (reply.answer != ZUPHINKA_TAKE && reply.answer != ZUPHINKA_MAKE) return NULL;
-  struct connection *connection = reply.answer == ZUPHINKA_TAKE ? reply.object : make(reply.number);
+  if (!step(pool, (struct zuphinka_request){.at = began, .number = began, .caller = CALLER, .input = ZUPHINKA_INPUT_BORROW}, &reply))
+    return NULL;
+  if (reply.answer != ZUPHINKA_ANSWER_TAKE && reply.answer != ZUPHINKA_ANSWER_MAKE) return NULL;
+  struct connection *connection = reply.answer == ZUPHINKA_ANSWER_TAKE ? reply.object : make(reply.number);
   if (!connection) { /* the object couldn't be made, and its place is free again */
     struct connection none = {.id = reply.number};
-    report(pool, ZUPHINKA_READY, &none, ZUPHINKA_MAKE_FAILED);
+    report(pool, ZUPHINKA_INPUT_READY, &none, ZUPHINKA_OUTCOME_MAKE_FAILED);
     return NULL;
   }
-  reply = report(pool, ZUPHINKA_READY, connection, ZUPHINKA_GOOD);
-  if (reply.answer == ZUPHINKA_LENT) return connection;
+  reply = report(pool, ZUPHINKA_INPUT_READY, connection, ZUPHINKA_OUTCOME_GOOD);
+  if (reply.answer == ZUPHINKA_ANSWER_LENT) return connection;
   end(pool, connection);
   return NULL;
 }
 
 /* Gives a connection back: the pool keeps it, or has it destroyed. */
 static void give_back(struct zuphinka *pool, struct connection *connection) {
-  struct zuphinka_reply reply = report(pool, ZUPHINKA_RETURN, connection, 0);
-  if (reply.answer == ZUPHINKA_CHECK) reply = report(pool, ZUPHINKA_PARK, connection, ZUPHINKA_GOOD);
-  if (reply.answer == ZUPHINKA_DESTROY) end(pool, connection);
+  struct zuphinka_reply reply = report(pool, ZUPHINKA_INPUT_RETURN, connection, 0);
+  if (reply.answer == ZUPHINKA_ANSWER_CHECK) reply = report(pool, ZUPHINKA_INPUT_PARK, connection, ZUPHINKA_OUTCOME_GOOD);
+  if (reply.answer == ZUPHINKA_ANSWER_DESTROY) end(pool, connection);
 }
 
 /* Closes the pool, and destroys what lies idle in it. */
 static void close_all(struct zuphinka *pool) {
   struct zuphinka_reply reply = {0};
-  step(pool, (struct zuphinka_request){.at = now(), .caller = CALLER, .input = ZUPHINKA_CLOSE}, &reply);
-  while (step(pool, (struct zuphinka_request){.at = now(), .caller = CALLER, .input = ZUPHINKA_CLEAR_NEXT}, &reply) &&
-         reply.answer == ZUPHINKA_DESTROY_IDLE)
+  step(pool, (struct zuphinka_request){.at = now(), .caller = CALLER, .input = ZUPHINKA_INPUT_CLOSE}, &reply);
+  while (step(pool, (struct zuphinka_request){.at = now(), .caller = CALLER, .input = ZUPHINKA_INPUT_CLEAR_NEXT}, &reply) &&
+         reply.answer == ZUPHINKA_ANSWER_DESTROY_IDLE)
     end(pool, reply.object);
 }
 
@@ -92,9 +93,9 @@ static void close_all(struct zuphinka *pool) {
 static bool write_journal(struct zuphinka *pool) {
   char line[ZUPHINKA_LONGEST_LINE];
   uint64_t steps = 0, size = 0;
-  if (zuphinka_steps(pool, &steps) != ZUPHINKA_DONE) return false;
+  if (zuphinka_steps(pool, &steps) != ZUPHINKA_STATUS_DONE) return false;
   for (uint64_t position = 0; position < steps; position++) {
-    if (zuphinka_line(pool, position, line, sizeof line, &size) != ZUPHINKA_DONE) return false;
+    if (zuphinka_line(pool, position, line, sizeof line, &size) != ZUPHINKA_STATUS_DONE) return false;
     if (fwrite(line, 1, size, stdout) != size) return false;
   }
   return fflush(stdout) == 0;
@@ -108,7 +109,7 @@ static bool open_pool(struct zuphinka *pool, const char *path) {
   size_t length = fread(settings, 1, sizeof settings, file);
   bool whole = feof(file) && !ferror(file);
   fclose(file);
-  return whole && zuphinka_open(pool, settings, length) == ZUPHINKA_DONE;
+  return whole && zuphinka_open(pool, settings, length) == ZUPHINKA_STATUS_DONE;
 }
 
 int main(int count, char **arguments) {

@@ -92,23 +92,23 @@ static const struct {
   uint32_t code;
   bool number, outcome;
 } inputs[] = {
-    {"borrow", ZUPHINKA_BORROW, true, false},
-    {"ready", ZUPHINKA_READY, true, true},
-    {"return", ZUPHINKA_RETURN, true, false},
-    {"park", ZUPHINKA_PARK, true, true},
-    {"invalidate", ZUPHINKA_INVALIDATE, true, false},
-    {"use", ZUPHINKA_USE, true, false},
-    {"add", ZUPHINKA_ADD, false, false},
-    {"fill", ZUPHINKA_FILL, false, false},
-    {"added", ZUPHINKA_ADDED, true, true},
-    {"evict", ZUPHINKA_EVICT, false, false},
-    {"evictnext", ZUPHINKA_EVICT_NEXT, false, false},
-    {"tested", ZUPHINKA_TESTED, true, true},
-    {"reclaimnext", ZUPHINKA_RECLAIM_NEXT, false, false},
-    {"clear", ZUPHINKA_CLEAR, false, false},
-    {"clearnext", ZUPHINKA_CLEAR_NEXT, false, false},
-    {"destroyed", ZUPHINKA_DESTROYED, true, false},
-    {"close", ZUPHINKA_CLOSE, false, false},
+    {"borrow", ZUPHINKA_INPUT_BORROW, true, false},
+    {"ready", ZUPHINKA_INPUT_READY, true, true},
+    {"return", ZUPHINKA_INPUT_RETURN, true, false},
+    {"park", ZUPHINKA_INPUT_PARK, true, true},
+    {"invalidate", ZUPHINKA_INPUT_INVALIDATE, true, false},
+    {"use", ZUPHINKA_INPUT_USE, true, false},
+    {"add", ZUPHINKA_INPUT_ADD, false, false},
+    {"fill", ZUPHINKA_INPUT_FILL, false, false},
+    {"added", ZUPHINKA_INPUT_ADDED, true, true},
+    {"evict", ZUPHINKA_INPUT_EVICT, false, false},
+    {"evictnext", ZUPHINKA_INPUT_EVICT_NEXT, false, false},
+    {"tested", ZUPHINKA_INPUT_TESTED, true, true},
+    {"reclaimnext", ZUPHINKA_INPUT_RECLAIM_NEXT, false, false},
+    {"clear", ZUPHINKA_INPUT_CLEAR, false, false},
+    {"clearnext", ZUPHINKA_INPUT_CLEAR_NEXT, false, false},
+    {"destroyed", ZUPHINKA_INPUT_DESTROYED, true, false},
+    {"close", ZUPHINKA_INPUT_CLOSE, false, false},
 };
 
 static const char *const outcomes[] = {"good", "makefail", "createfail", "activatefail", "testfail", "passivatefail"};
@@ -128,7 +128,7 @@ static bool read_number(const char *word, uint64_t most, uint64_t *number) {
 static bool read_outcome(const char *word, uint32_t *outcome) {
   for (size_t n = 0; n < sizeof outcomes / sizeof *outcomes; n++) {
     if (strcmp(word, outcomes[n]) == 0) {
-      *outcome = (uint32_t)(ZUPHINKA_GOOD + n);
+      *outcome = (uint32_t)(ZUPHINKA_OUTCOME_GOOD + n);
       return true;
     }
   }
@@ -136,7 +136,7 @@ static bool read_outcome(const char *word, uint32_t *outcome) {
 }
 
 static bool read_reclaim(const char *word, uint32_t *input) {
-  *input = strcmp(word, "borrow") == 0 ? ZUPHINKA_RECLAIM_ON_BORROW : ZUPHINKA_RECLAIM_FOR_MAINTENANCE;
+  *input = strcmp(word, "borrow") == 0 ? ZUPHINKA_INPUT_RECLAIM_ON_BORROW : ZUPHINKA_INPUT_RECLAIM_FOR_MAINTENANCE;
   return strcmp(word, "borrow") == 0 || strcmp(word, "maintain") == 0;
 }
 
@@ -179,9 +179,9 @@ struct state {
 static struct state state_of(struct zuphinka *pool) {
   struct state state;
   memset(&state, 0, sizeof state);
-  check(zuphinka_steps(pool, &state.steps) == ZUPHINKA_DONE, "the steps aren't told");
-  check(zuphinka_room(pool, &state.room) == ZUPHINKA_DONE, "the room isn't told");
-  check(zuphinka_counts(pool, &state.counts) == ZUPHINKA_DONE, "the counts aren't told");
+  check(zuphinka_steps(pool, &state.steps) == ZUPHINKA_STATUS_DONE, "the steps aren't told");
+  check(zuphinka_room(pool, &state.room) == ZUPHINKA_STATUS_DONE, "the room isn't told");
+  check(zuphinka_counts(pool, &state.counts) == ZUPHINKA_STATUS_DONE, "the counts aren't told");
   check(state.counts.steps == dropped + state.steps, "two numbers of steps");
   check(state.counts.created ==
             state.counts.idle + state.counts.lent + state.counts.reserved + state.counts.destroyed + state.counts.reclaimed,
@@ -189,21 +189,21 @@ static struct state state_of(struct zuphinka *pool) {
   return state;
 }
 
-static bool is_keeping(uint32_t answer) { return answer == ZUPHINKA_PARKED || answer == ZUPHINKA_KEPT; }
+static bool is_keeping(uint32_t answer) { return answer == ZUPHINKA_ANSWER_PARKED || answer == ZUPHINKA_ANSWER_KEPT; }
 
 static bool is_giving(uint32_t answer) {
-  return answer == ZUPHINKA_TAKE || answer == ZUPHINKA_TEST || answer == ZUPHINKA_DESTROY_IDLE;
+  return answer == ZUPHINKA_ANSWER_TAKE || answer == ZUPHINKA_ANSWER_TEST || answer == ZUPHINKA_ANSWER_DESTROY_IDLE;
 }
 
 static bool is_finishing(uint32_t answer, uint32_t input) {
-  return is_keeping(answer) || answer == ZUPHINKA_LENT || answer == ZUPHINKA_CHECK || answer == ZUPHINKA_DESTROY ||
-         answer == ZUPHINKA_DESTROY_IDLE || answer == ZUPHINKA_FREED || answer == ZUPHINKA_RECLAIMED ||
-         (answer == ZUPHINKA_COUNT && input == ZUPHINKA_CLOSE);
+  return is_keeping(answer) || answer == ZUPHINKA_ANSWER_LENT || answer == ZUPHINKA_ANSWER_CHECK || answer == ZUPHINKA_ANSWER_DESTROY ||
+         answer == ZUPHINKA_ANSWER_DESTROY_IDLE || answer == ZUPHINKA_ANSWER_FREED || answer == ZUPHINKA_ANSWER_RECLAIMED ||
+         (answer == ZUPHINKA_ANSWER_COUNT && input == ZUPHINKA_INPUT_CLOSE);
 }
 
 static bool is_carrying(const struct zuphinka_request *request) {
-  bool carries = request->input == ZUPHINKA_PARK || request->input == ZUPHINKA_ADDED || request->input == ZUPHINKA_TESTED;
-  return carries && request->outcome == ZUPHINKA_GOOD;
+  bool carries = request->input == ZUPHINKA_INPUT_PARK || request->input == ZUPHINKA_INPUT_ADDED || request->input == ZUPHINKA_INPUT_TESTED;
+  return carries && request->outcome == ZUPHINKA_OUTCOME_GOOD;
 }
 
 /* The token that comes out is that of the idle object, or the one that was handed in and isn't kept. */
@@ -226,7 +226,7 @@ static uint32_t step(struct zuphinka *pool, const struct zuphinka_request *reque
   uint32_t status = zuphinka_step(pool, request, reply);
   bool is_asking = allocations != asked;
   struct state after = state_of(pool);
-  if (status == ZUPHINKA_DONE) {
+  if (status == ZUPHINKA_STATUS_DONE) {
     check(after.steps == before.steps + 1, "a step without an entry");
     check(!is_asking || !is_finishing(reply->answer, request->input), "a step that finishes asked for memory");
     check_token(request, reply);
@@ -234,49 +234,49 @@ static uint32_t step(struct zuphinka *pool, const struct zuphinka_request *reque
   }
   check(memcmp(&before, &after, sizeof before) == 0, "a refused step that changed the pool");
   check(memcmp(reply, &untouched, sizeof untouched) == 0, "a refused step that has a reply");
-  if (status != ZUPHINKA_OUT_OF_MEMORY) return status;
+  if (status != ZUPHINKA_STATUS_OUT_OF_MEMORY) return status;
   check(refused != 0, "memory was wanting");
   status = zuphinka_step(pool, request, reply);
-  if (status == ZUPHINKA_DONE) check(!is_finishing(reply->answer, request->input), "a step that finishes was refused");
+  if (status == ZUPHINKA_STATUS_DONE) check(!is_finishing(reply->answer, request->input), "a step that finishes was refused");
   return status;
 }
 
 static const struct {
   const char *word;
   bool number;
-} answers[] = {[ZUPHINKA_TAKE] = {"take", true},
-               [ZUPHINKA_MAKE] = {"make", true},
-               [ZUPHINKA_WAIT] = {"wait", false},
-               [ZUPHINKA_EXHAUSTED] = {"exhausted", false},
-               [ZUPHINKA_TIMED_OUT] = {"timeout", false},
-               [ZUPHINKA_LENT] = {"lent", false},
-               [ZUPHINKA_CHECK] = {"check", false},
-               [ZUPHINKA_PARKED] = {"parked", false},
-               [ZUPHINKA_KEPT] = {"kept", false},
-               [ZUPHINKA_KEPT_IDLE] = {"keptidle", true},
-               [ZUPHINKA_DESTROY] = {"destroy", false},
-               [ZUPHINKA_DESTROY_IDLE] = {"destroyidle", true},
-               [ZUPHINKA_TEST] = {"test", true},
-               [ZUPHINKA_FREED] = {"freed", false},
-               [ZUPHINKA_GONE] = {"gone", false},
-               [ZUPHINKA_NOTED] = {"noted", false},
-               [ZUPHINKA_COUNT] = {"count", true},
-               [ZUPHINKA_RECLAIMED] = {"reclaimed", true},
-               [ZUPHINKA_NOTHING] = {"nothing", false},
-               [ZUPHINKA_ENOUGH] = {"enough", false},
-               [ZUPHINKA_NO_PLACE] = {"noplace", false},
-               [ZUPHINKA_REFUSED] = {"refused", false}};
+} answers[] = {[ZUPHINKA_ANSWER_TAKE] = {"take", true},
+               [ZUPHINKA_ANSWER_MAKE] = {"make", true},
+               [ZUPHINKA_ANSWER_WAIT] = {"wait", false},
+               [ZUPHINKA_ANSWER_EXHAUSTED] = {"exhausted", false},
+               [ZUPHINKA_ANSWER_TIMED_OUT] = {"timeout", false},
+               [ZUPHINKA_ANSWER_LENT] = {"lent", false},
+               [ZUPHINKA_ANSWER_CHECK] = {"check", false},
+               [ZUPHINKA_ANSWER_PARKED] = {"parked", false},
+               [ZUPHINKA_ANSWER_KEPT] = {"kept", false},
+               [ZUPHINKA_ANSWER_KEPT_IDLE] = {"keptidle", true},
+               [ZUPHINKA_ANSWER_DESTROY] = {"destroy", false},
+               [ZUPHINKA_ANSWER_DESTROY_IDLE] = {"destroyidle", true},
+               [ZUPHINKA_ANSWER_TEST] = {"test", true},
+               [ZUPHINKA_ANSWER_FREED] = {"freed", false},
+               [ZUPHINKA_ANSWER_GONE] = {"gone", false},
+               [ZUPHINKA_ANSWER_NOTED] = {"noted", false},
+               [ZUPHINKA_ANSWER_COUNT] = {"count", true},
+               [ZUPHINKA_ANSWER_RECLAIMED] = {"reclaimed", true},
+               [ZUPHINKA_ANSWER_NOTHING] = {"nothing", false},
+               [ZUPHINKA_ANSWER_ENOUGH] = {"enough", false},
+               [ZUPHINKA_ANSWER_NO_PLACE] = {"noplace", false},
+               [ZUPHINKA_ANSWER_REFUSED] = {"refused", false}};
 
-static const char *const causes[] = {[ZUPHINKA_CLOSED] = " closed",
-                                     [ZUPHINKA_NOT_LENT] = " notlent",
-                                     [ZUPHINKA_NOT_HELD] = " notheld",
-                                     [ZUPHINKA_BAD_OUTCOME] = " badoutcome"};
+static const char *const causes[] = {[ZUPHINKA_CAUSE_CLOSED] = " closed",
+                                     [ZUPHINKA_CAUSE_NOT_LENT] = " notlent",
+                                     [ZUPHINKA_CAUSE_NOT_HELD] = " notheld",
+                                     [ZUPHINKA_CAUSE_BAD_OUTCOME] = " badoutcome"};
 
 /* The reply says what the line of its entry ends in. */
 static void check_answer(const struct zuphinka_reply *reply, const char *line, uint64_t size) {
   char end[64], number[32] = "";
-  check(reply->answer >= ZUPHINKA_TAKE && reply->answer <= ZUPHINKA_REFUSED, "a code of an answer that is none");
-  check(reply->cause <= ZUPHINKA_BAD_OUTCOME && (reply->cause != 0) == (reply->answer == ZUPHINKA_REFUSED), "a cause that is none");
+  check(reply->answer >= ZUPHINKA_ANSWER_TAKE && reply->answer <= ZUPHINKA_ANSWER_REFUSED, "a code of an answer that is none");
+  check(reply->cause <= ZUPHINKA_CAUSE_BAD_OUTCOME && (reply->cause != 0) == (reply->answer == ZUPHINKA_ANSWER_REFUSED), "a cause that is none");
   if (answers[reply->answer].number)
     snprintf(number, sizeof number, " %" PRIu64, reply->number);
   else
@@ -296,19 +296,20 @@ static uint64_t line_at(telling *tell, struct zuphinka *pool, uint64_t position,
   memcpy(other, untouched, sizeof untouched);
   uint32_t status = tell(pool, position, line, ZUPHINKA_LONGEST_LINE, &size);
   check(allocations - asked <= 1, "a line that asked for memory twice");
-  if (status == ZUPHINKA_OUT_OF_MEMORY) {
+  if (status == ZUPHINKA_STATUS_OUT_OF_MEMORY) {
     check(refused != 0 && size == 0 && memcmp(line, untouched, sizeof untouched) == 0, "a refused line that has a text");
     status = tell(pool, position, line, ZUPHINKA_LONGEST_LINE, &size);
   }
-  if (status == ZUPHINKA_NO_ENTRY) {
+  if (status == ZUPHINKA_STATUS_NO_ENTRY) {
     check(size == 0 && memcmp(line, untouched, sizeof untouched) == 0, "a text of no line");
     return 0;
   }
-  check(status == ZUPHINKA_DONE && size > 0 && size <= ZUPHINKA_LONGEST_LINE && line[size - 1] == '\n', "no line");
+  check(status == ZUPHINKA_STATUS_DONE && size > 0 && size <= ZUPHINKA_LONGEST_LINE && line[size - 1] == '\n', "no line");
   check(memcmp(line + size, untouched, ZUPHINKA_LONGEST_LINE - size) == 0, "a line that writes behind its end");
   status = tell(pool, position, other, size - 1, &told);
-  if (status == ZUPHINKA_OUT_OF_MEMORY) status = tell(pool, position, other, size - 1, &told);
-  check(status == ZUPHINKA_NO_ROOM && told == size && memcmp(other, untouched, sizeof untouched) == 0, "a line that has no room");
+  if (status == ZUPHINKA_STATUS_OUT_OF_MEMORY) status = tell(pool, position, other, size - 1, &told);
+  check(status == ZUPHINKA_STATUS_BUFFER_TOO_SMALL && told == size && memcmp(other, untouched, sizeof untouched) == 0,
+        "a line that fits into no buffer");
   return size;
 }
 
@@ -337,12 +338,12 @@ static void cut(struct zuphinka *pool) {
   uint64_t asked = allocations;
   uint32_t status = zuphinka_cut(pool);
   check(allocations - asked <= 2, "a cut that asked for memory more than twice");
-  if (status == ZUPHINKA_OUT_OF_MEMORY) {
+  if (status == ZUPHINKA_STATUS_OUT_OF_MEMORY) {
     struct state after = state_of(pool);
     check(refused != 0 && memcmp(&before, &after, sizeof before) == 0, "a refused cut that changed the pool");
     status = zuphinka_cut(pool);
   }
-  check(status == ZUPHINKA_DONE, "a cut that isn't made");
+  check(status == ZUPHINKA_STATUS_DONE, "a cut that isn't made");
   dropped += before.steps;
   struct state after = state_of(pool);
   check(after.steps == 0 && after.room == before.room + before.steps, "a cut that leaves entries");
@@ -402,27 +403,27 @@ static uint32_t tell_settings(const char *text, size_t length, struct zuphinka_s
   memset(&untouched, 0x5a, sizeof untouched);
   memcpy(settings, &untouched, sizeof untouched);
   uint32_t status = zuphinka_settings(text, length, settings, &none, 0, &size);
-  if (status == ZUPHINKA_OUT_OF_MEMORY) {
+  if (status == ZUPHINKA_STATUS_OUT_OF_MEMORY) {
     check(refused != 0 && size == 0, "a refused text that has a key");
     status = zuphinka_settings(text, length, settings, &none, 0, &size);
   }
-  if (status == ZUPHINKA_DONE) return status;
+  if (status == ZUPHINKA_STATUS_DONE) return status;
   *key = (struct text){.bytes = __real_malloc(size + 2), .length = size};
   check(key->bytes, "no memory for a key");
   memset(key->bytes, 'x', size + 2);
   uint32_t again = zuphinka_settings(text, length, settings, key->bytes, size + 1, &size);
-  if (again == ZUPHINKA_OUT_OF_MEMORY) again = zuphinka_settings(text, length, settings, key->bytes, size + 1, &size);
+  if (again == ZUPHINKA_STATUS_OUT_OF_MEMORY) again = zuphinka_settings(text, length, settings, key->bytes, size + 1, &size);
   check(again == status && size == key->length && key->bytes[size] == 'x', "another key");
   check(none == 'x' && memcmp(settings, &untouched, sizeof untouched) == 0, "settings of a text that has a fault");
   return status;
 }
 
 static void fault_in(uint32_t status, const struct text *key) {
-  static const char *const words[] = {[ZUPHINKA_NOT_TEXT] = "settings: not TOML",
-                                      [ZUPHINKA_NOT_TOML] = "settings: not TOML",
-                                      [ZUPHINKA_UNKNOWN_KEY] = "settings: unknown key ",
-                                      [ZUPHINKA_WRONG_TYPE] = "settings: wrong type ",
-                                      [ZUPHINKA_OUT_OF_RANGE] = "settings: out of range "};
+  static const char *const words[] = {[ZUPHINKA_STATUS_NOT_TEXT] = "settings: not TOML",
+                                      [ZUPHINKA_STATUS_NOT_TOML] = "settings: not TOML",
+                                      [ZUPHINKA_STATUS_UNKNOWN_KEY] = "settings: unknown key ",
+                                      [ZUPHINKA_STATUS_WRONG_TYPE] = "settings: wrong type ",
+                                      [ZUPHINKA_STATUS_OUT_OF_RANGE] = "settings: out of range "};
   struct text line = {0};
   append(&line, words[status], strlen(words[status]));
   append_key(&line, key);
@@ -437,36 +438,36 @@ static void open_pool(struct zuphinka *pool, const char *path) {
   char *text = read_file(path, &length);
   uint32_t told = tell_settings(text, length, &settings, &key);
   uint32_t status = zuphinka_open(pool, text, length);
-  if (status == ZUPHINKA_OUT_OF_MEMORY) {
+  if (status == ZUPHINKA_STATUS_OUT_OF_MEMORY) {
     check(refused != 0 && !pool->at, "a refused pool that is open");
     status = zuphinka_open(pool, text, length);
   }
   check(status == told, "settings that are told and not taken, or taken and not told");
-  if (status == ZUPHINKA_DONE) check(zuphinka_open(pool, text, length) == ZUPHINKA_ALREADY_OPEN, "a pool that is opened twice");
+  if (status == ZUPHINKA_STATUS_DONE) check(zuphinka_open(pool, text, length) == ZUPHINKA_STATUS_ALREADY_OPEN, "a pool that is opened twice");
   free(text);
-  if (status == ZUPHINKA_DONE) {
+  if (status == ZUPHINKA_STATUS_DONE) {
     check(state_of(pool).room + 1 == settings.journal_limit, "a journal with another limit");
     return;
   }
   check(!pool->at, "a refused pool that is open");
-  check(status >= ZUPHINKA_NOT_TEXT && status <= ZUPHINKA_OUT_OF_RANGE, "a status of settings that is none");
+  check(status >= ZUPHINKA_STATUS_NOT_TEXT && status <= ZUPHINKA_STATUS_OUT_OF_RANGE, "a status of settings that is none");
   fault_in(status, &key);
 }
 
 /* An empty handle has a status for each call. */
 static void check_empty(struct zuphinka *pool) {
-  struct zuphinka_request request = {.input = ZUPHINKA_ADD};
+  struct zuphinka_request request = {.input = ZUPHINKA_INPUT_ADD};
   struct zuphinka_reply reply = {0};
   struct zuphinka_counts counts = {0};
   uint64_t number = 7;
   char text[1] = {'x'};
-  check(zuphinka_step(pool, &request, &reply) == ZUPHINKA_NOT_OPEN && !reply.answer, "a step of no pool");
-  check(zuphinka_counts(pool, &counts) == ZUPHINKA_NOT_OPEN && !counts.steps, "counts of no pool");
-  check(zuphinka_steps(pool, &number) == ZUPHINKA_NOT_OPEN && number == 7, "steps of no pool");
-  check(zuphinka_room(pool, &number) == ZUPHINKA_NOT_OPEN && number == 7, "room of no pool");
-  check(zuphinka_line(pool, 0, text, 1, &number) == ZUPHINKA_NOT_OPEN && number == 7 && text[0] == 'x', "a line of no pool");
-  check(zuphinka_base(pool, 0, text, 1, &number) == ZUPHINKA_NOT_OPEN && number == 7 && text[0] == 'x', "a base of no pool");
-  check(zuphinka_cut(pool) == ZUPHINKA_NOT_OPEN && !pool->at, "a cut of no pool");
+  check(zuphinka_step(pool, &request, &reply) == ZUPHINKA_STATUS_NOT_OPEN && !reply.answer, "a step of no pool");
+  check(zuphinka_counts(pool, &counts) == ZUPHINKA_STATUS_NOT_OPEN && !counts.steps, "counts of no pool");
+  check(zuphinka_steps(pool, &number) == ZUPHINKA_STATUS_NOT_OPEN && number == 7, "steps of no pool");
+  check(zuphinka_room(pool, &number) == ZUPHINKA_STATUS_NOT_OPEN && number == 7, "room of no pool");
+  check(zuphinka_line(pool, 0, text, 1, &number) == ZUPHINKA_STATUS_NOT_OPEN && number == 7 && text[0] == 'x', "a line of no pool");
+  check(zuphinka_base(pool, 0, text, 1, &number) == ZUPHINKA_STATUS_NOT_OPEN && number == 7 && text[0] == 'x', "a base of no pool");
+  check(zuphinka_cut(pool) == ZUPHINKA_STATUS_NOT_OPEN && !pool->at, "a cut of no pool");
   zuphinka_drop(pool);
   check(!pool->at, "a pool from nothing");
 }
@@ -474,13 +475,13 @@ static void check_empty(struct zuphinka *pool) {
 /* Codes that are none are refused, and change nothing. */
 static void check_codes(struct zuphinka *pool) {
   const struct zuphinka_request requests[] = {{.input = 0},
-                                              {.input = ZUPHINKA_CLOSE + 1},
-                                              {.input = ZUPHINKA_READY},
-                                              {.input = ZUPHINKA_PARK, .outcome = ZUPHINKA_PASSIVATE_FAILED + 1}};
+                                              {.input = ZUPHINKA_INPUT_CLOSE + 1},
+                                              {.input = ZUPHINKA_INPUT_READY},
+                                              {.input = ZUPHINKA_INPUT_PARK, .outcome = ZUPHINKA_OUTCOME_PASSIVATE_FAILED + 1}};
   struct state before = state_of(pool);
   for (size_t n = 0; n < sizeof requests / sizeof *requests; n++) {
     struct zuphinka_reply reply = {0};
-    check(zuphinka_step(pool, &requests[n], &reply) == ZUPHINKA_BAD_REQUEST && !reply.answer, "a bad request that is answered");
+    check(zuphinka_step(pool, &requests[n], &reply) == ZUPHINKA_STATUS_BAD_REQUEST && !reply.answer, "a bad request that is answered");
   }
   struct state after = state_of(pool);
   check(memcmp(&before, &after, sizeof before) == 0, "a bad request that changed the pool");
@@ -493,8 +494,8 @@ static void play_line(struct zuphinka *pool, char *text, unsigned long line, boo
   if (!read_request(text, &request)) fault_at(line, "not a line");
   if (is_carrying(&request)) request.object = token(request.number);
   uint32_t status = step(pool, &request, &reply);
-  if (status == ZUPHINKA_JOURNAL_FULL) fault_at(line, "journal full");
-  check(status == ZUPHINKA_DONE, "a step that isn't taken");
+  if (status == ZUPHINKA_STATUS_JOURNAL_FULL) fault_at(line, "journal full");
+  check(status == ZUPHINKA_STATUS_DONE, "a step that isn't taken");
   see_entry(pool, line - 1 - dropped, &reply, is_written);
 }
 
@@ -518,7 +519,7 @@ static void play(struct zuphinka *pool, char *script, uint64_t every) {
   if (every) write_entries(pool, begins);
   uint64_t size = 7;
   char text[1];
-  check(zuphinka_line(pool, line - 1 - dropped, text, 1, &size) == ZUPHINKA_NO_ENTRY && size == 7, "a line of no entry");
+  check(zuphinka_line(pool, line - 1 - dropped, text, 1, &size) == ZUPHINKA_STATUS_NO_ENTRY && size == 7, "a line of no entry");
 }
 
 static void run(char **arguments, uint64_t every) {

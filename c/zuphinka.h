@@ -42,93 +42,93 @@ struct zuphinka {
   void *at;
 };
 
-/* What a call came to. Where it isn't ZUPHINKA_DONE, nothing has changed, but where the function says otherwise. */
+/* What a call came to. Where it isn't ZUPHINKA_STATUS_DONE, nothing has changed, but where the function says otherwise. */
 enum zuphinka_status {
-  ZUPHINKA_DONE = 0,
-  ZUPHINKA_NOT_OPEN = 1,     /* the handle is empty */
-  ZUPHINKA_ALREADY_OPEN = 2, /* the handle has a pool */
-  ZUPHINKA_OUT_OF_MEMORY = 3,
-  ZUPHINKA_JOURNAL_FULL = 4, /* the entry has no room in the journal with all that would be owed after it */
-  ZUPHINKA_BAD_REQUEST = 5,  /* input is no code of an input, or outcome none of an outcome where one is read */
-  ZUPHINKA_NO_ENTRY = 6,     /* the journal has no entry, or the base no line, at this position */
-  ZUPHINKA_NO_ROOM = 7,      /* the buffer is too short for the text */
-  ZUPHINKA_NOT_TEXT = 8,     /* the settings are no UTF-8 */
-  ZUPHINKA_NOT_TOML = 9,     /* the settings are no TOML document */
-  ZUPHINKA_UNKNOWN_KEY = 10, /* no setting has this key */
-  ZUPHINKA_WRONG_TYPE = 11,  /* the value of a key isn't of its type */
-  ZUPHINKA_OUT_OF_RANGE = 12 /* the number of a key isn't in its range */
+  ZUPHINKA_STATUS_DONE = 0,
+  ZUPHINKA_STATUS_NOT_OPEN = 1,     /* the handle is empty */
+  ZUPHINKA_STATUS_ALREADY_OPEN = 2, /* the handle has a pool */
+  ZUPHINKA_STATUS_OUT_OF_MEMORY = 3,
+  ZUPHINKA_STATUS_JOURNAL_FULL = 4,     /* the entry has no room in the journal with all that would be owed after it */
+  ZUPHINKA_STATUS_BAD_REQUEST = 5,      /* input is no code of an input, or outcome none of an outcome where one is read */
+  ZUPHINKA_STATUS_NO_ENTRY = 6,         /* the journal has no entry, or the base no line, at this position */
+  ZUPHINKA_STATUS_BUFFER_TOO_SMALL = 7, /* the buffer is too short for the text */
+  ZUPHINKA_STATUS_NOT_TEXT = 8,         /* the settings are no UTF-8 */
+  ZUPHINKA_STATUS_NOT_TOML = 9,         /* the settings are no TOML document */
+  ZUPHINKA_STATUS_UNKNOWN_KEY = 10,     /* no setting has this key */
+  ZUPHINKA_STATUS_WRONG_TYPE = 11,      /* the value of a key isn't of its type */
+  ZUPHINKA_STATUS_OUT_OF_RANGE = 12     /* the number of a key isn't in its range */
 };
 
 /* What is asked of a pool. */
 enum zuphinka_input {
-  ZUPHINKA_BORROW = 1,                  /* an object is wanted, since the moment `number` */
-  ZUPHINKA_READY = 2,                   /* object `number` was made or activated for a borrower: `outcome` */
-  ZUPHINKA_RETURN = 3,                  /* its holder gives object `number` back */
-  ZUPHINKA_PARK = 4,                    /* object `number`, given back, was tested and made passive: `outcome`, `object` */
-  ZUPHINKA_INVALIDATE = 5,              /* its holder finds object `number` broken */
-  ZUPHINKA_USE = 6,                     /* its holder uses object `number` */
-  ZUPHINKA_ADD = 7,                     /* one idle object more is wanted */
-  ZUPHINKA_FILL = 8,                    /* an idle object is wanted, if there are fewer than minIdle */
-  ZUPHINKA_ADDED = 9,                   /* object `number` was made for the stock: `outcome`, `object` */
-  ZUPHINKA_EVICT = 10,                  /* an eviction run begins */
-  ZUPHINKA_EVICT_NEXT = 11,             /* the run looks at the next idle object */
-  ZUPHINKA_TESTED = 12,                 /* idle object `number` was tested: `outcome`, `object` */
-  ZUPHINKA_RECLAIM_ON_BORROW = 13,      /* a removal of abandoned objects begins, at a borrow */
-  ZUPHINKA_RECLAIM_FOR_MAINTENANCE = 14, /* the same, for maintenance */
-  ZUPHINKA_RECLAIM_NEXT = 15,           /* the removal looks for the next abandoned object */
-  ZUPHINKA_CLEAR = 16,                  /* all idle objects are to be destroyed */
-  ZUPHINKA_CLEAR_NEXT = 17,             /* the next idle object is to be destroyed */
-  ZUPHINKA_DESTROYED = 18,              /* object `number` was destroyed */
-  ZUPHINKA_CLOSE = 19                   /* the pool closes */
+  ZUPHINKA_INPUT_BORROW = 1,                   /* an object is wanted, since the moment `number` */
+  ZUPHINKA_INPUT_READY = 2,                    /* object `number` was made or activated for a borrower: `outcome` */
+  ZUPHINKA_INPUT_RETURN = 3,                   /* its holder gives object `number` back */
+  ZUPHINKA_INPUT_PARK = 4,                     /* object `number`, given back, was tested and made passive: `outcome`, `object` */
+  ZUPHINKA_INPUT_INVALIDATE = 5,               /* its holder finds object `number` broken */
+  ZUPHINKA_INPUT_USE = 6,                      /* its holder uses object `number` */
+  ZUPHINKA_INPUT_ADD = 7,                      /* one idle object more is wanted */
+  ZUPHINKA_INPUT_FILL = 8,                     /* an idle object is wanted, if there are fewer than minIdle */
+  ZUPHINKA_INPUT_ADDED = 9,                    /* object `number` was made for the stock: `outcome`, `object` */
+  ZUPHINKA_INPUT_EVICT = 10,                   /* an eviction run begins */
+  ZUPHINKA_INPUT_EVICT_NEXT = 11,              /* the run looks at the next idle object */
+  ZUPHINKA_INPUT_TESTED = 12,                  /* idle object `number` was tested: `outcome`, `object` */
+  ZUPHINKA_INPUT_RECLAIM_ON_BORROW = 13,       /* a removal of abandoned objects begins, at a borrow */
+  ZUPHINKA_INPUT_RECLAIM_FOR_MAINTENANCE = 14, /* the same, for maintenance */
+  ZUPHINKA_INPUT_RECLAIM_NEXT = 15,            /* the removal looks for the next abandoned object */
+  ZUPHINKA_INPUT_CLEAR = 16,                   /* all idle objects are to be destroyed */
+  ZUPHINKA_INPUT_CLEAR_NEXT = 17,              /* the next idle object is to be destroyed */
+  ZUPHINKA_INPUT_DESTROYED = 18,               /* object `number` was destroyed */
+  ZUPHINKA_INPUT_CLOSE = 19                    /* the pool closes */
 };
 
 /* What the factory's work on an object came to. */
 enum zuphinka_outcome {
-  ZUPHINKA_GOOD = 1,
-  ZUPHINKA_MAKE_FAILED = 2,
-  ZUPHINKA_CREATE_TEST_FAILED = 3, /* a new object did not pass its test */
-  ZUPHINKA_ACTIVATE_FAILED = 4,
-  ZUPHINKA_TEST_FAILED = 5,
-  ZUPHINKA_PASSIVATE_FAILED = 6
+  ZUPHINKA_OUTCOME_GOOD = 1,
+  ZUPHINKA_OUTCOME_MAKE_FAILED = 2,
+  ZUPHINKA_OUTCOME_CREATE_TEST_FAILED = 3, /* a new object did not pass its test */
+  ZUPHINKA_OUTCOME_ACTIVATE_FAILED = 4,
+  ZUPHINKA_OUTCOME_TEST_FAILED = 5,
+  ZUPHINKA_OUTCOME_PASSIVATE_FAILED = 6
 };
 
 /* What a pool answers. */
 enum zuphinka_answer {
-  ZUPHINKA_TAKE = 1,          /* idle object `number` is yours to make ready; its token is `object` */
-  ZUPHINKA_MAKE = 2,          /* make a new object, with the id `number` */
-  ZUPHINKA_WAIT = 3,          /* there is none now: wait, and ask again with the same `number` */
-  ZUPHINKA_EXHAUSTED = 4,     /* there is none, and the settings say not to wait */
-  ZUPHINKA_TIMED_OUT = 5,     /* there is none, and the wait was as long as the settings allow */
-  ZUPHINKA_LENT = 6,          /* the object is lent */
-  ZUPHINKA_CHECK = 7,         /* the object is taken back: test it, make it passive, and park it */
-  ZUPHINKA_PARKED = 8,        /* the object is idle, and its token kept */
-  ZUPHINKA_KEPT = 9,          /* the object has passed its test, stays idle, and its token is kept */
-  ZUPHINKA_KEPT_IDLE = 10,    /* idle object `number` stays as it is */
-  ZUPHINKA_DESTROY = 11,      /* destroy the object, and report it */
-  ZUPHINKA_DESTROY_IDLE = 12, /* destroy idle object `number`, and report it; its token is `object` */
-  ZUPHINKA_TEST = 13,         /* test idle object `number`; its token is `object` */
-  ZUPHINKA_FREED = 14,        /* the object's place is free */
-  ZUPHINKA_GONE = 15,         /* the object was reclaimed before: it is yours alone */
-  ZUPHINKA_NOTED = 16,        /* the use of the object is noted */
-  ZUPHINKA_COUNT = 17,        /* so many objects, `number`, are gone over */
-  ZUPHINKA_RECLAIMED = 18,    /* abandoned object `number` has no place any more */
-  ZUPHINKA_NOTHING = 19,      /* there is nothing to do */
-  ZUPHINKA_ENOUGH = 20,       /* there are as many idle objects as are wanted */
-  ZUPHINKA_NO_PLACE = 21,     /* there is no place for one object more */
-  ZUPHINKA_REFUSED = 22       /* nothing was done; `cause` says why */
+  ZUPHINKA_ANSWER_TAKE = 1,          /* idle object `number` is yours to make ready; its token is `object` */
+  ZUPHINKA_ANSWER_MAKE = 2,          /* make a new object, with the id `number` */
+  ZUPHINKA_ANSWER_WAIT = 3,          /* there is none now: wait, and ask again with the same `number` */
+  ZUPHINKA_ANSWER_EXHAUSTED = 4,     /* there is none, and the settings say not to wait */
+  ZUPHINKA_ANSWER_TIMED_OUT = 5,     /* there is none, and the wait was as long as the settings allow */
+  ZUPHINKA_ANSWER_LENT = 6,          /* the object is lent */
+  ZUPHINKA_ANSWER_CHECK = 7,         /* the object is taken back: test it, make it passive, and park it */
+  ZUPHINKA_ANSWER_PARKED = 8,        /* the object is idle, and its token kept */
+  ZUPHINKA_ANSWER_KEPT = 9,          /* the object has passed its test, stays idle, and its token is kept */
+  ZUPHINKA_ANSWER_KEPT_IDLE = 10,    /* idle object `number` stays as it is */
+  ZUPHINKA_ANSWER_DESTROY = 11,      /* destroy the object, and report it */
+  ZUPHINKA_ANSWER_DESTROY_IDLE = 12, /* destroy idle object `number`, and report it; its token is `object` */
+  ZUPHINKA_ANSWER_TEST = 13,         /* test idle object `number`; its token is `object` */
+  ZUPHINKA_ANSWER_FREED = 14,        /* the object's place is free */
+  ZUPHINKA_ANSWER_GONE = 15,         /* the object was reclaimed before: it is yours alone */
+  ZUPHINKA_ANSWER_NOTED = 16,        /* the use of the object is noted */
+  ZUPHINKA_ANSWER_COUNT = 17,        /* so many objects, `number`, are gone over */
+  ZUPHINKA_ANSWER_RECLAIMED = 18,    /* abandoned object `number` has no place any more */
+  ZUPHINKA_ANSWER_NOTHING = 19,      /* there is nothing to do */
+  ZUPHINKA_ANSWER_ENOUGH = 20,       /* there are as many idle objects as are wanted */
+  ZUPHINKA_ANSWER_NO_PLACE = 21,     /* there is no place for one object more */
+  ZUPHINKA_ANSWER_REFUSED = 22       /* nothing was done; `cause` says why */
 };
 
 /* Why nothing was done. */
 enum zuphinka_cause {
-  ZUPHINKA_NO_CAUSE = 0,
-  ZUPHINKA_CLOSED = 1,     /* the pool is closed */
-  ZUPHINKA_NOT_LENT = 2,   /* the object isn't lent */
-  ZUPHINKA_NOT_HELD = 3,   /* the object isn't in the hands of who readies, checks, tests or destroys it */
-  ZUPHINKA_BAD_OUTCOME = 4 /* what was done to the object can't come out so */
+  ZUPHINKA_CAUSE_NONE = 0,
+  ZUPHINKA_CAUSE_CLOSED = 1,     /* the pool is closed */
+  ZUPHINKA_CAUSE_NOT_LENT = 2,   /* the object isn't lent */
+  ZUPHINKA_CAUSE_NOT_HELD = 3,   /* the object isn't in the hands of who readies, checks, tests or destroys it */
+  ZUPHINKA_CAUSE_BAD_OUTCOME = 4 /* what was done to the object can't come out so */
 };
 
 /*
- * What is asked. `number`, `outcome` and `object` are read where the input says so; `object` only where the outcome is ZUPHINKA_GOOD.
+ * What is asked. `number`, `outcome` and `object` are read where the input says so; `object` only where the outcome is ZUPHINKA_OUTCOME_GOOD.
  * All fields have to be set: `struct zuphinka_request request = {.at = .., ..};` sets those that are left out to 0.
  */
 struct zuphinka_request {
@@ -196,10 +196,10 @@ _Static_assert(sizeof(struct zuphinka_settings) == 72, "zuphinka.h: another layo
  * Tells the settings that a text says, a TOML document of `length` bytes (docs/settings.md; of no bytes, all defaults). A host that steps a pool
  * goes by some of them: what is tested, and whether a borrow first reclaims. It needs no pool.
  *
- * ZUPHINKA_DONE. Else `settings` is as it was: ZUPHINKA_NOT_TEXT, ZUPHINKA_NOT_TOML; ZUPHINKA_UNKNOWN_KEY, ZUPHINKA_WRONG_TYPE or
- * ZUPHINKA_OUT_OF_RANGE, the first fault of the text, with the key's name, one of the table as `abandoned.<key>`, at the front of `key`, a
- * buffer of `room` bytes, if it has room for that, and its size. ZUPHINKA_OUT_OF_MEMORY, which may stand in place of each other but
- * ZUPHINKA_NOT_TEXT. Where no key is told, `key` and `size` are as they were.
+ * ZUPHINKA_STATUS_DONE. Else `settings` is as it was: ZUPHINKA_STATUS_NOT_TEXT, ZUPHINKA_STATUS_NOT_TOML; ZUPHINKA_STATUS_UNKNOWN_KEY, ZUPHINKA_STATUS_WRONG_TYPE or
+ * ZUPHINKA_STATUS_OUT_OF_RANGE, the first fault of the text, with the key's name, one of the table as `abandoned.<key>`, at the front of `key`, a
+ * buffer of `room` bytes, if it has room for that, and its size. ZUPHINKA_STATUS_OUT_OF_MEMORY, which may stand in place of each other but
+ * ZUPHINKA_STATUS_NOT_TEXT. Where no key is told, `key` and `size` are as they were.
  */
 uint32_t zuphinka_settings(const char *text, size_t length, struct zuphinka_settings *settings, char *key, size_t room, uint64_t *size);
 
@@ -207,33 +207,33 @@ uint32_t zuphinka_settings(const char *text, size_t length, struct zuphinka_sett
  * Opens a pool in an empty handle: no objects, an empty journal, and the settings that the text says, a TOML document of
  * `length` bytes (docs/settings.md; of no bytes, all defaults). It asks at once for the memory of the entry that closes the pool.
  *
- * ZUPHINKA_DONE; ZUPHINKA_ALREADY_OPEN, and the pool is as it was; ZUPHINKA_NOT_TEXT, ZUPHINKA_NOT_TOML, ZUPHINKA_UNKNOWN_KEY,
- * ZUPHINKA_WRONG_TYPE or ZUPHINKA_OUT_OF_RANGE, the first fault of the text, and the handle is still empty; ZUPHINKA_OUT_OF_MEMORY,
- * which may stand in place of each but ZUPHINKA_ALREADY_OPEN, and the handle is still empty.
+ * ZUPHINKA_STATUS_DONE; ZUPHINKA_STATUS_ALREADY_OPEN, and the pool is as it was; ZUPHINKA_STATUS_NOT_TEXT, ZUPHINKA_STATUS_NOT_TOML, ZUPHINKA_STATUS_UNKNOWN_KEY,
+ * ZUPHINKA_STATUS_WRONG_TYPE or ZUPHINKA_STATUS_OUT_OF_RANGE, the first fault of the text, and the handle is still empty; ZUPHINKA_STATUS_OUT_OF_MEMORY,
+ * which may stand in place of each but ZUPHINKA_STATUS_ALREADY_OPEN, and the handle is still empty.
  */
 uint32_t zuphinka_open(struct zuphinka *pool, const char *settings, size_t length);
 
 /*
  * Takes one step: answers what is asked, as the definitions say is due after the whole journal, and appends the one entry that says so.
  *
- * ZUPHINKA_DONE, with the answer in `reply`, ZUPHINKA_REFUSED included. Else pool and `reply` are as they were: ZUPHINKA_NOT_OPEN;
- * ZUPHINKA_BAD_REQUEST; ZUPHINKA_JOURNAL_FULL, exactly where the entry with all that would be owed after it doesn't fit within the
- * setting journalLimit; ZUPHINKA_OUT_OF_MEMORY, and the same step may be tried again.
+ * ZUPHINKA_STATUS_DONE, with the answer in `reply`, ZUPHINKA_ANSWER_REFUSED included. Else pool and `reply` are as they were: ZUPHINKA_STATUS_NOT_OPEN;
+ * ZUPHINKA_STATUS_BAD_REQUEST; ZUPHINKA_STATUS_JOURNAL_FULL, exactly where the entry with all that would be owed after it doesn't fit within the
+ * setting journalLimit; ZUPHINKA_STATUS_OUT_OF_MEMORY, and the same step may be tried again.
  *
- * A step that finishes what was begun is always ZUPHINKA_DONE, since its room and memory are kept: one that is answered
- * ZUPHINKA_LENT, ZUPHINKA_CHECK, ZUPHINKA_PARKED, ZUPHINKA_KEPT, ZUPHINKA_DESTROY, ZUPHINKA_DESTROY_IDLE, ZUPHINKA_FREED or
- * ZUPHINKA_RECLAIMED, and the ZUPHINKA_CLOSE of an open pool.
+ * A step that finishes what was begun is always ZUPHINKA_STATUS_DONE, since its room and memory are kept: one that is answered
+ * ZUPHINKA_ANSWER_LENT, ZUPHINKA_ANSWER_CHECK, ZUPHINKA_ANSWER_PARKED, ZUPHINKA_ANSWER_KEPT, ZUPHINKA_ANSWER_DESTROY, ZUPHINKA_ANSWER_DESTROY_IDLE, ZUPHINKA_ANSWER_FREED or
+ * ZUPHINKA_ANSWER_RECLAIMED, and the ZUPHINKA_INPUT_CLOSE of an open pool.
  */
 uint32_t zuphinka_step(struct zuphinka *pool, const struct zuphinka_request *request, struct zuphinka_reply *reply);
 
-/* Tells the counts. ZUPHINKA_DONE; or ZUPHINKA_NOT_OPEN, and `counts` is as it was. */
+/* Tells the counts. ZUPHINKA_STATUS_DONE; or ZUPHINKA_STATUS_NOT_OPEN, and `counts` is as it was. */
 uint32_t zuphinka_counts(struct zuphinka *pool, struct zuphinka_counts *counts);
 
-/* Tells how many entries the journal has, since it was cut last. ZUPHINKA_DONE; or ZUPHINKA_NOT_OPEN, and `steps` is as it was. */
+/* Tells how many entries the journal has, since it was cut last. ZUPHINKA_STATUS_DONE; or ZUPHINKA_STATUS_NOT_OPEN, and `steps` is as it was. */
 uint32_t zuphinka_steps(struct zuphinka *pool, uint64_t *steps);
 
 /*
- * Tells how many entries more fit into the journal, beside those that are owed. ZUPHINKA_DONE; or ZUPHINKA_NOT_OPEN, and `room` is
+ * Tells how many entries more fit into the journal, beside those that are owed. ZUPHINKA_STATUS_DONE; or ZUPHINKA_STATUS_NOT_OPEN, and `room` is
  * as it was.
  */
 uint32_t zuphinka_room(struct zuphinka *pool, uint64_t *room);
@@ -242,15 +242,15 @@ uint32_t zuphinka_room(struct zuphinka *pool, uint64_t *room);
  * Puts the line of the entry at `position`, from 0, into `text`, a buffer of `length` bytes, with its line feed and no null behind it, and
  * tells its size. The rest of the buffer is as it was. ZUPHINKA_LONGEST_LINE bytes are always enough.
  *
- * ZUPHINKA_DONE; ZUPHINKA_NO_ROOM, where `length` is less than the size, which is told, and the buffer is as it was. Else both
- * are as they were: ZUPHINKA_NOT_OPEN; ZUPHINKA_NO_ENTRY, where the journal isn't as long; ZUPHINKA_OUT_OF_MEMORY, which may
- * stand in place of each but ZUPHINKA_NOT_OPEN. It asks for memory once, and gives it back.
+ * ZUPHINKA_STATUS_DONE; ZUPHINKA_STATUS_BUFFER_TOO_SMALL, where `length` is less than the size, which is told, and the buffer is as it was. Else both
+ * are as they were: ZUPHINKA_STATUS_NOT_OPEN; ZUPHINKA_STATUS_NO_ENTRY, where the journal isn't as long; ZUPHINKA_STATUS_OUT_OF_MEMORY, which may
+ * stand in place of each but ZUPHINKA_STATUS_NOT_OPEN. It asks for memory once, and gives it back.
  */
 uint32_t zuphinka_line(struct zuphinka *pool, uint64_t position, char *text, size_t length, uint64_t *size);
 
 /*
  * The same for the lines of the base that the entries go on from: at 0 the line that a segment begins with, and then one for each
- * object that was present. They are the same until the journal is cut. ZUPHINKA_NO_ENTRY, where the base has fewer lines.
+ * object that was present. They are the same until the journal is cut. ZUPHINKA_STATUS_NO_ENTRY, where the base has fewer lines.
  */
 uint32_t zuphinka_base(struct zuphinka *pool, uint64_t position, char *text, size_t length, uint64_t *size);
 
@@ -262,7 +262,7 @@ uint32_t zuphinka_base(struct zuphinka *pool, uint64_t position, char *text, siz
  * lost, so threads that share a pool hold their lock from the last line on. `pool check SETTINGS SEGMENT..` judges all segments of a pool, in
  * their order, as the one journal that they are.
  *
- * ZUPHINKA_DONE. Else nothing has changed: ZUPHINKA_NOT_OPEN; ZUPHINKA_OUT_OF_MEMORY, and it may be tried again.
+ * ZUPHINKA_STATUS_DONE. Else nothing has changed: ZUPHINKA_STATUS_NOT_OPEN; ZUPHINKA_STATUS_OUT_OF_MEMORY, and it may be tried again.
  */
 uint32_t zuphinka_cut(struct zuphinka *pool);
 

@@ -93,9 +93,12 @@ def check_settings(settings):
 
 def check_binding():
     """The codes and the longest line, the fields of each struct with their types in their order, and the functions with how many parameters
-    they have."""
+    they have. Each code is named after its enum."""
     header, binding = (TOP / "c/zuphinka.h").read_text(), (CRATE / "src/sys.rs").read_text()
     header = re.sub(r"/\*.*?\*/", "", header, flags=re.DOTALL)
+    for kind, body in re.findall(r"enum zuphinka_(\w+) \{(.*?)\};", header, flags=re.DOTALL):
+        other = [name for name in re.findall(r"(\w+) =", body) if not name.startswith(f"ZUPHINKA_{kind.upper()}_")]
+        yield f"enum zuphinka_{kind} has {other}" if other else None
     codes = {name: int(code) for name, code in re.findall(r"\bZUPHINKA_(\w+)(?: =)? (\d+)\b", header)}
     for name, code in re.findall(r"^pub const (\w+): \w+ = (\d+);$", binding, flags=re.MULTILINE):
         yield None if codes.get(name) == int(code) else f"{name} is {code}, in the header {codes.get(name)}"

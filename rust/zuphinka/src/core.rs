@@ -41,7 +41,7 @@ pub(crate) fn settings_of(text: &str) -> Result<sys::Settings, (u32, String)> {
                 &mut size,
             )
         };
-        if status == sys::DONE {
+        if status == sys::STATUS_DONE {
             return Ok(settings);
         }
         let had_room = size as usize <= key.len();
@@ -60,8 +60,8 @@ impl Core {
         let status =
             unsafe { sys::zuphinka_open(&mut handle, settings.as_ptr().cast(), settings.len()) };
         match status {
-            sys::DONE => Ok(Core { handle }),
-            sys::OUT_OF_MEMORY => Err(OpenFault::OutOfMemory),
+            sys::STATUS_DONE => Ok(Core { handle }),
+            sys::STATUS_OUT_OF_MEMORY => Err(OpenFault::OutOfMemory),
             status => Err(OpenFault::Settings(status)),
         }
     }
@@ -83,12 +83,12 @@ impl Core {
         let mut reply = sys::Reply::default();
         // SAFETY: the handle is this core's, and the three are apart.
         match unsafe { sys::zuphinka_step(&mut self.handle, &request, &mut reply) } {
-            sys::DONE => Ok((
+            sys::STATUS_DONE => Ok((
                 answer_of(&reply),
                 reply.has_object.then_some(reply.object as u64),
             )),
-            sys::JOURNAL_FULL => Err(StepFault::JournalFull),
-            sys::OUT_OF_MEMORY => Err(StepFault::OutOfMemory),
+            sys::STATUS_JOURNAL_FULL => Err(StepFault::JournalFull),
+            sys::STATUS_OUT_OF_MEMORY => Err(StepFault::OutOfMemory),
             status => unreachable!("a step came to status {status}"),
         }
     }
@@ -97,7 +97,7 @@ impl Core {
         let mut counts = sys::Counts::default();
         // SAFETY: the handle is this core's.
         let status = unsafe { sys::zuphinka_counts(&mut self.handle, &mut counts) };
-        debug_assert_eq!(status, sys::DONE);
+        debug_assert_eq!(status, sys::STATUS_DONE);
         Counts {
             steps: counts.steps,
             idle: counts.idle,
@@ -115,7 +115,7 @@ impl Core {
         let mut steps = 0;
         // SAFETY: the handle is this core's.
         let status = unsafe { sys::zuphinka_steps(&mut self.handle, &mut steps) };
-        debug_assert_eq!(status, sys::DONE);
+        debug_assert_eq!(status, sys::STATUS_DONE);
         steps
     }
 
@@ -124,7 +124,7 @@ impl Core {
         let mut room = 0;
         // SAFETY: the handle is this core's.
         let status = unsafe { sys::zuphinka_room(&mut self.handle, &mut room) };
-        debug_assert_eq!(status, sys::DONE);
+        debug_assert_eq!(status, sys::STATUS_DONE);
         room
     }
 
@@ -160,12 +160,12 @@ impl Core {
             teller(&mut self.handle, position, start, line.len(), &mut size)
         };
         match status {
-            sys::DONE => {
+            sys::STATUS_DONE => {
                 text.extend_from_slice(&line[..size as usize]);
                 Ok(true)
             }
-            sys::NO_ENTRY => Ok(false),
-            sys::OUT_OF_MEMORY => Err(StepFault::OutOfMemory),
+            sys::STATUS_NO_ENTRY => Ok(false),
+            sys::STATUS_OUT_OF_MEMORY => Err(StepFault::OutOfMemory),
             status => unreachable!("a line came to status {status}"),
         }
     }
@@ -178,8 +178,8 @@ impl Core {
     pub fn cut(&mut self) -> Result<(), StepFault> {
         // SAFETY: the handle is this core's.
         match unsafe { sys::zuphinka_cut(&mut self.handle) } {
-            sys::DONE => Ok(()),
-            sys::OUT_OF_MEMORY => Err(StepFault::OutOfMemory),
+            sys::STATUS_DONE => Ok(()),
+            sys::STATUS_OUT_OF_MEMORY => Err(StepFault::OutOfMemory),
             status => unreachable!("a cut came to status {status}"),
         }
     }
@@ -198,25 +198,25 @@ fn request_of(input: Input) -> sys::Request {
     let plain = |input, number| (input, number, 0);
     let told = |input, number, outcome| (input, number, outcome_code(outcome));
     let (input, number, outcome) = match input {
-        Input::Borrow { began } => plain(sys::BORROW, began),
-        Input::Ready { id, outcome } => told(sys::READY, id, outcome),
-        Input::GiveBack { id } => plain(sys::RETURN, id),
-        Input::Park { id, outcome } => told(sys::PARK, id, outcome),
-        Input::Invalidate { id } => plain(sys::INVALIDATE, id),
-        Input::Use { id } => plain(sys::USE, id),
-        Input::Add => plain(sys::ADD, 0),
-        Input::Fill => plain(sys::FILL, 0),
-        Input::Added { id, outcome } => told(sys::ADDED, id, outcome),
-        Input::Evict => plain(sys::EVICT, 0),
-        Input::EvictNext => plain(sys::EVICT_NEXT, 0),
-        Input::Tested { id, outcome } => told(sys::TESTED, id, outcome),
-        Input::Reclaim { on: When::Borrow } => plain(sys::RECLAIM_ON_BORROW, 0),
-        Input::Reclaim { on: When::Maintain } => plain(sys::RECLAIM_FOR_MAINTENANCE, 0),
-        Input::ReclaimNext => plain(sys::RECLAIM_NEXT, 0),
-        Input::Clear => plain(sys::CLEAR, 0),
-        Input::ClearNext => plain(sys::CLEAR_NEXT, 0),
-        Input::Destroyed { id } => plain(sys::DESTROYED, id),
-        Input::Close => plain(sys::CLOSE, 0),
+        Input::Borrow { began } => plain(sys::INPUT_BORROW, began),
+        Input::Ready { id, outcome } => told(sys::INPUT_READY, id, outcome),
+        Input::GiveBack { id } => plain(sys::INPUT_RETURN, id),
+        Input::Park { id, outcome } => told(sys::INPUT_PARK, id, outcome),
+        Input::Invalidate { id } => plain(sys::INPUT_INVALIDATE, id),
+        Input::Use { id } => plain(sys::INPUT_USE, id),
+        Input::Add => plain(sys::INPUT_ADD, 0),
+        Input::Fill => plain(sys::INPUT_FILL, 0),
+        Input::Added { id, outcome } => told(sys::INPUT_ADDED, id, outcome),
+        Input::Evict => plain(sys::INPUT_EVICT, 0),
+        Input::EvictNext => plain(sys::INPUT_EVICT_NEXT, 0),
+        Input::Tested { id, outcome } => told(sys::INPUT_TESTED, id, outcome),
+        Input::Reclaim { on: When::Borrow } => plain(sys::INPUT_RECLAIM_ON_BORROW, 0),
+        Input::Reclaim { on: When::Maintain } => plain(sys::INPUT_RECLAIM_FOR_MAINTENANCE, 0),
+        Input::ReclaimNext => plain(sys::INPUT_RECLAIM_NEXT, 0),
+        Input::Clear => plain(sys::INPUT_CLEAR, 0),
+        Input::ClearNext => plain(sys::INPUT_CLEAR_NEXT, 0),
+        Input::Destroyed { id } => plain(sys::INPUT_DESTROYED, id),
+        Input::Close => plain(sys::INPUT_CLOSE, 0),
     };
     sys::Request {
         at: 0,
@@ -230,50 +230,50 @@ fn request_of(input: Input) -> sys::Request {
 
 fn outcome_code(outcome: Outcome) -> u32 {
     match outcome {
-        Outcome::Good => sys::GOOD,
-        Outcome::MakeFailed => sys::MAKE_FAILED,
-        Outcome::CreateTestFailed => sys::CREATE_TEST_FAILED,
-        Outcome::ActivateFailed => sys::ACTIVATE_FAILED,
-        Outcome::TestFailed => sys::TEST_FAILED,
-        Outcome::PassivateFailed => sys::PASSIVATE_FAILED,
+        Outcome::Good => sys::OUTCOME_GOOD,
+        Outcome::MakeFailed => sys::OUTCOME_MAKE_FAILED,
+        Outcome::CreateTestFailed => sys::OUTCOME_CREATE_TEST_FAILED,
+        Outcome::ActivateFailed => sys::OUTCOME_ACTIVATE_FAILED,
+        Outcome::TestFailed => sys::OUTCOME_TEST_FAILED,
+        Outcome::PassivateFailed => sys::OUTCOME_PASSIVATE_FAILED,
     }
 }
 
 #[inline]
 fn answer_of(reply: &sys::Reply) -> Answer {
     match reply.answer {
-        sys::TAKE => Answer::Take(reply.number),
-        sys::MAKE => Answer::Make(reply.number),
-        sys::WAIT => Answer::Wait,
-        sys::EXHAUSTED => Answer::Exhausted,
-        sys::TIMED_OUT => Answer::TimedOut,
-        sys::LENT => Answer::Lent,
-        sys::CHECK => Answer::Check,
-        sys::PARKED => Answer::Parked,
-        sys::KEPT => Answer::Kept,
-        sys::KEPT_IDLE => Answer::KeptIdle(reply.number),
-        sys::DESTROY => Answer::Destroy,
-        sys::DESTROY_IDLE => Answer::DestroyIdle(reply.number),
-        sys::TEST => Answer::Test(reply.number),
-        sys::FREED => Answer::Freed,
-        sys::GONE => Answer::Gone,
-        sys::NOTED => Answer::Noted,
-        sys::COUNT => Answer::Count(reply.number),
-        sys::RECLAIMED => Answer::Reclaimed(reply.number),
-        sys::NOTHING => Answer::Nothing,
-        sys::ENOUGH => Answer::Enough,
-        sys::NO_PLACE => Answer::NoPlace,
-        sys::REFUSED => Answer::Refused(cause_of(reply.cause)),
+        sys::ANSWER_TAKE => Answer::Take(reply.number),
+        sys::ANSWER_MAKE => Answer::Make(reply.number),
+        sys::ANSWER_WAIT => Answer::Wait,
+        sys::ANSWER_EXHAUSTED => Answer::Exhausted,
+        sys::ANSWER_TIMED_OUT => Answer::TimedOut,
+        sys::ANSWER_LENT => Answer::Lent,
+        sys::ANSWER_CHECK => Answer::Check,
+        sys::ANSWER_PARKED => Answer::Parked,
+        sys::ANSWER_KEPT => Answer::Kept,
+        sys::ANSWER_KEPT_IDLE => Answer::KeptIdle(reply.number),
+        sys::ANSWER_DESTROY => Answer::Destroy,
+        sys::ANSWER_DESTROY_IDLE => Answer::DestroyIdle(reply.number),
+        sys::ANSWER_TEST => Answer::Test(reply.number),
+        sys::ANSWER_FREED => Answer::Freed,
+        sys::ANSWER_GONE => Answer::Gone,
+        sys::ANSWER_NOTED => Answer::Noted,
+        sys::ANSWER_COUNT => Answer::Count(reply.number),
+        sys::ANSWER_RECLAIMED => Answer::Reclaimed(reply.number),
+        sys::ANSWER_NOTHING => Answer::Nothing,
+        sys::ANSWER_ENOUGH => Answer::Enough,
+        sys::ANSWER_NO_PLACE => Answer::NoPlace,
+        sys::ANSWER_REFUSED => Answer::Refused(cause_of(reply.cause)),
         code => unreachable!("a step has answer {code}"),
     }
 }
 
 fn cause_of(code: u32) -> Cause {
     match code {
-        sys::CLOSED => Cause::Closed,
-        sys::NOT_LENT => Cause::NotLent,
-        sys::NOT_HELD => Cause::NotHeld,
-        sys::BAD_OUTCOME => Cause::BadOutcome,
+        sys::CAUSE_CLOSED => Cause::Closed,
+        sys::CAUSE_NOT_LENT => Cause::NotLent,
+        sys::CAUSE_NOT_HELD => Cause::NotHeld,
+        sys::CAUSE_BAD_OUTCOME => Cause::BadOutcome,
         code => unreachable!("a step has cause {code}"),
     }
 }

@@ -98,7 +98,7 @@ fn line_of_fault(text: &str) -> u64 {
         .take_while(|&(_, end)| end < MOST_BYTES);
     let is_toml = |end| match settings_of(&text[..=end]) {
         Ok(_) => true,
-        Err((status, _)) => status != sys::NOT_TOML && status != sys::OUT_OF_MEMORY,
+        Err((status, _)) => status != sys::STATUS_NOT_TOML && status != sys::STATUS_OUT_OF_MEMORY,
     };
     let last = looked_at.filter(|&(_, end)| is_toml(end)).last();
     last.map_or(1, |(lines, _)| lines as u64 + 2)
@@ -140,11 +140,13 @@ impl Settings {
         settings_of(text)
             .map(Settings::from)
             .map_err(|(status, key)| match status {
-                sys::OUT_OF_MEMORY => SettingsError::OutOfMemory,
-                sys::NOT_TEXT | sys::NOT_TOML => SettingsError::NotToml(line_of_fault(text)),
-                sys::UNKNOWN_KEY => SettingsError::UnknownKey(key),
-                sys::WRONG_TYPE => SettingsError::WrongType(key),
-                sys::OUT_OF_RANGE => SettingsError::OutOfRange(key),
+                sys::STATUS_OUT_OF_MEMORY => SettingsError::OutOfMemory,
+                sys::STATUS_NOT_TEXT | sys::STATUS_NOT_TOML => {
+                    SettingsError::NotToml(line_of_fault(text))
+                }
+                sys::STATUS_UNKNOWN_KEY => SettingsError::UnknownKey(key),
+                sys::STATUS_WRONG_TYPE => SettingsError::WrongType(key),
+                sys::STATUS_OUT_OF_RANGE => SettingsError::OutOfRange(key),
                 status => unreachable!("settings came to status {status}"),
             })
     }
