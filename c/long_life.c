@@ -1,20 +1,22 @@
-/* A pool that lends for as long as it likes, since its journal is cut.
+/* A pool that runs for as long as it likes, since its journal is cut.
  *
  *     long_life SETTINGS FOLDER ROUNDS
  *
- * Borrows an object and gives it back, so often. Where the journal has room for few entries only, it is written as a segment and cut. Each
- * segment is a file segment-POSITION of the folder, named for the position of its first entry: `pool check SETTINGS FOLDER/segment-*`
- * judges them. Status 0; 1 where a call of the pool, or what is asked of the system, was refused. */
+ * Borrows an object and returns it, ROUNDS times. When the journal has room for few more entries, the program writes it as a segment and cuts
+ * it. Each segment is a file segment-POSITION of the folder, named for the position of its first entry: `pool check SETTINGS FOLDER/segment-*`
+ * checks them. Exits with status 0; or with status 1 if a call of the pool or of the system fails. */
 #include <inttypes.h>
 #include <stdio.h>
 #include <stdlib.h>
 
 #include "zuphinka.h"
 
-/* A round has four entries, and the last one two for each object and one more. */
-enum { FEW = 16 };
+enum {
+  /* A round has four entries. Those that close the pool and destroy its objects are outstanding: room for them is set aside. */
+  FEW = 16,
+  LONGEST_SETTINGS = 1 << 20, /* bytes, the most that docs/settings.md allows */
+};
 
-/* What is lent. */
 struct object {
   uint64_t id;
 };
@@ -24,11 +26,11 @@ static uint64_t now; /* in milliseconds; a server asks its clock */
 static bool step(struct zuphinka *pool, uint32_t input, uint64_t number, struct object *object, struct zuphinka_reply *reply) {
   struct zuphinka_request request = {.at = now, .number = number, .object = object, .input = input, .outcome = ZUPHINKA_OUTCOME_GOOD};
   uint32_t status = zuphinka_step(pool, &request, reply);
-  if (status != ZUPHINKA_STATUS_DONE) fprintf(stderr, "long_life: input %u: status %u\n", input, status);
+  if (status != ZUPHINKA_STATUS_DONE) fprintf(stderr, "long_life: input %u: %s\n", input, zuphinka_status_text(status));
   return status == ZUPHINKA_STATUS_DONE;
 }
 
-/* Makes the object that a borrow is answered, or has its token. */
+/* Returns the object that a borrow is answered: a new one, or the idle one; or null. */
 static struct object *object_of(const struct zuphinka_reply *reply) {
   if (reply->answer == ZUPHINKA_ANSWER_TAKE) return reply->object;
   struct object *made = reply->answer == ZUPHINKA_ANSWER_MAKE ? malloc(sizeof *made) : NULL;
@@ -36,15 +38,15 @@ static struct object *object_of(const struct zuphinka_reply *reply) {
   return made;
 }
 
-/* Destroys an object that the pool gave up. */
+/* Destroys an object, and then reports it. The report frees its place, so that another one may be made. */
 static bool end(struct zuphinka *pool, struct object *object) {
   struct zuphinka_reply reply;
-  bool ended = step(pool, ZUPHINKA_INPUT_DESTROYED, object->id, NULL, &reply);
+  uint64_t id = object->id;
   free(object);
-  return ended;
+  return step(pool, ZUPHINKA_INPUT_DESTROYED, id, NULL, &reply);
 }
 
-/* Borrows an object, and gives it back: it is parked, or destroyed where the settings say so. */
+/* Borrows an object and returns it. It is then idle, or destroyed if the settings say so. */
 static bool lend(struct zuphinka *pool) {
   struct zuphinka_reply reply;
   if (!step(pool, ZUPHINKA_INPUT_BORROW, now, NULL, &reply)) return false;
@@ -56,7 +58,7 @@ static bool lend(struct zuphinka *pool) {
   return reply.answer == ZUPHINKA_ANSWER_DESTROY ? end(pool, object) : reply.answer == ZUPHINKA_ANSWER_PARKED;
 }
 
-/* Closes the pool, and destroys what lies idle in it. */
+/* Closes the pool, and destroys its idle objects. */
 static bool close_all(struct zuphinka *pool) {
   struct zuphinka_reply reply;
   bool goes_on = step(pool, ZUPHINKA_INPUT_CLOSE, 0, NULL, &reply);
@@ -65,20 +67,20 @@ static bool close_all(struct zuphinka *pool) {
   return goes_on;
 }
 
-typedef uint32_t telling(struct zuphinka *, uint64_t, char *, size_t, uint64_t *);
+typedef uint32_t line_function(struct zuphinka *, uint64_t, char *, size_t, uint64_t *);
 
-/* Writes all lines that are told. */
-static bool write_lines(telling *tell, struct zuphinka *pool, FILE *file) {
+/* Writes all lines of the base or of the journal. */
+static bool write_lines(line_function *line_at, struct zuphinka *pool, FILE *file) {
   char line[ZUPHINKA_LONGEST_LINE];
   uint64_t size;
   for (uint64_t position = 0;; position++) {
-    uint32_t status = tell(pool, position, line, sizeof line, &size);
+    uint32_t status = line_at(pool, position, line, sizeof line, &size);
     if (status != ZUPHINKA_STATUS_DONE) return status == ZUPHINKA_STATUS_NO_ENTRY;
     if (fwrite(line, 1, size, file) != size) return false;
   }
 }
 
-/* Writes a segment, and cuts the journal only where all of it is written. Threads that share a pool do this with the lock held. */
+/* Writes a segment, and cuts the journal only if all of it is written. Threads that share a pool do this with the lock held. */
 static bool cut(struct zuphinka *pool, const char *folder) {
   struct zuphinka_counts counts;
   uint64_t steps;
@@ -93,13 +95,13 @@ static bool cut(struct zuphinka *pool, const char *folder) {
 
 /* Opens a pool with the settings of a file. */
 static bool open_pool(struct zuphinka *pool, const char *path) {
-  static char settings[1 << 20];
+  static char settings[LONGEST_SETTINGS + 1];
   FILE *file = fopen(path, "rb");
   if (!file) return false;
   size_t length = fread(settings, 1, sizeof settings, file);
-  bool whole = feof(file) && !ferror(file);
+  bool is_read = !ferror(file) && length <= LONGEST_SETTINGS;
   fclose(file);
-  return whole && zuphinka_open(pool, settings, length) == ZUPHINKA_STATUS_DONE;
+  return is_read && zuphinka_open(pool, settings, length) == ZUPHINKA_STATUS_DONE;
 }
 
 int main(int count, char **arguments) {
@@ -110,8 +112,7 @@ int main(int count, char **arguments) {
   }
   bool goes_on = true;
   for (uint64_t rounds = strtoull(arguments[3], NULL, 10); goes_on && rounds > 0; rounds--) {
-    uint64_t room = 0;
-    goes_on = zuphinka_room(&pool, &room) == ZUPHINKA_STATUS_DONE && (room >= FEW || cut(&pool, arguments[2])) && lend(&pool);
+    goes_on = (!zuphinka_is_low(&pool, FEW) || cut(&pool, arguments[2])) && lend(&pool);
   }
   goes_on = goes_on && close_all(&pool) && cut(&pool, arguments[2]);
   zuphinka_drop(&pool);

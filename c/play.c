@@ -499,13 +499,14 @@ static void play_line(struct zuphinka *pool, char *text, unsigned long line, boo
   see_entry(pool, line - 1 - dropped, &reply, is_written);
 }
 
-static void play(struct zuphinka *pool, char *script, uint64_t every) {
+static void play(struct zuphinka *pool, char *script, size_t length, uint64_t every) {
   unsigned long line = 1;
   size_t begins = out.length;
   if (every) append_lines(zuphinka_base, pool, &out);
-  for (char *at = script; *at; line++) {
-    char *end = strchr(at, '\n');
+  for (char *at = script; at < script + length; line++) {
+    char *end = memchr(at, '\n', (size_t)(script + length - at));
     if (!end) fault_at(line, "truncated");
+    if (memchr(at, 0, (size_t)(end - at))) fault_at(line, "not a line");
     *end = 0;
     if (every && line - 1 - dropped == every) {
       write_entries(pool, begins);
@@ -530,7 +531,7 @@ static void run(char **arguments, uint64_t every) {
   check_codes(&pool);
   size_t length;
   char *script = read_file(arguments[2], &length);
-  play(&pool, script, every);
+  play(&pool, script, length, every);
   free(script);
   zuphinka_drop(&pool);
   check_empty(&pool);

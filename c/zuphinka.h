@@ -1,30 +1,57 @@
 /*
- * zuphinka.h: a proved object pool for C and whatever speaks C.
+ * zuphinka.h: an object pool whose decisions are proved, for C and languages that call C.
  *
- * The pool decides; the host acts. For each step the host says what it wants or what it did, and the pool answers what is
- * to be done with which object. The objects are the host's: the pool knows each by its id, a number that is never drawn twice,
- * and keeps, while an object is idle, one pointer for it, the object's token, which it never follows. Each step appends one
- * entry to the pool's journal, whose text is that of the program `pool`: `pool check` judges it. The journal is kept in memory, up to the
- * setting journalLimit; a pool that is to run for longer writes it and cuts it in time (`zuphinka_cut`). The inputs with their answers stand in
- * README.md, "The program", and docs/life.md.
+ * The pool decides; the host acts. For each step the host sends a request: what it wants or what it did. The pool answers what to do with
+ * which object. The host makes, tests and destroys its objects. The pool knows an object by its id, a number that it never uses twice. While
+ * an object is idle, the pool stores one pointer for it, the object's token, and never follows it.
  *
- * `python3 tools/build.py zuphinka` builds the library. It calls malloc, realloc and free by way of a file of the kit:
+ * Each step appends one entry to the pool's journal. Its text is that of the program `pool`, and `pool check` checks it. The pool stores the
+ * entries in memory, up to the setting journalLimit. A pool that runs longer writes its journal and cuts it in time (`zuphinka_is_low`,
+ * `zuphinka_cut`). README.md, "The program", and docs/life.md list the inputs with their answers.
  *
- *     cc -I c server.c crates/zuphinka/out/libzuphinka.a "$(dirname "$(rt doc)")"/c/liblibc_c.a
+ * `python3 tools/build.py zuphinka` builds the library, and `python3 tools/install.py --prefix FOLDER` installs it with a file for pkg-config:
  *
- * c/plain_life.c and c/long_life.c are programs to copy from.
+ *     cc $(PKG_CONFIG_PATH=FOLDER/lib/pkgconfig pkg-config --cflags --libs zuphinka) -o server server.c
  *
- * What is proved holds for callers who keep these rules. Nothing checks them:
- *   - a handle is zeroed (`struct zuphinka pool = {0};`) before its first call, and no copy of it is used, nor written
- *     by anyone else. A zeroed handle is an empty one;
- *   - each pointer points to memory of its type or length, which may be written to where it isn't const; none is null, that of a text of
- *     no bytes included; those of one call are apart from one another and from the handle;
- *   - of one handle one call runs at a time: threads that share a pool hold a lock of the host's round each call. Calls of different
- *     handles may run at once. No call comes from a signal handler, or from a forked child of a process with threads;
- *   - malloc, realloc and free are those of one allocator, aligned as C has it, and the same ones for all calls of a handle.
- * There is no global state. A pool that is no longer used is dropped, or its memory is never given back.
+ * c/plain_life.c and c/long_life.c are programs to copy from. c/zuphinka_pool.h is a pool for threads over this library.
  *
- * A call of an empty handle is no fault, but has a status.
+ * Rules
+ *
+ * What is proved holds for callers that keep these rules. Nothing checks them.
+ *   - Zero a handle (`struct zuphinka pool = {0};`) before its first call. Do not copy it and do not write to it. A zeroed handle is empty.
+ *   - Each pointer points to memory of its type or length, writable unless it is const. No pointer is null, even that of a text of no bytes.
+ *     The pointers of one call do not overlap each other or the handle.
+ *   - One call runs on a handle at a time. Threads that share a pool hold a lock of the host's during each call. Each call writes to the
+ *     handle, also one that only reads the pool. Calls on different handles may run at once. No call comes from a signal handler, or from a
+ *     forked child of a process with threads.
+ *   - malloc, realloc and free belong to one allocator, aligned as C requires, and stay the same for all calls on a handle.
+ * There is no global state. Drop a pool that is no longer used (`zuphinka_drop`): nothing else frees its memory.
+ *
+ * A call on an empty handle is no error of the host: it returns a status.
+ *
+ * Threads that wait
+ *
+ * A borrower that is answered ZUPHINKA_ANSWER_WAIT sleeps on a condition variable, and asks again with the same `number` when it wakes:
+ *
+ *     pthread_mutex_lock(&lock);
+ *     request = (struct zuphinka_request){.number = now(), .input = ZUPHINKA_INPUT_BORROW};
+ *     for (;;) {
+ *       request.at = now();
+ *       status = zuphinka_step(&pool, &request, &reply);
+ *       if (status != ZUPHINKA_STATUS_DONE || reply.answer != ZUPHINKA_ANSWER_WAIT) break;
+ *       pthread_cond_wait(&changed, &lock);
+ *     }
+ *     if (status != ZUPHINKA_STATUS_DONE) pthread_cond_signal(&changed);
+ *     pthread_mutex_unlock(&lock);
+ *
+ * The thread whose step may serve a borrower wakes it:
+ *   - after ZUPHINKA_ANSWER_PARKED and ZUPHINKA_ANSWER_KEPT, since an object is idle, and after ZUPHINKA_ANSWER_FREED and
+ *     ZUPHINKA_ANSWER_RECLAIMED, since a place is free, it wakes one borrower (`pthread_cond_signal`);
+ *   - after ZUPHINKA_ANSWER_COUNT to ZUPHINKA_INPUT_CLOSE it wakes all of them (`pthread_cond_broadcast`), which learn that the pool is closed;
+ *   - a borrower that was woken and whose step then fails wakes another one, as above.
+ * If the setting maxWaitMillis isn't negative, a borrower sleeps no longer than the rest of that time, and asks again. The pool then answers
+ * ZUPHINKA_ANSWER_TIMED_OUT. Make, test and destroy objects without the lock. Destroy an object before you report it
+ * (ZUPHINKA_INPUT_DESTROYED): the report frees its place, and another thread may make a new object at once.
  */
 #ifndef ZUPHINKA_H
 #define ZUPHINKA_H
@@ -33,146 +60,152 @@
 #include <stddef.h>
 #include <stdint.h>
 
+/* The version of this header, which is that of the library: a text and its three numbers. */
+#define ZUPHINKA_VERSION "0.1.0"
+#define ZUPHINKA_VERSION_MAJOR 0
+#define ZUPHINKA_VERSION_MINOR 1
+#define ZUPHINKA_VERSION_PATCH 0
+
 #ifdef __cplusplus
 extern "C" {
 #endif
 
-/* A pool, or none. Its field is the library's. */
+/* A handle: it has a pool, or is empty. Only the library uses its field. */
 struct zuphinka {
   void *at;
 };
 
-/* What a call came to. Where it isn't ZUPHINKA_STATUS_DONE, nothing has changed, but where the function says otherwise. */
+/* The status of a call. If it is not ZUPHINKA_STATUS_DONE, the call changed nothing, unless its function says otherwise. */
 enum zuphinka_status {
   ZUPHINKA_STATUS_DONE = 0,
-  ZUPHINKA_STATUS_NOT_OPEN = 1,     /* the handle is empty */
-  ZUPHINKA_STATUS_ALREADY_OPEN = 2, /* the handle has a pool */
-  ZUPHINKA_STATUS_OUT_OF_MEMORY = 3,
-  ZUPHINKA_STATUS_JOURNAL_FULL = 4,     /* the entry has no room in the journal with all that would be owed after it */
-  ZUPHINKA_STATUS_BAD_REQUEST = 5,      /* input is no code of an input, or outcome none of an outcome where one is read */
-  ZUPHINKA_STATUS_NO_ENTRY = 6,         /* the journal has no entry, or the base no line, at this position */
-  ZUPHINKA_STATUS_BUFFER_TOO_SMALL = 7, /* the buffer is too short for the text */
-  ZUPHINKA_STATUS_NOT_TEXT = 8,         /* the settings are no UTF-8 */
-  ZUPHINKA_STATUS_NOT_TOML = 9,         /* the settings are no TOML document */
-  ZUPHINKA_STATUS_UNKNOWN_KEY = 10,     /* no setting has this key */
-  ZUPHINKA_STATUS_WRONG_TYPE = 11,      /* the value of a key isn't of its type */
-  ZUPHINKA_STATUS_OUT_OF_RANGE = 12     /* the number of a key isn't in its range */
+  ZUPHINKA_STATUS_NOT_OPEN = 1,         /* the handle is empty */
+  ZUPHINKA_STATUS_ALREADY_OPEN = 2,     /* the handle has a pool */
+  ZUPHINKA_STATUS_OUT_OF_MEMORY = 3,    /* an allocation failed */
+  ZUPHINKA_STATUS_JOURNAL_FULL = 4,     /* the journal has no room for the entry and those outstanding after it */
+  ZUPHINKA_STATUS_BAD_REQUEST = 5,      /* `input` is no code of an input, or `outcome`, if the input has one, no code of an outcome */
+  ZUPHINKA_STATUS_NO_ENTRY = 6,         /* the journal has no entry, or the base no line, at the position */
+  ZUPHINKA_STATUS_BUFFER_TOO_SMALL = 7, /* the text does not fit into the buffer */
+  ZUPHINKA_STATUS_NOT_TEXT = 8,         /* the settings are not UTF-8 */
+  ZUPHINKA_STATUS_NOT_TOML = 9,         /* the settings are not a TOML document */
+  ZUPHINKA_STATUS_UNKNOWN_KEY = 10,     /* no setting has the key */
+  ZUPHINKA_STATUS_WRONG_TYPE = 11,      /* the value of a key has another type */
+  ZUPHINKA_STATUS_OUT_OF_RANGE = 12     /* the number of a key is out of its range */
 };
 
-/* What is asked of a pool. */
+/* The input of a request. `number`, `outcome` and `object` are fields of the request. */
 enum zuphinka_input {
-  ZUPHINKA_INPUT_BORROW = 1,                   /* an object is wanted, since the moment `number` */
-  ZUPHINKA_INPUT_READY = 2,                    /* object `number` was made or activated for a borrower: `outcome` */
-  ZUPHINKA_INPUT_RETURN = 3,                   /* its holder gives object `number` back */
-  ZUPHINKA_INPUT_PARK = 4,                     /* object `number`, given back, was tested and made passive: `outcome`, `object` */
+  ZUPHINKA_INPUT_BORROW = 1,                   /* the caller wants an object, and has since time `number` */
+  ZUPHINKA_INPUT_READY = 2,                    /* object `number` was made or activated for a borrower, with `outcome` */
+  ZUPHINKA_INPUT_RETURN = 3,                   /* its holder returns object `number` */
+  ZUPHINKA_INPUT_PARK = 4,                     /* returned object `number` was tested and passivated, with `outcome`; `object` is its token */
   ZUPHINKA_INPUT_INVALIDATE = 5,               /* its holder finds object `number` broken */
   ZUPHINKA_INPUT_USE = 6,                      /* its holder uses object `number` */
-  ZUPHINKA_INPUT_ADD = 7,                      /* one idle object more is wanted */
-  ZUPHINKA_INPUT_FILL = 8,                     /* an idle object is wanted, if there are fewer than minIdle */
-  ZUPHINKA_INPUT_ADDED = 9,                    /* object `number` was made for the stock: `outcome`, `object` */
+  ZUPHINKA_INPUT_ADD = 7,                      /* the caller wants one more idle object */
+  ZUPHINKA_INPUT_FILL = 8,                     /* the caller wants an idle object if fewer than minIdle are idle */
+  ZUPHINKA_INPUT_ADDED = 9,                    /* object `number` was made to be idle, with `outcome`; `object` is its token */
   ZUPHINKA_INPUT_EVICT = 10,                   /* an eviction run begins */
-  ZUPHINKA_INPUT_EVICT_NEXT = 11,              /* the run looks at the next idle object */
-  ZUPHINKA_INPUT_TESTED = 12,                  /* idle object `number` was tested: `outcome`, `object` */
-  ZUPHINKA_INPUT_RECLAIM_ON_BORROW = 13,       /* a removal of abandoned objects begins, at a borrow */
+  ZUPHINKA_INPUT_EVICT_NEXT = 11,              /* the run examines the next idle object */
+  ZUPHINKA_INPUT_TESTED = 12,                  /* idle object `number` was tested, with `outcome`; `object` is its token */
+  ZUPHINKA_INPUT_RECLAIM_ON_BORROW = 13,       /* a reclaim of abandoned objects begins, at a borrow */
   ZUPHINKA_INPUT_RECLAIM_FOR_MAINTENANCE = 14, /* the same, for maintenance */
-  ZUPHINKA_INPUT_RECLAIM_NEXT = 15,            /* the removal looks for the next abandoned object */
-  ZUPHINKA_INPUT_CLEAR = 16,                   /* all idle objects are to be destroyed */
-  ZUPHINKA_INPUT_CLEAR_NEXT = 17,              /* the next idle object is to be destroyed */
+  ZUPHINKA_INPUT_RECLAIM_NEXT = 15,            /* the reclaim looks for the next abandoned object */
+  ZUPHINKA_INPUT_CLEAR = 16,                   /* a clear of all idle objects begins */
+  ZUPHINKA_INPUT_CLEAR_NEXT = 17,              /* the clear looks for the next idle object */
   ZUPHINKA_INPUT_DESTROYED = 18,               /* object `number` was destroyed */
   ZUPHINKA_INPUT_CLOSE = 19                    /* the pool closes */
 };
 
-/* What the factory's work on an object came to. */
+/* The outcome of the host's work on an object. */
 enum zuphinka_outcome {
   ZUPHINKA_OUTCOME_GOOD = 1,
   ZUPHINKA_OUTCOME_MAKE_FAILED = 2,
-  ZUPHINKA_OUTCOME_CREATE_TEST_FAILED = 3, /* a new object did not pass its test */
+  ZUPHINKA_OUTCOME_CREATE_TEST_FAILED = 3, /* a new object failed its test (testOnCreate) */
   ZUPHINKA_OUTCOME_ACTIVATE_FAILED = 4,
   ZUPHINKA_OUTCOME_TEST_FAILED = 5,
   ZUPHINKA_OUTCOME_PASSIVATE_FAILED = 6
 };
 
-/* What a pool answers. */
+/* The answer of a pool. `number`, `object` and `cause` are fields of the reply; "the object" is that of the request. */
 enum zuphinka_answer {
-  ZUPHINKA_ANSWER_TAKE = 1,          /* idle object `number` is yours to make ready; its token is `object` */
-  ZUPHINKA_ANSWER_MAKE = 2,          /* make a new object, with the id `number` */
-  ZUPHINKA_ANSWER_WAIT = 3,          /* there is none now: wait, and ask again with the same `number` */
-  ZUPHINKA_ANSWER_EXHAUSTED = 4,     /* there is none, and the settings say not to wait */
-  ZUPHINKA_ANSWER_TIMED_OUT = 5,     /* there is none, and the wait was as long as the settings allow */
+  ZUPHINKA_ANSWER_TAKE = 1,          /* activate idle object `number`, whose token is `object`, and report ZUPHINKA_INPUT_READY */
+  ZUPHINKA_ANSWER_MAKE = 2,          /* make a new object with the id `number`, and report it */
+  ZUPHINKA_ANSWER_WAIT = 3,          /* no object and no place is free: wait, and ask again with the same `number` */
+  ZUPHINKA_ANSWER_EXHAUSTED = 4,     /* no object and no place is free, and the settings say not to wait */
+  ZUPHINKA_ANSWER_TIMED_OUT = 5,     /* no object and no place is free, and the caller waited as long as the settings allow */
   ZUPHINKA_ANSWER_LENT = 6,          /* the object is lent */
-  ZUPHINKA_ANSWER_CHECK = 7,         /* the object is taken back: test it, make it passive, and park it */
-  ZUPHINKA_ANSWER_PARKED = 8,        /* the object is idle, and its token kept */
-  ZUPHINKA_ANSWER_KEPT = 9,          /* the object has passed its test, stays idle, and its token is kept */
-  ZUPHINKA_ANSWER_KEPT_IDLE = 10,    /* idle object `number` stays as it is */
-  ZUPHINKA_ANSWER_DESTROY = 11,      /* destroy the object, and report it */
-  ZUPHINKA_ANSWER_DESTROY_IDLE = 12, /* destroy idle object `number`, and report it; its token is `object` */
-  ZUPHINKA_ANSWER_TEST = 13,         /* test idle object `number`; its token is `object` */
+  ZUPHINKA_ANSWER_CHECK = 7,         /* the object is returned: test it, passivate it, and report ZUPHINKA_INPUT_PARK */
+  ZUPHINKA_ANSWER_PARKED = 8,        /* the object is idle, and the pool stores its token */
+  ZUPHINKA_ANSWER_KEPT = 9,          /* the object passed its test and stays idle, and the pool stores its token */
+  ZUPHINKA_ANSWER_KEPT_IDLE = 10,    /* idle object `number` is unchanged */
+  ZUPHINKA_ANSWER_DESTROY = 11,      /* destroy the object, then report ZUPHINKA_INPUT_DESTROYED */
+  ZUPHINKA_ANSWER_DESTROY_IDLE = 12, /* destroy idle object `number`, whose token is `object`, then report ZUPHINKA_INPUT_DESTROYED */
+  ZUPHINKA_ANSWER_TEST = 13,         /* activate, test and passivate idle object `number`, whose token is `object` */
   ZUPHINKA_ANSWER_FREED = 14,        /* the object's place is free */
-  ZUPHINKA_ANSWER_GONE = 15,         /* the object was reclaimed before: it is yours alone */
-  ZUPHINKA_ANSWER_NOTED = 16,        /* the use of the object is noted */
-  ZUPHINKA_ANSWER_COUNT = 17,        /* so many objects, `number`, are gone over */
-  ZUPHINKA_ANSWER_RECLAIMED = 18,    /* abandoned object `number` has no place any more */
-  ZUPHINKA_ANSWER_NOTHING = 19,      /* there is nothing to do */
-  ZUPHINKA_ANSWER_ENOUGH = 20,       /* there are as many idle objects as are wanted */
-  ZUPHINKA_ANSWER_NO_PLACE = 21,     /* there is no place for one object more */
-  ZUPHINKA_ANSWER_REFUSED = 22       /* nothing was done; `cause` says why */
+  ZUPHINKA_ANSWER_GONE = 15,         /* the object was reclaimed before, and belongs to its holder alone */
+  ZUPHINKA_ANSWER_NOTED = 16,        /* the pool noted the use */
+  ZUPHINKA_ANSWER_COUNT = 17,        /* the run, reclaim, clear or close is for `number` objects */
+  ZUPHINKA_ANSWER_RECLAIMED = 18,    /* abandoned object `number` lost its place, which is free */
+  ZUPHINKA_ANSWER_NOTHING = 19,      /* no object is left to look at, or the pool was closed before */
+  ZUPHINKA_ANSWER_ENOUGH = 20,       /* enough objects are idle */
+  ZUPHINKA_ANSWER_NO_PLACE = 21,     /* no place is free */
+  ZUPHINKA_ANSWER_REFUSED = 22       /* nothing was done, for `cause` */
 };
 
-/* Why nothing was done. */
+/* Why a pool answers ZUPHINKA_ANSWER_REFUSED. */
 enum zuphinka_cause {
   ZUPHINKA_CAUSE_NONE = 0,
   ZUPHINKA_CAUSE_CLOSED = 1,     /* the pool is closed */
-  ZUPHINKA_CAUSE_NOT_LENT = 2,   /* the object isn't lent */
-  ZUPHINKA_CAUSE_NOT_HELD = 3,   /* the object isn't in the hands of who readies, checks, tests or destroys it */
-  ZUPHINKA_CAUSE_BAD_OUTCOME = 4 /* what was done to the object can't come out so */
+  ZUPHINKA_CAUSE_NOT_LENT = 2,   /* the object is not lent */
+  ZUPHINKA_CAUSE_NOT_HELD = 3,   /* the object is not in the phase that the input reports on */
+  ZUPHINKA_CAUSE_BAD_OUTCOME = 4 /* the work on the object cannot have this outcome */
 };
 
 /*
- * What is asked. `number`, `outcome` and `object` are read where the input says so; `object` only where the outcome is ZUPHINKA_OUTCOME_GOOD.
- * All fields have to be set: `struct zuphinka_request request = {.at = .., ..};` sets those that are left out to 0.
+ * A request. The pool reads `number`, `outcome` and `object` if the input has them, and `object` only if the outcome is ZUPHINKA_OUTCOME_GOOD.
+ * Set all fields: `struct zuphinka_request request = {.at = .., ..};` sets the others to 0.
  */
 struct zuphinka_request {
-  uint64_t at;      /* the moment, in milliseconds */
-  uint64_t number;  /* an object's id, or the moment since when an object is wanted */
+  uint64_t at;      /* the time, in milliseconds */
+  uint64_t number;  /* an object's id, or the time at which the caller first asked for an object */
   void *object;     /* the object's token, any pointer, null included */
-  uint32_t caller;  /* who asks, as the journal has it */
+  uint32_t caller;  /* the caller's number in the journal */
   uint32_t input;   /* enum zuphinka_input */
   uint32_t outcome; /* enum zuphinka_outcome */
 };
 
-/* What is answered. */
+/* A reply. */
 struct zuphinka_reply {
-  uint64_t number; /* an object's id, or how many there are, where the answer says so; else 0 */
-  void *object;    /* the token that comes out, where has_object is true; else null */
+  uint64_t number; /* an object's id or a number of objects, if the answer has one; else 0 */
+  void *object;    /* the token that is returned, if has_object is true; else null */
   uint32_t answer; /* enum zuphinka_answer */
   uint32_t cause;  /* enum zuphinka_cause */
-  bool has_object; /* a token comes out: that of an idle object that is taken, tested or to be destroyed, or the one handed in that isn't kept */
+  bool has_object; /* a token is returned: that of an idle object, or the request's if the pool does not store it */
 };
 
-/* How many entries there were, and of how many objects they tell. */
+/* Numbers of entries and objects. */
 struct zuphinka_counts {
-  uint64_t steps;     /* entries, since the pool was opened */
-  uint64_t idle;      /* objects that are idle, those that are being tested there included */
-  uint64_t lent;      /* objects that are lent */
-  uint64_t reserved;  /* objects that are present, and neither idle nor lent */
-  uint64_t created;   /* objects that were asked to be made */
-  uint64_t destroyed; /* objects that were destroyed or could not be made */
-  uint64_t evicted;   /* idle objects that an eviction run had destroyed, for their time or a failed test */
+  uint64_t steps;     /* entries since the pool was opened */
+  uint64_t idle;      /* idle objects, including those under an idle test */
+  uint64_t lent;      /* lent objects */
+  uint64_t reserved;  /* present objects that are neither idle nor lent */
+  uint64_t created;   /* objects that the pool asked to make */
+  uint64_t destroyed; /* objects that were destroyed, or could not be made */
+  uint64_t evicted;   /* idle objects that an eviction run destroyed, for their idle time or a failed test */
   uint64_t reclaimed; /* abandoned objects that lost their places */
 };
 
-/* What a text of settings says, as docs/settings.md has it. A key has the field's name with capitals in place of underscores. */
+/* Settings, as docs/settings.md explains them. The key of field `max_total` is maxTotal, and so on. */
 struct zuphinka_settings {
-  uint64_t journal_limit;                  /* entries that the journal can hold */
-  int64_t max_wait_millis;                 /* negative: without limit */
-  int64_t min_evictable_idle_millis;       /* 0 or negative: none is evicted for that */
-  int64_t remove_abandoned_timeout_millis; /* of the table `abandoned` */
-  int64_t soft_min_evictable_idle_millis;  /* 0 or negative: none is evicted for that */
-  int32_t max_idle;                        /* objects; negative: without limit */
-  int32_t max_total;                       /* objects; negative: without limit */
-  int32_t min_idle;
-  int32_t num_tests_per_eviction_run;
-  bool abandoned; /* there is a table `abandoned` */
+  uint64_t journal_limit;                  /* the most entries that the journal stores */
+  int64_t max_wait_millis;                 /* milliseconds; negative: no limit */
+  int64_t min_evictable_idle_millis;       /* milliseconds; 0 or negative: no such eviction */
+  int64_t remove_abandoned_timeout_millis; /* milliseconds; of the table `abandoned` */
+  int64_t soft_min_evictable_idle_millis;  /* milliseconds; 0 or negative: no such eviction */
+  int32_t max_idle;                        /* objects; negative: no limit */
+  int32_t max_total;                       /* objects; negative: no limit */
+  int32_t min_idle;                        /* objects */
+  int32_t num_tests_per_eviction_run;      /* objects; -n: one n-th of the idle ones, rounded up */
+  bool abandoned;                          /* the settings have a table `abandoned` */
   bool block_when_exhausted;
   bool lifo;
   bool remove_abandoned_on_borrow;      /* of the table `abandoned` */
@@ -183,7 +216,7 @@ struct zuphinka_settings {
   bool test_while_idle;
 };
 
-/* No line is longer, with its line feed. */
+/* The greatest size of a line of a journal, in bytes, with its line feed. */
 #define ZUPHINKA_LONGEST_LINE 256
 
 #if defined(__STDC_VERSION__) && __STDC_VERSION__ >= 201112L
@@ -193,84 +226,126 @@ _Static_assert(sizeof(struct zuphinka_settings) == 72, "zuphinka.h: another layo
 #endif
 
 /*
- * Tells the settings that a text says, a TOML document of `length` bytes (docs/settings.md; of no bytes, all defaults). A host that steps a pool
- * goes by some of them: what is tested, and whether a borrow first reclaims. It needs no pool.
+ * Reads settings from a text: a TOML document of `length` bytes (docs/settings.md). A text of no bytes has all defaults. It needs no pool. A
+ * host that steps a pool honours some of the settings itself: which objects are tested, and whether a borrow first reclaims.
  *
- * ZUPHINKA_STATUS_DONE. Else `settings` is as it was: ZUPHINKA_STATUS_NOT_TEXT, ZUPHINKA_STATUS_NOT_TOML; ZUPHINKA_STATUS_UNKNOWN_KEY, ZUPHINKA_STATUS_WRONG_TYPE or
- * ZUPHINKA_STATUS_OUT_OF_RANGE, the first fault of the text, with the key's name, one of the table as `abandoned.<key>`, at the front of `key`, a
- * buffer of `room` bytes, if it has room for that, and its size. ZUPHINKA_STATUS_OUT_OF_MEMORY, which may stand in place of each other but
- * ZUPHINKA_STATUS_NOT_TEXT. Where no key is told, `key` and `size` are as they were.
+ * Returns ZUPHINKA_STATUS_DONE and stores the settings in `settings`. Errors leave `settings` unchanged:
+ *   - ZUPHINKA_STATUS_NOT_TEXT, ZUPHINKA_STATUS_NOT_TOML;
+ *   - ZUPHINKA_STATUS_UNKNOWN_KEY, ZUPHINKA_STATUS_WRONG_TYPE or ZUPHINKA_STATUS_OUT_OF_RANGE, the first error of the text. The size of the
+ *     key's name is stored in `size`. The name is stored in `key`, a buffer of `capacity` bytes, if it fits. A key of the table is named
+ *     `abandoned.<key>`;
+ *   - ZUPHINKA_STATUS_OUT_OF_MEMORY, possibly in place of any other error except ZUPHINKA_STATUS_NOT_TEXT.
+ * If no key is reported, `key` and `size` are unchanged.
  */
-uint32_t zuphinka_settings(const char *text, size_t length, struct zuphinka_settings *settings, char *key, size_t room, uint64_t *size);
+uint32_t zuphinka_settings(const char *text, size_t length, struct zuphinka_settings *settings, char *key, size_t capacity, uint64_t *size);
 
 /*
- * Opens a pool in an empty handle: no objects, an empty journal, and the settings that the text says, a TOML document of
- * `length` bytes (docs/settings.md; of no bytes, all defaults). It asks at once for the memory of the entry that closes the pool.
+ * Opens a pool in an empty handle: without objects, with an empty journal, and with settings from a text, a TOML document of `length` bytes
+ * (docs/settings.md; of no bytes: all defaults). Sets aside the memory of the entry that closes the pool.
  *
- * ZUPHINKA_STATUS_DONE; ZUPHINKA_STATUS_ALREADY_OPEN, and the pool is as it was; ZUPHINKA_STATUS_NOT_TEXT, ZUPHINKA_STATUS_NOT_TOML, ZUPHINKA_STATUS_UNKNOWN_KEY,
- * ZUPHINKA_STATUS_WRONG_TYPE or ZUPHINKA_STATUS_OUT_OF_RANGE, the first fault of the text, and the handle is still empty; ZUPHINKA_STATUS_OUT_OF_MEMORY,
- * which may stand in place of each but ZUPHINKA_STATUS_ALREADY_OPEN, and the handle is still empty.
+ * Returns ZUPHINKA_STATUS_DONE. Errors leave the handle unchanged: ZUPHINKA_STATUS_ALREADY_OPEN; ZUPHINKA_STATUS_NOT_TEXT,
+ * ZUPHINKA_STATUS_NOT_TOML, ZUPHINKA_STATUS_UNKNOWN_KEY, ZUPHINKA_STATUS_WRONG_TYPE or ZUPHINKA_STATUS_OUT_OF_RANGE, the first error of the
+ * text; ZUPHINKA_STATUS_OUT_OF_MEMORY, possibly in place of any other error except ZUPHINKA_STATUS_ALREADY_OPEN.
  */
 uint32_t zuphinka_open(struct zuphinka *pool, const char *settings, size_t length);
 
 /*
- * Takes one step: answers what is asked, as the definitions say is due after the whole journal, and appends the one entry that says so.
+ * Takes one step: stores the expected answer to `request` in `reply`, and appends exactly one entry, which records it.
  *
- * ZUPHINKA_STATUS_DONE, with the answer in `reply`, ZUPHINKA_ANSWER_REFUSED included. Else pool and `reply` are as they were: ZUPHINKA_STATUS_NOT_OPEN;
- * ZUPHINKA_STATUS_BAD_REQUEST; ZUPHINKA_STATUS_JOURNAL_FULL, exactly where the entry with all that would be owed after it doesn't fit within the
- * setting journalLimit; ZUPHINKA_STATUS_OUT_OF_MEMORY, and the same step may be tried again.
+ * Returns ZUPHINKA_STATUS_DONE, also if the answer is ZUPHINKA_ANSWER_REFUSED. Errors leave pool and `reply` unchanged:
+ *   - ZUPHINKA_STATUS_NOT_OPEN, ZUPHINKA_STATUS_BAD_REQUEST;
+ *   - ZUPHINKA_STATUS_JOURNAL_FULL, exactly if the entry and those outstanding after it exceed the setting journalLimit;
+ *   - ZUPHINKA_STATUS_OUT_OF_MEMORY. The same step may be tried again.
  *
- * A step that finishes what was begun is always ZUPHINKA_STATUS_DONE, since its room and memory are kept: one that is answered
- * ZUPHINKA_ANSWER_LENT, ZUPHINKA_ANSWER_CHECK, ZUPHINKA_ANSWER_PARKED, ZUPHINKA_ANSWER_KEPT, ZUPHINKA_ANSWER_DESTROY, ZUPHINKA_ANSWER_DESTROY_IDLE, ZUPHINKA_ANSWER_FREED or
- * ZUPHINKA_ANSWER_RECLAIMED, and the ZUPHINKA_INPUT_CLOSE of an open pool.
+ * A completing step never fails: its journal room and memory are set aside. A step completes if its answer is ZUPHINKA_ANSWER_LENT,
+ * ZUPHINKA_ANSWER_CHECK, ZUPHINKA_ANSWER_PARKED, ZUPHINKA_ANSWER_KEPT, ZUPHINKA_ANSWER_DESTROY, ZUPHINKA_ANSWER_DESTROY_IDLE,
+ * ZUPHINKA_ANSWER_FREED or ZUPHINKA_ANSWER_RECLAIMED, or if it is the ZUPHINKA_INPUT_CLOSE of an open pool.
  */
 uint32_t zuphinka_step(struct zuphinka *pool, const struct zuphinka_request *request, struct zuphinka_reply *reply);
 
-/* Tells the counts. ZUPHINKA_STATUS_DONE; or ZUPHINKA_STATUS_NOT_OPEN, and `counts` is as it was. */
+/* Stores the counts in `counts`. Returns ZUPHINKA_STATUS_DONE; or ZUPHINKA_STATUS_NOT_OPEN, and `counts` is unchanged. */
 uint32_t zuphinka_counts(struct zuphinka *pool, struct zuphinka_counts *counts);
 
-/* Tells how many entries the journal has, since it was cut last. ZUPHINKA_STATUS_DONE; or ZUPHINKA_STATUS_NOT_OPEN, and `steps` is as it was. */
+/*
+ * Stores in `steps` the number of entries in the journal, since its last cut. Returns ZUPHINKA_STATUS_DONE; or ZUPHINKA_STATUS_NOT_OPEN, and
+ * `steps` is unchanged.
+ */
 uint32_t zuphinka_steps(struct zuphinka *pool, uint64_t *steps);
 
 /*
- * Tells how many entries more fit into the journal, beside those that are owed. ZUPHINKA_STATUS_DONE; or ZUPHINKA_STATUS_NOT_OPEN, and `room` is
- * as it was.
+ * Stores in `room` the number of entries that the journal can still take, besides the outstanding ones. Returns ZUPHINKA_STATUS_DONE; or
+ * ZUPHINKA_STATUS_NOT_OPEN, and `room` is unchanged.
  */
 uint32_t zuphinka_room(struct zuphinka *pool, uint64_t *room);
 
 /*
- * Puts the line of the entry at `position`, from 0, into `text`, a buffer of `length` bytes, with its line feed and no null behind it, and
- * tells its size. The rest of the buffer is as it was. ZUPHINKA_LONGEST_LINE bytes are always enough.
+ * Stores the line of the entry at `position`, counted from 0, in `text`, a buffer of `capacity` bytes, and its size in `size`. The line ends
+ * in a line feed, without a null after it. The rest of the buffer is unchanged. ZUPHINKA_LONGEST_LINE bytes are always enough.
  *
- * ZUPHINKA_STATUS_DONE; ZUPHINKA_STATUS_BUFFER_TOO_SMALL, where `length` is less than the size, which is told, and the buffer is as it was. Else both
- * are as they were: ZUPHINKA_STATUS_NOT_OPEN; ZUPHINKA_STATUS_NO_ENTRY, where the journal isn't as long; ZUPHINKA_STATUS_OUT_OF_MEMORY, which may
- * stand in place of each but ZUPHINKA_STATUS_NOT_OPEN. It asks for memory once, and gives it back.
+ * Returns ZUPHINKA_STATUS_DONE. Errors leave the buffer unchanged, and all but the first leave `size` unchanged:
+ *   - ZUPHINKA_STATUS_BUFFER_TOO_SMALL, if the size, which is stored, exceeds `capacity`;
+ *   - ZUPHINKA_STATUS_NOT_OPEN; ZUPHINKA_STATUS_NO_ENTRY, if the journal is shorter;
+ *   - ZUPHINKA_STATUS_OUT_OF_MEMORY, possibly in place of any other error except ZUPHINKA_STATUS_NOT_OPEN.
+ * It allocates once, and frees that memory.
  */
-uint32_t zuphinka_line(struct zuphinka *pool, uint64_t position, char *text, size_t length, uint64_t *size);
+uint32_t zuphinka_line(struct zuphinka *pool, uint64_t position, char *text, size_t capacity, uint64_t *size);
 
 /*
- * The same for the lines of the base that the entries go on from: at 0 the line that a segment begins with, and then one for each
- * object that was present. They are the same until the journal is cut. ZUPHINKA_STATUS_NO_ENTRY, where the base has fewer lines.
+ * Does the same for a line of the base that the entries follow: the state after all entries before them. At position 0 is the line with which
+ * a segment begins, and after it one line for each object that was present. The lines stay the same until the next cut. Returns
+ * ZUPHINKA_STATUS_NO_ENTRY if the base has fewer lines.
  */
-uint32_t zuphinka_base(struct zuphinka *pool, uint64_t position, char *text, size_t length, uint64_t *size);
+uint32_t zuphinka_base(struct zuphinka *pool, uint64_t position, char *text, size_t capacity, uint64_t *size);
 
 /*
- * Cuts the journal: drops the entries that are stored, and goes on from the base that they came to. Objects, their tokens and the counts
- * stay as they are; positions and room are those of the entries to come. It takes time and memory for the objects that are present.
+ * Cuts the journal: drops the stored entries, and makes the state after them the new base. Objects, their tokens and the counts are unchanged.
+ * Positions and room then count from the new base. It takes time and memory in proportion to the present objects.
  *
- * Before it, write the lines of the base, and behind them those of all entries, to a file of their own, a segment: what wasn't written is
- * lost, so threads that share a pool hold their lock from the last line on. `pool check SETTINGS SEGMENT..` judges all segments of a pool, in
+ * To keep the history, first write the lines of the base and then those of all entries to a new file, a segment. Threads that share a pool
+ * hold their lock from the last line on, so that no entry is lost. `pool check SETTINGS SEGMENT..` checks the segments of a pool, in
  * their order, as the one journal that they are.
  *
- * ZUPHINKA_STATUS_DONE. Else nothing has changed: ZUPHINKA_STATUS_NOT_OPEN; ZUPHINKA_STATUS_OUT_OF_MEMORY, and it may be tried again.
+ * Returns ZUPHINKA_STATUS_DONE. Errors change nothing: ZUPHINKA_STATUS_NOT_OPEN; ZUPHINKA_STATUS_OUT_OF_MEMORY, and it may be tried again.
  */
 uint32_t zuphinka_cut(struct zuphinka *pool);
 
 /*
- * Ends a pool, and gives its memory back: the handle is empty then, and may be opened again. Of an empty handle it does nothing.
- * The tokens that the pool keeps are forgotten, and their objects are still the host's: close and clear the pool first.
+ * Ends a pool and frees its memory. The handle is then empty and may be opened again. It does nothing to an empty handle. The pool forgets the
+ * tokens that it stores, and their objects stay the host's: close and clear the pool first.
  */
 void zuphinka_drop(struct zuphinka *pool);
+
+/*
+ * Returns whether to cut the journal now: it stores entries, and has room for fewer than `least` more. It is false for an empty handle.
+ *
+ * Ask it before a borrow, and cut if it is true. A borrow and its return take four entries, so a `least` of 16 is enough for one thread that
+ * cuts at once. A host that lends while it writes the segment chooses a `least` for all that may happen meanwhile.
+ */
+static inline bool zuphinka_is_low(struct zuphinka *pool, uint64_t least) {
+  uint64_t room = 0, steps = 0;
+  if (zuphinka_room(pool, &room) != ZUPHINKA_STATUS_DONE || room >= least) return false;
+  return zuphinka_steps(pool, &steps) == ZUPHINKA_STATUS_DONE && steps > 0;
+}
+
+/* Returns the sentence that explains a status, in English and without a line feed: a constant, also for a code of no status. */
+static inline const char *zuphinka_status_text(uint32_t status) {
+  switch (status) {
+    case ZUPHINKA_STATUS_DONE: return "the call is done";
+    case ZUPHINKA_STATUS_NOT_OPEN: return "the handle has no pool";
+    case ZUPHINKA_STATUS_ALREADY_OPEN: return "the handle has a pool already";
+    case ZUPHINKA_STATUS_OUT_OF_MEMORY: return "out of memory";
+    case ZUPHINKA_STATUS_JOURNAL_FULL: return "the journal is full";
+    case ZUPHINKA_STATUS_BAD_REQUEST: return "the request has a code that is none";
+    case ZUPHINKA_STATUS_NO_ENTRY: return "there is no line at this position";
+    case ZUPHINKA_STATUS_BUFFER_TOO_SMALL: return "the text does not fit into the buffer";
+    case ZUPHINKA_STATUS_NOT_TEXT: return "the settings are not UTF-8";
+    case ZUPHINKA_STATUS_NOT_TOML: return "the settings are not a TOML document";
+    case ZUPHINKA_STATUS_UNKNOWN_KEY: return "the settings have an unknown key";
+    case ZUPHINKA_STATUS_WRONG_TYPE: return "a value in the settings has the wrong type";
+    case ZUPHINKA_STATUS_OUT_OF_RANGE: return "a number in the settings is out of range";
+    default: return "the code is no status";
+  }
+}
 
 #ifdef __cplusplus
 }

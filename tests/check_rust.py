@@ -95,7 +95,7 @@ def check_binding():
     """The codes and the longest line, the fields of each struct with their types in their order, and the functions with how many parameters
     they have. Each code is named after its enum."""
     header, binding = (TOP / "c/zuphinka.h").read_text(), (CRATE / "src/sys.rs").read_text()
-    header = re.sub(r"/\*.*?\*/", "", header, flags=re.DOTALL)
+    header = re.sub(r"/\*.*?\*/|^static inline .*?^\}$", "", header, flags=re.DOTALL | re.MULTILINE)
     for kind, body in re.findall(r"enum zuphinka_(\w+) \{(.*?)\};", header, flags=re.DOTALL):
         other = [name for name in re.findall(r"(\w+) =", body) if not name.startswith(f"ZUPHINKA_{kind.upper()}_")]
         yield f"enum zuphinka_{kind} has {other}" if other else None
@@ -113,6 +113,15 @@ def check_binding():
     ]
     for name in counts[0] | counts[1]:
         yield None if counts[0].get(name) == counts[1].get(name) else f"{name} has other parameters than in the header, or is missing"
+
+
+def check_version():
+    """The version of the crate is that of the header, as a text and in numbers."""
+    header = (TOP / "c/zuphinka.h").read_text()
+    crate = tomllib.loads((CRATE / "Cargo.toml").read_text())["package"]["version"]
+    text = re.findall(r'^#define ZUPHINKA_VERSION "(.*)"$', header, flags=re.MULTILINE)
+    numbers = re.findall(r"^#define ZUPHINKA_VERSION_(?:MAJOR|MINOR|PATCH) (\d+)$", header, flags=re.MULTILINE)
+    yield None if text == [crate] == [".".join(numbers)] else f"the crate has version {crate}, the header {text} and {numbers}"
 
 
 def check_pairs(pairs):
@@ -137,7 +146,8 @@ def main(pool):
     environment = os.environ | {"ZUPHINKA_POOL": str(pathlib.Path(pool).resolve())}
     passed, failed = run_tests(environment)
     examples = built_examples(environment)
-    checks = [check_servers(examples / "servers", pool), check_settings(examples / "settings"), check_pairs(examples / "pairs"), check_binding()]
+    checks = [check_servers(examples / "servers", pool), check_settings(examples / "settings"), check_pairs(examples / "pairs")]
+    checks += [check_binding(), check_version()]
     for check in checks:
         for fault in check:
             if fault is None:

@@ -12,7 +12,8 @@ compiler that CC names, or cc, and linked with it and with the kit's heap.
 
 - programs: `plain_life examples/settings.toml` must write the journal of examples/plain-life.script, which stands here, and end with status 0;
   and so it must, and `play` with the first case of the folder, whole and cut, under valgrind, where it is installed, with no fault and nothing
-  left behind.
+  left behind. `plain_life` and `long_life` must take settings of LONGEST_SETTINGS bytes and no more, and must free each object before they
+  report it as destroyed (tests/destroy_first.c). `play` must find a line with a null at fault. The header must compile by itself, as C and C++.
 - cases: for files NAME.toml and NAME.script `play NAME.toml NAME.script` must write NAME.journal, and end with status 0 and nothing on standard
   error; or, where there is a file NAME.err, with status 3 and that line. For files NAME.toml and NAME.answer `play` of an empty script must
   end with status 0 where the answer is 'ok', and else with status 3 and that line.
@@ -43,12 +44,14 @@ TOP = pathlib.Path(__file__).resolve().parent.parent
 PLAIN_LIFE = b"0 10 borrow 10 = make 0\n0 11 ready 0 good = lent\n0 15 return 0 = check\n0 16 park 0 good = parked\n"
 FLAGS = ["-std=c11", "-O2", "-Wall", "-Wextra", "-Werror"]
 REFUSING = ["-Wl,--wrap=malloc", "-Wl,--wrap=realloc"]
+DESTROYING = [TOP / "tests" / "destroy_first.c", "-Wl,--wrap=zuphinka_step", "-Wl,--wrap=free"]
 EVERY = (1, 3, 7)
 SHORT = 100
 OBJECTS = 100_000
 ROUNDS = 2_000
 # A run that takes longer hangs, in seconds.
 LONGEST = 600
+LONGEST_SETTINGS = 1_048_576
 NO_LIMITS = "journalLimit = 4294967296\nmaxTotal = -1\nmaxIdle = -1\n"
 VALGRIND = ["valgrind", "--quiet", "--error-exitcode=9", "--leak-check=full", "--show-leak-kinds=all", "--errors-for-leak-kinds=all"]
 
@@ -70,7 +73,8 @@ def heap():
 def compiled(name, library, folder, flags):
     """Compiles c/NAME.c in the folder, links it with the library, and gives its path."""
     program = pathlib.Path(folder) / name
-    subprocess.run([compiler(), *FLAGS, "-I", TOP / "c", "-o", program, TOP / "c" / f"{name}.c", library, heap(), *flags], check=True)
+    program.parent.mkdir(exist_ok=True)
+    subprocess.run([compiler(), *FLAGS, "-I", TOP / "c", "-o", program, TOP / "c" / f"{name}.c", *flags, library, heap()], check=True)
     return program
 
 
@@ -167,6 +171,48 @@ def refused_cases(folder):
     return (case for case in cases(folder) if case[3][2] == 0)
 
 
+def odd_runs(life, long, play, folder):
+    """Runs with settings of the greatest size and one byte more, and of a script with a null."""
+    longest, longer, short, script = (pathlib.Path(folder) / name for name in ("longest", "longer", "short", "script"))
+    longest.write_bytes(b"#" * (LONGEST_SETTINGS - 1) + b"\n")
+    longer.write_bytes(b"#" * LONGEST_SETTINGS + b"\n")
+    short.write_bytes(b"")
+    script.write_bytes(b"0 0 add\n0 0 fill\0 0\n0 0 add\n")
+    early = pathlib.Path(folder) / "early"
+    early.write_bytes(b"0 0 add\n\0\n0 0 add\n")
+    segments = pathlib.Path(folder) / "segments"
+    segments.mkdir()
+    yield "plain_life, longest settings", [life, longest], (PLAIN_LIFE, b"", 0)
+    yield "plain_life, longer settings", [life, longer], (b"", b"plain_life: no pool\n", 1)
+    yield "long_life, longest settings", [long, longest, segments, "1"], (b"", b"", 0)
+    yield "long_life, longer settings", [long, longer, segments, "1"], (b"", b"long_life: no pool\n", 1)
+    for name, nulls in ("a null in a line", script), ("a null at the start of a line", early):
+        yield name, [play, short, nulls], (b"0 0 add = make 0\n", b"pool: line 2: not a line\n", 3)
+
+
+def header_runs(folder):
+    """The header by itself, for compilers of C99, C11 and, where there is one, C++."""
+    words = ["-fsyntax-only", "-pedantic", "-Wall", "-Wextra", "-Werror", "-I", TOP / "c"]
+    compilers = [(compiler(), "c", "c99"), (compiler(), "c", "c11"), (os.environ.get("CXX", "c++"), "c++", "c++11")]
+    source = pathlib.Path(folder) / "header"
+    source.write_text('#include "zuphinka.h"\nint main(void) { return zuphinka_status_text(0) == 0; }\n')
+    for name, language, standard in compilers:
+        if shutil.which(name):
+            yield f"zuphinka.h in {standard}", [name, *words, "-x", language, f"-std={standard}", source], (b"", b"", 0)
+        else:
+            print(f"there is no {name}, so the header isn't compiled in {standard}")
+
+
+def ordered_runs(library, folder):
+    """Runs of programs that must free an object before they report it, also one that is destroyed when it comes back."""
+    life, long = (compiled(name, library, pathlib.Path(folder) / "ordered", DESTROYING) for name in ("plain_life", "long_life"))
+    settings, segments = pathlib.Path(folder) / "none_idle", pathlib.Path(folder) / "ordered_segments"
+    settings.write_text("maxIdle = 0\n")
+    segments.mkdir()
+    yield "plain_life destroys first", [life, TOP / "examples" / "settings.toml"], (PLAIN_LIFE, b"", 0)
+    yield "long_life destroys first", [long, settings, segments, "3"], (b"", b"", 0)
+
+
 def runs(life, play, folder):
     """What the programs are run on by themselves, and what is wanted of each; under valgrind too, where it is installed."""
     name, settings, script, wanted = next(refused_cases(folder))
@@ -189,8 +235,10 @@ def main(kind, library, words):
         if kind == "many":
             return play_many(play, compiled("long_life", library, built, []), *words)
         if kind == "programs":
-            life = compiled("plain_life", library, built, [])
-            return play_folders(words, lambda folder: runs(life, play, folder), lambda case: differing(case[0], case[2], run(*case[1])))
+            life, long = (compiled(name, library, built, []) for name in ("plain_life", "long_life"))
+            others = [*odd_runs(life, long, play, built), *ordered_runs(library, built), *header_runs(built)]
+            plays = lambda folder: itertools.chain(runs(life, play, folder), others)
+            return play_folders(words, plays, lambda case: differing(case[0], case[2], run(*case[1])))
         if kind == "refused":
             return play_folders(words, refused_cases, lambda case: refusals(play, case))
         if kind == "segments":
