@@ -1,0 +1,266 @@
+/*
+ * zuphinka_pool.h: a pool of objects for threads, over zuphinka.h.
+ *
+ * The host writes callbacks that make and destroy objects and, if it wishes, activate, test and passivate them. The pool lends the objects to
+ * threads, with the settings of docs/settings.md. Compile c/zuphinka_pool.c with the program, with -std=c11 and -pthread, or install both:
+ *
+ *     cc $(PKG_CONFIG_PATH=FOLDER/lib/pkgconfig pkg-config --cflags --libs zuphinka-pool) -o server server.c
+ *
+ * Each decision is a step of the proved core. The lock, the waits and the journals of this file are not proved: tests/play_c_pool.py tests them.
+ * c/shared_life.c is a program to copy from.
+ *
+ * Rules
+ *
+ *   - Threads call a pool at any time between `zuphinka_pool_open` and `zuphinka_pool_end`, and at once. No call comes from a signal handler or
+ *     from a forked child, and no thread is cancelled in a call.
+ *   - Callbacks run in the calling thread, without the pool's lock, and return normally. They may call the pool, except for
+ *     `zuphinka_pool_end`; `store` calls nothing of the pool but `zuphinka_pool_counts` and `zuphinka_pool_is_low`. A callback that fails
+ *     reports its reason to the host itself, in its context or in a variable of the thread.
+ *   - Pointers point to memory of their types. Only those of which it is said may be null.
+ *
+ * No more than maxTotal objects exist at once, except for those that were reclaimed from their holders: the pool destroys an object before it
+ * frees the object's place. A call that fails leaves no object without an owner and no place taken.
+ *
+ * The journal
+ *
+ * Each step makes one entry in the pool's journal: a borrow and a return take four. A journal has room for journalLimit entries, and is
+ * - dropped (ZUPHINKA_POOL_JOURNAL_OFF): the pool drops entries as it goes, keeps few, and never runs out of room;
+ * - kept (ZUPHINKA_POOL_JOURNAL_MEMORY): the pool stores all entries. It lends nothing once its journal is full. `zuphinka_pool_is_low` says
+ *   when to call `zuphinka_pool_cut`;
+ * - handed out (ZUPHINKA_POOL_JOURNAL_SEGMENTS): the pool cuts its journal in time and passes each segment to `store`. A borrow does this if
+ *   less than a quarter of the room is left, and `zuphinka_pool_maintain` if less than half is left.
+ * `pool check SETTINGS SEGMENT..` checks the segments of a pool, in their order, as the one journal that they are. Callers in the journal are
+ * threads, numbered from 0 in the order of their first calls. Times never decrease.
+ */
+#ifndef ZUPHINKA_POOL_H
+#define ZUPHINKA_POOL_H
+
+#include "zuphinka.h"
+
+#ifdef __cplusplus
+extern "C" {
+#endif
+
+/* A pool. */
+struct zuphinka_pool;
+
+/* An error of a call. `zuphinka_pool_error_text` explains each. */
+enum zuphinka_pool_error {
+  ZUPHINKA_POOL_ERROR_NONE = 0,
+  ZUPHINKA_POOL_ERROR_CLOSED = 1,             /* the pool is closed */
+  ZUPHINKA_POOL_ERROR_EXHAUSTED = 2,          /* no object and no place is free, and the call or the settings say not to wait */
+  ZUPHINKA_POOL_ERROR_TIMED_OUT = 3,          /* no object and no place was free for as long as the call or the settings say */
+  ZUPHINKA_POOL_ERROR_MAKE_FAILED = 4,        /* `make` failed */
+  ZUPHINKA_POOL_ERROR_CREATE_TEST_FAILED = 5, /* a new object failed its test of testOnCreate */
+  ZUPHINKA_POOL_ERROR_ACTIVATE_FAILED = 6,    /* `activate` failed on a new object */
+  ZUPHINKA_POOL_ERROR_BORROW_TEST_FAILED = 7, /* a new object failed its test of testOnBorrow */
+  ZUPHINKA_POOL_ERROR_PASSIVATE_FAILED = 8,   /* `passivate` failed on a new object */
+  ZUPHINKA_POOL_ERROR_NO_PLACE = 9,           /* no place is free for a new object */
+  ZUPHINKA_POOL_ERROR_GONE = 10,              /* the object was reclaimed from its holder */
+  ZUPHINKA_POOL_ERROR_NOT_LENT = 11,          /* the loan ended before */
+  ZUPHINKA_POOL_ERROR_IN_USE = 12,            /* objects are lent, or a call is in progress */
+  ZUPHINKA_POOL_ERROR_JOURNAL_FULL = 13,      /* the journal has no room */
+  ZUPHINKA_POOL_ERROR_STORE_FAILED = 14,      /* `store` failed; the pool keeps the segment for the next try */
+  ZUPHINKA_POOL_ERROR_OUT_OF_MEMORY = 15,     /* an allocation failed */
+  ZUPHINKA_POOL_ERROR_NO_LOCK = 16,           /* the system gave no mutex or condition variable */
+  ZUPHINKA_POOL_ERROR_MISSING_CALLBACK = 17,  /* `make` or `destroy` is null, or `store` where segments are handed out */
+  ZUPHINKA_POOL_ERROR_NOT_TEXT = 18,          /* the settings are not UTF-8 */
+  ZUPHINKA_POOL_ERROR_NOT_TOML = 19,          /* the settings are not a TOML document */
+  ZUPHINKA_POOL_ERROR_UNKNOWN_KEY = 20,       /* the settings have an unknown key; `zuphinka_settings` names the key of these three */
+  ZUPHINKA_POOL_ERROR_WRONG_TYPE = 21,        /* a value in the settings has the wrong type */
+  ZUPHINKA_POOL_ERROR_OUT_OF_RANGE = 22       /* a number in the settings is out of range */
+};
+
+/* The use of the journal, as explained above. */
+enum zuphinka_pool_journal { ZUPHINKA_POOL_JOURNAL_OFF = 0, ZUPHINKA_POOL_JOURNAL_MEMORY = 1, ZUPHINKA_POOL_JOURNAL_SEGMENTS = 2 };
+
+/* Takes a segment: `size` bytes of text, whose first entry has position `first` in the history. Returns whether it has stored all of it. */
+typedef bool zuphinka_pool_store(void *context, uint64_t first, const char *text, size_t size);
+
+/* The callbacks of a host. Each gets `context`. Those that return bool return whether they succeeded. */
+struct zuphinka_pool_host {
+  void *context; /* any pointer, null included */
+
+  /* Makes an object and stores it in `object`, any pointer. Its `id` in the journal is never used again. If it fails there is no object. */
+  bool (*make)(void *context, uint64_t id, void **object);
+
+  /* Makes an object ready for its holder: a new one, an idle one that is lent, and one that an eviction run tests. Null: nothing to do. */
+  bool (*activate)(void *context, void *object);
+
+  /* Returns whether an object can be used. The pool asks where the settings say so (testOnBorrow and its like). Null: each one can. */
+  bool (*validate)(void *context, void *object);
+
+  /* Makes an object ready to be idle: one that is returned, added, or tested by an eviction run. Null: nothing to do. */
+  bool (*passivate)(void *context, void *object);
+
+  /* Destroys an object. The pool has no pointer to it any more. */
+  void (*destroy)(void *context, void *object);
+
+  /* Returns the time in milliseconds. Null: milliseconds since the pool was opened, by CLOCK_MONOTONIC. */
+  uint64_t (*now)(void *context);
+
+  /* Takes a segment, for ZUPHINKA_POOL_JOURNAL_SEGMENTS; else null. If it fails the pool keeps the segment, cuts no further and tries again
+   * later, until its journal is full. A host that gives up a segment returns true. */
+  zuphinka_pool_store *store;
+};
+
+/* A lent object. Its holder returns it to `zuphinka_pool_give_back` or `zuphinka_pool_invalidate`, once, from any thread. */
+struct zuphinka_pool_loan {
+  void *object;
+  uint64_t id; /* the object's id in the journal */
+};
+
+/* The id in a loan that has ended. */
+#define ZUPHINKA_POOL_NO_LOAN UINT64_MAX
+
+/* What an eviction run did, in objects. */
+struct zuphinka_pool_eviction {
+  uint64_t examined;
+  uint64_t destroyed;
+};
+
+/* What maintenance did, in objects. */
+struct zuphinka_pool_maintenance {
+  struct zuphinka_pool_eviction eviction;
+  uint64_t reclaimed;
+  uint64_t filled;
+};
+
+/*
+ * Opens a pool with settings from a text, a TOML document of `length` bytes (docs/settings.md; of no bytes: all defaults), and stores it in
+ * `pool`. It copies `host`, and makes no object yet.
+ *
+ * Errors, and `pool` is unchanged: ZUPHINKA_POOL_ERROR_NOT_TEXT, _NOT_TOML, _UNKNOWN_KEY, _WRONG_TYPE, _OUT_OF_RANGE, _MISSING_CALLBACK,
+ * _NO_LOCK, _OUT_OF_MEMORY.
+ */
+enum zuphinka_pool_error zuphinka_pool_open(struct zuphinka_pool **pool, const char *settings, size_t length,
+                                            const struct zuphinka_pool_host *host, enum zuphinka_pool_journal journal);
+
+/*
+ * Borrows an object, an idle one or a new one, and stores it in `loan`. Waits for one if blockWhenExhausted is set, for maxWaitMillis at most.
+ * If removeAbandonedOnBorrow is set, it first reclaims abandoned objects. An idle object that fails is destroyed, and the next one tried.
+ *
+ * Errors, and `loan` is unchanged: ZUPHINKA_POOL_ERROR_CLOSED, _EXHAUSTED, _TIMED_OUT, _MAKE_FAILED, _CREATE_TEST_FAILED, _ACTIVATE_FAILED,
+ * _BORROW_TEST_FAILED, _JOURNAL_FULL, _OUT_OF_MEMORY. A new object that failed is destroyed. A call that is in `make` while the pool closes
+ * still gets its object.
+ */
+enum zuphinka_pool_error zuphinka_pool_get(struct zuphinka_pool *pool, struct zuphinka_pool_loan *loan);
+
+/* Does the same without waiting: ZUPHINKA_POOL_ERROR_EXHAUSTED where it would wait. */
+enum zuphinka_pool_error zuphinka_pool_try_get(struct zuphinka_pool *pool, struct zuphinka_pool_loan *loan);
+
+/* Does the same, and waits for at most `milliseconds`, and no longer than the settings say. The time of the callbacks isn't counted. */
+enum zuphinka_pool_error zuphinka_pool_get_timed(struct zuphinka_pool *pool, uint64_t milliseconds, struct zuphinka_pool_loan *loan);
+
+/*
+ * Returns a lent object. It is tested if testOnReturn is set, and passivated. It is then idle; or destroyed if it failed, maxIdle objects are
+ * idle or the pool is closed. Ends the loan, and sets its id to ZUPHINKA_POOL_NO_LOAN.
+ *
+ * Errors: ZUPHINKA_POOL_ERROR_GONE, if the object was reclaimed: it is destroyed, and the loan has ended. ZUPHINKA_POOL_ERROR_NOT_LENT, if the
+ * loan ended before: nothing is done. ZUPHINKA_POOL_ERROR_JOURNAL_FULL and _OUT_OF_MEMORY come only if the object isn't lent any more, since it
+ * was reclaimed: nothing is done, and the object is its holder's alone, to return it again or to destroy it.
+ */
+enum zuphinka_pool_error zuphinka_pool_give_back(struct zuphinka_pool *pool, struct zuphinka_pool_loan *loan);
+
+/* Returns a lent object that can't be used any more: it is destroyed. Ends the loan, with the errors of `zuphinka_pool_give_back`. */
+enum zuphinka_pool_error zuphinka_pool_invalidate(struct zuphinka_pool *pool, struct zuphinka_pool_loan *loan);
+
+/*
+ * Notes that a lent object is used: it counts as abandoned only after removeAbandonedTimeoutMillis without a use.
+ *
+ * Errors: ZUPHINKA_POOL_ERROR_GONE, if the object was reclaimed: it is its holder's alone, until the holder returns it.
+ * ZUPHINKA_POOL_ERROR_NOT_LENT, _JOURNAL_FULL, _OUT_OF_MEMORY: nothing is noted.
+ */
+enum zuphinka_pool_error zuphinka_pool_touch(struct zuphinka_pool *pool, const struct zuphinka_pool_loan *loan);
+
+/*
+ * Makes one more idle object.
+ *
+ * Errors, and there is no new object: ZUPHINKA_POOL_ERROR_NO_PLACE, _CLOSED, _MAKE_FAILED, _CREATE_TEST_FAILED, _PASSIVATE_FAILED,
+ * _JOURNAL_FULL, _OUT_OF_MEMORY.
+ */
+enum zuphinka_pool_error zuphinka_pool_add(struct zuphinka_pool *pool);
+
+/*
+ * Makes idle objects until minIdle are idle or no place is free. Stores in `filled`, unless it is null, how many it made, also after an error.
+ *
+ * Errors: those of `zuphinka_pool_add` except ZUPHINKA_POOL_ERROR_NO_PLACE. The objects made before stay.
+ */
+enum zuphinka_pool_error zuphinka_pool_fill(struct zuphinka_pool *pool, uint64_t *filled);
+
+/*
+ * Examines idle objects, as many as numTestsPerEvictionRun says. Destroys those that were idle for too long, and those that fail their test if
+ * testWhileIdle is set. Stores in `eviction`, unless it is null, what it did, also after an error.
+ *
+ * Errors: ZUPHINKA_POOL_ERROR_CLOSED, _JOURNAL_FULL, _OUT_OF_MEMORY.
+ */
+enum zuphinka_pool_error zuphinka_pool_evict(struct zuphinka_pool *pool, struct zuphinka_pool_eviction *eviction);
+
+/*
+ * Reclaims abandoned objects if removeAbandonedOnMaintenance is set: they lose their places, and are destroyed when their holders return them.
+ * Stores in `reclaimed`, unless it is null, how many, also after an error.
+ *
+ * Errors: ZUPHINKA_POOL_ERROR_JOURNAL_FULL, _OUT_OF_MEMORY.
+ */
+enum zuphinka_pool_error zuphinka_pool_reclaim(struct zuphinka_pool *pool, uint64_t *reclaimed);
+
+/*
+ * Maintains the pool: stores a segment if the journal is handed out and less than half of its room is left, evicts, reclaims and fills. Call it
+ * now and then, from one thread. Stores in `done`, unless it is null, what it did, also after an error. It stops at the first error.
+ *
+ * Errors: those of the three calls. A segment that can't be stored is tried again later.
+ */
+enum zuphinka_pool_error zuphinka_pool_maintain(struct zuphinka_pool *pool, struct zuphinka_pool_maintenance *done);
+
+/*
+ * Destroys the idle objects. Stores in `destroyed`, unless it is null, how many, also after an error.
+ *
+ * Errors: ZUPHINKA_POOL_ERROR_JOURNAL_FULL, _OUT_OF_MEMORY.
+ */
+enum zuphinka_pool_error zuphinka_pool_clear(struct zuphinka_pool *pool, uint64_t *destroyed);
+
+/*
+ * Closes the pool and destroys its idle objects; returns how many. All threads that wait get ZUPHINKA_POOL_ERROR_CLOSED. Lent objects stay with
+ * their holders, and are destroyed when they are returned. It never fails. A pool that was closed before is unchanged.
+ */
+uint64_t zuphinka_pool_close(struct zuphinka_pool *pool);
+
+/* Returns whether the pool is closed. */
+bool zuphinka_pool_is_closed(struct zuphinka_pool *pool);
+
+/* Stores the counts of one moment in `counts`. */
+void zuphinka_pool_counts(struct zuphinka_pool *pool, struct zuphinka_counts *counts);
+
+/* Returns whether to cut the journal: it stores entries, and less than a quarter of journalLimit is left. */
+bool zuphinka_pool_is_low(struct zuphinka_pool *pool);
+
+/*
+ * Cuts the journal: passes the entries that are stored to `store`, as one segment after their base, and goes on without them. A segment that
+ * an earlier cut could not store comes first. Stores in `entries`, unless it is null, how many entries were stored, also after an error.
+ * Without entries it does nothing. The text is copied while the pool lends, and `store` runs without the lock. One cut runs at a time.
+ *
+ * Errors: ZUPHINKA_POOL_ERROR_STORE_FAILED: the pool keeps the segment for the next cut. ZUPHINKA_POOL_ERROR_OUT_OF_MEMORY: the journal isn't
+ * cut. Nothing is lost.
+ */
+enum zuphinka_pool_error zuphinka_pool_cut(struct zuphinka_pool *pool, zuphinka_pool_store *store, void *context, uint64_t *entries);
+
+/* Returns the number of the calling thread in the journals of all pools. */
+uint32_t zuphinka_pool_caller(void);
+
+/* Returns the sentence that explains an error, in English and without a line feed: a constant, also for a code of no error. */
+const char *zuphinka_pool_error_text(enum zuphinka_pool_error error);
+
+/*
+ * Ends a pool that no thread calls any more: closes it, passes the rest of the journal to `store` if it is handed out, and frees the pool. Objects
+ * that were reclaimed and not returned are their holders' alone. Null: nothing to do.
+ *
+ * Errors, and the pool is closed but not ended: ZUPHINKA_POOL_ERROR_IN_USE, if objects are lent; ZUPHINKA_POOL_ERROR_STORE_FAILED,
+ * _OUT_OF_MEMORY, of the last segment.
+ */
+enum zuphinka_pool_error zuphinka_pool_end(struct zuphinka_pool *pool);
+
+#ifdef __cplusplus
+}
+#endif
+
+#endif

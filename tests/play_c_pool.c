@@ -1,0 +1,1302 @@
+/* Tests c/zuphinka_pool.c, one test a run.
+ *
+ *     play_c_pool list                                  the names of the tests
+ *     play_c_pool test NAME
+ *     play_c_pool sink AT FOLDER                        a pool whose `store` fails at call AT, from 1
+ *     play_c_pool random SEED THREADS CALLS FOLDER      threads that call a pool at random, over callbacks that fail at random
+ *
+ * The last two write the journal's segments to files of the folder, each named for its first position, and the settings to the file
+ * `settings`. They print `steps N`, how many entries there were; `sink` prints also how often `store` was called, and `random` a line
+ * `caller NUMBER lent N` for each thread. Exits with status 0; or with status 4 and a line on standard error that says what is wrong. */
+#define _POSIX_C_SOURCE 200809L
+
+#include <inttypes.h>
+#include <pthread.h>
+#include <sched.h>
+#include <stdatomic.h>
+#include <stdio.h>
+#include <stdlib.h>
+#include <string.h>
+#include <time.h>
+
+#include "zuphinka_pool.h"
+
+enum {
+  WRONG = 4,
+  LONG = 60000, /* milliseconds, after which a wait has failed */
+  LONGEST_TEXT = 1 << 16,
+};
+
+#define check(holds) check_at(holds, #holds, __LINE__)
+
+static void check_at(bool holds, const char *what, int line) {
+  if (holds) return;
+  fprintf(stderr, "line %d: %s\n", line, what);
+  exit(WRONG);
+}
+
+#define check_error(found, wanted) check_error_at(found, wanted, __LINE__)
+
+static void check_error_at(enum zuphinka_pool_error found, enum zuphinka_pool_error wanted, int line) {
+  if (found == wanted) return;
+  fprintf(stderr, "line %d: wanted: %s; found: %s\n", line, zuphinka_pool_error_text(wanted), zuphinka_pool_error_text(found));
+  exit(WRONG);
+}
+
+static void check_text_at(const char *found, const char *wanted, int line) {
+  if (strcmp(found, wanted) == 0) return;
+  fprintf(stderr, "line %d: wanted:\n%sfound:\n%s", line, wanted, found);
+  exit(WRONG);
+}
+
+#define check_text(found, wanted) check_text_at(found, wanted, __LINE__)
+
+static void sleep_for(long milliseconds) {
+  struct timespec time = {.tv_sec = milliseconds / 1000, .tv_nsec = milliseconds % 1000 * 1000000};
+  nanosleep(&time, NULL);
+}
+
+static int64_t milliseconds_now(void) {
+  struct timespec now;
+  clock_gettime(CLOCK_MONOTONIC, &now);
+  return (int64_t)now.tv_sec * 1000 + now.tv_nsec / 1000000;
+}
+
+/* ---- the host of most tests */
+
+enum call { MAKE, ACTIVATE, VALIDATE, PASSIVATE, DESTROY, CALLS };
+
+struct thing {
+  uint64_t id;
+  atomic_int holders;
+  bool is_awake;
+};
+
+/* Where segments go: to files of a folder. */
+struct sink {
+  const char *folder;
+  int fails_at; /* the call that fails, from 1; 0: none; negative: all */
+  atomic_int called;
+  atomic_bool is_held; /* a call waits until it is let go */
+};
+
+struct maker {
+  struct zuphinka_pool *pool;
+  struct sink sink;
+  atomic_int alive;                /* things that exist */
+  int most;                        /* how many may exist; negative: no limit */
+  atomic_uint failing;             /* a bit for each kind of call whose next one fails */
+  atomic_uint_fast64_t now, ticks; /* the time, and by how much a look at the clock moves it on */
+  pthread_mutex_t lock;            /* of the next two */
+  char calls[1 << 12];             /* a letter for each call */
+  size_t called;
+  bool has_chance, is_plain, has_no_clock; /* calls fail at random; some callbacks are null; the clock is null */
+  uint64_t seed;
+  atomic_uint_fast64_t chances;
+};
+
+/* Numbers that look random, and are the same in each run. */
+static uint64_t roll(uint64_t *dice, uint64_t sides) {
+  *dice = *dice * UINT64_C(6364136223846793005) + UINT64_C(1442695040888963407);
+  return (*dice >> 33) % sides;
+}
+
+enum { FAILS_OF = 12, YIELDS_OF = 50 };
+
+/* Returns whether a call fails at random, by its number. Before some calls other threads run. */
+static bool fails_at_random(struct maker *maker) {
+  if (!maker->has_chance) return false;
+  uint64_t dice = maker->seed + atomic_fetch_add(&maker->chances, 1);
+  if (roll(&dice, YIELDS_OF) == 0) sched_yield();
+  return roll(&dice, FAILS_OF) == 0;
+}
+
+static void note_call(struct maker *maker, enum call call) {
+  struct zuphinka_counts counts;
+  if (maker->pool) zuphinka_pool_counts(maker->pool, &counts); /* which hangs if the pool holds its lock */
+  pthread_mutex_lock(&maker->lock);
+  if (maker->called + 1 < sizeof maker->calls) maker->calls[maker->called++] = "mavpd"[call];
+  pthread_mutex_unlock(&maker->lock);
+}
+
+static bool succeeds(struct maker *maker, enum call call) {
+  note_call(maker, call);
+  if (fails_at_random(maker)) return false;
+  return !(atomic_fetch_and(&maker->failing, ~(1u << call)) & (1u << call));
+}
+
+static void fail_next(struct maker *maker, enum call call) { atomic_fetch_or(&maker->failing, 1u << call); }
+
+static bool make_thing(void *context, uint64_t id, void **object) {
+  struct maker *maker = context;
+  if (!succeeds(maker, MAKE)) return false;
+  struct thing *thing = malloc(sizeof *thing);
+  if (!thing) return false;
+  *thing = (struct thing){.id = id};
+  int alive = atomic_fetch_add(&maker->alive, 1) + 1;
+  check(maker->most < 0 || alive <= maker->most);
+  *object = thing;
+  return true;
+}
+
+static bool activate_thing(void *context, void *object) {
+  struct thing *thing = object;
+  check(!thing->is_awake);
+  if (!succeeds(context, ACTIVATE)) return false;
+  thing->is_awake = true;
+  return true;
+}
+
+static bool validate_thing(void *context, void *object) {
+  check(atomic_load(&((struct thing *)object)->holders) == 0);
+  return succeeds(context, VALIDATE);
+}
+
+static bool passivate_thing(void *context, void *object) {
+  if (!succeeds(context, PASSIVATE)) return false;
+  ((struct thing *)object)->is_awake = false;
+  return true;
+}
+
+static void destroy_thing(void *context, void *object) {
+  struct maker *maker = context;
+  check(atomic_load(&((struct thing *)object)->holders) == 0);
+  note_call(maker, DESTROY);
+  free(object);
+  atomic_fetch_sub(&maker->alive, 1);
+}
+
+static uint64_t tell_time(void *context) {
+  struct maker *maker = context;
+  return atomic_fetch_add(&maker->now, atomic_load(&maker->ticks));
+}
+
+static struct zuphinka_pool_host host_of(struct maker *maker) {
+  return (struct zuphinka_pool_host){.context = maker,
+                                     .make = make_thing,
+                                     .activate = activate_thing,
+                                     .validate = validate_thing,
+                                     .passivate = passivate_thing,
+                                     .destroy = destroy_thing,
+                                     .now = tell_time};
+}
+
+static struct maker maker = {.most = 8, .lock = PTHREAD_MUTEX_INITIALIZER};
+
+/* Opens a pool whose journal is kept, of at most so many objects. */
+static struct zuphinka_pool *open_kept(const char *settings, int most) {
+  struct zuphinka_pool_host host = host_of(&maker);
+  maker.most = most;
+  check_error(zuphinka_pool_open(&maker.pool, settings, strlen(settings), &host, ZUPHINKA_POOL_JOURNAL_MEMORY), ZUPHINKA_POOL_ERROR_NONE);
+  return maker.pool;
+}
+
+/* The letters of the calls since it was asked last. */
+static const char *calls(void) {
+  static char found[sizeof maker.calls];
+  pthread_mutex_lock(&maker.lock);
+  memcpy(found, maker.calls, maker.called);
+  found[maker.called] = 0;
+  maker.called = 0;
+  pthread_mutex_unlock(&maker.lock);
+  return found;
+}
+
+static bool append_text(void *context, uint64_t first, const char *text, size_t size) {
+  char *kept = context;
+  size_t length = strlen(kept);
+  (void)first;
+  check(length + size < LONGEST_TEXT);
+  memcpy(kept + length, text, size);
+  kept[length + size] = 0;
+  return true;
+}
+
+/* The entries since the last cut, without the lines of their base. */
+static const char *entries(struct zuphinka_pool *pool) {
+  static char text[LONGEST_TEXT];
+  text[0] = 0;
+  check_error(zuphinka_pool_cut(pool, append_text, text, NULL), ZUPHINKA_POOL_ERROR_NONE);
+  const char *line = text;
+  while (*line) {
+    const char *end = strchr(line, '\n');
+    check(end);
+    const char *answer = strstr(line, " = ");
+    if (answer && answer < end) return line;
+    line = end + 1;
+  }
+  return line;
+}
+
+static struct zuphinka_counts counts_of(struct zuphinka_pool *pool) {
+  struct zuphinka_counts counts;
+  zuphinka_pool_counts(pool, &counts);
+  return counts;
+}
+
+/* Closes and ends a pool, after which nothing exists. */
+static void end_pool(struct zuphinka_pool *pool) {
+  zuphinka_pool_close(pool);
+  struct zuphinka_counts counts = counts_of(pool);
+  check(counts.created == counts.destroyed + counts.reclaimed);
+  maker.pool = NULL;
+  check_error(zuphinka_pool_end(pool), ZUPHINKA_POOL_ERROR_NONE);
+  check(atomic_load(&maker.alive) == 0);
+}
+
+static struct zuphinka_pool_loan lend(struct zuphinka_pool *pool) {
+  struct zuphinka_pool_loan loan;
+  check_error(zuphinka_pool_get(pool, &loan), ZUPHINKA_POOL_ERROR_NONE);
+  struct thing *thing = loan.object;
+  check(thing->id == loan.id && thing->is_awake && atomic_fetch_add(&thing->holders, 1) == 0);
+  return loan;
+}
+
+/* What a holder does before it ends its loan. */
+static void let_go(struct zuphinka_pool_loan *loan) { atomic_fetch_sub(&((struct thing *)loan->object)->holders, 1); }
+
+static void give_back(struct zuphinka_pool *pool, struct zuphinka_pool_loan *loan) {
+  let_go(loan);
+  check_error(zuphinka_pool_give_back(pool, loan), ZUPHINKA_POOL_ERROR_NONE);
+  check(loan->id == ZUPHINKA_POOL_NO_LOAN);
+}
+
+static void invalidate(struct zuphinka_pool *pool, struct zuphinka_pool_loan *loan) {
+  let_go(loan);
+  check_error(zuphinka_pool_invalidate(pool, loan), ZUPHINKA_POOL_ERROR_NONE);
+}
+
+/* ---- tests of one thread */
+
+static void test_life(void) {
+  struct zuphinka_pool *pool = open_kept("", 8);
+  atomic_store(&maker.now, 10);
+  atomic_store(&maker.ticks, 1);
+  struct zuphinka_pool_loan loan = lend(pool);
+  atomic_store(&maker.now, 15);
+  give_back(pool, &loan);
+  char lines[512];
+  uint32_t caller = zuphinka_pool_caller();
+  snprintf(lines, sizeof lines,
+           "%" PRIu32 " 10 borrow 10 = make 0\n%" PRIu32
+           " 11 ready 0 good = lent\n"
+           "%" PRIu32 " 15 return 0 = check\n%" PRIu32 " 16 park 0 good = parked\n",
+           caller, caller, caller, caller);
+  check_text(entries(pool), lines);
+  check_text(calls(), "map");
+  end_pool(pool);
+  check_text(calls(), "d");
+}
+
+/* Without callbacks two steps make one critical section, at one time. */
+static void test_life_without_callbacks(void) {
+  struct zuphinka_pool_host host = host_of(&maker);
+  host.activate = host.passivate = NULL;
+  check_error(zuphinka_pool_open(&maker.pool, "testOnBorrow = true\n", 20, &host, ZUPHINKA_POOL_JOURNAL_MEMORY), ZUPHINKA_POOL_ERROR_NONE);
+  zuphinka_pool_end(maker.pool);
+  host.validate = NULL;
+  check_error(zuphinka_pool_open(&maker.pool, "testOnBorrow = true\n", 20, &host, ZUPHINKA_POOL_JOURNAL_MEMORY), ZUPHINKA_POOL_ERROR_NONE);
+  struct zuphinka_pool_loan loan;
+  check_error(zuphinka_pool_add(maker.pool), ZUPHINKA_POOL_ERROR_NONE);
+  entries(maker.pool);
+  atomic_store(&maker.now, 20);
+  atomic_store(&maker.ticks, 1);
+  check_error(zuphinka_pool_get(maker.pool, &loan), ZUPHINKA_POOL_ERROR_NONE);
+  check_error(zuphinka_pool_give_back(maker.pool, &loan), ZUPHINKA_POOL_ERROR_NONE);
+  check_text(entries(maker.pool), "0 20 borrow 20 = take 0\n0 20 ready 0 good = lent\n0 21 return 0 = check\n0 21 park 0 good = parked\n");
+  end_pool(maker.pool);
+  check_text(calls(), "md");
+}
+
+static void test_times_never_decrease(void) {
+  struct zuphinka_pool *pool = open_kept("", 8);
+  atomic_store(&maker.now, 50);
+  struct zuphinka_pool_loan loan = lend(pool);
+  atomic_store(&maker.now, 40);
+  give_back(pool, &loan);
+  check_text(entries(pool), "0 50 borrow 50 = make 0\n0 50 ready 0 good = lent\n0 50 return 0 = check\n0 50 park 0 good = parked\n");
+  end_pool(pool);
+}
+
+static void test_last_or_first(void) {
+  for (int is_lifo = 0; is_lifo < 2; is_lifo++) {
+    struct zuphinka_pool *pool = open_kept(is_lifo ? "" : "lifo = false\n", 8);
+    struct zuphinka_pool_loan loans[3];
+    for (int n = 0; n < 3; n++) loans[n] = lend(pool);
+    for (int n = 0; n < 3; n++) give_back(pool, &loans[n]);
+    loans[0] = lend(pool);
+    check(loans[0].id == (is_lifo ? 2 : 0));
+    give_back(pool, &loans[0]);
+    end_pool(pool);
+  }
+}
+
+static void test_tests_come_where_they_are_set(void) {
+  static const struct {
+    const char *settings, *new, *taken, *returned, *added;
+  } rows[] = {
+      {"", "ma", "a", "p", "mp"},
+      {"testOnCreate = true\n", "mva", "a", "p", "mvp"},
+      {"testOnBorrow = true\n", "mav", "av", "p", "mp"},
+      {"testOnReturn = true\n", "ma", "a", "vp", "mp"},
+  };
+  for (size_t n = 0; n < sizeof rows / sizeof *rows; n++) {
+    struct zuphinka_pool *pool = open_kept(rows[n].settings, 8);
+    calls();
+    struct zuphinka_pool_loan loan = lend(pool);
+    check_text(calls(), rows[n].new);
+    give_back(pool, &loan);
+    check_text(calls(), rows[n].returned);
+    loan = lend(pool);
+    check_text(calls(), rows[n].taken);
+    give_back(pool, &loan);
+    calls();
+    check_error(zuphinka_pool_add(pool), ZUPHINKA_POOL_ERROR_NONE);
+    check_text(calls(), rows[n].added);
+    end_pool(pool);
+  }
+}
+
+static void test_exhausted(void) {
+  struct zuphinka_pool *pool = open_kept("maxTotal = 1\nblockWhenExhausted = false\n", 1);
+  struct zuphinka_pool_loan loan = lend(pool), other = {.id = 77};
+  check_error(zuphinka_pool_get(pool, &other), ZUPHINKA_POOL_ERROR_EXHAUSTED);
+  check(other.id == 77);
+  give_back(pool, &loan);
+  end_pool(pool);
+  pool = open_kept("maxTotal = 1\n", 1);
+  loan = lend(pool);
+  check_error(zuphinka_pool_try_get(pool, &other), ZUPHINKA_POOL_ERROR_EXHAUSTED);
+  check(other.id == 77);
+  give_back(pool, &loan);
+  check_error(zuphinka_pool_try_get(pool, &loan), ZUPHINKA_POOL_ERROR_NONE);
+  check_error(zuphinka_pool_give_back(pool, &loan), ZUPHINKA_POOL_ERROR_NONE);
+  end_pool(pool);
+}
+
+static void test_waits_end(void) {
+  struct zuphinka_pool_host host = host_of(&maker);
+  const char *settings = "maxTotal = 1\nmaxWaitMillis = 60\n";
+  struct zuphinka_pool_loan loan, other;
+  host.now = NULL;
+  maker.most = 1;
+  check_error(zuphinka_pool_open(&maker.pool, settings, strlen(settings), &host, ZUPHINKA_POOL_JOURNAL_MEMORY), ZUPHINKA_POOL_ERROR_NONE);
+  loan = lend(maker.pool);
+  entries(maker.pool);
+  int64_t began = milliseconds_now();
+  check_error(zuphinka_pool_get(maker.pool, &other), ZUPHINKA_POOL_ERROR_TIMED_OUT);
+  check(milliseconds_now() - began >= 60 && strstr(entries(maker.pool), " = timeout\n"));
+  began = milliseconds_now();
+  check_error(zuphinka_pool_get_timed(maker.pool, LONG, &other), ZUPHINKA_POOL_ERROR_TIMED_OUT);
+  check(milliseconds_now() - began < LONG && strstr(entries(maker.pool), " = timeout\n"));
+  began = milliseconds_now();
+  check_error(zuphinka_pool_get_timed(maker.pool, 20, &other), ZUPHINKA_POOL_ERROR_TIMED_OUT);
+  check(milliseconds_now() - began >= 20 && !strstr(entries(maker.pool), " = timeout\n"));
+  check_error(zuphinka_pool_get_timed(maker.pool, 0, &other), ZUPHINKA_POOL_ERROR_TIMED_OUT);
+  give_back(maker.pool, &loan);
+  check_error(zuphinka_pool_get_timed(maker.pool, UINT64_MAX, &loan), ZUPHINKA_POOL_ERROR_NONE);
+  check_error(zuphinka_pool_give_back(maker.pool, &loan), ZUPHINKA_POOL_ERROR_NONE);
+  end_pool(maker.pool);
+}
+
+/* A new object that fails is destroyed, if it was made, and its place is free. */
+static void test_new_objects_that_fail(void) {
+  static const struct {
+    enum call call;
+    enum zuphinka_pool_error of_get, of_add;
+    const char *calls_of_get, *calls_of_add;
+  } rows[] = {
+      {MAKE, ZUPHINKA_POOL_ERROR_MAKE_FAILED, ZUPHINKA_POOL_ERROR_MAKE_FAILED, "m", "m"},
+      {VALIDATE, ZUPHINKA_POOL_ERROR_CREATE_TEST_FAILED, ZUPHINKA_POOL_ERROR_CREATE_TEST_FAILED, "mvd", "mvd"},
+      {ACTIVATE, ZUPHINKA_POOL_ERROR_ACTIVATE_FAILED, ZUPHINKA_POOL_ERROR_NONE, "mvad", "mvp"},
+      {PASSIVATE, ZUPHINKA_POOL_ERROR_NONE, ZUPHINKA_POOL_ERROR_PASSIVATE_FAILED, "mvav", "mvpd"},
+  };
+  for (size_t n = 0; n < sizeof rows / sizeof *rows; n++) {
+    struct zuphinka_pool *pool = open_kept("maxTotal = 1\ntestOnCreate = true\ntestOnBorrow = true\n", 1);
+    struct zuphinka_pool_loan loan;
+    calls();
+    fail_next(&maker, rows[n].call);
+    check_error(zuphinka_pool_get(pool, &loan), rows[n].of_get);
+    check_text(calls(), rows[n].calls_of_get);
+    atomic_store(&maker.failing, 0);
+    if (rows[n].of_get == ZUPHINKA_POOL_ERROR_NONE) check_error(zuphinka_pool_invalidate(pool, &loan), ZUPHINKA_POOL_ERROR_NONE);
+    calls();
+    fail_next(&maker, rows[n].call);
+    check_error(zuphinka_pool_add(pool), rows[n].of_add);
+    check_text(calls(), rows[n].calls_of_add);
+    atomic_store(&maker.failing, 0);
+    loan = lend(pool);
+    give_back(pool, &loan);
+    end_pool(pool);
+  }
+}
+
+static void test_second_test_of_a_new_object(void) {
+  struct zuphinka_pool *pool = open_kept("testOnBorrow = true\n", 8);
+  struct zuphinka_pool_loan loan;
+  fail_next(&maker, VALIDATE);
+  check_error(zuphinka_pool_get(pool, &loan), ZUPHINKA_POOL_ERROR_BORROW_TEST_FAILED);
+  check_text(calls(), "mavd");
+  end_pool(pool);
+}
+
+/* A borrow takes the next idle object, or a new one. */
+static void test_idle_objects_that_fail(void) {
+  struct zuphinka_pool *pool = open_kept("testOnBorrow = true\n", 8);
+  for (int n = 0; n < 2; n++) check_error(zuphinka_pool_add(pool), ZUPHINKA_POOL_ERROR_NONE);
+  calls();
+  fail_next(&maker, ACTIVATE);
+  struct zuphinka_pool_loan loan = lend(pool);
+  check(loan.id == 0);
+  check_text(calls(), "adav");
+  give_back(pool, &loan);
+  calls();
+  fail_next(&maker, VALIDATE);
+  loan = lend(pool);
+  check(loan.id == 2);
+  check_text(calls(), "avdmav");
+  give_back(pool, &loan);
+  end_pool(pool);
+}
+
+static void test_returned_objects_that_fail(void) {
+  static const struct {
+    enum call call;
+    const char *calls;
+  } rows[] = {{VALIDATE, "vd"}, {PASSIVATE, "vpd"}};
+  for (size_t n = 0; n < sizeof rows / sizeof *rows; n++) {
+    struct zuphinka_pool *pool = open_kept("testOnReturn = true\n", 8);
+    struct zuphinka_pool_loan loan = lend(pool);
+    calls();
+    fail_next(&maker, rows[n].call);
+    give_back(pool, &loan);
+    check_text(calls(), rows[n].calls);
+    check(counts_of(pool).idle == 0 && counts_of(pool).destroyed == 1);
+    end_pool(pool);
+  }
+}
+
+static void test_invalidated(void) {
+  struct zuphinka_pool *pool = open_kept("maxTotal = 1\n", 1);
+  struct zuphinka_pool_loan loan = lend(pool);
+  calls();
+  invalidate(pool, &loan);
+  check_text(calls(), "d");
+  check(counts_of(pool).destroyed == 1 && counts_of(pool).lent == 0);
+  loan = lend(pool);
+  check(loan.id == 1);
+  give_back(pool, &loan);
+  end_pool(pool);
+}
+
+/* A loan ends once. */
+static void test_ended_loans(void) {
+  struct zuphinka_pool *pool = open_kept("", 8);
+  struct zuphinka_pool_loan loan = lend(pool), copy = loan;
+  give_back(pool, &loan);
+  uint64_t steps = counts_of(pool).steps;
+  check_error(zuphinka_pool_give_back(pool, &loan), ZUPHINKA_POOL_ERROR_NOT_LENT);
+  check_error(zuphinka_pool_invalidate(pool, &loan), ZUPHINKA_POOL_ERROR_NOT_LENT);
+  check_error(zuphinka_pool_touch(pool, &loan), ZUPHINKA_POOL_ERROR_NOT_LENT);
+  check(counts_of(pool).steps == steps);
+  check_error(zuphinka_pool_give_back(pool, &copy), ZUPHINKA_POOL_ERROR_NOT_LENT);
+  check_error(zuphinka_pool_touch(pool, &copy), ZUPHINKA_POOL_ERROR_NOT_LENT);
+  check(counts_of(pool).idle == 1 && copy.id == 0);
+  end_pool(pool);
+}
+
+static void test_most_idle(void) {
+  struct zuphinka_pool *pool = open_kept("maxIdle = 1\n", 8);
+  struct zuphinka_pool_loan loans[] = {lend(pool), lend(pool)};
+  give_back(pool, &loans[0]);
+  calls();
+  give_back(pool, &loans[1]);
+  check_text(calls(), "pd");
+  check(counts_of(pool).idle == 1);
+  end_pool(pool);
+}
+
+static void test_additions_and_fills(void) {
+  struct zuphinka_pool *pool = open_kept("maxTotal = 4\nminIdle = 3\n", 4);
+  uint64_t filled = 77;
+  check_error(zuphinka_pool_add(pool), ZUPHINKA_POOL_ERROR_NONE);
+  check_error(zuphinka_pool_fill(pool, &filled), ZUPHINKA_POOL_ERROR_NONE);
+  check(filled == 2 && counts_of(pool).idle == 3);
+  struct zuphinka_pool_loan loans[] = {lend(pool), lend(pool)};
+  check_error(zuphinka_pool_fill(pool, &filled), ZUPHINKA_POOL_ERROR_NONE);
+  check(filled == 1);
+  check_error(zuphinka_pool_add(pool), ZUPHINKA_POOL_ERROR_NO_PLACE);
+  check_error(zuphinka_pool_clear(pool, NULL), ZUPHINKA_POOL_ERROR_NONE);
+  fail_next(&maker, PASSIVATE);
+  check_error(zuphinka_pool_fill(pool, &filled), ZUPHINKA_POOL_ERROR_PASSIVATE_FAILED);
+  check(filled == 0 && counts_of(pool).idle == 0);
+  for (int n = 0; n < 2; n++) give_back(pool, &loans[n]);
+  end_pool(pool);
+}
+
+static void test_evictions(void) {
+  struct zuphinka_pool *pool = open_kept("minEvictableIdleMillis = 100\ntestWhileIdle = true\nnumTestsPerEvictionRun = 3\n", 8);
+  struct zuphinka_pool_eviction done;
+  for (int n = 0; n < 4; n++) {
+    atomic_store(&maker.now, n == 0 ? 0 : 50);
+    check_error(zuphinka_pool_add(pool), ZUPHINKA_POOL_ERROR_NONE);
+  }
+  calls();
+  atomic_store(&maker.now, 101);
+  fail_next(&maker, VALIDATE);
+  check_error(zuphinka_pool_evict(pool, &done), ZUPHINKA_POOL_ERROR_NONE);
+  check(done.examined == 3 && done.destroyed == 2);
+  check_text(calls(), "davdavp");
+  fail_next(&maker, ACTIVATE);
+  check_error(zuphinka_pool_evict(pool, &done), ZUPHINKA_POOL_ERROR_NONE);
+  check(done.examined == 2 && done.destroyed == 1 && counts_of(pool).idle == 1 && counts_of(pool).evicted == 3);
+  zuphinka_pool_close(pool);
+  check_error(zuphinka_pool_evict(pool, &done), ZUPHINKA_POOL_ERROR_CLOSED);
+  check(done.examined == 0);
+  end_pool(pool);
+}
+
+static const char *const reclaiming =
+    "maxTotal = 2\nminIdle = 1\n[abandoned]\nremoveAbandonedOnBorrow = true\nremoveAbandonedOnMaintenance = true\n"
+    "removeAbandonedTimeoutMillis = 100\n";
+
+static void test_maintenance(void) {
+  struct zuphinka_pool *pool = open_kept(reclaiming, -1);
+  struct zuphinka_pool_maintenance done;
+  struct zuphinka_pool_loan loans[] = {lend(pool), lend(pool)};
+  atomic_store(&maker.now, 60);
+  check_error(zuphinka_pool_touch(pool, &loans[1]), ZUPHINKA_POOL_ERROR_NONE);
+  atomic_store(&maker.now, 100);
+  check_error(zuphinka_pool_maintain(pool, &done), ZUPHINKA_POOL_ERROR_NONE);
+  check(done.eviction.examined == 0 && done.reclaimed == 1 && done.filled == 1);
+  check_error(zuphinka_pool_touch(pool, &loans[0]), ZUPHINKA_POOL_ERROR_GONE);
+  let_go(&loans[0]);
+  check_error(zuphinka_pool_give_back(pool, &loans[0]), ZUPHINKA_POOL_ERROR_GONE);
+  check(loans[0].id == ZUPHINKA_POOL_NO_LOAN && counts_of(pool).reclaimed == 1 && atomic_load(&maker.alive) == 2);
+  give_back(pool, &loans[1]);
+  end_pool(pool);
+}
+
+static void test_reclaims_at_a_borrow(void) {
+  struct zuphinka_pool *pool = open_kept(reclaiming, -1);
+  struct zuphinka_pool_loan loans[] = {lend(pool), lend(pool), {.id = 0}};
+  atomic_store(&maker.now, 100);
+  loans[2] = lend(pool);
+  check(loans[2].id == 2 && counts_of(pool).reclaimed == 2);
+  for (int n = 0; n < 2; n++) {
+    let_go(&loans[n]);
+    check_error(zuphinka_pool_invalidate(pool, &loans[n]), ZUPHINKA_POOL_ERROR_GONE);
+  }
+  give_back(pool, &loans[2]);
+  end_pool(pool);
+}
+
+static void test_clears(void) {
+  struct zuphinka_pool *pool = open_kept("", 8);
+  uint64_t destroyed = 77;
+  for (int n = 0; n < 3; n++) check_error(zuphinka_pool_add(pool), ZUPHINKA_POOL_ERROR_NONE);
+  struct zuphinka_pool_loan loan = lend(pool);
+  calls();
+  check_error(zuphinka_pool_clear(pool, &destroyed), ZUPHINKA_POOL_ERROR_NONE);
+  check(destroyed == 2 && counts_of(pool).idle == 0 && counts_of(pool).lent == 1);
+  check_text(calls(), "dd");
+  give_back(pool, &loan);
+  end_pool(pool);
+}
+
+static void test_closed(void) {
+  struct zuphinka_pool *pool = open_kept("minIdle = 2\n", 8);
+  uint64_t filled;
+  struct zuphinka_pool_loan loan = lend(pool), other;
+  check_error(zuphinka_pool_add(pool), ZUPHINKA_POOL_ERROR_NONE);
+  check(!zuphinka_pool_is_closed(pool) && zuphinka_pool_close(pool) == 1 && zuphinka_pool_is_closed(pool));
+  check(zuphinka_pool_close(pool) == 0);
+  check_error(zuphinka_pool_get(pool, &other), ZUPHINKA_POOL_ERROR_CLOSED);
+  check_error(zuphinka_pool_add(pool), ZUPHINKA_POOL_ERROR_CLOSED);
+  check_error(zuphinka_pool_fill(pool, &filled), ZUPHINKA_POOL_ERROR_NONE);
+  check(filled == 0);
+  check_error(zuphinka_pool_end(pool), ZUPHINKA_POOL_ERROR_IN_USE);
+  calls();
+  give_back(pool, &loan);
+  check_text(calls(), "pd");
+  end_pool(pool);
+}
+
+static void test_opens(void) {
+  static const struct {
+    const char *settings;
+    enum zuphinka_pool_error error;
+  } rows[] = {{"\xff", ZUPHINKA_POOL_ERROR_NOT_TEXT},
+              {"maxTotal", ZUPHINKA_POOL_ERROR_NOT_TOML},
+              {"maxTotl = 4", ZUPHINKA_POOL_ERROR_UNKNOWN_KEY},
+              {"maxTotal = true", ZUPHINKA_POOL_ERROR_WRONG_TYPE},
+              {"journalLimit = 0", ZUPHINKA_POOL_ERROR_OUT_OF_RANGE}};
+  struct zuphinka_pool *pool = NULL;
+  struct zuphinka_pool_host host = host_of(&maker);
+  for (size_t n = 0; n < sizeof rows / sizeof *rows; n++) {
+    check_error(zuphinka_pool_open(&pool, rows[n].settings, strlen(rows[n].settings), &host, ZUPHINKA_POOL_JOURNAL_OFF), rows[n].error);
+    check(!pool);
+  }
+  check_error(zuphinka_pool_open(&pool, "", 0, &host, ZUPHINKA_POOL_JOURNAL_SEGMENTS), ZUPHINKA_POOL_ERROR_MISSING_CALLBACK);
+  host.destroy = NULL;
+  check_error(zuphinka_pool_open(&pool, "", 0, &host, ZUPHINKA_POOL_JOURNAL_OFF), ZUPHINKA_POOL_ERROR_MISSING_CALLBACK);
+  check(!pool && zuphinka_pool_end(NULL) == ZUPHINKA_POOL_ERROR_NONE);
+}
+
+static void test_texts(void) {
+  const char *none = zuphinka_pool_error_text((enum zuphinka_pool_error)(ZUPHINKA_POOL_ERROR_OUT_OF_RANGE + 1));
+  for (int n = 0; n <= ZUPHINKA_POOL_ERROR_OUT_OF_RANGE; n++) {
+    const char *text = zuphinka_pool_error_text((enum zuphinka_pool_error)n);
+    check(*text && strcmp(text, none) != 0);
+    for (int other = 0; other < n; other++) check(strcmp(text, zuphinka_pool_error_text((enum zuphinka_pool_error)other)) != 0);
+  }
+}
+
+/* ---- journals */
+
+/* A pool whose journal is full takes back and closes; it lends again once its journal is cut. */
+static void test_full_journal(void) {
+  struct zuphinka_pool *pool = open_kept("journalLimit = 20\n", 8);
+  struct zuphinka_pool_loan loan = lend(pool), other;
+  check(!zuphinka_pool_is_low(pool));
+  enum zuphinka_pool_error error;
+  while ((error = zuphinka_pool_touch(pool, &loan)) == ZUPHINKA_POOL_ERROR_NONE) check(counts_of(pool).steps < 20);
+  check_error(error, ZUPHINKA_POOL_ERROR_JOURNAL_FULL);
+  check_error(zuphinka_pool_get(pool, &other), ZUPHINKA_POOL_ERROR_JOURNAL_FULL);
+  check(zuphinka_pool_is_low(pool));
+  give_back(pool, &loan);
+  check_error(zuphinka_pool_get(pool, &loan), ZUPHINKA_POOL_ERROR_JOURNAL_FULL);
+  entries(pool);
+  check(!zuphinka_pool_is_low(pool));
+  loan = lend(pool);
+  give_back(pool, &loan);
+  while ((error = zuphinka_pool_clear(pool, NULL)) == ZUPHINKA_POOL_ERROR_NONE) check(counts_of(pool).steps < 60);
+  zuphinka_pool_close(pool);
+  check_error(zuphinka_pool_get(pool, &loan), ZUPHINKA_POOL_ERROR_CLOSED);
+  check_error(zuphinka_pool_add(pool), ZUPHINKA_POOL_ERROR_CLOSED);
+  check_error(zuphinka_pool_evict(pool, NULL), ZUPHINKA_POOL_ERROR_CLOSED);
+  end_pool(pool);
+}
+
+/* A pool without a journal lends on, however small its journal is. */
+static void test_dropped_journal(void) {
+  for (int limit = 16; limit <= 100000; limit *= 25) {
+    char settings[64];
+    struct zuphinka_pool_host host = host_of(&maker);
+    snprintf(settings, sizeof settings, "journalLimit = %d\n", limit);
+    check_error(zuphinka_pool_open(&maker.pool, settings, strlen(settings), &host, ZUPHINKA_POOL_JOURNAL_OFF), ZUPHINKA_POOL_ERROR_NONE);
+    for (int round = 0; round < 5000; round++) {
+      struct zuphinka_pool_loan loan = lend(maker.pool);
+      check_error(zuphinka_pool_touch(maker.pool, &loan), ZUPHINKA_POOL_ERROR_NONE);
+      give_back(maker.pool, &loan);
+    }
+    check(counts_of(maker.pool).steps == 25000);
+    uint64_t last = 0;
+    static char text[LONGEST_TEXT];
+    text[0] = 0;
+    check_error(zuphinka_pool_cut(maker.pool, append_text, text, &last), ZUPHINKA_POOL_ERROR_NONE);
+    check(last <= 1024 && last <= (uint64_t)limit);
+    end_pool(maker.pool);
+  }
+}
+
+static bool write_file(const char *folder, const char *name, const char *text, size_t size) {
+  char path[1024];
+  int length = snprintf(path, sizeof path, "%s/%s", folder, name);
+  FILE *file = length > 0 && (size_t)length < sizeof path ? fopen(path, "wb") : NULL;
+  if (!file) return false;
+  bool is_written = fwrite(text, 1, size, file) == size;
+  return fclose(file) == 0 && is_written;
+}
+
+/* Writes a segment to a file, unless this call is to fail. */
+static bool store_segment(void *context, uint64_t first, const char *text, size_t size) {
+  struct sink *sink = &((struct maker *)context)->sink;
+  int call = atomic_fetch_add(&sink->called, 1) + 1;
+  char name[32];
+  while (atomic_load(&sink->is_held)) sleep_for(1);
+  if (sink->fails_at < 0 || call == sink->fails_at) return false;
+  snprintf(name, sizeof name, "%020" PRIu64, first);
+  return !sink->folder || write_file(sink->folder, name, text, size);
+}
+
+/* Opens a pool whose segments go to a folder, or nowhere; it may be without memory for a while. */
+static struct zuphinka_pool *open_stored(struct maker *made, const char *settings, const char *folder, enum zuphinka_pool_journal journal) {
+  struct zuphinka_pool_host host = host_of(made);
+  host.store = store_segment;
+  if (made->is_plain) host.activate = host.passivate = NULL;
+  if (made->has_no_clock) host.now = NULL;
+  made->sink.folder = folder;
+  enum zuphinka_pool_error error = ZUPHINKA_POOL_ERROR_OUT_OF_MEMORY;
+  for (int tries = 0; error == ZUPHINKA_POOL_ERROR_OUT_OF_MEMORY && tries < 1000; tries++) {
+    error = zuphinka_pool_open(&made->pool, settings, strlen(settings), &host, journal);
+  }
+  check_error(error, ZUPHINKA_POOL_ERROR_NONE);
+  bool is_written = !folder;
+  for (int tries = 0; !is_written && tries < 1000; tries++) is_written = write_file(folder, "settings", settings, strlen(settings));
+  check(is_written);
+  return made->pool;
+}
+
+/* Ends a pool whose last segment may fail for some time. */
+static void end_stored(struct zuphinka_pool *pool) {
+  enum zuphinka_pool_error error = ZUPHINKA_POOL_ERROR_STORE_FAILED;
+  for (int tries = 0; error && tries < 1000; tries++) error = zuphinka_pool_end(pool);
+  check_error(error, ZUPHINKA_POOL_ERROR_NONE);
+}
+
+/* Where a store fails nothing is lost: the journal fills up, and all of it is stored later. */
+static void test_failing_store(void) {
+  struct zuphinka_pool *pool = open_stored(&maker, "journalLimit = 100\n", NULL, ZUPHINKA_POOL_JOURNAL_SEGMENTS);
+  struct zuphinka_pool_loan loan;
+  enum zuphinka_pool_error error;
+  maker.sink.fails_at = -1;
+  while ((error = zuphinka_pool_get(pool, &loan)) == ZUPHINKA_POOL_ERROR_NONE) {
+    check_error(zuphinka_pool_give_back(pool, &loan), ZUPHINKA_POOL_ERROR_NONE);
+    check(counts_of(pool).steps < 200);
+  }
+  check_error(error, ZUPHINKA_POOL_ERROR_JOURNAL_FULL);
+  check(counts_of(pool).steps > 150 && zuphinka_pool_is_low(pool));
+  check_error(zuphinka_pool_cut(pool, store_segment, &maker, NULL), ZUPHINKA_POOL_ERROR_STORE_FAILED);
+  maker.sink.fails_at = 0;
+  uint64_t entries = 0;
+  check_error(zuphinka_pool_cut(pool, store_segment, &maker, &entries), ZUPHINKA_POOL_ERROR_NONE);
+  check(entries == counts_of(pool).steps && !zuphinka_pool_is_low(pool));
+  loan = lend(pool);
+  give_back(pool, &loan);
+  zuphinka_pool_close(pool);
+  maker.sink.fails_at = -1;
+  check_error(zuphinka_pool_end(pool), ZUPHINKA_POOL_ERROR_STORE_FAILED);
+  maker.sink.fails_at = 0;
+  maker.pool = NULL;
+  check_error(zuphinka_pool_end(pool), ZUPHINKA_POOL_ERROR_NONE);
+}
+
+/* Maintenance stores a segment early, and tries one that failed again. */
+static void test_maintained_journal(void) {
+  struct zuphinka_pool *pool = open_stored(&maker, "journalLimit = 100\n", NULL, ZUPHINKA_POOL_JOURNAL_SEGMENTS);
+  struct zuphinka_pool_loan loan;
+  for (int round = 0; round < 12; round++) {
+    loan = lend(pool);
+    give_back(pool, &loan);
+  }
+  check(atomic_load(&maker.sink.called) == 0);
+  maker.sink.fails_at = 1;
+  check_error(zuphinka_pool_maintain(pool, NULL), ZUPHINKA_POOL_ERROR_NONE);
+  check(atomic_load(&maker.sink.called) == 1);
+  check_error(zuphinka_pool_maintain(pool, NULL), ZUPHINKA_POOL_ERROR_NONE);
+  check(atomic_load(&maker.sink.called) == 3);
+  check_error(zuphinka_pool_maintain(pool, NULL), ZUPHINKA_POOL_ERROR_NONE);
+  check(atomic_load(&maker.sink.called) == 3);
+  end_pool(pool);
+}
+
+/* ---- threads that wait */
+
+struct waiter {
+  pthread_t thread;
+  struct zuphinka_pool *pool;
+  struct zuphinka_pool_loan loan;
+  enum zuphinka_pool_error error;
+};
+
+static void *wait_for_one(void *argument) {
+  struct waiter *waiter = argument;
+  waiter->error = zuphinka_pool_get_timed(waiter->pool, LONG, &waiter->loan);
+  return NULL;
+}
+
+static void *borrow_and_return(void *argument) {
+  struct waiter *waiter = argument;
+  waiter->error = zuphinka_pool_get(waiter->pool, &waiter->loan);
+  if (!waiter->error) waiter->error = zuphinka_pool_give_back(waiter->pool, &waiter->loan);
+  return NULL;
+}
+
+/* Starts threads, and returns once each has made its entry and sleeps. */
+static void start(struct waiter *waiters, int count, struct zuphinka_pool *pool, void *(*run)(void *)) {
+  uint64_t steps = counts_of(pool).steps;
+  for (int n = 0; n < count; n++) {
+    waiters[n].pool = pool;
+    check(pthread_create(&waiters[n].thread, NULL, run, &waiters[n]) == 0);
+  }
+  while (counts_of(pool).steps < steps + (uint64_t)count) sleep_for(1);
+}
+
+static void join(struct waiter *waiters, int count, enum zuphinka_pool_error wanted) {
+  for (int n = 0; n < count; n++) {
+    check(pthread_join(waiters[n].thread, NULL) == 0);
+    check_error(waiters[n].error, wanted);
+  }
+}
+
+static void test_woken_by_a_return(void) {
+  struct zuphinka_pool *pool = open_kept("maxTotal = 1\n", 1);
+  struct zuphinka_pool_loan loan = lend(pool);
+  struct waiter waiter;
+  start(&waiter, 1, pool, wait_for_one);
+  give_back(pool, &loan);
+  join(&waiter, 1, ZUPHINKA_POOL_ERROR_NONE);
+  check(waiter.loan.id == 0);
+  check_error(zuphinka_pool_give_back(pool, &waiter.loan), ZUPHINKA_POOL_ERROR_NONE);
+  end_pool(pool);
+}
+
+/* An object that is invalidated, or that fails when it is returned, leaves a free place. */
+static void test_woken_by_a_place(void) {
+  for (int is_invalid = 0; is_invalid < 2; is_invalid++) {
+    struct zuphinka_pool *pool = open_kept("maxTotal = 1\n", 1);
+    struct zuphinka_pool_loan loan = lend(pool);
+    struct waiter waiter;
+    start(&waiter, 1, pool, wait_for_one);
+    if (is_invalid) {
+      invalidate(pool, &loan);
+    } else {
+      fail_next(&maker, PASSIVATE);
+      give_back(pool, &loan);
+    }
+    join(&waiter, 1, ZUPHINKA_POOL_ERROR_NONE);
+    check(waiter.loan.id == 1);
+    check_error(zuphinka_pool_give_back(pool, &waiter.loan), ZUPHINKA_POOL_ERROR_NONE);
+    end_pool(pool);
+  }
+}
+
+static void test_woken_by_a_reclaim(void) {
+  struct zuphinka_pool *pool =
+      open_kept("maxTotal = 1\n[abandoned]\nremoveAbandonedOnMaintenance = true\nremoveAbandonedTimeoutMillis = 100\n", -1);
+  struct zuphinka_pool_loan loan = lend(pool);
+  struct waiter waiter;
+  uint64_t reclaimed;
+  start(&waiter, 1, pool, wait_for_one);
+  atomic_store(&maker.now, 100);
+  check_error(zuphinka_pool_reclaim(pool, &reclaimed), ZUPHINKA_POOL_ERROR_NONE);
+  check(reclaimed == 1);
+  join(&waiter, 1, ZUPHINKA_POOL_ERROR_NONE);
+  let_go(&loan);
+  check_error(zuphinka_pool_give_back(pool, &loan), ZUPHINKA_POOL_ERROR_GONE);
+  check_error(zuphinka_pool_give_back(pool, &waiter.loan), ZUPHINKA_POOL_ERROR_NONE);
+  end_pool(pool);
+}
+
+/* A borrow whose new object failed leaves its place to a thread that waits. */
+static void test_woken_by_a_failure(void) {
+  struct zuphinka_pool *pool = open_kept("maxTotal = 1\ntestOnBorrow = true\n", 1);
+  struct zuphinka_pool_loan loan = lend(pool);
+  struct waiter waiters[2];
+  start(waiters, 2, pool, borrow_and_return);
+  fail_next(&maker, MAKE);
+  invalidate(pool, &loan);
+  for (int n = 0; n < 2; n++) check(pthread_join(waiters[n].thread, NULL) == 0);
+  bool is_first = waiters[0].error != ZUPHINKA_POOL_ERROR_NONE;
+  check_error(waiters[!is_first].error, ZUPHINKA_POOL_ERROR_MAKE_FAILED);
+  check_error(waiters[is_first].error, ZUPHINKA_POOL_ERROR_NONE);
+  end_pool(pool);
+}
+
+enum { MANY = 5 };
+
+static void test_all_hear_of_a_close(void) {
+  struct zuphinka_pool *pool = open_kept("maxTotal = 1\n", 1);
+  struct zuphinka_pool_loan loan = lend(pool);
+  struct waiter waiters[MANY];
+  start(waiters, MANY, pool, wait_for_one);
+  check(zuphinka_pool_close(pool) == 0);
+  join(waiters, MANY, ZUPHINKA_POOL_ERROR_CLOSED);
+  give_back(pool, &loan);
+  end_pool(pool);
+}
+
+static void test_all_hear_of_a_full_journal(void) {
+  struct zuphinka_pool *pool = open_kept("maxTotal = 1\njournalLimit = 20\n", 1);
+  struct zuphinka_pool_loan loan = lend(pool);
+  struct waiter waiters[MANY];
+  start(waiters, MANY, pool, borrow_and_return);
+  while (zuphinka_pool_touch(pool, &loan) == ZUPHINKA_POOL_ERROR_NONE) check(counts_of(pool).steps < 20);
+  give_back(pool, &loan);
+  join(waiters, MANY, ZUPHINKA_POOL_ERROR_JOURNAL_FULL);
+  end_pool(pool);
+}
+
+/* One object serves all in turn. Each that waits makes one entry before it is served: those that are woken for nothing make none. */
+static void test_one_object_serves_all(void) {
+  struct zuphinka_pool *pool = open_kept("maxTotal = 1\n", 1);
+  struct zuphinka_pool_loan loan = lend(pool);
+  struct waiter waiters[MANY];
+  start(waiters, MANY, pool, borrow_and_return);
+  give_back(pool, &loan);
+  join(waiters, MANY, ZUPHINKA_POOL_ERROR_NONE);
+  int waits = 0;
+  for (const char *at = strstr(entries(pool), " = wait\n"); at; at = strstr(at + 1, " = wait\n")) waits++;
+  check(waits == MANY);
+  end_pool(pool);
+}
+
+/* A thread gives up, and another one that waits is served. */
+static void test_one_gives_up(void) {
+  struct zuphinka_pool *pool = open_kept("maxTotal = 1\n", 1);
+  struct zuphinka_pool_loan loan = lend(pool), other;
+  struct waiter waiter;
+  start(&waiter, 1, pool, wait_for_one);
+  check_error(zuphinka_pool_get_timed(pool, 30, &other), ZUPHINKA_POOL_ERROR_TIMED_OUT);
+  give_back(pool, &loan);
+  join(&waiter, 1, ZUPHINKA_POOL_ERROR_NONE);
+  check_error(zuphinka_pool_give_back(pool, &waiter.loan), ZUPHINKA_POOL_ERROR_NONE);
+  end_pool(pool);
+}
+
+static void *lend_until_held(void *argument) {
+  struct waiter *waiter = argument;
+  waiter->error = ZUPHINKA_POOL_ERROR_NONE;
+  while (!waiter->error && atomic_load(&maker.sink.called) == 0) {
+    waiter->error = zuphinka_pool_get(waiter->pool, &waiter->loan);
+    if (!waiter->error) waiter->error = zuphinka_pool_give_back(waiter->pool, &waiter->loan);
+  }
+  return NULL;
+}
+
+/* While a segment is being stored other threads borrow. */
+static void test_slow_store(void) {
+  struct zuphinka_pool *pool = open_stored(&maker, "journalLimit = 200\n", NULL, ZUPHINKA_POOL_JOURNAL_SEGMENTS);
+  struct waiter waiter = {.pool = pool};
+  atomic_store(&maker.sink.is_held, true);
+  check(pthread_create(&waiter.thread, NULL, lend_until_held, &waiter) == 0);
+  while (atomic_load(&maker.sink.called) == 0) sleep_for(1);
+  struct zuphinka_pool_loan loan;
+  check_error(zuphinka_pool_get_timed(pool, LONG, &loan), ZUPHINKA_POOL_ERROR_NONE);
+  check_error(zuphinka_pool_give_back(pool, &loan), ZUPHINKA_POOL_ERROR_NONE);
+  atomic_store(&maker.sink.is_held, false);
+  join(&waiter, 1, ZUPHINKA_POOL_ERROR_NONE);
+  end_pool(pool);
+}
+
+static void *tell_caller(void *argument) {
+  *(uint32_t *)argument = zuphinka_pool_caller();
+  return NULL;
+}
+
+static void test_callers(void) {
+  uint32_t here = zuphinka_pool_caller(), there = here;
+  pthread_t thread;
+  check(pthread_create(&thread, NULL, tell_caller, &there) == 0 && pthread_join(thread, NULL) == 0);
+  check(there != here && zuphinka_pool_caller() == here);
+}
+
+/* ---- a sink that fails at one call */
+
+static void run_sink(int fails_at, const char *folder) {
+  struct zuphinka_pool *pool = open_stored(&maker, "journalLimit = 60\nmaxTotal = 2\n", folder, ZUPHINKA_POOL_JOURNAL_SEGMENTS);
+  maker.sink.fails_at = fails_at;
+  for (int round = 0; round < 60; round++) {
+    struct zuphinka_pool_loan loan = lend(pool);
+    check_error(zuphinka_pool_touch(pool, &loan), ZUPHINKA_POOL_ERROR_NONE);
+    give_back(pool, &loan);
+    if (round % 20 == 19) check_error(zuphinka_pool_maintain(pool, NULL), ZUPHINKA_POOL_ERROR_NONE);
+  }
+  zuphinka_pool_close(pool);
+  uint64_t steps = counts_of(pool).steps;
+  maker.pool = NULL;
+  end_stored(pool);
+  printf("steps %" PRIu64 "\ncalled %d\n", steps, atomic_load(&maker.sink.called));
+}
+
+/* ---- threads that call at random */
+
+enum { HELD = 6, MOST_THREADS = 16 };
+
+/* What threads do with a pool that has nothing to lend. */
+enum manner { WAITING, REFUSED, HASTY, MANNERS };
+
+static const char *const settings_of_manner[MANNERS] = {
+    [WAITING] = "maxTotal = 1\nlifo = false\nminEvictableIdleMillis = 40\nsoftMinEvictableIdleMillis = 20\nnumTestsPerEvictionRun = -1\n",
+    [REFUSED] =
+        "maxTotal = 4\nmaxIdle = 2\nblockWhenExhausted = false\ntestOnCreate = true\nminEvictableIdleMillis = 40\n"
+        "numTestsPerEvictionRun = 2\n",
+    [HASTY] = "maxTotal = 3\nmaxWaitMillis = 2\nminEvictableIdleMillis = 1\n",
+};
+static const int most_of_manner[MANNERS] = {1, 4, 3};
+static const int timeout_of_manner[MANNERS] = {60, 200, 3};
+
+struct table {
+  struct zuphinka_pool *pool;
+  enum manner manner;
+  enum zuphinka_pool_journal journal;
+  int calls;
+  bool is_short; /* allocations may fail */
+  pthread_mutex_t lock;
+  struct zuphinka_pool_loan handed[MOST_THREADS]; /* loans that one thread hands to another */
+  size_t count;
+};
+
+struct player {
+  pthread_t thread;
+  struct table *table;
+  uint64_t dice;
+  struct zuphinka_pool_loan held[HELD];
+  size_t count;
+  uint32_t caller;
+  uint64_t lent;
+};
+
+/* Errors that come to each call now and then. */
+static bool is_expected(const struct table *table, enum zuphinka_pool_error error) {
+  switch (error) {
+    case ZUPHINKA_POOL_ERROR_NONE:
+    case ZUPHINKA_POOL_ERROR_CLOSED:
+    case ZUPHINKA_POOL_ERROR_MAKE_FAILED:
+    case ZUPHINKA_POOL_ERROR_CREATE_TEST_FAILED:
+    case ZUPHINKA_POOL_ERROR_ACTIVATE_FAILED:
+    case ZUPHINKA_POOL_ERROR_BORROW_TEST_FAILED:
+    case ZUPHINKA_POOL_ERROR_PASSIVATE_FAILED: return true;
+    case ZUPHINKA_POOL_ERROR_JOURNAL_FULL:
+    case ZUPHINKA_POOL_ERROR_STORE_FAILED:
+    case ZUPHINKA_POOL_ERROR_OUT_OF_MEMORY: return table->is_short;
+    default: return false;
+  }
+}
+
+static void borrow_at_random(struct player *player) {
+  struct table *table = player->table;
+  struct zuphinka_pool_loan loan;
+  if (player->count == (table->manner == WAITING ? 1 : HELD)) return;
+  uint64_t how = table->manner == HASTY ? roll(&player->dice, 3) : 0;
+  enum zuphinka_pool_error error = how == 0   ? zuphinka_pool_get(table->pool, &loan)
+                                   : how == 1 ? zuphinka_pool_try_get(table->pool, &loan)
+                                              : zuphinka_pool_get_timed(table->pool, 1, &loan);
+  if (error) {
+    bool has_none = error == ZUPHINKA_POOL_ERROR_EXHAUSTED || error == ZUPHINKA_POOL_ERROR_TIMED_OUT;
+    check((has_none && table->manner != WAITING) || is_expected(table, error));
+    return;
+  }
+  struct thing *thing = loan.object;
+  check(thing->id == loan.id && (thing->is_awake || maker.is_plain) && atomic_fetch_add(&thing->holders, 1) == 0);
+  player->held[player->count++] = loan;
+  player->lent++;
+}
+
+/* Takes one of the loans that a player holds, at random. */
+static struct zuphinka_pool_loan pick(struct player *player) {
+  size_t at = roll(&player->dice, player->count);
+  struct zuphinka_pool_loan loan = player->held[at];
+  player->held[at] = player->held[--player->count];
+  return loan;
+}
+
+/* Ends a loan. An object that was reclaimed is its holder's where the call fails. */
+static void end_loan(struct table *table, struct zuphinka_pool_loan loan, bool is_broken) {
+  void *object = loan.object;
+  let_go(&loan);
+  enum zuphinka_pool_error error = is_broken ? zuphinka_pool_invalidate(table->pool, &loan) : zuphinka_pool_give_back(table->pool, &loan);
+  check(error == ZUPHINKA_POOL_ERROR_GONE || is_expected(table, error));
+  if (error && error != ZUPHINKA_POOL_ERROR_GONE) destroy_thing(&maker, object);
+}
+
+static void touch_at_random(struct player *player) {
+  const struct zuphinka_pool_loan *loan = &player->held[roll(&player->dice, player->count)];
+  enum zuphinka_pool_error error = zuphinka_pool_touch(player->table->pool, loan);
+  check(error == ZUPHINKA_POOL_ERROR_GONE || is_expected(player->table, error));
+}
+
+/* Hands a loan to another thread, and takes one that was handed on. */
+static void hand_on(struct player *player) {
+  struct table *table = player->table;
+  if (table->manner == WAITING) return;
+  pthread_mutex_lock(&table->lock);
+  if (table->count < MOST_THREADS) table->handed[table->count++] = pick(player);
+  size_t at = roll(&player->dice, table->count);
+  player->held[player->count++] = table->handed[at];
+  table->handed[at] = table->handed[--table->count];
+  pthread_mutex_unlock(&table->lock);
+}
+
+static void call_with_one(struct player *player) {
+  if (player->count == 0) {
+    borrow_at_random(player);
+    return;
+  }
+  uint64_t call = roll(&player->dice, 16);
+  if (call < 13) {
+    end_loan(player->table, pick(player), call > 10);
+  } else if (call < 15) {
+    touch_at_random(player);
+  } else if (player->count < HELD) {
+    hand_on(player);
+  }
+}
+
+static void maintain_at_random(struct player *player) {
+  struct table *table = player->table;
+  enum zuphinka_pool_error error = ZUPHINKA_POOL_ERROR_NONE;
+  switch (roll(&player->dice, 5)) {
+    case 0: error = zuphinka_pool_add(table->pool); break;
+    case 1: error = zuphinka_pool_fill(table->pool, NULL); break;
+    case 2: error = zuphinka_pool_evict(table->pool, NULL); break;
+    case 3: error = zuphinka_pool_reclaim(table->pool, NULL); break;
+    default: error = zuphinka_pool_maintain(table->pool, NULL); break;
+  }
+  check(error == ZUPHINKA_POOL_ERROR_NO_PLACE || is_expected(table, error));
+}
+
+/* Calls that are made seldom: the pool is closed now and then. */
+static void call_seldom(struct player *player) {
+  struct table *table = player->table;
+  uint64_t call = roll(&player->dice, 3000);
+  if (call == 0) {
+    zuphinka_pool_close(table->pool);
+  } else if (call <= 500) {
+    check(is_expected(table, zuphinka_pool_clear(table->pool, NULL)));
+  } else if (call <= 600 && table->journal == ZUPHINKA_POOL_JOURNAL_MEMORY) {
+    check(is_expected(table, zuphinka_pool_cut(table->pool, store_segment, &maker, NULL)));
+  } else {
+    struct zuphinka_counts counts = counts_of(table->pool);
+    check(counts.idle + counts.lent + counts.reserved <= (uint64_t)most_of_manner[table->manner]);
+  }
+}
+
+static void *play(void *argument) {
+  struct player *player = argument;
+  player->caller = zuphinka_pool_caller();
+  for (int n = 0; n < player->table->calls; n++) {
+    uint64_t call = roll(&player->dice, 24);
+    if (call < 8) {
+      borrow_at_random(player);
+    } else if (call < 17) {
+      call_with_one(player);
+    } else if (call < 22) {
+      maintain_at_random(player);
+    } else {
+      call_seldom(player);
+    }
+  }
+  while (player->count > 0) end_loan(player->table, pick(player), false);
+  return NULL;
+}
+
+/* Opens a pool whose manner, journal and callbacks the seed chooses. */
+static void open_table(struct table *table, uint64_t seed, const char *folder) {
+  static const char *const limits[] = {"journalLimit = 100\n", "", "journalLimit = 400\n"};
+  static char settings[1024];
+  bool is_abandoning = seed % 2 == 0;
+  table->manner = (enum manner)(seed % MANNERS);
+  table->journal = (enum zuphinka_pool_journal)(seed / MANNERS % 3);
+  maker.is_plain = seed % 5 == 0;
+  maker.has_no_clock = table->manner == HASTY;
+  maker.most = is_abandoning ? -1 : most_of_manner[table->manner];
+  atomic_store(&maker.ticks, 1);
+  int length = snprintf(settings, sizeof settings, "%s%sminIdle = 1\n%s", settings_of_manner[table->manner], limits[table->journal],
+                        maker.is_plain ? "" : "testOnBorrow = true\ntestOnReturn = true\ntestWhileIdle = true\n");
+  if (is_abandoning) {
+    snprintf(settings + length, sizeof settings - (size_t)length,
+             "[abandoned]\nremoveAbandonedOnBorrow = true\nremoveAbandonedOnMaintenance = true\nremoveAbandonedTimeoutMillis = %d\n",
+             timeout_of_manner[table->manner]);
+  }
+  table->pool = open_stored(&maker, settings, folder, table->journal);
+  maker.seed = seed;
+  maker.has_chance = true;
+}
+
+/* Closes the pool, which has nothing left then, and stores the rest of its journal. */
+static void close_table(struct table *table) {
+  while (table->count > 0) end_loan(table, table->handed[--table->count], false);
+  zuphinka_pool_close(table->pool);
+  struct zuphinka_counts counts = counts_of(table->pool);
+  check(counts.idle == 0 && counts.lent == 0 && counts.reserved == 0 && counts.created == counts.destroyed + counts.reclaimed);
+  check(atomic_load(&maker.alive) == 0);
+  enum zuphinka_pool_error error = ZUPHINKA_POOL_ERROR_STORE_FAILED;
+  for (int tries = 0; table->journal == ZUPHINKA_POOL_JOURNAL_MEMORY && error && tries < 1000; tries++) {
+    error = zuphinka_pool_cut(table->pool, store_segment, &maker, NULL);
+  }
+  maker.pool = NULL;
+  end_stored(table->pool);
+  printf("steps %" PRIu64 "\n", table->journal == ZUPHINKA_POOL_JOURNAL_OFF ? 0 : counts.steps);
+}
+
+static void run_random(uint64_t seed, int threads, int calls, const char *folder) {
+  static struct table table = {.lock = PTHREAD_MUTEX_INITIALIZER};
+  static struct player players[MOST_THREADS];
+  int started = 0;
+  check(threads > 0 && threads <= MOST_THREADS);
+  table.calls = calls;
+  table.is_short = getenv("REFUSE_OF") != NULL;
+  open_table(&table, seed, folder);
+  for (; started < threads; started++) {
+    players[started] = (struct player){.table = &table, .dice = seed * 1000 + (uint64_t)started};
+    if (pthread_create(&players[started].thread, NULL, play, &players[started]) != 0) break;
+  }
+  check(started == threads || table.is_short);
+  for (int n = 0; n < started; n++) check(pthread_join(players[n].thread, NULL) == 0);
+  close_table(&table);
+  for (int n = 0; n < started; n++) printf("caller %" PRIu32 " lent %" PRIu64 "\n", players[n].caller, players[n].lent);
+}
+
+/* ---- the run */
+
+#define TEST(name) \
+  { #name, test_##name }
+
+static const struct {
+  const char *name;
+  void (*run)(void);
+} tests[] = {
+    TEST(life),
+    TEST(life_without_callbacks),
+    TEST(times_never_decrease),
+    TEST(last_or_first),
+    TEST(tests_come_where_they_are_set),
+    TEST(exhausted),
+    TEST(waits_end),
+    TEST(new_objects_that_fail),
+    TEST(second_test_of_a_new_object),
+    TEST(idle_objects_that_fail),
+    TEST(returned_objects_that_fail),
+    TEST(invalidated),
+    TEST(ended_loans),
+    TEST(most_idle),
+    TEST(additions_and_fills),
+    TEST(evictions),
+    TEST(maintenance),
+    TEST(reclaims_at_a_borrow),
+    TEST(clears),
+    TEST(closed),
+    TEST(opens),
+    TEST(texts),
+    TEST(full_journal),
+    TEST(dropped_journal),
+    TEST(failing_store),
+    TEST(maintained_journal),
+    TEST(woken_by_a_return),
+    TEST(woken_by_a_place),
+    TEST(woken_by_a_reclaim),
+    TEST(woken_by_a_failure),
+    TEST(all_hear_of_a_close),
+    TEST(all_hear_of_a_full_journal),
+    TEST(one_object_serves_all),
+    TEST(one_gives_up),
+    TEST(slow_store),
+    TEST(callers),
+};
+
+static void run_test(const char *name) {
+  for (size_t n = 0; n < sizeof tests / sizeof *tests; n++) {
+    if (strcmp(tests[n].name, name) != 0) continue;
+    tests[n].run();
+    return;
+  }
+  check(!"a test of this name");
+}
+
+int main(int count, char **arguments) {
+  const char *kind = count > 1 ? arguments[1] : "";
+  if (strcmp(kind, "list") == 0) {
+    for (size_t n = 0; n < sizeof tests / sizeof *tests; n++) printf("%s\n", tests[n].name);
+  } else if (strcmp(kind, "test") == 0 && count == 3) {
+    run_test(arguments[2]);
+  } else if (strcmp(kind, "sink") == 0 && count == 4) {
+    run_sink(atoi(arguments[2]), arguments[3]);
+  } else if (strcmp(kind, "random") == 0 && count == 6) {
+    run_random(strtoull(arguments[2], NULL, 10), atoi(arguments[3]), atoi(arguments[4]), arguments[5]);
+  } else {
+    check(!"a kind of run");
+  }
+  return 0;
+}

@@ -1,0 +1,190 @@
+#!/usr/bin/env python3
+"""Tests the pool for threads in C, c/zuphinka_pool.c, by the program tests/play_c_pool.c.
+
+    play_c_pool.py LIBRARY POOL
+
+LIBRARY is libzuphinka.a, as `rt lib` builds it, and POOL the program `pool`. The C compiler that CC names, or cc, compiles the pool and the
+program, with warnings as errors; the header must compile by itself as C99, C11 and C++ too, and each of its codes is named after its enum.
+
+- Each test of the program must pass.
+- A pool whose `store` fails at each call in turn must store its whole journal in the end.
+- With SEEDS seeds, THREADS threads call a pool at random over callbacks that fail at random. No two threads have an object at once, no more
+  objects exist than maxTotal allows, and none is left; the program `pool` must judge the journal legal, whatever segments it has; it must have
+  each loan that the threads counted; and all journals together must have each answer.
+- The same must hold while one allocation in REFUSE_OF fails (tests/refuse.c), and some must have failed in each of FEW_SEEDS runs.
+- All tests and some seeds must run under valgrind without an error or a leak, and under ThreadSanitizer with MORE_THREADS threads without a
+  race, if these are installed; what is missing is printed.
+
+Prints each run that differs, and in the end the line 'N passed, M failed'.
+"""
+
+import collections
+import concurrent.futures
+import os
+import pathlib
+import re
+import shutil
+import subprocess
+import sys
+import tempfile
+
+from play_library import FLAGS, TOP, VALGRIND, compiler, heap
+from playing import differing
+from preloading import preloaded
+
+SOURCES = [TOP / "tests/play_c_pool.c", TOP / "c/zuphinka_pool.c"]
+POOL_FLAGS = [*FLAGS, "-pthread", "-I", TOP / "c"]
+SEEDS, THREADS, CALLS = 18, 4, 2_000
+# Under valgrind and ThreadSanitizer, and while allocations fail.
+FEW_SEEDS, FEW_CALLS, MORE_THREADS = 9, 400, 8
+REFUSE_OF = 7
+# A run that takes longer hangs, in seconds.
+LONGEST = 600
+LENT = re.compile(rb"^(\d+) \d+ ready \d+ good = lent$", re.MULTILINE)
+ANSWER = re.compile(rb" = (\w+)")
+ANSWERS = set(
+    b"take make wait exhausted timeout lent check parked kept keptidle destroy destroyidle test freed gone noted count reclaimed nothing enough"
+    b" noplace refused".split()
+)
+
+
+def built(folder, name, library, flags):
+    """Compiles the program with flags, links it with the library, and returns its path."""
+    program = pathlib.Path(folder) / name
+    subprocess.run([compiler(), *POOL_FLAGS, *flags, "-o", program, *SOURCES, library, heap()], check=True)
+    return program
+
+
+def run(*words, environment=None):
+    return subprocess.run(words, stdin=subprocess.DEVNULL, capture_output=True, timeout=LONGEST, env=environment)
+
+
+def has_tsan(folder):
+    """Returns whether the compiler builds programs with ThreadSanitizer that run."""
+    source, program = pathlib.Path(folder) / "empty.c", pathlib.Path(folder) / "empty"
+    source.write_text("int main(void) { return 0; }\n")
+    words = [compiler(), "-fsanitize=thread", "-pthread", "-o", program, source]
+    return subprocess.run(words, capture_output=True).returncode == 0 and subprocess.run([program], capture_output=True).returncode == 0
+
+
+class Runs:
+    """The runs of one build of the program, perhaps under another program or with a library that is loaded before."""
+
+    def __init__(self, name, words, pool, environment=None):
+        self.name, self.words, self.pool, self.environment = name, words, pool, environment
+        self.answers = set()
+
+    def run(self, *words):
+        return run(*self.words, *words, environment=self.environment)
+
+    def test(self, name):
+        """What differs in a test."""
+        return differing(f"{self.name}, test {name}", (b"", b"", 0), self.run("test", name))
+
+    def judged(self, name, folder, steps):
+        """The journal that was written to a folder, and what differs where it is judged."""
+        paths = sorted(path for path in folder.iterdir() if path.name != "settings")
+        journal = b"".join(path.read_bytes() for path in paths)
+        self.answers |= set(ANSWER.findall(journal))
+        if not steps:
+            return journal, [f"{name}: segments of a journal that is dropped"] if paths else []
+        return journal, differing(f"{name}, judged", (b"legal %d\n" % steps, b"", 0), run(self.pool, "check", folder / "settings", *paths))
+
+    def told(self, name, folder, *words):
+        """Runs the program over a folder: what it printed, as pairs of words and a number, the journal, and what differs."""
+        done = self.run(*words, folder)
+        found = differing(name, (done.stdout, b"", 0), done)
+        pairs = [line.rsplit(b" ", 1) for line in done.stdout.splitlines()]
+        numbers = {words: int(number) for words, number in pairs}
+        if found:
+            return numbers, b"", found
+        journal, more = self.judged(name, folder, numbers[b"steps"])
+        return numbers, journal, more
+
+    def sink(self, at):
+        """What differs in a run whose `store` fails at this call, and how often it was called."""
+        with tempfile.TemporaryDirectory() as folder:
+            numbers, _, found = self.told(f"{self.name}, a store that fails at call {at}", pathlib.Path(folder), "sink", str(at))
+            return found, numbers.get(b"called", 0)
+
+    def random(self, seed, threads, calls):
+        """What differs in a run of threads that call at random."""
+        with tempfile.TemporaryDirectory() as folder:
+            name = f"{self.name}, seed {seed}"
+            numbers, journal, found = self.told(name, pathlib.Path(folder), "random", str(seed), str(threads), str(calls))
+            lent = collections.Counter(LENT.findall(journal))
+            wanted = {words.split()[1]: number for words, number in numbers.items() if words.startswith(b"caller ") and number}
+            if not found and journal and lent != wanted:
+                found = [f"{name}: threads counted the loans {wanted}, the journal has {dict(lent)}"]
+            return found
+
+    def sinks(self):
+        """What differs where `store` fails at no call, and at each in turn."""
+        found, called = self.sink(0)
+        return [found] + [self.sink(at)[0] for at in range(1, called + 1)] + [[] if called > 3 else [f"{self.name}: few calls of store"]]
+
+
+def header_differing(folder):
+    """What differs where the header is compiled by itself, and in the names of its codes."""
+    source = pathlib.Path(folder) / "header"
+    source.write_text('#include "zuphinka_pool.h"\nint main(void) { return zuphinka_pool_caller() == 0; }\n')
+    words = ["-fsyntax-only", "-pedantic", "-Wall", "-Wextra", "-Werror", "-I", TOP / "c"]
+    for name, language, standard in (compiler(), "c", "c99"), (compiler(), "c", "c11"), (os.environ.get("CXX", "c++"), "c++", "c++11"):
+        if shutil.which(name):
+            yield differing(f"zuphinka_pool.h in {standard}", (b"", b"", 0), run(name, *words, "-x", language, f"-std={standard}", source))
+        else:
+            print(f"there is no {name}, so the header isn't compiled in {standard}")
+    for kind, body in re.findall(r"enum (zuphinka_\w+) \{(.*?)\};", (TOP / "c/zuphinka_pool.h").read_text(), flags=re.DOTALL):
+        names = re.findall(r"^  (\w+) =", body, flags=re.MULTILINE)
+        yield [f"{name} isn't named after {kind}" for name in names if not name.startswith(kind.upper() + "_")]
+
+
+def tools(folder, library, pool):
+    """The runs under valgrind and ThreadSanitizer, each with how many threads it has. Prints which are left out."""
+    if shutil.which("valgrind"):
+        yield Runs("valgrind", [*VALGRIND, built(folder, "debugged", library, ["-g"])], pool), THREADS
+    else:
+        print("valgrind isn't installed, and nothing looks for faults of memory (Debian and Ubuntu: apt-get install valgrind)")
+    if has_tsan(folder):
+        yield Runs("ThreadSanitizer", [built(folder, "watched", library, ["-g", "-fsanitize=thread"])], pool), MORE_THREADS
+    else:
+        print("the compiler has no ThreadSanitizer, and nothing looks for races (Debian and Ubuntu: apt-get install gcc)")
+
+
+def refused(plain, refuse, folder, seed):
+    """What differs in a run in which allocations fail."""
+    mark = pathlib.Path(folder) / f"refused{seed}"
+    changes = {"REFUSE_OF": str(REFUSE_OF), "REFUSE_SEED": str(seed), "REFUSED": str(mark), "LD_PRELOAD": str(refuse)}
+    runs = Runs("allocations that fail", plain.words, plain.pool, os.environ | changes)
+    return runs.random(seed, THREADS, CALLS) + ([] if mark.exists() else [f"seed {seed}: no allocation failed"])
+
+
+def all_calls(plain, library, folder):
+    """Each run as a call that returns what differs, in lists."""
+    names = plain.run("list").stdout.decode().split()
+    refuse = preloaded("refuse", folder)
+    few = range(1, FEW_SEEDS + 1)
+    calls = [(plain.test, name) for name in names] + [(plain.random, seed, THREADS, CALLS) for seed in range(1, SEEDS + 1)]
+    for runs, threads in tools(folder, library, plain.pool):
+        calls += [(runs.test, name) for name in names] + [(runs.random, seed, threads, FEW_CALLS) for seed in few]
+    return calls + [(refused, plain, refuse, folder, seed) for seed in few]
+
+
+def main(library, pool):
+    with tempfile.TemporaryDirectory() as folder:
+        plain = Runs("plain", [built(folder, "plain", library, [])], str(pathlib.Path(pool).resolve()))
+        calls = all_calls(plain, library, folder)
+        with concurrent.futures.ThreadPoolExecutor(os.cpu_count()) as workers:
+            found = list(workers.map(lambda call: call[0](*call[1:]), calls))
+        found += [*plain.sinks(), *header_differing(folder)]
+    missing = ANSWERS - plain.answers
+    found.append([f"no journal has {sorted(missing)}"] if missing else [])
+    for line in (line for lines in found for line in lines):
+        print(line[:2000])
+    failed = sum(map(bool, found))
+    print(f"{len(found) - failed} passed, {failed} failed")
+    return 1 if failed or len(found) < SEEDS else 0
+
+
+if __name__ == "__main__":
+    sys.exit(main(*sys.argv[1:]))
