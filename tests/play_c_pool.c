@@ -87,6 +87,7 @@ struct maker {
   int most;                        /* how many may exist; negative: no limit */
   atomic_uint failing;             /* a bit for each kind of call whose next one fails */
   atomic_uint_fast64_t now, ticks; /* the time, and by how much a look at the clock moves it on */
+  atomic_int looks;                /* looks at the clock */
   pthread_mutex_t lock;            /* of the next two */
   char calls[1 << 12];             /* a letter for each call */
   size_t called;
@@ -162,12 +163,20 @@ static void destroy_thing(void *context, void *object) {
   struct maker *maker = context;
   check(atomic_load(&((struct thing *)object)->holders) == 0);
   note_call(maker, DESTROY);
+  if (maker->pool && !maker->has_chance) { /* its place is taken until it is destroyed, unless it was reclaimed */
+    struct zuphinka_counts counts;
+    zuphinka_pool_counts(maker->pool, &counts);
+    check((uint64_t)atomic_load(&maker->alive) <= counts.idle + counts.lent + counts.reserved + counts.reclaimed);
+  }
   free(object);
   atomic_fetch_sub(&maker->alive, 1);
 }
 
 static uint64_t tell_time(void *context) {
   struct maker *maker = context;
+  struct zuphinka_counts counts;
+  if (maker->pool) zuphinka_pool_counts(maker->pool, &counts); /* which hangs if the pool holds its lock */
+  atomic_fetch_add(&maker->looks, 1);
   return atomic_fetch_add(&maker->now, atomic_load(&maker->ticks));
 }
 
@@ -288,15 +297,33 @@ static void test_life(void) {
   check_text(calls(), "d");
 }
 
+static const char *const all_tests = "testOnCreate = true\ntestOnBorrow = true\ntestOnReturn = true\n";
+
+/* A test comes where it is set, also if it is the only callback between two steps. */
+static void test_life_with_tests_alone(void) {
+  struct zuphinka_pool_host host = host_of(&maker);
+  struct zuphinka_pool_loan loan;
+  host.activate = host.passivate = NULL;
+  check_error(zuphinka_pool_open(&maker.pool, all_tests, strlen(all_tests), &host, ZUPHINKA_POOL_JOURNAL_MEMORY), ZUPHINKA_POOL_ERROR_NONE);
+  check_error(zuphinka_pool_get(maker.pool, &loan), ZUPHINKA_POOL_ERROR_NONE);
+  check_text(calls(), "mvv");
+  check_error(zuphinka_pool_give_back(maker.pool, &loan), ZUPHINKA_POOL_ERROR_NONE);
+  check_text(calls(), "v");
+  check_error(zuphinka_pool_get(maker.pool, &loan), ZUPHINKA_POOL_ERROR_NONE);
+  check_text(calls(), "v");
+  fail_next(&maker, VALIDATE);
+  check_error(zuphinka_pool_give_back(maker.pool, &loan), ZUPHINKA_POOL_ERROR_NONE);
+  check_text(calls(), "vd");
+  end_pool(maker.pool);
+}
+
 /* Without callbacks two steps make one critical section, at one time. */
 static void test_life_without_callbacks(void) {
   struct zuphinka_pool_host host = host_of(&maker);
-  host.activate = host.passivate = NULL;
-  check_error(zuphinka_pool_open(&maker.pool, "testOnBorrow = true\n", 20, &host, ZUPHINKA_POOL_JOURNAL_MEMORY), ZUPHINKA_POOL_ERROR_NONE);
-  zuphinka_pool_end(maker.pool);
-  host.validate = NULL;
-  check_error(zuphinka_pool_open(&maker.pool, "testOnBorrow = true\n", 20, &host, ZUPHINKA_POOL_JOURNAL_MEMORY), ZUPHINKA_POOL_ERROR_NONE);
   struct zuphinka_pool_loan loan;
+  host.activate = host.passivate = NULL;
+  host.validate = NULL;
+  check_error(zuphinka_pool_open(&maker.pool, all_tests, strlen(all_tests), &host, ZUPHINKA_POOL_JOURNAL_MEMORY), ZUPHINKA_POOL_ERROR_NONE);
   check_error(zuphinka_pool_add(maker.pool), ZUPHINKA_POOL_ERROR_NONE);
   entries(maker.pool);
   atomic_store(&maker.now, 20);
@@ -747,21 +774,27 @@ static void end_stored(struct zuphinka_pool *pool) {
 
 /* Where a store fails nothing is lost: the journal fills up, and all of it is stored later. */
 static void test_failing_store(void) {
-  struct zuphinka_pool *pool = open_stored(&maker, "journalLimit = 100\n", NULL, ZUPHINKA_POOL_JOURNAL_SEGMENTS);
+  struct zuphinka_pool *pool = open_stored(&maker, "journalLimit = 1000\n", NULL, ZUPHINKA_POOL_JOURNAL_SEGMENTS);
   struct zuphinka_pool_loan loan;
   enum zuphinka_pool_error error;
   maker.sink.fails_at = -1;
   while ((error = zuphinka_pool_get(pool, &loan)) == ZUPHINKA_POOL_ERROR_NONE) {
     check_error(zuphinka_pool_give_back(pool, &loan), ZUPHINKA_POOL_ERROR_NONE);
-    check(counts_of(pool).steps < 200);
+    check(counts_of(pool).steps < 2000);
   }
   check_error(error, ZUPHINKA_POOL_ERROR_JOURNAL_FULL);
-  check(counts_of(pool).steps > 150 && zuphinka_pool_is_low(pool));
+  check(counts_of(pool).steps > 1700 && zuphinka_pool_is_low(pool) && atomic_load(&maker.sink.called) < 20);
   check_error(zuphinka_pool_cut(pool, store_segment, &maker, NULL), ZUPHINKA_POOL_ERROR_STORE_FAILED);
   maker.sink.fails_at = 0;
   uint64_t entries = 0;
   check_error(zuphinka_pool_cut(pool, store_segment, &maker, &entries), ZUPHINKA_POOL_ERROR_NONE);
   check(entries == counts_of(pool).steps && !zuphinka_pool_is_low(pool));
+  atomic_store(&maker.sink.called, 0);
+  while (atomic_load(&maker.sink.called) == 0) {
+    loan = lend(pool);
+    give_back(pool, &loan);
+  }
+  check(counts_of(pool).steps - entries < 800); /* a quarter of the room was left */
   loan = lend(pool);
   give_back(pool, &loan);
   zuphinka_pool_close(pool);
@@ -929,6 +962,52 @@ static void test_one_object_serves_all(void) {
   int waits = 0;
   for (const char *at = strstr(entries(pool), " = wait\n"); at; at = strstr(at + 1, " = wait\n")) waits++;
   check(waits == MANY);
+  end_pool(pool);
+}
+
+/* One object wakes one of the threads that wait: the others do not look at the clock. */
+static void test_one_object_wakes_one(void) {
+  struct zuphinka_pool *pool = open_kept("maxTotal = 1\n", 1);
+  struct zuphinka_pool_loan loan = lend(pool);
+  struct waiter waiters[MANY];
+  start(waiters, MANY, pool, wait_for_one);
+  let_go(&loan);
+  atomic_store(&maker.looks, 0);
+  uint64_t steps = counts_of(pool).steps;
+  check_error(zuphinka_pool_give_back(pool, &loan), ZUPHINKA_POOL_ERROR_NONE);
+  while (counts_of(pool).steps < steps + 4) sleep_for(1);
+  sleep_for(50);
+  check(atomic_load(&maker.looks) == 4); /* the return, its parking, the thread that wakes, and its loan */
+  zuphinka_pool_close(pool);
+  int lent = 0;
+  for (int n = 0; n < MANY; n++) {
+    check(pthread_join(waiters[n].thread, NULL) == 0);
+    if (waiters[n].error == ZUPHINKA_POOL_ERROR_CLOSED) continue;
+    check_error(zuphinka_pool_give_back(pool, &waiters[n].loan), ZUPHINKA_POOL_ERROR_NONE);
+    lent++;
+  }
+  check(lent == 1);
+  end_pool(pool);
+}
+
+/* A thread that waits, and is woken though the object is lent again before it looks, makes no further entry. */
+static void test_woken_for_nothing(void) {
+  struct zuphinka_pool *pool = open_kept("maxTotal = 1\n", 1);
+  struct zuphinka_pool_loan loan = lend(pool);
+  struct waiter waiter;
+  start(&waiter, 1, pool, borrow_and_return);
+  for (int round = 0; round < 200; round++) {
+    give_back(pool, &loan);
+    loan = lend(pool);
+  }
+  give_back(pool, &loan);
+  join(&waiter, 1, ZUPHINKA_POOL_ERROR_NONE);
+  int waits = 0;
+  for (const char *line = entries(pool); *line; line = strchr(line, '\n') + 1) {
+    bool is_other = strtoul(line, NULL, 10) != zuphinka_pool_caller();
+    waits += is_other && memcmp(strchr(line, '\n') - 4, "wait", 4) == 0;
+  }
+  check(waits == 1);
   end_pool(pool);
 }
 
@@ -1239,6 +1318,7 @@ static const struct {
   void (*run)(void);
 } tests[] = {
     TEST(life),
+    TEST(life_with_tests_alone),
     TEST(life_without_callbacks),
     TEST(times_never_decrease),
     TEST(last_or_first),
@@ -1271,6 +1351,8 @@ static const struct {
     TEST(all_hear_of_a_close),
     TEST(all_hear_of_a_full_journal),
     TEST(one_object_serves_all),
+    TEST(one_object_wakes_one),
+    TEST(woken_for_nothing),
     TEST(one_gives_up),
     TEST(slow_store),
     TEST(callers),
