@@ -11,7 +11,7 @@
  *
  * `python3 tools/build.py zuphinka` builds the library, and `python3 tools/install.py --prefix FOLDER` installs it with a file for pkg-config:
  *
- *     cc $(PKG_CONFIG_PATH=FOLDER/lib/pkgconfig pkg-config --cflags --libs zuphinka) -o server server.c
+ *     cc -o server server.c $(PKG_CONFIG_PATH=FOLDER/lib/pkgconfig pkg-config --cflags --libs zuphinka)
  *
  * c/plain_life.c and c/long_life.c are programs to copy from. c/zuphinka_pool.h is a pool for threads over this library.
  *

@@ -2,9 +2,8 @@
  * zuphinka_pool.h: a pool of objects for threads, over zuphinka.h.
  *
  * The host writes callbacks that make and destroy objects and, if it wishes, activate, test and passivate them. The pool lends the objects to
- * threads, with the settings of docs/settings.md. Compile c/zuphinka_pool.c with the program, with -std=c11 and -pthread, or install both:
- *
- *     cc $(PKG_CONFIG_PATH=FOLDER/lib/pkgconfig pkg-config --cflags --libs zuphinka-pool) -o server server.c
+ * threads, with the settings of docs/settings.md. The installed archive has it; else compile c/zuphinka_pool.c with the program, with -std=c11
+ * and -pthread. zuphinka.h has the commands.
  *
  * Each decision is a step of the proved core. The lock, the waits and the journals of this file are not proved: tests/play_c_pool.py tests them.
  * c/shared_life.c is a program to copy from.

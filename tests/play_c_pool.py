@@ -11,6 +11,7 @@ program, with warnings as errors; the header must compile by itself as C99, C11 
 - With SEEDS seeds, THREADS threads call a pool at random over callbacks that fail at random. No two threads have an object at once, no more
   objects exist than maxTotal allows, and none is left; the program `pool` must judge the journal legal, whatever segments it has; it must have
   each loan that the threads counted; and all journals together must have each answer.
+- c/shared_life.c must write the segments of a legal journal, with SHARED_ROUNDS loans for each thread.
 - The same must hold while one allocation in REFUSE_OF fails (tests/refuse.c), and some must have failed in each of FEW_SEEDS runs.
 - All tests and some seeds must run under valgrind without an error or a leak, and under ThreadSanitizer with MORE_THREADS threads without a
   race, if these are installed; what is missing is printed.
@@ -32,9 +33,9 @@ from play_library import FLAGS, TOP, VALGRIND, compiler, heap
 from playing import differing
 from preloading import preloaded
 
-SOURCES = [TOP / "tests/play_c_pool.c", TOP / "c/zuphinka_pool.c"]
 POOL_FLAGS = [*FLAGS, "-pthread", "-I", TOP / "c"]
 SEEDS, THREADS, CALLS = 18, 4, 2_000
+SHARED_ROUNDS = 5_000
 # Under valgrind and ThreadSanitizer, and while allocations fail.
 FEW_SEEDS, FEW_CALLS, MORE_THREADS = 9, 400, 8
 REFUSE_OF = 7
@@ -48,10 +49,10 @@ ANSWERS = set(
 )
 
 
-def built(folder, name, library, flags):
-    """Compiles the program with flags, links it with the library, and returns its path."""
+def built(folder, name, library, flags, main=TOP / "tests/play_c_pool.c"):
+    """Compiles a program over the pool with flags, links it with the library, and returns its path."""
     program = pathlib.Path(folder) / name
-    subprocess.run([compiler(), *POOL_FLAGS, *flags, "-o", program, *SOURCES, library, heap()], check=True)
+    subprocess.run([compiler(), *POOL_FLAGS, *flags, "-o", program, main, TOP / "c/zuphinka_pool.c", library, heap()], check=True)
     return program
 
 
@@ -118,6 +119,18 @@ class Runs:
                 found = [f"{name}: threads counted the loans {wanted}, the journal has {dict(lent)}"]
             return found
 
+    def shared(self, program):
+        """What differs where the example lends connections to threads."""
+        with tempfile.TemporaryDirectory() as name:
+            folder = pathlib.Path(name)
+            (folder / "settings").write_text("journalLimit = 1000\n")
+            found = differing("shared_life", (b"", b"", 0), run(program, folder / "settings", folder, str(THREADS), str(SHARED_ROUNDS)))
+            journal = b"".join(path.read_bytes() for path in sorted(folder.glob("segment-*")))
+            wanted = [SHARED_ROUNDS] * THREADS
+            lent = list(collections.Counter(LENT.findall(journal)).values())
+            told = [] if lent == wanted else [f"shared_life: the journal has {lent} loans for its threads"]
+            return found + told + self.judged("shared_life", folder, journal.count(b" = "))[1]
+
     def sinks(self):
         """What differs where `store` fails at no call, and at each in turn."""
         found, called = self.sink(0)
@@ -176,7 +189,8 @@ def main(library, pool):
         calls = all_calls(plain, library, folder)
         with concurrent.futures.ThreadPoolExecutor(os.cpu_count()) as workers:
             found = list(workers.map(lambda call: call[0](*call[1:]), calls))
-        found += [*plain.sinks(), *header_differing(folder)]
+        shared = built(folder, "shared_life", library, [], TOP / "c/shared_life.c")
+        found += [plain.shared(shared), *plain.sinks(), *header_differing(folder)]
     missing = ANSWERS - plain.answers
     found.append([f"no journal has {sorted(missing)}"] if missing else [])
     for line in (line for lines in found for line in lines):

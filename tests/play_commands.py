@@ -6,7 +6,7 @@ play_commands.py POOL  The last line is 'N passed, M failed'.
 A block is what a page indents by four spaces, and the man page's section of examples. Each must be of commands, which are run one after the
 other with the repository's examples at hand, or as one where they have a loop; the lines of a journal, which must be legal with the default
 settings, cut into segments or not; the form of a line; or the line of `rt version` of a kit with the logic of this one. The command ./check
-is not run, since it runs this, nor are tools/, since it has built the programs: there must be such a tool and crate. Blocks between fences are
+is not run, since it runs this, nor is tools/build.py, since it has built the programs: there must be such a crate. Blocks between fences are
 not run: check_readme.py holds those of Rust and C against the sources. Names are for check_names.py. Cargo's commands are left out where no
 cargo runs.
 """
@@ -19,7 +19,7 @@ import sys
 import tempfile
 
 TOP = pathlib.Path(__file__).resolve().parent.parent
-COMMAND = re.compile(r"(\./pool|\./check|pool|crates/\S+|\(cd|mkdir|printf|python3 tools/\S+|cc|\./plain_life|\./long_life|cargo) ")
+COMMAND = re.compile(r"(\./pool|\./check|pool|crates/\S+|\(cd|mkdir|printf|python3 tools/\S+|cc|\./plain_life|\./long_life|\./shared_life|cargo) ")
 ENTRY = re.compile(r"\d+ \d+ .* = ")
 BASE = re.compile(r"pool-journal 2 |\d+ (readying|adding|lent|returning|idle|testing|destroying) ")
 FORM = "<caller> <at> <input>"
@@ -53,7 +53,7 @@ class Place:
 
     def __init__(self, folder, pool):
         self.folder = pathlib.Path(folder)
-        for name in ("examples", "crates", "c", "rust"):
+        for name in ("examples", "crates", "c", "rust", "tools"):
             (self.folder / name).symlink_to(TOP / name)
         (self.folder / "pool").symlink_to(pool)
         self.runs_cargo = runs_cargo()
@@ -63,9 +63,8 @@ class Place:
         words = line.partition(" #")[0].strip()
         if words == "./check":
             return None
-        if words.startswith("python3 tools/"):
-            _, tool, crate = words.split()
-            return None if (TOP / tool).is_file() and (TOP / "crates" / crate).is_dir() else "no such tool or crate"
+        if words.startswith("python3 tools/build.py "):
+            return None if (TOP / "crates" / words.split()[2]).is_dir() else "no such crate"
         if words.startswith("cargo") and not self.runs_cargo:
             return None
         if words.startswith("pool"):
