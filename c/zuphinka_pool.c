@@ -516,7 +516,7 @@ static enum zuphinka_pool_error borrow(struct zuphinka_pool *pool, struct wait *
   wait->began = wait->at = time_of(pool);
   if (pool->settings.abandoned && pool->settings.remove_abandoned_on_borrow) {
     enum zuphinka_pool_error error = reclaim(pool, ZUPHINKA_INPUT_RECLAIM_ON_BORROW, &reclaimed);
-    if (error) return error;
+    if (error) return zuphinka_pool_is_closed(pool) ? ZUPHINKA_POOL_ERROR_CLOSED : error;
   }
   for (;;) {
     struct zuphinka_reply reply = {0};

@@ -23,7 +23,8 @@
  * The journal
  *
  * Each step makes one entry in the pool's journal: a borrow and a return take four. A journal has room for journalLimit entries, and is
- * - dropped (ZUPHINKA_POOL_JOURNAL_OFF): the pool drops entries as it goes, keeps few, and never runs out of room;
+ * - dropped (ZUPHINKA_POOL_JOURNAL_OFF): the pool drops entries as it goes and keeps few. It runs out of room only if journalLimit is less than
+ *   six entries for each present object and two more;
  * - kept (ZUPHINKA_POOL_JOURNAL_MEMORY): the pool stores all entries. It lends nothing once its journal is full. `zuphinka_pool_is_low` says
  *   when to call `zuphinka_pool_cut`;
  * - handed out (ZUPHINKA_POOL_JOURNAL_SEGMENTS): the pool cuts its journal in time and passes each segment to `store`. A borrow does this if
@@ -250,8 +251,8 @@ uint32_t zuphinka_pool_caller(void);
 const char *zuphinka_pool_error_text(enum zuphinka_pool_error error);
 
 /*
- * Ends a pool that no thread calls any more: closes it, passes the rest of the journal to `store` if it is handed out, and frees the pool. Objects
- * that were reclaimed and not returned are their holders' alone. Null: nothing to do.
+ * Ends a pool that no thread calls any more: closes it, passes the rest of the journal to `store` if it is handed out, and frees the pool.
+ * Objects that were reclaimed and not returned are their holders' alone. Null: nothing to do.
  *
  * Errors, and the pool is closed but not ended: ZUPHINKA_POOL_ERROR_IN_USE, if objects are lent; ZUPHINKA_POOL_ERROR_STORE_FAILED,
  * _OUT_OF_MEMORY, of the last segment.

@@ -4,10 +4,12 @@
  *     play_c_pool test NAME
  *     play_c_pool sink AT FOLDER                        a pool whose `store` fails at call AT, from 1
  *     play_c_pool random SEED THREADS CALLS FOLDER      threads that call a pool at random, over callbacks that fail at random
+ *     play_c_pool soak PAIRS THREADS                    threads that borrow and return PAIRS times together, without a journal
  *
- * The last two write the journal's segments to files of the folder, each named for its first position, and the settings to the file
+ * `sink` and `random` write the journal's segments to files of the folder, each named for its first position, and the settings to the file
  * `settings`. They print `steps N`, how many entries there were; `sink` prints also how often `store` was called, and `random` a line
- * `caller NUMBER lent N` for each thread. Exits with status 0; or with status 4 and a line on standard error that says what is wrong. */
+ * `caller NUMBER lent N` for each thread. In `soak` the memory of the process must not grow by more than a tenth, or SLACK bytes, after the first
+ * tenth of the pairs. Exits with status 0; or with status 4 and a line on standard error that says what is wrong. */
 #define _POSIX_C_SOURCE 200809L
 
 #include <inttypes.h>
@@ -18,6 +20,7 @@
 #include <stdlib.h>
 #include <string.h>
 #include <time.h>
+#include <unistd.h>
 
 #include "zuphinka_pool.h"
 
@@ -25,6 +28,7 @@ enum {
   WRONG = 4,
   LONG = 60000, /* milliseconds, after which a wait has failed */
   LONGEST_TEXT = 1 << 16,
+  SLACK = 1 << 20,
 };
 
 #define check(holds) check_at(holds, #holds, __LINE__)
@@ -1308,6 +1312,62 @@ static void run_random(uint64_t seed, int threads, int calls, const char *folder
   for (int n = 0; n < started; n++) printf("caller %" PRIu32 " lent %" PRIu64 "\n", players[n].caller, players[n].lent);
 }
 
+/* ---- a long life without a journal */
+
+struct borrower {
+  pthread_t thread;
+  struct zuphinka_pool *pool;
+  uint64_t rounds;
+  _Alignas(64) atomic_uint_fast64_t done;
+};
+
+static void *borrow_for_long(void *argument) {
+  struct borrower *borrower = argument;
+  for (uint64_t round = 0; round < borrower->rounds; round++) {
+    struct zuphinka_pool_loan loan = lend(borrower->pool);
+    give_back(borrower->pool, &loan);
+    atomic_fetch_add_explicit(&borrower->done, 1, memory_order_relaxed);
+  }
+  return NULL;
+}
+
+/* Returns how many pages of memory the process has. */
+static long resident_pages(void) {
+  long all = 0, resident = 0;
+  FILE *file = fopen("/proc/self/statm", "r");
+  check(file && fscanf(file, "%ld %ld", &all, &resident) == 2);
+  fclose(file);
+  return resident;
+}
+
+static uint64_t pairs_of(struct borrower *borrowers, int threads) {
+  uint64_t pairs = 0;
+  for (int n = 0; n < threads; n++) pairs += atomic_load(&borrowers[n].done);
+  return pairs;
+}
+
+static void run_soak(uint64_t pairs, int threads) {
+  static struct borrower borrowers[MOST_THREADS];
+  struct zuphinka_pool_host host = host_of(&maker);
+  struct zuphinka_pool *pool;
+  check(threads > 0 && threads <= MOST_THREADS);
+  host.now = NULL;
+  check_error(zuphinka_pool_open(&pool, "maxTotal = 3\n", 13, &host, ZUPHINKA_POOL_JOURNAL_OFF), ZUPHINKA_POOL_ERROR_NONE);
+  maker.most = 3;
+  for (int n = 0; n < threads; n++) {
+    borrowers[n].pool = pool;
+    borrowers[n].rounds = pairs / (uint64_t)threads;
+    check(pthread_create(&borrowers[n].thread, NULL, borrow_for_long, &borrowers[n]) == 0);
+  }
+  while (pairs_of(borrowers, threads) < pairs / 10) sleep_for(1);
+  long early = resident_pages();
+  for (int n = 0; n < threads; n++) check(pthread_join(borrowers[n].thread, NULL) == 0);
+  long late = resident_pages(), page = sysconf(_SC_PAGESIZE);
+  check(late <= early + early / 10 || (late - early) * page <= SLACK);
+  check(counts_of(pool).steps >= 4 * pairs_of(borrowers, threads));
+  end_pool(pool);
+}
+
 /* ---- the run */
 
 #define TEST(name) \
@@ -1377,6 +1437,8 @@ int main(int count, char **arguments) {
     run_sink(atoi(arguments[2]), arguments[3]);
   } else if (strcmp(kind, "random") == 0 && count == 6) {
     run_random(strtoull(arguments[2], NULL, 10), atoi(arguments[3]), atoi(arguments[4]), arguments[5]);
+  } else if (strcmp(kind, "soak") == 0 && count == 4) {
+    run_soak(strtoull(arguments[2], NULL, 10), atoi(arguments[3]));
   } else {
     check(!"a kind of run");
   }

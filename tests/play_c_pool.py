@@ -11,6 +11,7 @@ program, with warnings as errors; the header must compile by itself as C99, C11 
 - With SEEDS seeds, THREADS threads call a pool at random over callbacks that fail at random. No two threads have an object at once, no more
   objects exist than maxTotal allows, and none is left; the program `pool` must judge the journal legal, whatever segments it has; it must have
   each loan that the threads counted; and all journals together must have each answer.
+- A pool without a journal lends SOAKED times to THREADS threads, in memory that does not grow.
 - c/shared_life.c must write the segments of a legal journal, with SHARED_ROUNDS loans for each thread.
 - The same must hold while one allocation in REFUSE_OF fails (tests/refuse.c), and some must have failed in each of FEW_SEEDS runs.
 - All tests and some seeds must run under valgrind without an error or a leak, and under ThreadSanitizer with MORE_THREADS threads without a
@@ -35,7 +36,7 @@ from preloading import preloaded
 
 POOL_FLAGS = [*FLAGS, "-pthread", "-I", TOP / "c"]
 SEEDS, THREADS, CALLS = 18, 4, 2_000
-SHARED_ROUNDS = 5_000
+SHARED_ROUNDS, SOAKED = 5_000, 5_000_000
 # Under valgrind and ThreadSanitizer, and while allocations fail.
 FEW_SEEDS, FEW_CALLS, MORE_THREADS = 9, 400, 8
 REFUSE_OF = 7
@@ -119,6 +120,10 @@ class Runs:
                 found = [f"{name}: threads counted the loans {wanted}, the journal has {dict(lent)}"]
             return found
 
+    def soak(self):
+        """What differs in a long life without a journal."""
+        return differing(f"{self.name}, {SOAKED} pairs", (b"", b"", 0), self.run("soak", str(SOAKED), str(THREADS)))
+
     def shared(self, program):
         """What differs where the example lends connections to threads."""
         with tempfile.TemporaryDirectory() as name:
@@ -190,7 +195,7 @@ def main(library, pool):
         with concurrent.futures.ThreadPoolExecutor(os.cpu_count()) as workers:
             found = list(workers.map(lambda call: call[0](*call[1:]), calls))
         shared = built(folder, "shared_life", library, [], TOP / "c/shared_life.c")
-        found += [plain.shared(shared), *plain.sinks(), *header_differing(folder)]
+        found += [plain.soak(), plain.shared(shared), *plain.sinks(), *header_differing(folder)]
     missing = ANSWERS - plain.answers
     found.append([f"no journal has {sorted(missing)}"] if missing else [])
     for line in (line for lines in found for line in lines):
