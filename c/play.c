@@ -183,6 +183,7 @@ static struct state state_of(struct zuphinka *pool) {
   check(zuphinka_room(pool, &state.room) == ZUPHINKA_STATUS_DONE, "the room isn't told");
   check(zuphinka_counts(pool, &state.counts) == ZUPHINKA_STATUS_DONE, "the counts aren't told");
   check(state.counts.steps == dropped + state.steps, "two numbers of steps");
+  check(!zuphinka_is_low(pool, state.room) && zuphinka_is_low(pool, state.room + 1) == (state.steps > 0), "a journal that is low or isn't");
   check(state.counts.created ==
             state.counts.idle + state.counts.lent + state.counts.reserved + state.counts.destroyed + state.counts.reclaimed,
         "the counts don't add up");
@@ -468,8 +469,19 @@ static void check_empty(struct zuphinka *pool) {
   check(zuphinka_line(pool, 0, text, 1, &number) == ZUPHINKA_STATUS_NOT_OPEN && number == 7 && text[0] == 'x', "a line of no pool");
   check(zuphinka_base(pool, 0, text, 1, &number) == ZUPHINKA_STATUS_NOT_OPEN && number == 7 && text[0] == 'x', "a base of no pool");
   check(zuphinka_cut(pool) == ZUPHINKA_STATUS_NOT_OPEN && !pool->at, "a cut of no pool");
+  check(!zuphinka_is_low(pool, UINT64_MAX), "a low journal of no pool");
   zuphinka_drop(pool);
   check(!pool->at, "a pool from nothing");
+}
+
+/* Each status has a text of its own. */
+static void check_texts(void) {
+  for (uint32_t status = 0; status <= ZUPHINKA_STATUS_OUT_OF_RANGE; status++) {
+    const char *text = zuphinka_status_text(status);
+    for (uint32_t other = status + 1; other <= ZUPHINKA_STATUS_OUT_OF_RANGE + 1; other++) {
+      check(*text && strcmp(text, zuphinka_status_text(other)) != 0, "two statuses with one text");
+    }
+  }
 }
 
 /* Codes that are none are refused, and change nothing. */
@@ -555,6 +567,7 @@ int main(int count, char **arguments) {
   uint64_t every = 0;
   bool is_each = count == 5 && strcmp(arguments[4], "each") == 0;
   if (count < 3 || count > 5 || is_each != (count == 5) || (count > 3 && !read_number(arguments[3], UINT64_MAX, &every))) fault("wrong arguments");
+  check_texts();
   run(arguments, every);
   flush();
   if (is_each)
