@@ -566,7 +566,8 @@ static void run_each(char **arguments, uint64_t every) {
 int main(int count, char **arguments) {
   uint64_t every = 0;
   bool is_each = count == 5 && strcmp(arguments[4], "each") == 0;
-  if (count < 3 || count > 5 || is_each != (count == 5) || (count > 3 && !read_number(arguments[3], UINT64_MAX, &every))) fault("wrong arguments");
+  bool is_read = count <= 3 || read_number(arguments[3], UINT64_MAX, &every);
+  if (count < 3 || count > 5 || is_each != (count == 5) || !is_read) fault("wrong arguments");
   check_texts();
   run(arguments, every);
   flush();

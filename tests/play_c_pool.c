@@ -809,6 +809,43 @@ static void test_failing_store(void) {
   check_error(zuphinka_pool_end(pool), ZUPHINKA_POOL_ERROR_NONE);
 }
 
+/* Returns whether a call had room; one that had none changed nothing. */
+static bool had_room(enum zuphinka_pool_error error) {
+  check(error == ZUPHINKA_POOL_ERROR_NONE || error == ZUPHINKA_POOL_ERROR_JOURNAL_FULL || error == ZUPHINKA_POOL_ERROR_NOT_LENT);
+  return error == ZUPHINKA_POOL_ERROR_NONE;
+}
+
+/* Makes each call that needs room. Returns whether all of them had it. */
+static bool call_all(struct zuphinka_pool *pool) {
+  struct zuphinka_pool_loan first = {.id = ZUPHINKA_POOL_NO_LOAN}, second = first;
+  bool all = had_room(zuphinka_pool_get(pool, &first));
+  all &= had_room(zuphinka_pool_get(pool, &second));
+  all &= had_room(zuphinka_pool_touch(pool, &second));
+  all &= had_room(zuphinka_pool_give_back(pool, &second));
+  all &= had_room(zuphinka_pool_give_back(pool, &first));
+  all &= had_room(zuphinka_pool_evict(pool, NULL));
+  all &= had_room(zuphinka_pool_maintain(pool, NULL));
+  all &= had_room(zuphinka_pool_clear(pool, NULL));
+  all &= had_room(zuphinka_pool_add(pool));
+  return all & had_room(zuphinka_pool_fill(pool, NULL));
+}
+
+/* A pool with a very small journal ends each call, and closes. Six entries for each object and two more are enough if the journal is cut. */
+static void test_small_journals(void) {
+  for (int limit = 1; limit < 40; limit++) {
+    for (int journal = ZUPHINKA_POOL_JOURNAL_OFF; journal <= ZUPHINKA_POOL_JOURNAL_SEGMENTS; journal++) {
+      char settings[64];
+      snprintf(settings, sizeof settings, "maxTotal = 2\nmaxIdle = 2\nminIdle = 2\njournalLimit = %d\n", limit);
+      struct zuphinka_pool *pool = open_stored(&maker, settings, NULL, (enum zuphinka_pool_journal)journal);
+      for (int round = 0; round < 5; round++) {
+        bool has_room = call_all(pool);
+        check(has_room || journal == ZUPHINKA_POOL_JOURNAL_MEMORY || limit < 6 * 2 + 2);
+      }
+      end_pool(pool);
+    }
+  }
+}
+
 /* Maintenance stores a segment early, and tries one that failed again. */
 static void test_maintained_journal(void) {
   struct zuphinka_pool *pool = open_stored(&maker, "journalLimit = 100\n", NULL, ZUPHINKA_POOL_JOURNAL_SEGMENTS);
@@ -1403,6 +1440,7 @@ static const struct {
     TEST(full_journal),
     TEST(dropped_journal),
     TEST(failing_store),
+    TEST(small_journals),
     TEST(maintained_journal),
     TEST(woken_by_a_return),
     TEST(woken_by_a_place),
