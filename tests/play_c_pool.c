@@ -405,25 +405,38 @@ static void test_exhausted(void) {
   end_pool(pool);
 }
 
-static void test_waits_end(void) {
+/* Opens a pool of one object with the clock of the system, and lends the object. */
+static struct zuphinka_pool_loan open_lent(const char *settings) {
   struct zuphinka_pool_host host = host_of(&maker);
-  const char *settings = "maxTotal = 1\nmaxWaitMillis = 60\n";
-  struct zuphinka_pool_loan loan, other;
   host.now = NULL;
   maker.most = 1;
   check_error(zuphinka_pool_open(&maker.pool, settings, strlen(settings), &host, ZUPHINKA_POOL_JOURNAL_MEMORY), ZUPHINKA_POOL_ERROR_NONE);
-  loan = lend(maker.pool);
+  struct zuphinka_pool_loan loan = lend(maker.pool);
   entries(maker.pool);
+  return loan;
+}
+
+/* The settings end a wait, also one that the caller lets last longer. */
+static void test_waits_end_by_the_settings(void) {
+  struct zuphinka_pool_loan loan = open_lent("maxTotal = 1\nmaxWaitMillis = 60\n"), other;
   int64_t began = milliseconds_now();
   check_error(zuphinka_pool_get(maker.pool, &other), ZUPHINKA_POOL_ERROR_TIMED_OUT);
   check(milliseconds_now() - began >= 60 && strstr(entries(maker.pool), " = timeout\n"));
   began = milliseconds_now();
   check_error(zuphinka_pool_get_timed(maker.pool, LONG, &other), ZUPHINKA_POOL_ERROR_TIMED_OUT);
   check(milliseconds_now() - began < LONG && strstr(entries(maker.pool), " = timeout\n"));
-  began = milliseconds_now();
+  give_back(maker.pool, &loan);
+  end_pool(maker.pool);
+}
+
+/* The caller ends a wait, which makes no entry then. */
+static void test_waits_end_by_the_caller(void) {
+  struct zuphinka_pool_loan loan = open_lent("maxTotal = 1\nmaxWaitMillis = 60000\n"), other;
+  int64_t began = milliseconds_now();
   check_error(zuphinka_pool_get_timed(maker.pool, 20, &other), ZUPHINKA_POOL_ERROR_TIMED_OUT);
-  check(milliseconds_now() - began >= 20 && !strstr(entries(maker.pool), " = timeout\n"));
+  check(milliseconds_now() - began >= 20);
   check_error(zuphinka_pool_get_timed(maker.pool, 0, &other), ZUPHINKA_POOL_ERROR_TIMED_OUT);
+  check(!strstr(entries(maker.pool), " = timeout\n"));
   give_back(maker.pool, &loan);
   check_error(zuphinka_pool_get_timed(maker.pool, UINT64_MAX, &loan), ZUPHINKA_POOL_ERROR_NONE);
   check_error(zuphinka_pool_give_back(maker.pool, &loan), ZUPHINKA_POOL_ERROR_NONE);
@@ -887,6 +900,13 @@ static void *borrow_and_return(void *argument) {
   return NULL;
 }
 
+/* Waits for longer than any clock goes. */
+static void *wait_for_ever(void *argument) {
+  struct waiter *waiter = argument;
+  waiter->error = zuphinka_pool_get_timed(waiter->pool, UINT64_MAX, &waiter->loan);
+  return NULL;
+}
+
 /* Starts threads, and returns once each has made its entry and sleeps. */
 static void start(struct waiter *waiters, int count, struct zuphinka_pool *pool, void *(*run)(void *)) {
   uint64_t steps = counts_of(pool).steps;
@@ -905,10 +925,10 @@ static void join(struct waiter *waiters, int count, enum zuphinka_pool_error wan
 }
 
 static void test_woken_by_a_return(void) {
-  struct zuphinka_pool *pool = open_kept("maxTotal = 1\n", 1);
+  struct zuphinka_pool *pool = open_kept("maxTotal = 1\nmaxWaitMillis = 9007199254740992\n", 1);
   struct zuphinka_pool_loan loan = lend(pool);
   struct waiter waiter;
-  start(&waiter, 1, pool, wait_for_one);
+  start(&waiter, 1, pool, wait_for_ever);
   give_back(pool, &loan);
   join(&waiter, 1, ZUPHINKA_POOL_ERROR_NONE);
   check(waiter.loan.id == 0);
@@ -1018,7 +1038,7 @@ static void test_one_object_wakes_one(void) {
   check_error(zuphinka_pool_give_back(pool, &loan), ZUPHINKA_POOL_ERROR_NONE);
   while (counts_of(pool).steps < steps + 4) sleep_for(1);
   sleep_for(50);
-  check(atomic_load(&maker.looks) == 4); /* the return, its parking, the thread that wakes, and its loan */
+  check(atomic_load(&maker.looks) < 4 + MANY - 1); /* the return, its parking, the thread that wakes and its loan; not each of the others */
   zuphinka_pool_close(pool);
   int lent = 0;
   for (int n = 0; n < MANY; n++) {
@@ -1421,7 +1441,8 @@ static const struct {
     TEST(last_or_first),
     TEST(tests_come_where_they_are_set),
     TEST(exhausted),
-    TEST(waits_end),
+    TEST(waits_end_by_the_settings),
+    TEST(waits_end_by_the_caller),
     TEST(new_objects_that_fail),
     TEST(second_test_of_a_new_object),
     TEST(idle_objects_that_fail),
