@@ -8,8 +8,8 @@
  *
  * `sink` and `random` write the journal's segments to files of the folder, each named for its first position, and the settings to the file
  * `settings`. They print `steps N`, how many entries there were; `sink` prints also how often `store` was called, and `random` a line
- * `caller NUMBER lent N` for each thread. In `soak` the memory of the process must not grow by more than a tenth, or SLACK bytes, after the first
- * tenth of the pairs. Exits with status 0; or with status 4 and a line on standard error that says what is wrong. */
+ * `caller NUMBER lent N` for each thread. In `soak` the memory of the process must not grow by more than a tenth, or SLACK bytes, after the
+ * first tenth of the pairs. Exits with status 0; or with status 4 and a line on standard error that says what is wrong. */
 #define _POSIX_C_SOURCE 200809L
 
 #include <inttypes.h>
