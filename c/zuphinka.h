@@ -21,9 +21,9 @@
  *   - Zero a handle (`struct zuphinka pool = {0};`) before its first call. Do not copy it and do not write to it. A zeroed handle is empty.
  *   - Each pointer points to memory of its type or length, writable unless it is const. No pointer is null, even that of a text of no bytes.
  *     The pointers of one call do not overlap each other or the handle.
- *   - One call runs on a handle at a time. Threads that share a pool hold a lock of the host's during each call. Each call writes to the
- *     handle, also one that only reads the pool. Calls on different handles may run at once. No call comes from a signal handler, or from a
- *     forked child of a process with threads.
+ *   - One call runs on a handle at a time. Threads that share a pool hold a lock of the host's during each call. Each call may write to the
+ *     handle, also one that only reads the pool: so no handle is const. Calls on different handles may run at once. No call comes from a signal
+ *     handler, or from a forked child of a process with threads.
  *   - malloc, realloc and free belong to one allocator, aligned as C requires, and stay the same for all calls on a handle.
  * There is no global state. Drop a pool that is no longer used (`zuphinka_drop`): nothing else frees its memory.
  *
