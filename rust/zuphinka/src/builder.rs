@@ -1,10 +1,11 @@
-use crate::core::{Core, OpenFault};
-use crate::desk::Desk;
+use crate::clock::{Clock, GivenClock};
 use crate::error::{OpenError, SettingsError};
+use crate::locked_pool::LockedPool;
 use crate::manager::Manager;
 use crate::pool::Pool;
+use crate::proved_core::{Core, OpenFault};
 use crate::settings::{millis, Abandoned, Settings};
-use crate::shared::{Clock, Shared};
+use crate::shared::Shared;
 use std::fmt;
 use std::marker::PhantomData;
 use std::time::{Duration, Instant};
@@ -16,7 +17,7 @@ use std::time::{Duration, Instant};
 #[must_use = "a builder does nothing until `build` is called"]
 pub struct Builder<M> {
     settings: Settings,
-    clock: Option<Box<dyn Fn() -> u64 + Send + Sync>>,
+    clock: Option<GivenClock>,
     of: PhantomData<fn(M)>,
 }
 
@@ -158,8 +159,10 @@ impl<M: Manager> Builder<M> {
         self
     }
 
-    /// A clock that tells moments in milliseconds, instead of one that tells them since the pool was opened. It is read under the
-    /// pool's lock, and must not call the pool.
+    /// A clock that returns times in milliseconds, instead of the time since the pool was opened. It may be read under the pool's
+    /// lock, and must not call the pool.
+    ///
+    /// Times in the journal never fall: a time before that of the last entry counts as that one.
     ///
     /// ```
     /// # use std::sync::{Arc, atomic::{AtomicU64, Ordering}};
@@ -207,7 +210,7 @@ impl<M: Manager> Builder<M> {
             None => Clock::Since(Instant::now()),
         };
         Ok(Pool::of(Shared::new(
-            Desk::new(core),
+            LockedPool::new(core),
             clock,
             manager,
             settings,

@@ -1,7 +1,7 @@
 //! The journal as text, and its segments.
 
-use crate::core::Core;
 use crate::manager::Manager;
+use crate::proved_core::Core;
 use crate::shared::Shared;
 use crate::step::StepFault;
 use std::io::{self, Write};

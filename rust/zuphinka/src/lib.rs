@@ -51,17 +51,19 @@
 
 mod builder;
 mod callers;
-mod core;
-mod desk;
+mod clock;
 mod error;
-mod hand;
+mod idle_values;
+mod in_progress;
 mod journal;
 mod keeping;
-mod kept;
 mod lending;
+mod locked;
+mod locked_pool;
 mod manager;
 mod pool;
 mod pooled;
+mod proved_core;
 mod settings;
 mod shared;
 mod step;

@@ -28,6 +28,14 @@ pub trait Manager: Send + Sync {
     /// Why an object couldn't be made, activated or passivated.
     type Error;
 
+    /// Whether [`activate`](Manager::activate) does anything. If this is false, it is never called: then a borrow of an idle object
+    /// takes the pool's lock once instead of twice, unless objects are validated before they are lent (`testOnBorrow`).
+    const ACTIVATES: bool = true;
+
+    /// Whether [`passivate`](Manager::passivate) does anything. If this is false, it is never called: then a return takes the pool's
+    /// lock once instead of twice, unless objects are validated at their return (`testOnReturn`).
+    const PASSIVATES: bool = true;
+
     /// Makes an object. The id is the one that it has in the journal; ids count from 0, and none is given twice.
     ///
     /// # Errors

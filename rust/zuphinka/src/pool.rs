@@ -1,10 +1,11 @@
 use crate::builder::Builder;
+use crate::callers::caller_number;
 use crate::error::{Error, OpenError};
 use crate::keeping::{Addition, Eviction, Maintenance};
 use crate::lending::Returned;
 use crate::manager::Manager;
 use crate::pooled::Pooled;
-use crate::shared::{Patience, Shared};
+use crate::shared::{Shared, WaitLimit};
 use crate::step::{Counts, When};
 use std::fmt;
 use std::io::{self, Write};
@@ -54,7 +55,7 @@ impl<M: Manager> Pool<M> {
     /// [`Error::CreateTest`], [`Error::Activate`] and [`Error::BorrowTest`]: it is destroyed, and its place is free again.
     /// [`Error::JournalFull`] and [`Error::OutOfMemory`].
     pub fn get(&self) -> Result<Pooled<M>, Error<M::Error>> {
-        self.shared.borrow(Patience::AsSet)
+        self.shared.borrow(WaitLimit::AsSet)
     }
 
     /// Lends an object without waiting for another to come back: an idle one, or a new one where a place is free.
@@ -63,7 +64,7 @@ impl<M: Manager> Pool<M> {
     ///
     /// [`Error::Exhausted`], where there is neither. The others are those of [`get`](Pool::get), but for [`Error::TimedOut`].
     pub fn try_get(&self) -> Result<Pooled<M>, Error<M::Error>> {
-        match self.shared.borrow(Patience::None) {
+        match self.shared.borrow(WaitLimit::None) {
             // So the core answers where `maxWaitMillis` is 0.
             Err(Error::TimedOut) => Err(Error::Exhausted),
             lent => lent,
@@ -79,7 +80,7 @@ impl<M: Manager> Pool<M> {
     pub fn get_timeout(&self, timeout: Duration) -> Result<Pooled<M>, Error<M::Error>> {
         let end = Instant::now().checked_add(timeout);
         self.shared
-            .borrow(end.map_or(Patience::AsSet, Patience::Until))
+            .borrow(end.map_or(WaitLimit::AsSet, WaitLimit::Until))
     }
 
     /// Takes back an object that can't be used any more, and destroys it. Where the guard is of another pool, it goes back
@@ -124,7 +125,7 @@ impl<M: Manager> Pool<M> {
     ///
     /// [`Error::JournalFull`] and [`Error::OutOfMemory`], also in the midst: what was done before stays.
     pub fn reclaim(&self) -> Result<u64, Error<M::Error>> {
-        self.shared.reclaim(When::Maintain)
+        self.shared.reclaim(caller_number(), When::Maintain)
     }
 
     /// What a thread of yours calls now and then: [`evict`](Pool::evict), [`reclaim`](Pool::reclaim) and

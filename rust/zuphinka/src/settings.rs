@@ -1,7 +1,7 @@
 //! The settings of a pool, as a settings file has them.
 
-use crate::core::settings_of;
 use crate::error::SettingsError;
+use crate::proved_core::settings_of;
 use crate::sys;
 use std::fmt;
 use std::time::Duration;

@@ -1,60 +1,81 @@
-//! What all handles of a pool share, and its sections: each is one step of the core under the lock.
+//! What all handles of a pool share, and its critical sections: each is one step of the core under the lock, or two if nothing lies
+//! between them.
 
-use crate::callers::caller_number;
-use crate::desk::{Desk, Refused};
+use crate::clock::{Clock, Stamp};
 use crate::error::Error;
+use crate::locked::{Guard, Locked};
+use crate::locked_pool::{Borrowed, LockedPool, TakenBack};
 use crate::manager::Manager;
 use crate::settings::Settings;
-use crate::step::{Answer, Input};
-use std::sync::{Condvar, Mutex, MutexGuard, PoisonError, RwLock};
+use crate::step::{Answer, Cause, Input};
+use std::sync::{Condvar, Mutex, RwLock};
 use std::time::{Duration, Instant};
-
-/// Tells moments, in milliseconds.
-pub(crate) enum Clock {
-    /// Since this moment.
-    Since(Instant),
-    Given(Box<dyn Fn() -> u64 + Send + Sync>),
-}
-
-impl Clock {
-    #[inline]
-    fn now(&self) -> u64 {
-        match self {
-            Clock::Since(start) => start.elapsed().as_millis() as u64,
-            Clock::Given(clock) => clock(),
-        }
-    }
-}
 
 /// For how long a borrow waits.
 #[derive(Clone, Copy)]
-pub(crate) enum Patience {
+pub(crate) enum WaitLimit {
     None,
-    /// Until this moment, and no longer than the settings say.
+    /// Until this instant, and no longer than the settings allow.
     Until(Instant),
     AsSet,
 }
 
 /// A pool. The manager is called without the lock.
 pub(crate) struct Shared<M: Manager> {
-    desk: Mutex<Desk<M::Object>>,
+    state: Locked<LockedPool<M::Object>>,
     changed: Condvar,
     clock: Clock,
-    /// How many entries were drained or cut off. Who holds it may take the next two locks, in their order.
+    /// How many entries were drained or cut off. Its holder may take the next two locks, in their order.
     pub drained: Mutex<u64>,
-    /// How many entries were cut off. Who holds it, also to read, may take the lock of the desk, and then nobody cuts.
+    /// How many entries were cut off. Its holder, also to read, may take the lock of the state, and then nobody cuts.
     pub cut_off: RwLock<u64>,
     pub manager: M,
     pub settings: Settings,
 }
 
-/// What a section gives: the answer, and the value that comes out with it.
+/// The lock of a pool, held.
+pub(crate) type Held<'a, M> = Guard<'a, LockedPool<<M as Manager>::Object>>;
+
+/// The result of a critical section: the answer, and the value that is returned with it.
 pub(crate) type Stepped<M> = (Answer, Option<<M as Manager>::Object>);
 
+/// An object that a borrow got.
+pub(crate) enum Acquired<T> {
+    /// It is lent.
+    Lent(u64, T),
+    /// It was idle, and is to be made ready.
+    Taken(u64, T),
+    /// It is to be made.
+    New(u64),
+}
+
+/// Which sleepers a step wakes.
+enum Wakes {
+    None,
+    One,
+    All,
+}
+
+impl Wakes {
+    /// One for an object or a place, and all if the pool closed.
+    fn of(input: Input, answer: Answer) -> Wakes {
+        match answer {
+            Answer::Parked | Answer::Kept | Answer::Freed | Answer::Reclaimed(_) => Wakes::One,
+            Answer::Count(_) if input == Input::Close => Wakes::All,
+            _ => Wakes::None,
+        }
+    }
+}
+
 impl<M: Manager> Shared<M> {
-    pub fn new(desk: Desk<M::Object>, clock: Clock, manager: M, settings: Settings) -> Shared<M> {
+    pub fn new(
+        state: LockedPool<M::Object>,
+        clock: Clock,
+        manager: M,
+        settings: Settings,
+    ) -> Shared<M> {
         Shared {
-            desk: Mutex::new(desk),
+            state: Locked::new(state),
             changed: Condvar::new(),
             clock,
             drained: Mutex::new(0),
@@ -64,136 +85,148 @@ impl<M: Manager> Shared<M> {
         }
     }
 
+    /// Reads the clock, in milliseconds.
+    #[inline]
     pub fn now(&self) -> u64 {
-        self.clock.now()
+        self.clock.read()
     }
 
-    /// Nobody else's code runs under the lock but the clock's and, in a cut, the writer's, and each step is done whole or not at all: so a
-    /// panic leaves nothing in the midst.
-    pub fn lock(&self) -> MutexGuard<'_, Desk<M::Object>> {
-        self.desk.lock().unwrap_or_else(PoisonError::into_inner)
+    /// Takes the lock. No code of others runs under it except the clock of a thread that waits and, in a cut, the writer; and each step
+    /// is done as a whole or not at all. So a panic leaves nothing half done.
+    #[inline]
+    pub fn lock(&self) -> Held<'_, M> {
+        self.state.lock()
     }
 
-    fn step(
-        &self,
-        desk: &mut Desk<M::Object>,
-        input: Input,
-        value: Option<M::Object>,
-    ) -> Result<Stepped<M>, Refused<M::Object>> {
-        desk.step(caller_number(), self.now(), input, value)
-    }
-
-    /// One section. It wakes who waits for what it came to.
+    /// Takes one step under the lock, and wakes the threads that wait for its result. The clock is read before.
     ///
-    /// An input that goes on with an object is never refused, and no other carries a value.
-    pub fn ask(
+    /// An input that continues with an object never fails, and no other carries a value.
+    pub fn run_section(
         &self,
+        caller: u32,
         input: Input,
         value: Option<M::Object>,
     ) -> Result<Stepped<M>, Error<M::Error>> {
-        let mut desk = self.lock();
-        match self.step(&mut desk, input, value) {
+        let time = self.now();
+        let mut state = self.lock();
+        match state.step(Stamp { caller, time }, input, value) {
             Ok((answer, out)) => {
-                self.wake(desk, input, answer);
+                self.leave(state, Wakes::of(input, answer));
                 Ok((answer, out))
             }
             Err((fault, _)) => Err(fault.into()),
         }
     }
 
-    /// A section in which a call goes on with its object.
-    pub fn carry_on(&self, input: Input) -> Answer {
-        match self.ask(input, None) {
+    /// Takes a step that continues with an object, and never fails.
+    pub fn complete(&self, caller: u32, input: Input) -> Answer {
+        match self.run_section(caller, input, None) {
             Ok((answer, _)) => answer,
-            Err(_) => unreachable!("{input:?} was refused"),
+            Err(_) => unreachable!("{input:?} failed"),
         }
     }
 
-    /// Gives the lock back, and wakes one sleeper for one object or place, and all where the pool closed.
-    fn wake(&self, mut desk: MutexGuard<'_, Desk<M::Object>>, input: Input, answer: Answer) {
-        match answer {
-            Answer::Parked | Answer::Kept | Answer::Freed | Answer::Reclaimed(_) => {
-                self.wake_one(desk)
+    /// Takes an object back, and makes it idle if nothing is to be done before.
+    pub fn take_back(&self, caller: u32, id: u64, value: M::Object) -> TakenBack<M::Object> {
+        let parks_at_once = !M::PASSIVATES && !self.settings.test_on_return;
+        let time = self.now();
+        let mut state = self.lock();
+        let taken = state.take_back(Stamp { caller, time }, id, value, parks_at_once);
+        match taken {
+            TakenBack::Parked => self.leave(state, Wakes::One),
+            _ => drop(state),
+        }
+        taken
+    }
+
+    /// Frees the lock, and wakes sleepers: one only if there is something to find that none is on its way to.
+    #[inline]
+    fn leave(&self, mut state: Held<'_, M>, wakes: Wakes) {
+        match wakes {
+            Wakes::None => drop(state),
+            Wakes::One => {
+                let wakes = state.wakes_one(self.settings.max_total);
+                drop(state);
+                if wakes {
+                    self.changed.notify_one();
+                }
             }
-            Answer::Count(_) if input == Input::Close => {
-                let wakes = desk.wakes_all();
-                drop(desk);
+            Wakes::All => {
+                let wakes = state.wakes_all();
+                drop(state);
                 if wakes {
                     self.changed.notify_all();
                 }
             }
-            _ => {}
         }
     }
 
-    /// Gives the lock back, and wakes a sleeper where there is something to find that none is on its way to.
-    fn wake_one(&self, mut desk: MutexGuard<'_, Desk<M::Object>>) {
-        let wakes = desk.wakes_one(self.settings.max_total);
-        drop(desk);
-        if wakes {
-            self.changed.notify_one();
-        }
-    }
-
-    /// Asks for an object, and waits while there is none, as far as patience and settings go.
-    pub fn look(&self, began: u64, patience: Patience) -> Result<Stepped<M>, Error<M::Error>> {
-        let mut desk = self.lock();
+    /// Borrows an object, and waits while there is none, as far as the limit and the settings allow.
+    pub fn acquire(
+        &self,
+        caller: u32,
+        began: u64,
+        mut time: u64,
+        limit: WaitLimit,
+    ) -> Result<Acquired<M::Object>, Error<M::Error>> {
+        let lends_at_once = !M::ACTIVATES && !self.settings.test_on_borrow;
         let mut has_slept = false;
+        let mut state = self.lock();
         loop {
-            match self.step(&mut desk, Input::Borrow { began }, None) {
-                Ok((Answer::Wait, _)) => desk = self.sleep(desk, began, patience)?,
-                Ok(found) => return Ok(found),
-                Err((fault, _)) => {
-                    if has_slept {
-                        // Another may be able to take what this one was woken for.
-                        self.wake_one(desk);
-                    }
+            let answer = match state.borrow(Stamp { caller, time }, began, lends_at_once) {
+                Ok(Borrowed::Lent(id, value)) => return Ok(Acquired::Lent(id, value)),
+                Ok(Borrowed::Taken(id, value)) => return Ok(Acquired::Taken(id, value)),
+                Ok(Borrowed::Without(answer)) => answer,
+                Err(fault) => {
+                    // Another may be able to take what this thread was woken for.
+                    let wakes = if has_slept { Wakes::One } else { Wakes::None };
+                    self.leave(state, wakes);
                     return Err(fault.into());
                 }
+            };
+            match answer {
+                Answer::Wait => state = self.sleep(state, began, limit)?,
+                Answer::Make(id) => return Ok(Acquired::New(id)),
+                Answer::Exhausted => return Err(Error::Exhausted),
+                Answer::TimedOut => return Err(Error::TimedOut),
+                Answer::Refused(Cause::Closed) => return Err(Error::Closed),
+                answer => unexpected(Input::Borrow { began }, answer),
             }
             has_slept = true;
+            time = self.now();
         }
     }
 
-    /// Sleeps until there may be an object, the pool was closed, or the settings say that the wait is over; and no longer
-    /// than patience goes. Who is woken for nothing sleeps on, and makes no entry.
+    /// Sleeps until there may be an object, the pool was closed, or the wait is over by the settings; and no longer than the limit. A
+    /// thread that is woken for nothing sleeps on, and makes no entry.
     fn sleep<'a>(
         &'a self,
-        mut desk: MutexGuard<'a, Desk<M::Object>>,
+        mut state: Held<'a, M>,
         began: u64,
-        patience: Patience,
-    ) -> Result<MutexGuard<'a, Desk<M::Object>>, Error<M::Error>> {
+        limit: WaitLimit,
+    ) -> Result<Held<'a, M>, Error<M::Error>> {
         loop {
-            let asked = match patience {
-                Patience::None => return Err(Error::Exhausted),
-                Patience::Until(end) => match end.saturating_duration_since(Instant::now()) {
+            let asked = match limit {
+                WaitLimit::None => return Err(Error::Exhausted),
+                WaitLimit::Until(end) => match end.saturating_duration_since(Instant::now()) {
                     Duration::ZERO => return Err(Error::TimedOut),
                     left => Some(left),
                 },
-                Patience::AsSet => None,
+                WaitLimit::AsSet => None,
             };
             let longest = asked.into_iter().chain(self.time_left(began)).min();
-            desk.fall_asleep();
-            desk = match longest {
-                Some(time) => match self.changed.wait_timeout(desk, time) {
-                    Ok((desk, _)) => desk,
-                    Err(poisoned) => poisoned.into_inner().0,
-                },
-                None => self
-                    .changed
-                    .wait(desk)
-                    .unwrap_or_else(PoisonError::into_inner),
-            };
-            desk.wake_up();
-            if !desk.has_nothing(self.settings.max_total)
+            state.fall_asleep();
+            state = self.state.wait(state, &self.changed, longest);
+            state.wake_up();
+            if !state.has_nothing(self.settings.max_total)
                 || self.time_left(began) == Some(Duration::ZERO)
             {
-                return Ok(desk);
+                return Ok(state);
             }
         }
     }
 
-    /// For how long a borrow that began then may wait still, by the settings.
+    /// Returns how long a borrow that began at a time may still wait, by the settings.
     fn time_left(&self, began: u64) -> Option<Duration> {
         let most = u64::try_from(self.settings.max_wait_millis).ok()?;
         let waited = self.now().saturating_sub(began);
@@ -201,7 +234,7 @@ impl<M: Manager> Shared<M> {
     }
 }
 
-/// Where the answers of the core don't fit the sections.
+/// Ends the program where an answer of the core does not fit its input.
 #[cold]
 pub(crate) fn unexpected(input: Input, answer: Answer) -> ! {
     unreachable!("{input:?} was answered {answer:?}")

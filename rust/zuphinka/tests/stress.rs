@@ -55,7 +55,7 @@ impl Drop for Thing {
 }
 
 /// A manager whose calls fail by chance, each by its number.
-struct Fickle {
+struct Fickle<const HOOKS: bool> {
     seed: u64,
     calls: AtomicU64,
     drops: Arc<Drops>,
@@ -65,7 +65,7 @@ struct Fickle {
 #[derive(Debug)]
 struct Failed;
 
-impl Fickle {
+impl<const HOOKS: bool> Fickle<HOOKS> {
     /// Whether a call fails.
     fn fails(&self) -> bool {
         let call = self.calls.fetch_add(1, Ordering::Relaxed);
@@ -89,9 +89,11 @@ impl Fickle {
     }
 }
 
-impl Manager for Fickle {
+impl<const HOOKS: bool> Manager for Fickle<HOOKS> {
     type Object = Thing;
     type Error = Failed;
+    const ACTIVATES: bool = HOOKS;
+    const PASSIVATES: bool = HOOKS;
 
     fn make(&self, _id: u64) -> Result<Thing, Failed> {
         self.done()?;
@@ -149,7 +151,7 @@ impl Manner {
         }
     }
 
-    fn open(self, manager: Fickle) -> Pool<Fickle> {
+    fn open<const HOOKS: bool>(self, manager: Fickle<HOOKS>) -> Pool<Fickle<HOOKS>> {
         let abandoned = |timeout| Abandoned {
             on_borrow: true,
             on_maintenance: true,
@@ -258,11 +260,11 @@ fn tells(told: &[Mark], marks: &[Mark]) -> bool {
 }
 
 /// What the threads share.
-struct Table {
-    pool: Pool<Fickle>,
+struct Table<const HOOKS: bool> {
+    pool: Pool<Fickle<HOOKS>>,
     manner: Manner,
     /// Objects that one hands to another.
-    handed: Mutex<Vec<Pooled<Fickle>>>,
+    handed: Mutex<Vec<Pooled<Fickle<HOOKS>>>>,
     drained: Mutex<Vec<u8>>,
     segments: Mutex<Vec<String>>,
     /// Whether the journal is cut, and else it is drained.
@@ -271,10 +273,10 @@ struct Table {
 }
 
 /// A thread that calls by chance, and writes down what it did.
-struct Player<'a> {
-    table: &'a Table,
+struct Player<'a, const HOOKS: bool> {
+    table: &'a Table<HOOKS>,
     dice: Dice,
-    held: Vec<Pooled<Fickle>>,
+    held: Vec<Pooled<Fickle<HOOKS>>>,
     marks: Vec<Mark>,
 }
 
@@ -283,8 +285,8 @@ fn caught<R>(call: impl FnOnce() -> R) -> Option<R> {
     panic::catch_unwind(AssertUnwindSafe(call)).ok()
 }
 
-impl<'a> Player<'a> {
-    fn new(table: &'a Table, seed: u64) -> Player<'a> {
+impl<'a, const HOOKS: bool> Player<'a, HOOKS> {
+    fn new(table: &'a Table<HOOKS>, seed: u64) -> Player<'a, HOOKS> {
         Player {
             table,
             dice: Dice(seed),
@@ -293,7 +295,7 @@ impl<'a> Player<'a> {
         }
     }
 
-    fn pool(&self) -> &'a Pool<Fickle> {
+    fn pool(&self) -> &'a Pool<Fickle<HOOKS>> {
         &self.table.pool
     }
 
@@ -315,7 +317,7 @@ impl<'a> Player<'a> {
         });
         match lent {
             Some(Ok(object)) => {
-                assert!(object.is_awake, "what is lent is active");
+                assert_eq!(object.is_awake, HOOKS, "what is lent is active");
                 self.marks.push(Mark::Lent(Pooled::id(&object)));
                 self.held.push(object);
             }
@@ -333,12 +335,12 @@ impl<'a> Player<'a> {
     }
 
     /// One of the objects that it holds, by chance.
-    fn pick(&mut self) -> Option<Pooled<Fickle>> {
+    fn pick(&mut self) -> Option<Pooled<Fickle<HOOKS>>> {
         let count = self.held.len() as u64;
         (count > 0).then(|| self.held.swap_remove(self.dice.roll(count) as usize))
     }
 
-    fn give_back(&mut self, object: Pooled<Fickle>) {
+    fn give_back(&mut self, object: Pooled<Fickle<HOOKS>>) {
         self.marks.push(Mark::GivesBack(Pooled::id(&object)));
         if self.dice.roll(2) == 0 {
             caught(|| Pooled::give_back(object));
@@ -347,14 +349,14 @@ impl<'a> Player<'a> {
         }
     }
 
-    fn invalidate(&mut self, object: Pooled<Fickle>) {
+    fn invalidate(&mut self, object: Pooled<Fickle<HOOKS>>) {
         self.marks.push(Mark::Invalidates(Pooled::id(&object)));
         let pool = self.pool();
         caught(|| pool.invalidate(object));
     }
 
     /// It panics while it holds an object.
-    fn stumble(&mut self, object: Pooled<Fickle>) {
+    fn stumble(&mut self, object: Pooled<Fickle<HOOKS>>) {
         if self.table.is_calm {
             self.marks.push(Mark::Invalidates(Pooled::id(&object)));
             caught(move || {
@@ -366,13 +368,13 @@ impl<'a> Player<'a> {
         }
     }
 
-    fn touch(&mut self, object: Pooled<Fickle>) {
+    fn touch(&mut self, object: Pooled<Fickle<HOOKS>>) {
         self.marks.push(Mark::Uses(Pooled::id(&object)));
         Pooled::touch(&object).unwrap();
         self.held.push(object);
     }
 
-    fn hand_on(&mut self, object: Pooled<Fickle>) {
+    fn hand_on(&mut self, object: Pooled<Fickle<HOOKS>>) {
         if self.table.manner == Manner::Waiting {
             self.held.push(object);
             return;
@@ -495,10 +497,10 @@ impl<'a> Player<'a> {
 }
 
 /// Plays with a seed: how many objects there were, and the journal.
-fn play(seed: u64) -> (usize, String) {
+fn play<const HOOKS: bool>(seed: u64) -> (usize, String) {
     let drops = Arc::new(Drops::default());
     let (manner, panics) = (Manner::of(seed), seed % 4 == 0);
-    let manager = Fickle {
+    let manager = Fickle::<HOOKS> {
         seed,
         calls: AtomicU64::new(0),
         drops: Arc::clone(&drops),
@@ -615,9 +617,10 @@ fn objects_are_dropped_once_and_journals_are_legal() {
     }));
     let (mut objects, mut journals) = (0, String::new());
     for seed in 1..=SEEDS {
-        let (more, journal) = play(seed);
-        objects += more;
-        journals += &journal;
+        for (more, journal) in [play::<true>(seed), play::<false>(seed)] {
+            objects += more;
+            journals += &journal;
+        }
     }
     assert!(objects > 1_000, "there were {objects} objects only");
     let answers: HashSet<_> = journals

@@ -1,0 +1,34 @@
+//! Times of steps, in milliseconds.
+
+use std::time::Instant;
+
+/// A clock of the user's.
+pub(crate) type GivenClock = Box<dyn Fn() -> u64 + Send + Sync>;
+
+/// Returns times, in milliseconds.
+pub(crate) enum Clock {
+    /// The time since this instant.
+    Since(Instant),
+    Given(GivenClock),
+}
+
+impl Clock {
+    #[inline]
+    pub fn read(&self) -> u64 {
+        match self {
+            Clock::Since(start) => {
+                let passed = start.elapsed();
+                passed.as_secs() * 1_000 + u64::from(passed.subsec_millis())
+            }
+            Clock::Given(clock) => clock(),
+        }
+    }
+}
+
+/// Who takes a step, and when.
+#[derive(Clone, Copy, Debug)]
+pub(crate) struct Stamp {
+    pub caller: u32,
+    /// In milliseconds. A time before that of the last entry counts as that one.
+    pub time: u64,
+}
