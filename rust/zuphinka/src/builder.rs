@@ -1,11 +1,14 @@
 use crate::clock::{Clock, GivenClock};
 use crate::error::{OpenError, SettingsError};
+use crate::journal::Journal;
 use crate::locked_pool::LockedPool;
 use crate::manager::Manager;
 use crate::pool::Pool;
 use crate::proved_core::{Core, OpenFault};
 use crate::settings::{millis, Abandoned, Settings};
 use crate::shared::Shared;
+use crate::stored_journal::Mode;
+use crate::writing::Outlet;
 use std::fmt;
 use std::marker::PhantomData;
 use std::time::{Duration, Instant};
@@ -17,6 +20,7 @@ use std::time::{Duration, Instant};
 #[must_use = "a builder does nothing until `build` is called"]
 pub struct Builder<M> {
     settings: Settings,
+    journal: Journal,
     clock: Option<GivenClock>,
     of: PhantomData<fn(M)>,
 }
@@ -35,6 +39,7 @@ impl<M: Manager> Builder<M> {
     pub(crate) fn new() -> Builder<M> {
         Builder {
             settings: Settings::default(),
+            journal: Journal::default(),
             clock: None,
             of: PhantomData,
         }
@@ -146,8 +151,14 @@ impl<M: Manager> Builder<M> {
         self
     }
 
-    /// How many entries the journal may have, from 1 to 2^32 (`journalLimit`, 1,000,000). A pool whose journal is full lends
-    /// nothing more. An entry is stored until the journal is [`cut`](Pool::cut) or the pool is dropped; a borrow and a return are four.
+    /// Sets what becomes of the journal. The default is [`Journal::Off`].
+    pub fn journal(mut self, journal: Journal) -> Builder<M> {
+        self.journal = journal;
+        self
+    }
+
+    /// Sets how many entries the journal has at most in memory, from 1 to 2^32 (`journalLimit`, 1,000,000). It applies to
+    /// [`Journal::Memory`] and [`Journal::Segments`], if these have no limit of their own. With [`Journal::Off`] it has no effect.
     pub fn journal_limit(mut self, entries: u64) -> Builder<M> {
         self.settings.journal_limit = i64::try_from(entries).unwrap_or(i64::MAX);
         self
@@ -193,10 +204,22 @@ impl<M: Manager> Builder<M> {
     /// A number or a time is out of the range that is told with it, or there is no memory.
     pub fn build(self, manager: M) -> Result<Pool<M>, OpenError> {
         let Builder {
-            settings,
+            mut settings,
+            journal,
             clock,
             of: _,
         } = self;
+        Settings::from_toml(&settings.to_string())?;
+        let (mode, limit, outlet) = match journal {
+            Journal::Off => (Mode::Off, Some(GREATEST_LIMIT), None),
+            Journal::Memory(limit) => (Mode::Memory, limit, None),
+            Journal::Segments(segments) => {
+                (Mode::Segments, segments.limit, Some(Outlet::new(segments)))
+            }
+        };
+        if let Some(entries) = limit {
+            settings.journal_limit = i64::try_from(entries).unwrap_or(i64::MAX);
+        }
         let text = settings.to_string();
         Settings::from_toml(&text)?;
         let core = Core::open(&text).map_err(|fault| match fault {
@@ -209,14 +232,15 @@ impl<M: Manager> Builder<M> {
             Some(clock) => Clock::Given(clock),
             None => Clock::Since(Instant::now()),
         };
+        let state = LockedPool::new(core, mode);
         Ok(Pool::of(Shared::new(
-            LockedPool::new(core),
-            clock,
-            manager,
-            settings,
+            state, clock, outlet, manager, settings,
         )))
     }
 }
+
+/// The greatest `journalLimit`.
+const GREATEST_LIMIT: u64 = 1 << 32;
 
 impl<M> fmt::Debug for Builder<M> {
     fn fmt(&self, f: &mut fmt::Formatter<'_>) -> fmt::Result {

@@ -212,7 +212,7 @@ impl<M: Manager> Drop for InProgress<'_, M> {
                 id: self.id,
             };
             if let Some(object) = self.object.take() {
-                self.pool.manager.destroy(object);
+                self.pool.destroy(object);
             }
         }
     }

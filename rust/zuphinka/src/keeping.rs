@@ -206,11 +206,13 @@ impl<M: Manager> Shared<M> {
     }
 }
 
-/// The last handle and the last lent object are gone: the pool is closed, so that the manager destroys the idle objects.
+/// The last handle and the last lent object are gone: the pool is closed, so that the manager destroys the idle objects, and the rest of
+/// the journal is handed to its sink.
 impl<M: Manager> Drop for Shared<M> {
     fn drop(&mut self) {
         if !self.lock().is_closed {
             self.close();
         }
+        self.write_rest();
     }
 }

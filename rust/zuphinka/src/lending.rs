@@ -135,7 +135,7 @@ impl<M: Manager> Shared<M> {
 
     /// Destroys an object that was reclaimed: it has no place to be freed.
     fn let_go(&self, object: M::Object) -> Returned {
-        self.manager.destroy(object);
+        self.destroy(object);
         Returned::Gone
     }
 

@@ -36,14 +36,11 @@
 //!     }
 //! });
 //! assert_eq!(pool.counts().lent, 0);
-//! pool.close();
-//! pool.journal(std::io::stdout())?;
 //! # Ok::<(), Box<dyn std::error::Error>>(())
 //! ```
 //!
-//! The journal is kept in memory, and has at most `journalLimit` entries ([`Builder::journal_limit`]), 1,000,000 where nothing else is
-//! set. A borrow and a return are four. **A pool whose journal is full lends nothing more**: look at [`Pool::room`], and cut the journal
-//! in time ([`Pool::cut`]). Then a pool runs for years, and its segments are judged as one journal.
+//! A pool lends for ever: by default it drops the entries of its journal, some thousands at a time. [`Builder::journal`] keeps them in memory
+//! ([`Journal::Memory`]), or stores them in segments ([`Journal::Segments`]), which `pool check` checks as one journal.
 //!
 //! Build the C library first, by `python3 tools/build.py zuphinka`; `build.rs` says where else it may lie.
 #![warn(missing_docs)]
@@ -52,6 +49,8 @@
 mod builder;
 mod callers;
 mod clock;
+#[cfg(test)]
+mod dropped_segments;
 mod error;
 mod idle_values;
 mod in_progress;
@@ -64,21 +63,30 @@ mod manager;
 mod pool;
 mod pooled;
 mod proved_core;
+mod segments;
 mod settings;
 mod shared;
 mod step;
+mod stored_journal;
 mod sys;
+mod writing;
 
 pub use builder::Builder;
 pub use callers::caller_number;
 pub use error::{Error, OpenError, SettingsError};
+pub use journal::Journal;
 pub use keeping::{Addition, Eviction, Maintenance};
 pub use lending::{Returned, Touched};
 pub use manager::Manager;
 pub use pool::Pool;
 pub use pooled::Pooled;
+pub use segments::{Segment, SegmentFolder, SegmentSink, Segments, SinkFailure};
 pub use settings::Abandoned;
 pub use step::Counts;
+
+// The tests in `src` share what those in `tests` do, which name this crate.
+#[cfg(test)]
+extern crate self as zuphinka;
 
 /// The code that the README shows.
 #[cfg(doctest)]

@@ -4,10 +4,12 @@ use crate::clock::Stamp;
 use crate::idle_values::IdleValues;
 use crate::proved_core::Core;
 use crate::step::{Answer, Input, Outcome, StepFault};
+use crate::stored_journal::{Care, Mode, StoredJournal};
 
 /// The core with the values of its idle objects.
 pub(crate) struct LockedPool<T> {
     pub core: Core,
+    pub journal: StoredJournal,
     idle: IdleValues<T>,
     /// How many objects have a place.
     present: usize,
@@ -47,8 +49,9 @@ pub(crate) enum TakenBack<T> {
 }
 
 impl<T> LockedPool<T> {
-    pub fn new(core: Core) -> LockedPool<T> {
+    pub fn new(mut core: Core, mode: Mode) -> LockedPool<T> {
         LockedPool {
+            journal: StoredJournal::new(mode, core.room()),
             core,
             idle: IdleValues::new(),
             present: 0,
@@ -80,6 +83,9 @@ impl<T> LockedPool<T> {
         match taken {
             Ok((answer, out)) => {
                 self.note(input, answer);
+                if self.journal.count() {
+                    self.care_for_journal();
+                }
                 Ok((answer, out.map(|token| self.idle.take(token))))
             }
             Err(fault) => Err((fault, token.map(|token| self.idle.take(token)))),
@@ -93,6 +99,46 @@ impl<T> LockedPool<T> {
             (Answer::Freed | Answer::Reclaimed(_), _) => self.present -= 1,
             (Answer::Count(_), Input::Close) => self.is_closed = true,
             _ => {}
+        }
+    }
+
+    /// Does what is to be done about the journal once so many entries are stored.
+    #[cold]
+    fn care_for_journal(&mut self) {
+        let room = self.core.room();
+        match self.journal.look(room, self.present) {
+            Care::Nothing => {}
+            Care::Write => self.journal.ask_for_writer(),
+            Care::Drop => self.drop_entries(),
+        }
+    }
+
+    /// Keeps the segment that is dropped, if a test wants it.
+    #[cfg(test)]
+    fn keep_dropped(&mut self) {
+        if let Some(mut dropped) = self.journal.dropped.take() {
+            let (mut text, mut position) = (Vec::new(), 0);
+            while self.core.base_line(position, &mut text).unwrap() {
+                position += 1;
+            }
+            for position in 0..self.journal.len {
+                assert!(self.core.line(position, &mut text).unwrap());
+            }
+            dropped.push(text);
+            self.journal.dropped = Some(dropped);
+        }
+    }
+
+    /// Drops the stored entries. Without memory for that they are dropped later.
+    fn drop_entries(&mut self) {
+        debug_assert_eq!(self.core.steps(), self.journal.len);
+        #[cfg(test)]
+        self.keep_dropped();
+        let cut = self.core.cut();
+        let room = self.core.room();
+        match cut {
+            Ok(()) => self.journal.cut(room),
+            Err(_) => self.journal.try_later(room),
         }
     }
 
@@ -195,14 +241,14 @@ impl<T> LockedPool<T> {
 
 #[cfg(test)]
 mod tests {
-    use super::{LockedPool, Stamp};
+    use super::{LockedPool, Mode, Stamp};
     use crate::proved_core::Core;
     use crate::step::{Input, Outcome};
 
     const MOST: i64 = 2;
 
     fn pool() -> LockedPool<()> {
-        LockedPool::new(Core::open("maxTotal = 2\n").unwrap())
+        LockedPool::new(Core::open("maxTotal = 2\n").unwrap(), Mode::Memory)
     }
 
     /// Takes steps that each need one object or none.

@@ -44,6 +44,11 @@ impl<M: Manager> Pool<M> {
         }
     }
 
+    #[cfg(test)]
+    pub(crate) fn shared(&self) -> &Shared<M> {
+        &self.shared
+    }
+
     /// Lends an object: an idle one, or a new one where a place is free. Where there is neither it waits, or is refused, as
     /// the settings say (`blockWhenExhausted`, `maxWaitMillis`).
     ///
@@ -159,45 +164,56 @@ impl<M: Manager> Pool<M> {
         self.shared.lock().core.counts()
     }
 
-    /// How many entries the journal can still take, besides those that may be needed to finish what was begun and to close the
-    /// pool. At 0 nothing is lent any more, until the journal is [`cut`](Pool::cut).
+    /// Returns how many entries the journal can still take in memory, besides those that are set aside for completing steps and for the close
+    /// of the pool. With [`Journal::Memory`](crate::Journal::Memory) nothing more is lent at 0, until the journal is
+    /// [cut](Pool::cut).
     pub fn room(&self) -> u64 {
         self.shared.lock().core.room()
     }
 
-    /// Writes the journal as text, from its first entry up to the last that there was when this was called: how many entries. `pool
-    /// check` judges it, over a file with these [`settings`](Pool::settings). Of a journal that was [`cut`](Pool::cut) it is the segment
-    /// from there on, which is judged behind those that were cut off.
-    ///
-    /// The lock is held while some hundred lines are copied, and never while they are written.
-    ///
-    /// # Errors
-    ///
-    /// The writer's. `out` may then have a part of the text.
-    pub fn journal(&self, mut out: impl Write) -> io::Result<u64> {
-        self.shared.journal(&mut out)
+    /// Returns whether it is time to cut the journal: less than a quarter of its limit is left, or too little for one borrow. With
+    /// [`Journal::Segments`](crate::Journal::Segments) it means that the sink fails or is too slow. With
+    /// [`Journal::Off`](crate::Journal::Off) it is false.
+    pub fn is_low(&self) -> bool {
+        self.shared.is_low()
     }
 
-    /// Writes those entries of the journal that no drain and no [`cut`](Pool::cut) has written before: how many. All that drains write,
-    /// one after the other, is the journal, where it is never cut. One drain or cut of a pool runs at a time.
+    /// Writes the journal that is in memory as text, up to the last entry at this call, and returns the number of entries. `pool check`
+    /// checks it, with these [`settings`](Pool::settings). If entries were cut off before, or dropped, or handed to a sink, the text is a
+    /// segment: it begins with the lines of the base that its entries continue.
     ///
-    /// Entries that were drained are still stored, and take room and memory as before, until they are cut off.
+    /// The text is copied first, under the lock for some hundred lines at a time; then it is written without the lock. Only a journal that
+    /// is cut again and again meanwhile is copied as a whole under the lock.
     ///
     /// # Errors
     ///
-    /// The writer's. The next drain goes on with the lines that this one wanted to write last; those may stand there already, or in part.
+    /// Those of the writer: `out` may then have a part of the text. There is no memory for the text.
+    pub fn journal(&self, mut out: impl Write) -> io::Result<u64> {
+        self.shared.write_journal(&mut out)
+    }
+
+    /// Writes the entries of the journal that no drain has written and no [`cut`](Pool::cut) has taken, and returns their number. All that
+    /// drains write, one after the other, is the journal, if it is kept in memory and never cut. Entries that the pool drops or hands to a
+    /// sink are left out. One drain of a pool runs at a time.
+    ///
+    /// Drained entries stay in memory, and take room as before, until they are cut off.
+    ///
+    /// # Errors
+    ///
+    /// Those of the writer. The next drain continues with the lines that this one wanted to write last, some hundred; those may have been
+    /// written already, or in part. The same holds if the writer panics.
     pub fn drain_journal(&self, mut out: impl Write) -> io::Result<u64> {
         self.shared.drain_journal(&mut out)
     }
 
-    /// Writes the journal as a segment, and cuts it: how many entries the segment has. They are dropped from memory, and the pool goes on
-    /// from the base that they came to, with all its room. Objects, holders and [`counts`](Pool::counts) stay as they are.
+    /// Writes the journal as a segment, cuts it, and returns the number of entries of the segment. They are dropped from memory, and the pool
+    /// continues from their base, with all its room. Objects, holders and [`counts`](Pool::counts) are unchanged.
     ///
-    /// A segment begins with the lines of the base that its entries go on from. Write each to a file of its own: `pool check` judges all of
-    /// them, in their order, as the one journal that they are.
+    /// A segment begins with the lines of the base that its entries continue. Write each to a file of its own: `pool check` checks all
+    /// of them, in their order, as the one journal that they are.
     ///
     /// ```
-    /// # use zuphinka::{Manager, Pool};
+    /// # use zuphinka::{Journal, Manager, Pool};
     /// # struct Numbers;
     /// # impl Manager for Numbers {
     /// #     type Object = u64;
@@ -206,11 +222,11 @@ impl<M: Manager> Pool<M> {
     /// # }
     /// # let folder = std::env::temp_dir().join(format!("zuphinka-cut-{}", std::process::id()));
     /// # std::fs::create_dir(&folder)?;
-    /// let pool = Pool::builder().journal_limit(1_000).build(Numbers)?;
+    /// let pool = Pool::builder().journal(Journal::Memory(Some(1_000))).build(Numbers)?;
     /// let mut first = 0; // the position of a segment's first entry, by which it is named
     /// for _ in 0..2_000 {
     ///     drop(pool.get().unwrap());
-    ///     if pool.room() < 100 {
+    ///     if pool.is_low() {
     ///         let mut file = std::fs::File::create(folder.join(format!("segment-{first:020}")))?;
     ///         first += pool.cut(&mut file)?;
     ///         file.sync_all()?;
@@ -221,21 +237,33 @@ impl<M: Manager> Pool<M> {
     /// # Ok::<(), Box<dyn std::error::Error>>(())
     /// ```
     ///
-    /// The lock is held while some hundred lines are copied, and in the end while those entries are written that came meanwhile, `out` is
-    /// flushed and the journal is cut: so no entry falls between two segments. `out` must not call the pool. One drain or cut of a pool
-    /// runs at a time.
+    /// The lock is held while some hundred lines are copied, and at the end while the last ones are copied and the journal is cut: so no
+    /// entry falls between two segments. The text is written and flushed without the lock. One cut of a pool runs at a time, and others wait
+    /// for it.
     ///
     /// # Errors
     ///
-    /// The writer's, or there is no memory. The journal isn't cut then, and nothing is lost: the next cut writes the whole segment, and `out`
-    /// may have a part of it.
+    /// Those of the writer: the segment stays in memory, and nothing is lost. The next cut writes it, together with the entries since then, if
+    /// these are no more than the journal's limit; `out` may have a part of it. There is no memory: the journal is unchanged.
+    /// [`io::ErrorKind::Unsupported`] if the pool hands its segments to a sink. Another error if `out` cuts the journal itself.
     pub fn cut(&self, mut out: impl Write) -> io::Result<u64> {
         self.shared.cut(&mut out)
     }
 
-    /// The settings, as a file in TOML that has all of them.
+    /// Hands the entries that are in memory to the sink of [`Journal::Segments`](crate::Journal::Segments), as a segment, and returns their
+    /// number. Without a sink it does nothing and returns 0.
+    ///
+    /// # Errors
+    ///
+    /// Those of the sink: what becomes of the segment is set by [`Segments::on_failure`](crate::Segments::on_failure). There is no memory: the
+    /// journal is unchanged. Another error if the sink calls this itself.
+    pub fn flush_journal(&self) -> io::Result<u64> {
+        self.shared.flush_journal()
+    }
+
+    /// Returns the settings, as a file in TOML that has all of them, with which the journal is checked.
     pub fn settings(&self) -> String {
-        self.shared.settings.to_string()
+        self.shared.settings_text.clone()
     }
 
     /// The manager.

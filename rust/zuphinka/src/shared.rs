@@ -7,8 +7,11 @@ use crate::locked::{Guard, Locked};
 use crate::locked_pool::{Borrowed, LockedPool, TakenBack};
 use crate::manager::Manager;
 use crate::settings::Settings;
-use crate::step::{Answer, Cause, Input};
-use std::sync::{Condvar, Mutex, RwLock};
+use crate::step::{Answer, Cause, Input, StepFault};
+use crate::writing::Outlet;
+use std::panic::{catch_unwind, AssertUnwindSafe};
+use std::sync::{Condvar, Mutex};
+use std::thread;
 use std::time::{Duration, Instant};
 
 /// For how long a borrow waits.
@@ -25,12 +28,16 @@ pub(crate) struct Shared<M: Manager> {
     state: Locked<LockedPool<M::Object>>,
     changed: Condvar,
     clock: Clock,
-    /// How many entries were drained or cut off. Its holder may take the next two locks, in their order.
-    pub drained: Mutex<u64>,
-    /// How many entries were cut off. Its holder, also to read, may take the lock of the state, and then nobody cuts.
-    pub cut_off: RwLock<u64>,
+    /// A thread that cut the journal is done.
+    pub written: Condvar,
+    /// Held by a thread that drains the journal. It may take the lock of the state.
+    pub draining: Mutex<()>,
+    /// Where segments go.
+    pub outlet: Option<Outlet>,
     pub manager: M,
     pub settings: Settings,
+    /// The settings as the core has them, in TOML.
+    pub settings_text: String,
 }
 
 /// The lock of a pool, held.
@@ -71,6 +78,7 @@ impl<M: Manager> Shared<M> {
     pub fn new(
         state: LockedPool<M::Object>,
         clock: Clock,
+        outlet: Option<Outlet>,
         manager: M,
         settings: Settings,
     ) -> Shared<M> {
@@ -78,9 +86,11 @@ impl<M: Manager> Shared<M> {
             state: Locked::new(state),
             changed: Condvar::new(),
             clock,
-            drained: Mutex::new(0),
-            cut_off: RwLock::new(0),
+            written: Condvar::new(),
+            draining: Mutex::new(()),
+            outlet,
             manager,
+            settings_text: settings.to_string(),
             settings,
         }
     }
@@ -91,17 +101,42 @@ impl<M: Manager> Shared<M> {
         self.clock.read()
     }
 
-    /// Takes the lock. No code of others runs under it except the clock of a thread that waits and, in a cut, the writer; and each step
-    /// is done as a whole or not at all. So a panic leaves nothing half done.
+    /// Destroys an object. If this thread panics already, a panic of the manager ends here, since a second one would end the process.
+    pub fn destroy(&self, object: M::Object) {
+        if thread::panicking() {
+            let _ = catch_unwind(AssertUnwindSafe(|| self.manager.destroy(object)));
+        } else {
+            self.manager.destroy(object);
+        }
+    }
+
+    /// Takes the lock. No code of others runs under it except the clock of a thread that waits, and each step is done as a whole or not at
+    /// all. So a panic leaves nothing half done.
     #[inline]
     pub fn lock(&self) -> Held<'_, M> {
         self.state.lock()
     }
 
-    /// Takes one step under the lock, and wakes the threads that wait for its result. The clock is read before.
+    /// Takes one step under the lock, and wakes the threads that wait for its result. The clock is read before. If the journal is full,
+    /// the step is taken again after a segment was written.
     ///
     /// An input that continues with an object never fails, and no other carries a value.
     pub fn run_section(
+        &self,
+        caller: u32,
+        input: Input,
+        mut value: Option<M::Object>,
+    ) -> Result<Stepped<M>, Error<M::Error>> {
+        loop {
+            match self.try_section(caller, input, value.take()) {
+                Err(Error::JournalFull) if self.make_room(WaitLimit::AsSet) => {}
+                stepped => return stepped,
+            }
+        }
+    }
+
+    #[inline]
+    fn try_section(
         &self,
         caller: u32,
         input: Input,
@@ -114,7 +149,7 @@ impl<M: Manager> Shared<M> {
                 self.leave(state, Wakes::of(input, answer));
                 Ok((answer, out))
             }
-            Err((fault, _)) => Err(fault.into()),
+            Err((fault, _)) => Err(error_of(&state, input, fault)),
         }
     }
 
@@ -139,9 +174,11 @@ impl<M: Manager> Shared<M> {
         taken
     }
 
-    /// Frees the lock, and wakes sleepers: one only if there is something to find that none is on its way to.
+    /// Frees the lock, and wakes sleepers: one only if there is something to find that none is on its way to. Then it writes a segment if
+    /// one is due.
     #[inline]
     fn leave(&self, mut state: Held<'_, M>, wakes: Wakes) {
+        let is_due = state.journal.is_due;
         match wakes {
             Wakes::None => drop(state),
             Wakes::One => {
@@ -159,6 +196,9 @@ impl<M: Manager> Shared<M> {
                 }
             }
         }
+        if is_due {
+            self.write_due();
+        }
     }
 
     /// Borrows an object, and waits while there is none, as far as the limit and the settings allow.
@@ -169,28 +209,39 @@ impl<M: Manager> Shared<M> {
         mut time: u64,
         limit: WaitLimit,
     ) -> Result<Acquired<M::Object>, Error<M::Error>> {
+        loop {
+            match self.try_to_acquire(caller, began, time, limit) {
+                Err(Error::JournalFull) if self.make_room(limit) => time = self.now(),
+                acquired => return acquired,
+            }
+        }
+    }
+
+    fn try_to_acquire(
+        &self,
+        caller: u32,
+        began: u64,
+        mut time: u64,
+        limit: WaitLimit,
+    ) -> Result<Acquired<M::Object>, Error<M::Error>> {
         let lends_at_once = !M::ACTIVATES && !self.settings.test_on_borrow;
+        let input = Input::Borrow { began };
         let mut has_slept = false;
         let mut state = self.lock();
         loop {
-            let answer = match state.borrow(Stamp { caller, time }, began, lends_at_once) {
-                Ok(Borrowed::Lent(id, value)) => return Ok(Acquired::Lent(id, value)),
-                Ok(Borrowed::Taken(id, value)) => return Ok(Acquired::Taken(id, value)),
-                Ok(Borrowed::Without(answer)) => answer,
+            match state.borrow(Stamp { caller, time }, began, lends_at_once) {
+                Ok(Borrowed::Without(Answer::Wait)) => state = self.sleep(state, began, limit)?,
+                Ok(borrowed) => {
+                    self.leave(state, Wakes::None);
+                    return acquired(input, borrowed);
+                }
                 Err(fault) => {
+                    let error = error_of(&state, input, fault);
                     // Another may be able to take what this thread was woken for.
                     let wakes = if has_slept { Wakes::One } else { Wakes::None };
                     self.leave(state, wakes);
-                    return Err(fault.into());
+                    return Err(error);
                 }
-            };
-            match answer {
-                Answer::Wait => state = self.sleep(state, began, limit)?,
-                Answer::Make(id) => return Ok(Acquired::New(id)),
-                Answer::Exhausted => return Err(Error::Exhausted),
-                Answer::TimedOut => return Err(Error::TimedOut),
-                Answer::Refused(Cause::Closed) => return Err(Error::Closed),
-                answer => unexpected(Input::Borrow { began }, answer),
             }
             has_slept = true;
             time = self.now();
@@ -226,11 +277,43 @@ impl<M: Manager> Shared<M> {
         }
     }
 
+    /// Sleeps until a thread that cut the journal is done, and no longer than a time.
+    pub fn wait_for_writer<'a>(
+        &'a self,
+        state: Held<'a, M>,
+        longest: Option<Duration>,
+    ) -> Held<'a, M> {
+        self.state.wait(state, &self.written, longest)
+    }
+
     /// Returns how long a borrow that began at a time may still wait, by the settings.
     fn time_left(&self, began: u64) -> Option<Duration> {
         let most = u64::try_from(self.settings.max_wait_millis).ok()?;
         let waited = self.now().saturating_sub(began);
         Some(Duration::from_millis(most.saturating_sub(waited)))
+    }
+}
+
+/// Returns the object that a borrow got, or why it got none.
+#[inline]
+fn acquired<T, E>(input: Input, borrowed: Borrowed<T>) -> Result<Acquired<T>, Error<E>> {
+    match borrowed {
+        Borrowed::Lent(id, value) => Ok(Acquired::Lent(id, value)),
+        Borrowed::Taken(id, value) => Ok(Acquired::Taken(id, value)),
+        Borrowed::Without(Answer::Make(id)) => Ok(Acquired::New(id)),
+        Borrowed::Without(Answer::Exhausted) => Err(Error::Exhausted),
+        Borrowed::Without(Answer::TimedOut) => Err(Error::TimedOut),
+        Borrowed::Without(Answer::Refused(Cause::Closed)) => Err(Error::Closed),
+        Borrowed::Without(answer) => unexpected(input, answer),
+    }
+}
+
+/// Returns the error of a step that failed. A closed pool is closed, whatever else is wrong.
+#[cold]
+fn error_of<T, E>(state: &LockedPool<T>, input: Input, fault: StepFault) -> Error<E> {
+    match input {
+        Input::Borrow { .. } | Input::Add | Input::Evict if state.is_closed => Error::Closed,
+        _ => fault.into(),
     }
 }
 

@@ -2,15 +2,15 @@
 
 mod common;
 
-use common::{assert_legal, cut_off, entries_of, journal_of, judge_segments};
+use common::{assert_legal, assert_segments_legal, cut_off, entries_of, journal_of};
 use std::panic::{self, AssertUnwindSafe};
 use std::sync::atomic::{AtomicU64, Ordering};
 use std::sync::{mpsc, Arc, Mutex};
 use std::thread;
 use std::time::{Duration, Instant};
 use zuphinka::{
-    caller_number, Abandoned, Addition, Builder, Error, Manager, OpenError, Pool, Pooled, Returned,
-    SettingsError, Touched,
+    caller_number, Abandoned, Addition, Builder, Error, Journal, Manager, OpenError, Pool, Pooled,
+    Returned, SettingsError, Touched,
 };
 
 /// Makes two tests of each function: over a manager whose hooks `activate` and `passivate` are called, and over one without them.
@@ -194,7 +194,8 @@ fn pool_with<const HOOKS: bool>(
     change: impl FnOnce(Builder<Maker<HOOKS>>) -> Builder<Maker<HOOKS>>,
 ) -> (Pool<Maker<HOOKS>>, Maker<HOOKS>, Clock) {
     let (maker, clock) = (Maker::<HOOKS>::default(), Clock::default());
-    let builder = change(Pool::builder().clock(clock.told()));
+    let kept = Pool::builder().journal(Journal::Memory(None));
+    let builder = change(kept.clock(clock.told()));
     (builder.build(maker.clone()).unwrap(), maker, clock)
 }
 
@@ -249,7 +250,8 @@ fn a_journal_is_as_the_readme_shows_it<const HOOKS: bool>() {
 
 fn moments_are_milliseconds_since_the_pool_was_opened<const HOOKS: bool>() {
     let before = Instant::now();
-    let pool = Pool::new(Maker::<HOOKS>::default()).unwrap();
+    let kept = Pool::builder().journal(Journal::Memory(None));
+    let pool = kept.build(Maker::<HOOKS>::default()).unwrap();
     let opened = Instant::now();
     thread::sleep(Duration::from_millis(20));
     let least = opened.elapsed().as_millis();
@@ -275,6 +277,7 @@ fn the_clock_is_read_where_time_may_pass<const HOOKS: bool>() {
     let reads = AtomicU64::new(0);
     let clock = move || reads.fetch_add(1, Ordering::SeqCst);
     let pool = Pool::builder()
+        .journal(Journal::Memory(None))
         .clock(clock)
         .build(Maker::<HOOKS>::default())
         .unwrap();
@@ -392,6 +395,7 @@ fn a_wait_is_as_long_as_the_settings_say<const HOOKS: bool>() {
     let maker = Maker::<HOOKS>::default();
     let short = Duration::from_millis(40);
     let pool = Pool::builder()
+        .journal(Journal::Memory(None))
         .max_total(1)
         .max_wait(short)
         .build(maker)
@@ -1023,7 +1027,7 @@ struct Narrow(usize, Vec<u8>);
 impl std::io::Write for Narrow {
     fn write(&mut self, bytes: &[u8]) -> std::io::Result<usize> {
         if self.1.len() + bytes.len() > self.0 {
-            return Err(std::io::ErrorKind::StorageFull.into());
+            return Err(std::io::ErrorKind::WriteZero.into());
         }
         self.1.extend_from_slice(bytes);
         Ok(bytes.len())
@@ -1044,17 +1048,6 @@ fn a_drain_that_fails_loses_nothing<const HOOKS: bool>() {
     assert!(!narrow.1.is_empty());
     pool.drain_journal(&mut narrow.1).unwrap();
     assert_eq!(String::from_utf8(narrow.1).unwrap(), journal);
-}
-
-/// Sees that the program finds these segments legal, with so many entries.
-fn assert_segments_legal<M: Manager>(pool: &Pool<M>, segments: &[String]) {
-    let entries: usize = segments
-        .iter()
-        .map(|segment| entries_of(segment).count())
-        .sum();
-    assert_eq!(entries as u64, pool.counts().steps);
-    let verdict = judge_segments(&pool.settings(), segments);
-    assert_eq!(verdict, format!("legal {entries}\n"), "{segments:?}");
 }
 
 fn a_pool_whose_journal_is_cut_lends_on<const HOOKS: bool>() {

@@ -1,18 +1,19 @@
 //! Four threads call a pool by chance, over a manager that fails and panics by chance, with 20 seeds.
 //!
-//! Each object that was made is dropped once, the program `pool` finds the journal legal, what each thread did stands in it in
-//! its order, all that was drained is the journal, or where it was cut its segments are, and no object is left anywhere.
+//! Each object that was made is dropped once, and no object is left anywhere. Unless the journal is dropped, the program `pool` finds it legal,
+//! what each thread did stands in it in its order, and all that was drained is the journal, or all segments are that were cut off or
+//! stored.
 
 mod common;
 
-use common::{cut_off, entries_of, journal_of, judge_segments};
+use common::{cut_off, entries_of, journal_of, judge_segments, texts_of, MemorySink, Stored};
 use std::collections::HashSet;
 use std::panic::{self, AssertUnwindSafe};
 use std::sync::atomic::{AtomicU64, Ordering};
 use std::sync::{Arc, Mutex};
 use std::thread;
 use std::time::Duration;
-use zuphinka::{caller_number, Abandoned, Error, Manager, Pool, Pooled};
+use zuphinka::{caller_number, Abandoned, Error, Journal, Manager, Pool, Pooled, Segments};
 
 const SEEDS: u64 = 20;
 const THREADS: u64 = 4;
@@ -131,6 +132,48 @@ impl<const HOOKS: bool> Manager for Fickle<HOOKS> {
     }
 }
 
+/// What becomes of the journal.
+#[derive(Clone, Copy, PartialEq)]
+enum Keeping {
+    /// It is kept in memory, and drained.
+    Drained,
+    /// It is kept in memory, and cut.
+    Cut,
+    /// It is handed to a sink, which fails now and then.
+    Stored,
+    Dropped,
+}
+
+impl Keeping {
+    fn of(seed: u64) -> Keeping {
+        match (seed + seed / 4) % 4 {
+            0 => Keeping::Drained,
+            1 => Keeping::Cut,
+            2 => Keeping::Stored,
+            _ => Keeping::Dropped,
+        }
+    }
+
+    /// The journal, whose sink fails in one call of so many, but never twice in succession.
+    fn journal(self, seed: u64, stored: &Stored) -> Journal {
+        let (mut dice, mut has_failed) = (Dice(seed), false);
+        let fails = move || {
+            has_failed = !has_failed && dice.roll(3) == 0;
+            has_failed
+        };
+        let stored = Arc::clone(stored);
+        match self {
+            Keeping::Drained | Keeping::Cut => Journal::Memory(None),
+            Keeping::Stored => {
+                let sink = MemorySink { stored, fails };
+                // There is room for all entries, so that no call fails for a slow thread that writes.
+                Journal::Segments(Segments::new(sink).limit(100_000))
+            }
+            Keeping::Dropped => Journal::Off,
+        }
+    }
+}
+
 /// What threads do in a pool that has nothing to lend.
 #[derive(Clone, Copy, PartialEq)]
 enum Manner {
@@ -151,7 +194,11 @@ impl Manner {
         }
     }
 
-    fn open<const HOOKS: bool>(self, manager: Fickle<HOOKS>) -> Pool<Fickle<HOOKS>> {
+    fn open<const HOOKS: bool>(
+        self,
+        manager: Fickle<HOOKS>,
+        journal: Journal,
+    ) -> Pool<Fickle<HOOKS>> {
         let abandoned = |timeout| Abandoned {
             on_borrow: true,
             on_maintenance: true,
@@ -160,6 +207,7 @@ impl Manner {
         let moment = AtomicU64::new(0);
         let ticking = move || moment.fetch_add(1, Ordering::Relaxed);
         let builder = Pool::builder()
+            .journal(journal)
             .min_idle(1)
             .test_on_borrow(true)
             .test_while_idle(true);
@@ -267,8 +315,7 @@ struct Table<const HOOKS: bool> {
     handed: Mutex<Vec<Pooled<Fickle<HOOKS>>>>,
     drained: Mutex<Vec<u8>>,
     segments: Mutex<Vec<String>>,
-    /// Whether the journal is cut, and else it is drained.
-    is_cut: bool,
+    keeping: Keeping,
     is_calm: bool,
 }
 
@@ -439,14 +486,20 @@ impl<'a, const HOOKS: bool> Player<'a, HOOKS> {
         caught(|| pool.close());
     }
 
-    /// Drains the journal, or cuts it.
+    /// Drains the journal, cuts it, or hands it to its sink.
     fn write(&mut self) {
-        if self.table.is_cut {
-            let mut segments = self.table.segments.lock().unwrap();
-            segments.push(cut_off(self.pool()));
-        } else {
-            let mut drained = self.table.drained.lock().unwrap();
-            self.pool().drain_journal(&mut *drained).unwrap();
+        match self.table.keeping {
+            Keeping::Drained => {
+                let mut drained = self.table.drained.lock().unwrap();
+                self.pool().drain_journal(&mut *drained).unwrap();
+            }
+            Keeping::Cut => {
+                let mut segments = self.table.segments.lock().unwrap();
+                segments.push(cut_off(self.pool()));
+            }
+            // It may fail, and then it is tried again.
+            Keeping::Stored => drop(self.pool().flush_journal()),
+            Keeping::Dropped => assert!(!journal_of(self.pool()).is_empty()),
         }
     }
 
@@ -500,6 +553,7 @@ impl<'a, const HOOKS: bool> Player<'a, HOOKS> {
 fn play<const HOOKS: bool>(seed: u64) -> (usize, String) {
     let drops = Arc::new(Drops::default());
     let (manner, panics) = (Manner::of(seed), seed % 4 == 0);
+    let (keeping, stored) = (Keeping::of(seed), Stored::default());
     let manager = Fickle::<HOOKS> {
         seed,
         calls: AtomicU64::new(0),
@@ -507,12 +561,12 @@ fn play<const HOOKS: bool>(seed: u64) -> (usize, String) {
         panics,
     };
     let table = Table {
-        pool: manner.open(manager),
+        pool: manner.open(manager, keeping.journal(seed, &stored)),
         manner,
         handed: Mutex::default(),
         drained: Mutex::default(),
         segments: Mutex::default(),
-        is_cut: seed % 3 == 1,
+        keeping,
         is_calm: !panics,
     };
     let played: Vec<_> = thread::scope(|scope| {
@@ -531,7 +585,6 @@ fn play<const HOOKS: bool>(seed: u64) -> (usize, String) {
         handed,
         drained,
         segments,
-        is_cut,
         ..
     } = table;
     for object in handed.into_inner().unwrap() {
@@ -553,21 +606,28 @@ fn play<const HOOKS: bool>(seed: u64) -> (usize, String) {
     );
 
     let mut segments = segments.into_inner().unwrap();
+    while keeping == Keeping::Stored && pool.flush_journal().is_err() {}
+    segments.extend(texts_of(&stored));
     segments.push(journal_of(&pool));
+    let is_in_parts = keeping == Keeping::Cut || keeping == Keeping::Stored;
+    assert_eq!(is_in_parts, segments.len() > 2, "seed {seed}");
     let entries = segments.iter().flat_map(|segment| entries_of(segment));
     let journal: String = entries.flat_map(|entry| [entry, "\n"]).collect();
-    assert_eq!(journal.lines().count() as u64, counts.steps, "seed {seed}");
-    assert_eq!(is_cut, segments.len() > 1, "seed {seed}");
-    let verdict = judge_segments(&pool.settings(), &segments);
-    assert_eq!(verdict, format!("legal {}\n", counts.steps), "seed {seed}");
-    for (caller, marks) in played {
-        let told = told(&journal, caller);
-        assert!(
-            tells(&told, &marks),
-            "seed {seed}, caller {caller}: {told:?} isn't {marks:?}"
-        );
+    if keeping == Keeping::Dropped {
+        assert!((journal.lines().count() as u64) < counts.steps);
+    } else {
+        assert_eq!(journal.lines().count() as u64, counts.steps, "seed {seed}");
+        let verdict = judge_segments(&pool.settings(), &segments);
+        assert_eq!(verdict, format!("legal {}\n", counts.steps), "seed {seed}");
+        for (caller, marks) in played {
+            let told = told(&journal, caller);
+            assert!(
+                tells(&told, &marks),
+                "seed {seed}, caller {caller}: {told:?} isn't {marks:?}"
+            );
+        }
     }
-    if !is_cut {
+    if keeping == Keeping::Drained {
         let mut drained = drained.into_inner().unwrap();
         pool.drain_journal(&mut drained).unwrap();
         assert_eq!(String::from_utf8(drained).unwrap(), journal, "seed {seed}");
