@@ -1,4 +1,5 @@
 use crate::clock::{Clock, GivenClock};
+use crate::contradictions::Chosen;
 use crate::error::{OpenError, SettingsError};
 use crate::journal::Journal;
 use crate::locked_pool::LockedPool;
@@ -20,6 +21,7 @@ use std::time::{Duration, Instant};
 #[must_use = "a builder does nothing until `build` is called"]
 pub struct Builder<M> {
     settings: Settings,
+    chosen: Chosen,
     journal: Journal,
     clock: Option<GivenClock>,
     of: PhantomData<fn(M)>,
@@ -39,6 +41,7 @@ impl<M: Manager> Builder<M> {
     pub(crate) fn new() -> Builder<M> {
         Builder {
             settings: Settings::default(),
+            chosen: Chosen::default(),
             journal: Journal::default(),
             clock: None,
             of: PhantomData,
@@ -66,12 +69,14 @@ impl<M: Manager> Builder<M> {
     /// The text is no TOML, or one of its keys or values isn't lawful.
     pub fn settings(mut self, toml: &str) -> Result<Builder<M>, SettingsError> {
         self.settings = Settings::from_toml(toml)?;
+        self.chosen = Chosen::default();
         Ok(self)
     }
 
     /// How many objects may be present at once, lent ones included, up to 2^31 - 1; `None`: no limit (`maxTotal`, 8).
     pub fn max_total(mut self, objects: impl Into<Option<u32>>) -> Builder<M> {
         self.settings.max_total = limit(objects.into());
+        self.chosen.max_total = true;
         self
     }
 
@@ -79,6 +84,7 @@ impl<M: Manager> Builder<M> {
     /// (`maxIdle`, 8).
     pub fn max_idle(mut self, objects: impl Into<Option<u32>>) -> Builder<M> {
         self.settings.max_idle = limit(objects.into());
+        self.chosen.max_idle = true;
         self
     }
 
@@ -86,6 +92,7 @@ impl<M: Manager> Builder<M> {
     /// `maxIdle` goes (`minIdle`, 0).
     pub fn min_idle(mut self, objects: u32) -> Builder<M> {
         self.settings.min_idle = objects.into();
+        self.chosen.min_idle = true;
         self
     }
 
@@ -98,12 +105,14 @@ impl<M: Manager> Builder<M> {
     /// Whether [`get`](Pool::get) waits for an object where all are lent (`blockWhenExhausted`, true).
     pub fn block_when_exhausted(mut self, is_set: bool) -> Builder<M> {
         self.settings.block_when_exhausted = is_set;
+        self.chosen.blocking = true;
         self
     }
 
     /// For how long a borrow waits at most, up to 2^53 milliseconds; `None`: no limit (`maxWaitMillis`, no limit).
     pub fn max_wait(mut self, time: impl Into<Option<Duration>>) -> Builder<M> {
         self.settings.max_wait_millis = limit_in_millis(time.into());
+        self.chosen.max_wait = true;
         self
     }
 
@@ -161,19 +170,22 @@ impl<M: Manager> Builder<M> {
     /// [`Journal::Memory`] and [`Journal::Segments`], if these have no limit of their own. With [`Journal::Off`] it has no effect.
     pub fn journal_limit(mut self, entries: u64) -> Builder<M> {
         self.settings.journal_limit = i64::try_from(entries).unwrap_or(i64::MAX);
+        self.chosen.journal_limit = true;
         self
     }
 
     /// When lent objects are taken for abandoned and lose their places; `None`: never (`[abandoned]`, none).
     pub fn abandoned(mut self, abandoned: impl Into<Option<Abandoned>>) -> Builder<M> {
         self.settings.abandoned = abandoned.into();
+        self.chosen.abandoned = true;
         self
     }
 
     /// A clock that returns times in milliseconds, instead of the time since the pool was opened. It may be read under the pool's
     /// lock, and must not call the pool.
     ///
-    /// Times in the journal never fall: a time before that of the last entry counts as that one.
+    /// Times in the journal never fall: a time before that of the last entry counts as that one. If the clock panics, the time of the last
+    /// entry is taken.
     ///
     /// ```
     /// # use std::sync::{Arc, atomic::{AtomicU64, Ordering}};
@@ -201,10 +213,11 @@ impl<M: Manager> Builder<M> {
     ///
     /// # Errors
     ///
-    /// A number or a time is out of the range that is told with it, or there is no memory.
+    /// A number or a time is out of its range, settings contradict each other, or there is no memory.
     pub fn build(self, manager: M) -> Result<Pool<M>, OpenError> {
         let Builder {
             mut settings,
+            mut chosen,
             journal,
             clock,
             of: _,
@@ -219,9 +232,13 @@ impl<M: Manager> Builder<M> {
         };
         if let Some(entries) = limit {
             settings.journal_limit = i64::try_from(entries).unwrap_or(i64::MAX);
+            chosen.journal_limit = true;
         }
         let text = settings.to_string();
         Settings::from_toml(&text)?;
+        if let Some(found) = chosen.contradiction(&settings, mode != Mode::Off) {
+            return Err(OpenError::Contradiction(found));
+        }
         let core = Core::open(&text).map_err(|fault| match fault {
             OpenFault::OutOfMemory => OpenError::OutOfMemory,
             OpenFault::Settings(status) => {

@@ -1,5 +1,6 @@
 //! Times of steps, in milliseconds.
 
+use std::panic::{catch_unwind, AssertUnwindSafe};
 use std::time::Instant;
 
 /// A clock of the user's.
@@ -13,14 +14,15 @@ pub(crate) enum Clock {
 }
 
 impl Clock {
+    /// Returns the time, or none if the clock panicked.
     #[inline]
-    pub fn read(&self) -> u64 {
+    pub fn read(&self) -> Option<u64> {
         match self {
             Clock::Since(start) => {
                 let passed = start.elapsed();
-                passed.as_secs() * 1_000 + u64::from(passed.subsec_millis())
+                Some(passed.as_secs() * 1_000 + u64::from(passed.subsec_millis()))
             }
-            Clock::Given(clock) => clock(),
+            Clock::Given(clock) => catch_unwind(AssertUnwindSafe(clock)).ok(),
         }
     }
 }

@@ -82,9 +82,52 @@ impl<E: error::Error + 'static> error::Error for Error<E> {
 pub enum OpenError {
     /// The settings can't be taken.
     Settings(SettingsError),
+    /// Two settings of the builder contradict each other.
+    Contradiction(Contradiction),
     /// There was no memory.
     OutOfMemory,
 }
+
+/// Which settings of a builder contradict each other.
+///
+/// Only what the builder's own methods set is an error: a text of settings is taken as the program takes it.
+#[derive(Clone, Copy, Debug, PartialEq, Eq, Hash)]
+#[non_exhaustive]
+pub enum Contradiction {
+    /// `max_total` is 0, and a borrow waits without limit: each would wait for ever.
+    NothingToWaitFor,
+    /// `min_idle` is more than `max_total` allows.
+    MinIdleAboveMaxTotal,
+    /// `min_idle` is more than `max_idle` allows.
+    MinIdleAboveMaxIdle,
+    /// `max_wait` has a limit, and `block_when_exhausted` is off: no borrow waits.
+    WaitWithoutBlocking,
+    /// `abandoned` is set, and neither `on_borrow` nor `on_maintenance` is: no object is ever reclaimed.
+    NeverReclaimed,
+    /// The journal has less room than one borrow, its return and the close of the pool take: no object would ever be lent.
+    JournalTooSmall,
+}
+
+impl fmt::Display for Contradiction {
+    fn fmt(&self, f: &mut fmt::Formatter<'_>) -> fmt::Result {
+        f.write_str(match self {
+            Contradiction::NothingToWaitFor => {
+                "a borrow would wait for ever: max_total is 0, and max_wait has no limit"
+            }
+            Contradiction::MinIdleAboveMaxTotal => "min_idle is above max_total",
+            Contradiction::MinIdleAboveMaxIdle => "min_idle is above max_idle",
+            Contradiction::WaitWithoutBlocking => {
+                "max_wait is set, and block_when_exhausted is off"
+            }
+            Contradiction::NeverReclaimed => {
+                "abandoned is set with neither on_borrow nor on_maintenance"
+            }
+            Contradiction::JournalTooSmall => "the journal has too little room for one loan",
+        })
+    }
+}
+
+impl error::Error for Contradiction {}
 
 /// Why settings can't be taken. A key is named as in a settings file, one of the table `abandoned` as `abandoned.<key>`.
 #[derive(Clone, Debug, PartialEq, Eq)]
@@ -118,6 +161,7 @@ impl fmt::Display for OpenError {
     fn fmt(&self, f: &mut fmt::Formatter<'_>) -> fmt::Result {
         match self {
             OpenError::Settings(error) => write!(f, "settings: {error}"),
+            OpenError::Contradiction(contradiction) => write!(f, "settings: {contradiction}"),
             OpenError::OutOfMemory => f.write_str("out of memory"),
         }
     }
@@ -127,6 +171,7 @@ impl error::Error for OpenError {
     fn source(&self) -> Option<&(dyn error::Error + 'static)> {
         match self {
             OpenError::Settings(error) => Some(error),
+            OpenError::Contradiction(contradiction) => Some(contradiction),
             OpenError::OutOfMemory => None,
         }
     }

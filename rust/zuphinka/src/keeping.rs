@@ -6,6 +6,9 @@ use crate::in_progress::{InProgress, Work};
 use crate::manager::Manager;
 use crate::shared::{unexpected, Shared};
 use crate::step::{Answer, Cause, Input, Outcome, When};
+use std::any::Any;
+use std::panic::{catch_unwind, resume_unwind, AssertUnwindSafe};
+use std::thread;
 
 /// What became of an addition.
 #[derive(Clone, Copy, Debug, PartialEq, Eq, Hash)]
@@ -76,14 +79,17 @@ impl<M: Manager> Shared<M> {
         let caller = caller_number();
         let mut parked = 0;
         loop {
-            match self.run_section(caller, Input::Fill, None)? {
-                (Answer::Make(id), _) => {
+            match self.run_section(caller, Input::Fill, None) {
+                Ok((Answer::Make(id), _)) => {
                     if self.stock(caller, id)? == Addition::Idle {
                         parked += 1;
                     }
                 }
-                (Answer::Enough | Answer::NoPlace, _) => return Ok(parked),
-                (answer, _) => unexpected(Input::Fill, answer),
+                Ok((Answer::Enough | Answer::NoPlace, _)) => return Ok(parked),
+                Ok((answer, _)) => unexpected(Input::Fill, answer),
+                // It has enough, whatever the journal has room for.
+                Err(_) if self.lock().is_closed => return Ok(parked),
+                Err(error) => return Err(error),
             }
         }
     }
@@ -167,41 +173,70 @@ impl<M: Manager> Shared<M> {
     /// Destroys the idle objects. Returns their number.
     pub fn clear(&self) -> Result<u64, Error<M::Error>> {
         let caller = caller_number();
-        match self.run_section(caller, Input::Clear, None)? {
-            (Answer::Count(count), _) => self.sweep(caller, count).map_err(|(_, error)| error),
+        let swept = match self.run_section(caller, Input::Clear, None)? {
+            (Answer::Count(count), _) => self.sweep(caller, count),
             (answer, _) => unexpected(Input::Clear, answer),
-        }
+        };
+        let (destroyed, error) = swept.end();
+        error.map_or(Ok(destroyed), Err)
     }
 
-    /// Destroys idle objects, at most `count`. Returns their number, also with an error.
-    fn sweep(&self, caller: u32, count: u64) -> Result<u64, (u64, Error<M::Error>)> {
-        for taken in 0..count {
-            match self
-                .run_section(caller, Input::ClearNext, None)
-                .map_err(|error| (taken, error))?
-            {
-                (Answer::DestroyIdle(id), Some(object)) => {
-                    InProgress::destroying(self, caller, id, object).destroy()
+    /// Destroys idle objects, at most `count`, also if the manager panics meanwhile.
+    fn sweep(&self, caller: u32, count: u64) -> Swept<M::Error> {
+        let mut swept = Swept {
+            destroyed: 0,
+            error: None,
+            panic: None,
+        };
+        while swept.destroyed < count {
+            match self.run_section(caller, Input::ClearNext, None) {
+                Ok((Answer::DestroyIdle(id), Some(object))) => {
+                    let object = InProgress::destroying(self, caller, id, object);
+                    let destroyed = catch_unwind(AssertUnwindSafe(|| object.destroy()));
+                    swept.panic = swept.panic.or(destroyed.err());
+                    swept.destroyed += 1;
                 }
-                (Answer::Nothing, _) => return Ok(taken),
-                (answer, _) => unexpected(Input::ClearNext, answer),
+                Ok((Answer::Nothing, _)) => break,
+                Ok((answer, _)) => unexpected(Input::ClearNext, answer),
+                Err(error) => {
+                    swept.error = Some(error);
+                    break;
+                }
             }
         }
-        Ok(count)
+        swept
     }
 
     /// Closes the pool, and destroys the idle objects. Returns their number.
     pub fn close(&self) -> u64 {
         let caller = caller_number();
-        match self.run_section(caller, Input::Close, None) {
-            // It fails for room or memory only if no object is idle any more.
-            Ok((Answer::Count(count), _)) => {
-                let swept = self.sweep(caller, count);
-                swept.unwrap_or_else(|(taken, _)| taken)
-            }
-            // The first close never fails.
-            Ok((Answer::Nothing, _)) | Err(_) => 0,
+        let count = match self.run_section(caller, Input::Close, None) {
+            Ok((Answer::Count(count), _)) => count,
+            // The first close never fails. A later one destroys what is left, if an earlier one could not.
+            Ok((Answer::Nothing, _)) | Err(_) => self.lock().idle(),
             Ok((answer, _)) => unexpected(Input::Close, answer),
+        };
+        // It fails for room or memory only if no object is idle any more.
+        let (destroyed, _) = self.sweep(caller, count).end();
+        destroyed
+    }
+}
+
+/// The result of the destruction of idle objects.
+struct Swept<E> {
+    destroyed: u64,
+    /// Why it ended early.
+    error: Option<Error<E>>,
+    /// The first panic of the manager.
+    panic: Option<Box<dyn Any + Send>>,
+}
+
+impl<E> Swept<E> {
+    /// Returns the number of destroyed objects, and an error. A panic of the manager continues, unless this thread panics already.
+    fn end(self) -> (u64, Option<Error<E>>) {
+        match self.panic {
+            Some(panic) if !thread::panicking() => resume_unwind(panic),
+            _ => (self.destroyed, self.error),
         }
     }
 }
@@ -210,9 +245,17 @@ impl<M: Manager> Shared<M> {
 /// the journal is handed to its sink.
 impl<M: Manager> Drop for Shared<M> {
     fn drop(&mut self) {
-        if !self.lock().is_closed {
-            self.close();
-        }
+        let state = self.lock();
+        let is_done = state.is_closed && state.idle() == 0;
+        drop(state);
+        let closed = match is_done {
+            true => Ok(0),
+            false => catch_unwind(AssertUnwindSafe(|| self.close())),
+        };
         self.write_rest();
+        match closed {
+            Err(panic) if !thread::panicking() => resume_unwind(panic),
+            _ => {}
+        }
     }
 }

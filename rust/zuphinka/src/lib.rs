@@ -49,6 +49,7 @@
 mod builder;
 mod callers;
 mod clock;
+mod contradictions;
 #[cfg(test)]
 mod dropped_segments;
 mod error;
@@ -73,12 +74,12 @@ mod writing;
 
 pub use builder::Builder;
 pub use callers::caller_number;
-pub use error::{Error, OpenError, SettingsError};
+pub use error::{Contradiction, Error, OpenError, SettingsError};
 pub use journal::Journal;
 pub use keeping::{Addition, Eviction, Maintenance};
 pub use lending::{Returned, Touched};
 pub use manager::Manager;
-pub use pool::Pool;
+pub use pool::{Pool, WeakPool};
 pub use pooled::Pooled;
 pub use segments::{Segment, SegmentFolder, SegmentSink, Segments, SinkFailure};
 pub use settings::Abandoned;

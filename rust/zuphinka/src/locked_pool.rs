@@ -199,6 +199,16 @@ impl<T> LockedPool<T> {
         }
     }
 
+    /// Returns the latest time of an entry, in milliseconds.
+    pub fn last_time(&self) -> u64 {
+        self.last_time
+    }
+
+    /// Returns the number of idle objects, those under an idle test left out.
+    pub fn idle(&self) -> u64 {
+        self.idle.len() as u64
+    }
+
     /// Returns whether a borrow would surely find nothing now, of at most `max_total` objects (negative: without limit). It spares a
     /// sleeper an entry; the core is asked if it returns false.
     pub fn has_nothing(&self, max_total: i64) -> bool {

@@ -1,7 +1,7 @@
 /// How the objects of a pool are made, readied, tested and destroyed.
 ///
 /// All calls come without the pool's lock, from the thread whose call of the pool needs them, so they may take long and run
-/// beside each other. Where one panics, the object is dropped, its place is free again, and the panic goes on.
+/// beside each other. If one panics, its object is destroyed, its place is freed, and the panic continues.
 ///
 /// ```
 /// use std::net::{SocketAddr, TcpStream};
@@ -74,7 +74,8 @@ pub trait Manager: Send + Sync {
         Ok(())
     }
 
-    /// Ends an object. Its place is free once this returns. What goes wrong in it is the manager's own matter.
+    /// Ends an object. Its place is freed once this returns or panics. It may be called while the thread panics, and then a panic of its own
+    /// is ignored.
     fn destroy(&self, object: Self::Object) {
         drop(object);
     }

@@ -9,7 +9,7 @@ use crate::shared::{Shared, WaitLimit};
 use crate::step::{Counts, When};
 use std::fmt;
 use std::io::{self, Write};
-use std::sync::Arc;
+use std::sync::{Arc, Weak};
 use std::time::{Duration, Instant};
 
 /// A pool that threads share. A clone is a handle of the same pool.
@@ -18,7 +18,8 @@ use std::time::{Duration, Instant};
 /// entry of the journal; the manager is called between them. The entries stand under the number of the thread that calls
 /// ([`caller_number`](crate::caller_number)), with the moment in milliseconds since the pool was opened.
 ///
-/// When the last handle and the last lent object are gone the pool is closed, if it wasn't before.
+/// When the last handle and the last lent object are gone the pool is closed, if it wasn't before. A thread that is to end with the pool,
+/// as one that maintains it, has a [`WeakPool`] instead of a handle.
 pub struct Pool<M: Manager> {
     shared: Arc<Shared<M>>,
 }
@@ -54,6 +55,24 @@ impl<M: Manager> Pool<M> {
     ///
     /// An idle object that isn't activated, or doesn't pass the test of `testOnBorrow`, is destroyed, and the borrow goes on.
     ///
+    /// ```
+    /// # use zuphinka::{Manager, Pool};
+    /// # struct Sockets;
+    /// # impl Manager for Sockets {
+    /// #     type Object = std::net::UdpSocket;
+    /// #     type Error = std::io::Error;
+    /// #     fn make(&self, _id: u64) -> std::io::Result<std::net::UdpSocket> {
+    /// #         std::net::UdpSocket::bind("127.0.0.1:0")
+    /// #     }
+    /// # }
+    /// fn port_of(pool: &Pool<Sockets>) -> Result<u16, Box<dyn std::error::Error + Send + Sync>> {
+    ///     let socket = pool.get()?;
+    ///     Ok(socket.local_addr()?.port())
+    /// }
+    /// # assert_ne!(port_of(&Pool::new(Sockets)?).unwrap(), 0);
+    /// # Ok::<(), zuphinka::OpenError>(())
+    /// ```
+    ///
     /// # Errors
     ///
     /// [`Error::Exhausted`], [`Error::TimedOut`] and [`Error::Closed`]. Of a new object [`Error::Make`],
@@ -76,8 +95,8 @@ impl<M: Manager> Pool<M> {
         }
     }
 
-    /// Lends an object as [`get`](Pool::get) does, and waits no longer than this time, nor than the settings say. What the
-    /// manager does takes the time that it takes.
+    /// Lends an object as [`get`](Pool::get) does, and waits for one no longer than this time, nor than the settings allow. The time does not
+    /// bound what the manager does: if [`make`](Manager::make) takes a minute, so does this call.
     ///
     /// # Errors
     ///
@@ -143,17 +162,26 @@ impl<M: Manager> Pool<M> {
         self.shared.maintain()
     }
 
-    /// Destroys the idle objects: how many.
+    /// Destroys the idle objects, and returns their number.
     ///
     /// # Errors
     ///
-    /// [`Error::JournalFull`] and [`Error::OutOfMemory`], also in the midst: what was done before stays.
+    /// [`Error::JournalFull`] and [`Error::OutOfMemory`], also in the middle: what was done before stays.
+    ///
+    /// # Panics
+    ///
+    /// If the manager panics in [`destroy`](Manager::destroy): the other objects are destroyed before the first panic continues.
     pub fn clear(&self) -> Result<u64, Error<M::Error>> {
         self.shared.clear()
     }
 
-    /// Closes the pool, and destroys the idle objects: how many. Whoever waits is refused, nothing is lent any more, and what
-    /// comes back is destroyed. A second close does nothing. It can't fail: the first has its room and memory kept.
+    /// Closes the pool, destroys the idle objects, and returns their number. A borrow that waits or begins is refused
+    /// ([`Error::Closed`]). One that is making or activating its object now still gets it. What is returned is destroyed. A second close only
+    /// destroys idle objects that are left. It cannot fail: room and memory for the first are set aside.
+    ///
+    /// # Panics
+    ///
+    /// If the manager panics in [`destroy`](Manager::destroy): the other objects are destroyed before the first panic continues.
     pub fn close(&self) -> u64 {
         self.shared.close()
     }
@@ -266,6 +294,13 @@ impl<M: Manager> Pool<M> {
         self.shared.settings_text.clone()
     }
 
+    /// Returns a handle that does not keep the pool open.
+    pub fn downgrade(&self) -> WeakPool<M> {
+        WeakPool {
+            shared: Arc::downgrade(&self.shared),
+        }
+    }
+
     /// The manager.
     pub fn manager(&self) -> &M {
         &self.shared.manager
@@ -285,5 +320,55 @@ impl<M: Manager> fmt::Debug for Pool<M> {
         f.debug_struct("Pool")
             .field("counts", &self.counts())
             .finish_non_exhaustive()
+    }
+}
+
+/// A handle of a pool that does not keep it open.
+///
+/// ```
+/// # use std::time::Duration;
+/// # use zuphinka::{Manager, Pool};
+/// # struct Numbers;
+/// # impl Manager for Numbers {
+/// #     type Object = u64;
+/// #     type Error = ();
+/// #     fn make(&self, id: u64) -> Result<u64, ()> { Ok(id) }
+/// # }
+/// let pool = Pool::builder().min_idle(1).build(Numbers)?;
+/// let weak = pool.downgrade();
+/// let keeper = std::thread::spawn(move || {
+///     while let Some(pool) = weak.upgrade() {
+///         let _ = pool.maintain();
+///         drop(pool);
+///         std::thread::sleep(Duration::from_millis(10));
+///     }
+/// });
+/// drop(pool);
+/// keeper.join().unwrap();
+/// # Ok::<(), zuphinka::OpenError>(())
+/// ```
+pub struct WeakPool<M: Manager> {
+    shared: Weak<Shared<M>>,
+}
+
+impl<M: Manager> WeakPool<M> {
+    /// Returns a handle of the pool, or none if the last handle and the last lent object are gone.
+    pub fn upgrade(&self) -> Option<Pool<M>> {
+        let shared = self.shared.upgrade()?;
+        Some(Pool { shared })
+    }
+}
+
+impl<M: Manager> Clone for WeakPool<M> {
+    fn clone(&self) -> WeakPool<M> {
+        WeakPool {
+            shared: Weak::clone(&self.shared),
+        }
+    }
+}
+
+impl<M: Manager> fmt::Debug for WeakPool<M> {
+    fn fmt(&self, f: &mut fmt::Formatter<'_>) -> fmt::Result {
+        f.write_str("WeakPool")
     }
 }

@@ -4,12 +4,14 @@ use crate::manager::Manager;
 use crate::shared::Shared;
 use std::fmt;
 use std::ops::{Deref, DerefMut};
+use std::panic::{catch_unwind, AssertUnwindSafe};
 use std::sync::Arc;
 use std::thread;
 
 /// An object that is lent. It is used through this guard, which gives it back when it is dropped, from whatever thread.
 ///
-/// A guard that is dropped while its thread panics invalidates its object, since nobody knows in what state it is.
+/// A guard that is dropped by a panic of its thread invalidates its object, whose state is unknown. One that a thread got while it panicked
+/// already, in a destructor, returns it.
 ///
 /// It keeps the pool alive. What a guard can do besides is called as `Pooled::id(&guard)`, so that no method of the object is
 /// hidden.
@@ -17,6 +19,8 @@ pub struct Pooled<M: Manager> {
     pool: Arc<Shared<M>>,
     id: u64,
     object: Option<M::Object>,
+    /// Whether the thread that got it was panicking.
+    was_panicking: bool,
 }
 
 const LENT: &str = "a guard has its object until it is dropped";
@@ -27,6 +31,7 @@ impl<M: Manager> Pooled<M> {
             pool,
             id,
             object: Some(object),
+            was_panicking: thread::panicking(),
         }
     }
 
@@ -73,13 +78,18 @@ impl<M: Manager> DerefMut for Pooled<M> {
 
 impl<M: Manager> Drop for Pooled<M> {
     fn drop(&mut self) {
-        if let Some(object) = self.object.take() {
-            if thread::panicking() {
-                self.pool.invalidate(self.id, object);
-            } else {
-                self.pool.give_back(self.id, object);
-            }
+        let Some(object) = self.object.take() else {
+            return;
+        };
+        if !thread::panicking() {
+            self.pool.give_back(self.id, object);
+            return;
         }
+        // A panic of the manager ends here, since a second one would end the process.
+        let _ = catch_unwind(AssertUnwindSafe(|| match self.was_panicking {
+            true => self.pool.give_back(self.id, object),
+            false => self.pool.invalidate(self.id, object),
+        }));
     }
 }
 

@@ -95,10 +95,18 @@ impl<M: Manager> Shared<M> {
         }
     }
 
-    /// Reads the clock, in milliseconds.
+    /// Returns the time, in milliseconds. If the clock panics, it is that of the last entry.
     #[inline]
     pub fn now(&self) -> u64 {
-        self.clock.read()
+        match self.clock.read() {
+            Some(time) => time,
+            None => self.lock().last_time(),
+        }
+    }
+
+    /// Returns the time, in milliseconds, to a thread that holds the lock.
+    fn now_under_lock(&self, state: &LockedPool<M::Object>) -> u64 {
+        self.clock.read().unwrap_or_else(|| state.last_time())
     }
 
     /// Destroys an object. If this thread panics already, a panic of the manager ends here, since a second one would end the process.
@@ -244,7 +252,7 @@ impl<M: Manager> Shared<M> {
                 }
             }
             has_slept = true;
-            time = self.now();
+            time = self.now_under_lock(&state);
         }
     }
 
@@ -265,12 +273,12 @@ impl<M: Manager> Shared<M> {
                 },
                 WaitLimit::AsSet => None,
             };
-            let longest = asked.into_iter().chain(self.time_left(began)).min();
+            let longest = asked.into_iter().chain(self.time_left(&state, began)).min();
             state.fall_asleep();
             state = self.state.wait(state, &self.changed, longest);
             state.wake_up();
             if !state.has_nothing(self.settings.max_total)
-                || self.time_left(began) == Some(Duration::ZERO)
+                || self.time_left(&state, began) == Some(Duration::ZERO)
             {
                 return Ok(state);
             }
@@ -287,9 +295,9 @@ impl<M: Manager> Shared<M> {
     }
 
     /// Returns how long a borrow that began at a time may still wait, by the settings.
-    fn time_left(&self, began: u64) -> Option<Duration> {
+    fn time_left(&self, state: &LockedPool<M::Object>, began: u64) -> Option<Duration> {
         let most = u64::try_from(self.settings.max_wait_millis).ok()?;
-        let waited = self.now().saturating_sub(began);
+        let waited = self.now_under_lock(state).saturating_sub(began);
         Some(Duration::from_millis(most.saturating_sub(waited)))
     }
 }
