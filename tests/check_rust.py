@@ -87,8 +87,9 @@ def defaults():
 
 
 def check_settings(settings):
-    """What the example writes of each file that can be taken, and what Python reads there."""
+    """What the example writes of each file that can be taken, and what Python reads there. The crate has a default of its own for the wait."""
     plain, abandoned = defaults()
+    plain["maxWaitMillis"] = 30_000
     taken = [path for path in sorted((TOP / "tests/cases/settings").glob("*.toml")) if path.with_suffix(".answer").read_bytes() == b"ok\n"]
     for path in [*sorted((TOP / "examples").glob("*.toml")), *taken]:
         wanted = plain | tomllib.loads(path.read_text())

@@ -37,7 +37,8 @@ fn work<M: Manager>(pool: &Pool<M>, rounds: u64) -> u64 {
 fn configure<M: Manager>(settings: &str, words: &[String]) -> Result<Builder<M>, Box<dyn Error>> {
     let moment = AtomicU64::new(0);
     let counter = move || moment.fetch_add(1, Ordering::Relaxed);
-    let mut builder = Pool::builder().settings(settings)?;
+    // A counter is no clock by which a wait could have a limit.
+    let mut builder = Pool::builder().settings(settings)?.max_wait(None);
     if !words.iter().any(|word| word == "instant") {
         builder = builder.clock(counter);
     }

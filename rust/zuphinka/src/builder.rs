@@ -1,17 +1,19 @@
 use crate::clock::{Clock, GivenClock};
 use crate::contradictions::Chosen;
 use crate::error::{OpenError, SettingsError};
+use crate::failure::Failure;
 use crate::journal::Journal;
 use crate::locked_pool::LockedPool;
+use crate::maintenance::{Maintainer, Start};
 use crate::manager::Manager;
 use crate::pool::Pool;
 use crate::proved_core::{Core, OpenFault};
 use crate::settings::{millis, Abandoned, Settings};
-use crate::shared::Shared;
+use crate::shared::{OnError, Policy, Shared};
 use crate::stored_journal::Mode;
 use crate::writing::Outlet;
 use std::fmt;
-use std::marker::PhantomData;
+use std::sync::Arc;
 use std::time::{Duration, Instant};
 
 /// Settings for a pool that is to be opened. Each has the default of Commons Pool 2, which is told with it; the name in
@@ -19,12 +21,14 @@ use std::time::{Duration, Instant};
 ///
 /// A time is rounded up to whole milliseconds.
 #[must_use = "a builder does nothing until `build` is called"]
-pub struct Builder<M> {
+pub struct Builder<M: Manager> {
     settings: Settings,
     chosen: Chosen,
     journal: Journal,
     clock: Option<GivenClock>,
-    of: PhantomData<fn(M)>,
+    max_lifetime: Option<Duration>,
+    on_error: Option<OnError<M>>,
+    maintenance: Option<(Start<M>, Duration)>,
 }
 
 /// A number of objects, where there may be no limit.
@@ -40,15 +44,21 @@ fn limit_in_millis(time: Option<Duration>) -> i64 {
 impl<M: Manager> Builder<M> {
     pub(crate) fn new() -> Builder<M> {
         Builder {
-            settings: Settings::default(),
+            settings: Settings {
+                max_wait_millis: DEFAULT_WAIT_MILLIS,
+                ..Settings::default()
+            },
             chosen: Chosen::default(),
             journal: Journal::default(),
             clock: None,
-            of: PhantomData,
+            max_lifetime: None,
+            on_error: None,
+            maintenance: None,
         }
     }
 
-    /// Takes all settings from a text in TOML, as of a settings file: those that it doesn't name have their defaults.
+    /// Takes all settings from a text in TOML, as of a settings file. Those that it does not name have their defaults; so the wait has a limit of
+    /// 30 seconds unless the text names `maxWaitMillis`.
     ///
     /// ```
     /// # use zuphinka::{Manager, Pool, SettingsError};
@@ -69,6 +79,9 @@ impl<M: Manager> Builder<M> {
     /// The text is no TOML, or one of its keys or values isn't lawful.
     pub fn settings(mut self, toml: &str) -> Result<Builder<M>, SettingsError> {
         self.settings = Settings::from_toml(toml)?;
+        if !Settings::names_max_wait(toml) {
+            self.settings.max_wait_millis = DEFAULT_WAIT_MILLIS;
+        }
         self.chosen = Chosen::default();
         Ok(self)
     }
@@ -109,7 +122,8 @@ impl<M: Manager> Builder<M> {
         self
     }
 
-    /// For how long a borrow waits at most, up to 2^53 milliseconds; `None`: no limit (`maxWaitMillis`, no limit).
+    /// For how long a borrow waits at most, up to 2^53 milliseconds; `None`: no limit (`maxWaitMillis`, 30 seconds; in Commons Pool 2 there is
+    /// no limit).
     pub fn max_wait(mut self, time: impl Into<Option<Duration>>) -> Builder<M> {
         self.settings.max_wait_millis = limit_in_millis(time.into());
         self.chosen.max_wait = true;
@@ -209,6 +223,39 @@ impl<M: Manager> Builder<M> {
         self
     }
 
+    /// Sets the age at which objects are destroyed; `None`: none is destroyed for its age, which is the default. An object is destroyed at its
+    /// return, or by [`maintain`](Pool::maintain) and [`evict`](Pool::evict) while it is idle; no object is taken from its holder.
+    ///
+    /// Eviction runs then test each object that they examine (`testWhileIdle` is set in [`Pool::settings`]), but validate it only if you set
+    /// [`test_while_idle`](Builder::test_while_idle). The age is a failed test in the journal.
+    pub fn max_lifetime(mut self, time: impl Into<Option<Duration>>) -> Builder<M> {
+        self.max_lifetime = time.into();
+        self
+    }
+
+    /// Sets what receives the [failures](Failure) that no call returns: of objects that are not passivated, of idle ones that are not activated or
+    /// do not pass a test, of sinks, and of the maintenance thread. It is called without the pool's lock, by the thread in whose call
+    /// it happened. A panic of it is ignored. Without it these failures are ignored.
+    ///
+    /// ```
+    /// # use zuphinka::{Manager, Pool};
+    /// # struct Numbers;
+    /// # impl Manager for Numbers {
+    /// #     type Object = u64;
+    /// #     type Error = std::io::Error;
+    /// #     fn make(&self, id: u64) -> std::io::Result<u64> { Ok(id) }
+    /// # }
+    /// let pool = Pool::builder().on_error(|failure| eprintln!("pool: {failure}")).build(Numbers)?;
+    /// # Ok::<(), zuphinka::OpenError>(())
+    /// ```
+    pub fn on_error(
+        mut self,
+        on_error: impl Fn(Failure<M::Error>) + Send + Sync + 'static,
+    ) -> Builder<M> {
+        self.on_error = Some(Box::new(on_error));
+        self
+    }
+
     /// Opens a pool with these settings. It makes no object yet.
     ///
     /// # Errors
@@ -220,9 +267,17 @@ impl<M: Manager> Builder<M> {
             mut chosen,
             journal,
             clock,
-            of: _,
+            max_lifetime,
+            on_error,
+            maintenance,
         } = self;
         Settings::from_toml(&settings.to_string())?;
+        let policy = Policy {
+            max_lifetime: max_lifetime.map(|time| millis(time).unsigned_abs()),
+            tests_idle: settings.test_while_idle,
+            on_error,
+        };
+        settings.test_while_idle |= max_lifetime.is_some();
         let (mode, limit, outlet) = match journal {
             Journal::Off => (Mode::Off, Some(GREATEST_LIMIT), None),
             Journal::Memory(limit) => (Mode::Memory, limit, None),
@@ -250,16 +305,33 @@ impl<M: Manager> Builder<M> {
             None => Clock::Since(Instant::now()),
         };
         let state = LockedPool::new(core, mode);
-        Ok(Pool::of(Shared::new(
-            state, clock, outlet, manager, settings,
-        )))
+        let pool = Shared::new(state, clock, outlet, manager, settings, policy);
+        let pool = Arc::new(pool);
+        if let Some((start, time)) = maintenance {
+            let started = start(&pool, time).map_err(|error| OpenError::Thread(error.kind()))?;
+            *pool.maintainer() = Some(started);
+        }
+        Ok(Pool::of(pool))
     }
 }
+
+impl<M: Manager + 'static> Builder<M> {
+    /// Has a thread of the pool's own call [`maintain`](Pool::maintain): at once, and then this long after each round, at least one millisecond.
+    /// Its errors go to [`on_error`](Builder::on_error). The thread ends when the pool is closed, once it has done its round, or when the last
+    /// handle and the last lent object are gone.
+    pub fn maintain_every(mut self, time: Duration) -> Builder<M> {
+        self.maintenance = Some((Maintainer::start, time));
+        self
+    }
+}
+
+/// The limit of a wait if nothing else is set: that of r2d2.
+const DEFAULT_WAIT_MILLIS: i64 = 30_000;
 
 /// The greatest `journalLimit`.
 const GREATEST_LIMIT: u64 = 1 << 32;
 
-impl<M> fmt::Debug for Builder<M> {
+impl<M: Manager> fmt::Debug for Builder<M> {
     fn fmt(&self, f: &mut fmt::Formatter<'_>) -> fmt::Result {
         f.debug_struct("Builder")
             .field("settings", &self.settings)

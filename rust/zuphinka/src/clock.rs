@@ -27,6 +27,14 @@ impl Clock {
     }
 }
 
+/// An object, and when it was made.
+#[derive(Debug)]
+pub(crate) struct Aged<T> {
+    pub object: T,
+    /// In milliseconds; 0 if no lifetime is set.
+    pub made: u64,
+}
+
 /// Who takes a step, and when.
 #[derive(Clone, Copy, Debug)]
 pub(crate) struct Stamp {

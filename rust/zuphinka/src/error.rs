@@ -1,5 +1,5 @@
 use crate::step::StepFault;
-use std::{error, fmt};
+use std::{error, fmt, io};
 
 /// Why a call of a pool didn't do what it was asked for. `E` is the manager's error.
 ///
@@ -48,7 +48,8 @@ impl<E> From<StepFault> for Error<E> {
     }
 }
 
-impl<E: fmt::Display> fmt::Display for Error<E> {
+/// Says what happened. The manager's own error is the source.
+impl<E> fmt::Display for Error<E> {
     fn fmt(&self, f: &mut fmt::Formatter<'_>) -> fmt::Result {
         match self {
             Error::Exhausted => f.write_str("all objects of the pool are lent"),
@@ -56,9 +57,9 @@ impl<E: fmt::Display> fmt::Display for Error<E> {
             Error::Closed => f.write_str("the pool is closed"),
             Error::JournalFull => f.write_str("the journal of the pool is full"),
             Error::OutOfMemory => f.write_str("out of memory"),
-            Error::Make(error) => write!(f, "an object could not be made: {error}"),
-            Error::Activate(error) => write!(f, "a new object could not be activated: {error}"),
-            Error::Passivate(error) => write!(f, "a new object could not be passivated: {error}"),
+            Error::Make(_) => f.write_str("an object could not be made"),
+            Error::Activate(_) => f.write_str("a new object could not be activated"),
+            Error::Passivate(_) => f.write_str("a new object could not be passivated"),
             Error::CreateTest => f.write_str("a new object did not pass its test"),
             Error::BorrowTest => {
                 f.write_str("a new object did not pass its test before it was lent")
@@ -86,6 +87,8 @@ pub enum OpenError {
     Contradiction(Contradiction),
     /// There was no memory.
     OutOfMemory,
+    /// The maintenance thread could not be started, for this.
+    Thread(io::ErrorKind),
 }
 
 /// Which settings of a builder contradict each other.
@@ -157,25 +160,19 @@ impl From<SettingsError> for OpenError {
     }
 }
 
+/// Says all that is wrong: it has no source.
 impl fmt::Display for OpenError {
     fn fmt(&self, f: &mut fmt::Formatter<'_>) -> fmt::Result {
         match self {
             OpenError::Settings(error) => write!(f, "settings: {error}"),
             OpenError::Contradiction(contradiction) => write!(f, "settings: {contradiction}"),
             OpenError::OutOfMemory => f.write_str("out of memory"),
+            OpenError::Thread(kind) => write!(f, "the maintenance thread: {kind}"),
         }
     }
 }
 
-impl error::Error for OpenError {
-    fn source(&self) -> Option<&(dyn error::Error + 'static)> {
-        match self {
-            OpenError::Settings(error) => Some(error),
-            OpenError::Contradiction(contradiction) => Some(contradiction),
-            OpenError::OutOfMemory => None,
-        }
-    }
-}
+impl error::Error for OpenError {}
 
 impl fmt::Display for SettingsError {
     fn fmt(&self, f: &mut fmt::Formatter<'_>) -> fmt::Result {

@@ -1,7 +1,8 @@
 //! An object that a call owns while it is made, readied, put away or destroyed.
 
+use crate::clock::Aged;
 use crate::manager::Manager;
-use crate::shared::{unexpected, Shared};
+use crate::shared::{unexpected, Item, Shared};
 use crate::step::{Answer, Input, Outcome};
 
 /// What a call does with an object.
@@ -44,7 +45,7 @@ pub(crate) struct InProgress<'a, M: Manager> {
     pool: &'a Shared<M>,
     caller: u32,
     id: u64,
-    object: Option<M::Object>,
+    object: Option<Item<M>>,
     stage: Stage,
 }
 
@@ -68,11 +69,15 @@ impl<'a, M: Manager> InProgress<'a, M> {
         caller: u32,
         id: u64,
         work: Work,
-        object: M::Object,
+        object: Item<M>,
     ) -> InProgress<'a, M> {
-        let mut whole = InProgress::new(pool, caller, id, work);
-        whole.object = Some(object);
-        whole
+        InProgress {
+            pool,
+            caller,
+            id,
+            object: Some(object),
+            stage: Stage::Working(work, Outcome::TestFailed),
+        }
     }
 
     /// An object that is to be destroyed.
@@ -80,7 +85,7 @@ impl<'a, M: Manager> InProgress<'a, M> {
         pool: &'a Shared<M>,
         caller: u32,
         id: u64,
-        object: M::Object,
+        object: Item<M>,
     ) -> InProgress<'a, M> {
         InProgress {
             pool,
@@ -93,7 +98,12 @@ impl<'a, M: Manager> InProgress<'a, M> {
 
     /// Makes the object.
     pub fn make(&mut self) -> Result<(), M::Error> {
-        self.object = Some(self.pool.manager.make(self.id)?);
+        let object = self.pool.manager.make(self.id)?;
+        let made = match self.pool.policy.max_lifetime {
+            Some(_) => self.pool.now(),
+            None => 0,
+        };
+        self.object = Some(Aged { object, made });
         Ok(())
     }
 
@@ -121,7 +131,19 @@ impl<'a, M: Manager> InProgress<'a, M> {
         if let Stage::Working(_, outcome) = &mut self.stage {
             *outcome = failed;
         }
-        call(&self.pool.manager, self.object.as_mut().expect(MADE))
+        let object = self.object.as_mut().expect(MADE);
+        call(&self.pool.manager, &mut object.object)
+    }
+
+    /// Returns whether the object has reached the age at which it is destroyed. This counts as a failed test then.
+    pub fn is_too_old(&mut self) -> bool {
+        let object = self.object.as_ref().expect(MADE);
+        let pool = self.pool;
+        let is_too_old = pool.policy.max_lifetime.is_some() && pool.is_too_old(object, pool.now());
+        if let (true, Stage::Working(_, outcome)) = (is_too_old, &mut self.stage) {
+            *outcome = Outcome::TestFailed;
+        }
+        is_too_old
     }
 
     /// Ends the work where it failed last: the object, if there is one, is destroyed and its place freed.
@@ -135,7 +157,7 @@ impl<'a, M: Manager> InProgress<'a, M> {
     }
 
     /// The object is ready, and its holder's.
-    pub fn lend(mut self) -> M::Object {
+    pub fn lend(mut self) -> Item<M> {
         match self.succeed(None) {
             (_, Answer::Lent, _) => self.object.take().expect(MADE),
             (input, answer, _) => unexpected(input, answer),
@@ -158,7 +180,7 @@ impl<'a, M: Manager> InProgress<'a, M> {
     }
 
     /// Reports that the work is done.
-    fn succeed(&mut self, object: Option<M::Object>) -> (Input, Answer, Option<M::Object>) {
+    fn succeed(&mut self, object: Option<Item<M>>) -> (Input, Answer, Option<Item<M>>) {
         let Stage::Working(work, _) = self.stage else {
             unreachable!("an object that is destroyed is not worked on");
         };
@@ -212,7 +234,7 @@ impl<M: Manager> Drop for InProgress<'_, M> {
                 id: self.id,
             };
             if let Some(object) = self.object.take() {
-                self.pool.destroy(object);
+                self.pool.destroy(object.object);
             }
         }
     }

@@ -56,37 +56,23 @@ pub(crate) fn copy_lines(
     Ok(to)
 }
 
-/// Appends a text.
-fn append(text: &mut Vec<u8>, more: &[u8]) -> io::Result<()> {
-    text.try_reserve(more.len())
-        .map_err(|_| io::Error::from(io::ErrorKind::OutOfMemory))?;
-    text.extend_from_slice(more);
+/// Appends the lines of the base that the stored entries continue, if there are entries before them.
+fn copy_base<T>(state: &mut LockedPool<T>, text: &mut Vec<u8>) -> io::Result<()> {
+    if state.journal.first > 0 {
+        copy_lines(&mut state.core, Core::base_line, 0, u64::MAX, text)?;
+    }
     Ok(())
 }
 
-/// Appends the beginning of the journal that is in memory: the segment that is cut off and not written, if the stored entries continue
-/// it, or else the lines of their base, if there are entries before. Returns the number of entries.
-fn begin<T>(state: &mut LockedPool<T>, text: &mut Vec<u8>) -> io::Result<u64> {
-    let first = state.journal.first;
-    let unwritten = state.journal.unwritten.clone();
-    match unwritten.filter(|segment| segment.end() == first) {
-        Some(segment) => append(text, &segment.text).map(|()| segment.entries),
-        None if first > 0 => {
-            copy_lines(&mut state.core, Core::base_line, 0, u64::MAX, text).map(|_| 0)
-        }
-        None => Ok(0),
-    }
-}
-
 impl<M: Manager> Shared<M> {
-    /// Writes the entries that are in memory, after the lines of their base if the journal was cut. Returns their number.
+    /// Writes the stored entries, after the lines of their base if the journal was cut. Returns their number.
     pub fn write_journal(&self, out: &mut dyn Write) -> io::Result<u64> {
         let (text, entries) = self.copy_journal()?;
         out.write_all(&text)?;
         Ok(entries)
     }
 
-    /// Copies the journal that is in memory. Returns its text and the number of its entries.
+    /// Copies the stored journal. Returns its text and the number of its entries.
     fn copy_journal(&self) -> io::Result<(Vec<u8>, u64)> {
         for _ in 0..ROUNDS {
             if let Some(copied) = self.try_copy_journal()? {
@@ -95,17 +81,17 @@ impl<M: Manager> Shared<M> {
         }
         let mut state = self.lock();
         let (len, mut text) = (state.journal.len, Vec::new());
-        let before = begin(&mut state, &mut text)?;
+        copy_base(&mut state, &mut text)?;
         copy_lines(&mut state.core, Core::line, 0, len, &mut text)?;
-        Ok((text, before + len))
+        Ok((text, len))
     }
 
-    /// Copies the journal that is in memory, some hundred lines at a time. Returns none if it was cut meanwhile.
+    /// Copies the stored journal, some hundred lines at a time. Returns none if it was cut meanwhile.
     fn try_copy_journal(&self) -> io::Result<Option<(Vec<u8>, u64)>> {
         let mut text = Vec::new();
         let mut state = self.lock();
         let (first, len) = (state.journal.first, state.journal.len);
-        let before = begin(&mut state, &mut text)?;
+        copy_base(&mut state, &mut text)?;
         drop(state);
         let mut copied = 0;
         while copied < len {
@@ -116,7 +102,7 @@ impl<M: Manager> Shared<M> {
             let to = len.min(copied + AT_ONCE);
             copied = copy_lines(&mut state.core, Core::line, copied, to, &mut text)?;
         }
-        Ok(Some((text, before + len)))
+        Ok(Some((text, len)))
     }
 
     /// Copies the stored entries up to the last one, some hundred at a time, while no other thread may cut them. Returns how many were

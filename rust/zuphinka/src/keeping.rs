@@ -2,6 +2,7 @@
 
 use crate::callers::caller_number;
 use crate::error::Error;
+use crate::failure::Failure;
 use crate::in_progress::{InProgress, Work};
 use crate::manager::Manager;
 use crate::shared::{unexpected, Shared};
@@ -96,6 +97,11 @@ impl<M: Manager> Shared<M> {
 
     /// Examines idle objects, as many as the settings say.
     pub fn evict(&self) -> Result<Eviction, Error<M::Error>> {
+        self.run_eviction(self.policy.tests_idle)
+    }
+
+    /// Examines idle objects, as many as the settings say, and looks at their age. `tests` says whether they are validated too.
+    fn run_eviction(&self, tests: bool) -> Result<Eviction, Error<M::Error>> {
         let caller = caller_number();
         let count = match self.run_section(caller, Input::Evict, None)? {
             (Answer::Count(count), _) => count,
@@ -104,7 +110,7 @@ impl<M: Manager> Shared<M> {
         };
         let mut run = Eviction::default();
         for _ in 0..count {
-            match self.examine(caller)? {
+            match self.examine(caller, tests)? {
                 Some(disposition) => {
                     run.examined += 1;
                     run.destroyed += u64::from(matches!(disposition, Disposition::Destroyed));
@@ -115,11 +121,29 @@ impl<M: Manager> Shared<M> {
         Ok(run)
     }
 
+    /// Runs an eviction, and then more runs if objects have a lifetime, until each object that was idle is examined. Only the first one
+    /// validates.
+    fn evict_all_too_old(&self) -> Result<Eviction, Error<M::Error>> {
+        let idle = self.lock().idle();
+        let mut eviction = self.evict()?;
+        let mut has_more = self.policy.max_lifetime.is_some() && eviction.examined > 0;
+        while has_more && eviction.examined < idle {
+            let run = self.run_eviction(false)?;
+            has_more = run.examined > 0;
+            eviction.examined += run.examined;
+            eviction.destroyed += run.destroyed;
+        }
+        Ok(eviction)
+    }
+
     /// Examines the next idle object, if there is one.
-    fn examine(&self, caller: u32) -> Result<Option<Disposition>, Error<M::Error>> {
+    fn examine(&self, caller: u32, tests: bool) -> Result<Option<Disposition>, Error<M::Error>> {
         match self.run_section(caller, Input::EvictNext, None)? {
             (Answer::KeptIdle(_), _) => Ok(Some(Disposition::Kept)),
-            (Answer::Test(id), Some(object)) => Ok(Some(self.test(caller, id, object))),
+            (Answer::Test(id), Some(object)) => {
+                let object = InProgress::of(self, caller, id, Work::Test, object);
+                Ok(Some(self.test(id, object, tests)))
+            }
             (Answer::DestroyIdle(id), Some(object)) => {
                 InProgress::destroying(self, caller, id, object).destroy();
                 Ok(Some(Disposition::Destroyed))
@@ -129,15 +153,18 @@ impl<M: Manager> Shared<M> {
         }
     }
 
-    /// Activates an idle object, tests it and passivates it.
-    fn test(&self, caller: u32, id: u64, object: M::Object) -> Disposition {
-        let mut object = InProgress::of(self, caller, id, Work::Test, object);
-        let passes = object.activate().is_ok()
-            && object.validate(Outcome::TestFailed)
-            && object.passivate().is_ok();
-        if !passes {
+    /// Looks at the age of an idle object, and tests it if it is to be validated.
+    fn test(&self, id: u64, mut object: InProgress<'_, M>, tests: bool) -> Disposition {
+        if object.is_too_old() {
             object.give_up();
             return Disposition::Destroyed;
+        }
+        if tests {
+            if let Err(failure) = try_out(id, &mut object) {
+                object.give_up();
+                self.report(failure);
+                return Disposition::Destroyed;
+            }
         }
         match object.park() {
             true => Disposition::Kept,
@@ -164,7 +191,7 @@ impl<M: Manager> Shared<M> {
     /// Runs an eviction, then a removal of abandoned objects, then a fill.
     pub fn maintain(&self) -> Result<Maintenance, Error<M::Error>> {
         Ok(Maintenance {
-            eviction: self.evict()?,
+            eviction: self.evict_all_too_old()?,
             reclaimed: self.reclaim(caller_number(), When::Maintain)?,
             filled: self.fill()?,
         })
@@ -209,6 +236,9 @@ impl<M: Manager> Shared<M> {
 
     /// Closes the pool, and destroys the idle objects. Returns their number.
     pub fn close(&self) -> u64 {
+        if let Some(maintainer) = &*self.maintainer() {
+            maintainer.stop();
+        }
         let caller = caller_number();
         let count = match self.run_section(caller, Input::Close, None) {
             Ok((Answer::Count(count), _)) => count,
@@ -220,6 +250,17 @@ impl<M: Manager> Shared<M> {
         let (destroyed, _) = self.sweep(caller, count).end();
         destroyed
     }
+}
+
+/// Activates an idle object, validates it and passivates it.
+fn try_out<M: Manager>(id: u64, object: &mut InProgress<'_, M>) -> Result<(), Failure<M::Error>> {
+    let activated = object.activate();
+    activated.map_err(|error| Failure::Activate { id, error })?;
+    if !object.validate(Outcome::TestFailed) {
+        return Err(Failure::Test { id });
+    }
+    let passivated = object.passivate();
+    passivated.map_err(|error| Failure::Passivate { id, error })
 }
 
 /// The result of the destruction of idle objects.
@@ -253,6 +294,10 @@ impl<M: Manager> Drop for Shared<M> {
             false => catch_unwind(AssertUnwindSafe(|| self.close())),
         };
         self.write_rest();
+        let maintainer = self.maintainer().take();
+        if let Some(maintainer) = maintainer {
+            maintainer.join();
+        }
         match closed {
             Err(panic) if !thread::panicking() => resume_unwind(panic),
             _ => {}

@@ -2,11 +2,12 @@
 
 use crate::callers::caller_number;
 use crate::error::Error;
+use crate::failure::Failure;
 use crate::in_progress::{InProgress, Work};
 use crate::locked_pool::TakenBack;
 use crate::manager::Manager;
 use crate::pooled::Pooled;
-use crate::shared::{unexpected, Acquired, Shared, WaitLimit};
+use crate::shared::{unexpected, Acquired, Item, Shared, WaitLimit};
 use crate::step::{Answer, Input, Outcome, When};
 use std::sync::Arc;
 
@@ -55,19 +56,23 @@ impl<M: Manager> Shared<M> {
     }
 
     /// Makes an idle object ready for its holder. Returns none if that failed: then the object was destroyed.
-    fn ready_taken(&self, caller: u32, id: u64, object: M::Object) -> Option<M::Object> {
+    fn ready_taken(&self, caller: u32, id: u64, object: Item<M>) -> Option<Item<M>> {
         let mut object = InProgress::of(self, caller, id, Work::Lend, object);
         match self.ready(&mut object) {
             Ok(()) => Some(object.lend()),
-            Err(_) => {
+            Err(error) => {
                 object.give_up();
+                self.report(match error {
+                    Error::Activate(error) => Failure::Activate { id, error },
+                    _ => Failure::Test { id },
+                });
                 None
             }
         }
     }
 
     /// Makes a new object, and makes it ready for its holder.
-    fn ready_new(&self, caller: u32, id: u64) -> Result<M::Object, Error<M::Error>> {
+    fn ready_new(&self, caller: u32, id: u64) -> Result<Item<M>, Error<M::Error>> {
         let mut object = InProgress::new(self, caller, id, Work::Lend);
         object.make().map_err(Error::Make)?;
         self.test_new(&mut object)?;
@@ -92,7 +97,7 @@ impl<M: Manager> Shared<M> {
     }
 
     /// Takes an object back.
-    pub fn give_back(&self, id: u64, object: M::Object) -> Returned {
+    pub fn give_back(&self, id: u64, object: Item<M>) -> Returned {
         let caller = caller_number();
         match self.take_back(caller, id, object) {
             TakenBack::Parked => Returned::Parked,
@@ -106,11 +111,20 @@ impl<M: Manager> Shared<M> {
     }
 
     /// Makes a returned object idle, if it passes and there is room for it.
-    fn park(&self, caller: u32, id: u64, object: M::Object) -> Returned {
+    fn park(&self, caller: u32, id: u64, object: Item<M>) -> Returned {
         let mut object = InProgress::of(self, caller, id, Work::Park, object);
-        let passes = !self.settings.test_on_return || object.validate(Outcome::TestFailed);
-        if !passes || object.passivate().is_err() {
+        if object.is_too_old() {
             object.give_up();
+            return Returned::Destroyed;
+        }
+        if self.settings.test_on_return && !object.validate(Outcome::TestFailed) {
+            object.give_up();
+            self.report(Failure::Test { id });
+            return Returned::Destroyed;
+        }
+        if let Err(error) = object.passivate() {
+            object.give_up();
+            self.report(Failure::Passivate { id, error });
             return Returned::Destroyed;
         }
         match object.park() {
@@ -120,7 +134,7 @@ impl<M: Manager> Shared<M> {
     }
 
     /// Takes an object back that cannot be used any more.
-    pub fn invalidate(&self, id: u64, object: M::Object) -> Returned {
+    pub fn invalidate(&self, id: u64, object: Item<M>) -> Returned {
         let caller = caller_number();
         match self.run_section(caller, Input::Invalidate { id }, None) {
             Ok((Answer::Destroy, _)) => {
@@ -133,9 +147,26 @@ impl<M: Manager> Shared<M> {
         }
     }
 
+    /// Frees the place of an object that its holder keeps. One that was reclaimed has none.
+    pub fn detach(&self, id: u64) {
+        let caller = caller_number();
+        match self.run_section(caller, Input::Invalidate { id }, None) {
+            Ok((Answer::Destroy, _)) => {
+                let input = Input::Destroyed { id };
+                match self.complete(caller, input) {
+                    Answer::Freed => {}
+                    answer => unexpected(input, answer),
+                }
+            }
+            // It fails for room or memory only if the object is not lent any more.
+            Ok((Answer::Gone, _)) | Err(_) => {}
+            Ok((answer, _)) => unexpected(Input::Invalidate { id }, answer),
+        }
+    }
+
     /// Destroys an object that was reclaimed: it has no place to be freed.
-    fn let_go(&self, object: M::Object) -> Returned {
-        self.destroy(object);
+    fn let_go(&self, object: Item<M>) -> Returned {
+        self.destroy(object.object);
         Returned::Gone
     }
 

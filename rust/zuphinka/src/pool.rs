@@ -2,7 +2,6 @@ use crate::builder::Builder;
 use crate::callers::caller_number;
 use crate::error::{Error, OpenError};
 use crate::keeping::{Addition, Eviction, Maintenance};
-use crate::lending::Returned;
 use crate::manager::Manager;
 use crate::pooled::Pooled;
 use crate::shared::{Shared, WaitLimit};
@@ -39,10 +38,8 @@ impl<M: Manager> Pool<M> {
         Builder::new().build(manager)
     }
 
-    pub(crate) fn of(shared: Shared<M>) -> Pool<M> {
-        Pool {
-            shared: Arc::new(shared),
-        }
+    pub(crate) fn of(shared: Arc<Shared<M>>) -> Pool<M> {
+        Pool { shared }
     }
 
     #[cfg(test)]
@@ -107,12 +104,6 @@ impl<M: Manager> Pool<M> {
             .borrow(end.map_or(WaitLimit::AsSet, WaitLimit::Until))
     }
 
-    /// Takes back an object that can't be used any more, and destroys it. Where the guard is of another pool, it goes back
-    /// to that one.
-    pub fn invalidate(&self, object: Pooled<M>) -> Returned {
-        Pooled::invalidate(object)
-    }
-
     /// Makes an object and parks it, where a place is free.
     ///
     /// # Errors
@@ -153,7 +144,8 @@ impl<M: Manager> Pool<M> {
     }
 
     /// What a thread of yours calls now and then: [`evict`](Pool::evict), [`reclaim`](Pool::reclaim) and
-    /// [`fill`](Pool::fill), in this order. The pool has no thread of its own.
+    /// [`fill`](Pool::fill), in this order; or the pool's own thread ([`Builder::maintain_every`]). If objects have a lifetime
+    /// ([`Builder::max_lifetime`]), each idle object is examined, and else as many as the settings say.
     ///
     /// # Errors
     ///
@@ -186,6 +178,11 @@ impl<M: Manager> Pool<M> {
         self.shared.close()
     }
 
+    /// Returns whether the pool is closed. It takes the lock.
+    pub fn is_closed(&self) -> bool {
+        self.shared.lock().is_closed
+    }
+
     /// How many entries there were since the pool was opened, and how many objects there are and were, all of one moment. It takes
     /// the lock.
     pub fn counts(&self) -> Counts {
@@ -206,9 +203,9 @@ impl<M: Manager> Pool<M> {
         self.shared.is_low()
     }
 
-    /// Writes the journal that is in memory as text, up to the last entry at this call, and returns the number of entries. `pool check`
-    /// checks it, with these [`settings`](Pool::settings). If entries were cut off before, or dropped, or handed to a sink, the text is a
-    /// segment: it begins with the lines of the base that its entries continue.
+    /// Writes the stored journal as text, up to the last entry at this call, and returns the number of entries. `pool check` checks it, with
+    /// these [`settings`](Pool::settings). If entries were cut off before, or dropped, or handed to a sink, the text is a segment: it
+    /// begins with the lines of the base that its entries continue. A segment that is cut off and could not be written is not part of it.
     ///
     /// The text is copied first, under the lock for some hundred lines at a time; then it is written without the lock. Only a journal that
     /// is cut again and again meanwhile is copied as a whole under the lock.
@@ -267,13 +264,14 @@ impl<M: Manager> Pool<M> {
     ///
     /// The lock is held while some hundred lines are copied, and at the end while the last ones are copied and the journal is cut: so no
     /// entry falls between two segments. The text is written and flushed without the lock. One cut of a pool runs at a time, and others wait
-    /// for it.
+    /// for it; with [`Journal::Off`](crate::Journal::Off) nothing is dropped meanwhile.
     ///
     /// # Errors
     ///
-    /// Those of the writer: the segment stays in memory, and nothing is lost. The next cut writes it, together with the entries since then, if
-    /// these are no more than the journal's limit; `out` may have a part of it. There is no memory: the journal is unchanged.
-    /// [`io::ErrorKind::Unsupported`] if the pool hands its segments to a sink. Another error if `out` cuts the journal itself.
+    /// Those of the writer, which may have a part of the segment. Nothing is lost: mostly the journal is not cut then. If only the last entries
+    /// were still to be written or flushed, it is cut, and the whole segment is kept in memory: then the next cut writes this segment and no
+    /// other. There is no memory: the journal is unchanged. [`io::ErrorKind::Unsupported`] if the pool hands its segments to a sink.
+    /// Another error if `out` cuts the journal itself.
     pub fn cut(&self, mut out: impl Write) -> io::Result<u64> {
         self.shared.cut(&mut out)
     }
@@ -315,10 +313,16 @@ impl<M: Manager> Clone for Pool<M> {
     }
 }
 
+/// Shows the counts, unless another thread has the lock.
 impl<M: Manager> fmt::Debug for Pool<M> {
     fn fmt(&self, f: &mut fmt::Formatter<'_>) -> fmt::Result {
+        let counts = match self.shared.try_lock() {
+            Some(mut state) => format!("{:?}", state.core.counts()),
+            None => "<locked>".to_owned(),
+        };
+        let counts = format_args!("{counts}");
         f.debug_struct("Pool")
-            .field("counts", &self.counts())
+            .field("counts", &counts)
             .finish_non_exhaustive()
     }
 }

@@ -1,7 +1,7 @@
 use crate::error::Error;
 use crate::lending::{Returned, Touched};
 use crate::manager::Manager;
-use crate::shared::Shared;
+use crate::shared::{Item, Shared};
 use std::fmt;
 use std::ops::{Deref, DerefMut};
 use std::panic::{catch_unwind, AssertUnwindSafe};
@@ -18,7 +18,7 @@ use std::thread;
 pub struct Pooled<M: Manager> {
     pool: Arc<Shared<M>>,
     id: u64,
-    object: Option<M::Object>,
+    object: Option<Item<M>>,
     /// Whether the thread that got it was panicking.
     was_panicking: bool,
 }
@@ -26,7 +26,7 @@ pub struct Pooled<M: Manager> {
 const LENT: &str = "a guard has its object until it is dropped";
 
 impl<M: Manager> Pooled<M> {
-    pub(crate) fn new(pool: Arc<Shared<M>>, id: u64, object: M::Object) -> Pooled<M> {
+    pub(crate) fn new(pool: Arc<Shared<M>>, id: u64, object: Item<M>) -> Pooled<M> {
         Pooled {
             pool,
             id,
@@ -52,6 +52,13 @@ impl<M: Manager> Pooled<M> {
         this.pool.invalidate(this.id, object)
     }
 
+    /// Takes the object out of the pool: its place is free, and the object is the caller's. The manager does not destroy it.
+    pub fn detach(mut this: Pooled<M>) -> M::Object {
+        let object = this.object.take().expect(LENT);
+        this.pool.detach(this.id);
+        object.object
+    }
+
     /// Notes that the object is used, so that it doesn't count as abandoned.
     ///
     /// # Errors
@@ -66,13 +73,13 @@ impl<M: Manager> Deref for Pooled<M> {
     type Target = M::Object;
 
     fn deref(&self) -> &M::Object {
-        self.object.as_ref().expect(LENT)
+        &self.object.as_ref().expect(LENT).object
     }
 }
 
 impl<M: Manager> DerefMut for Pooled<M> {
     fn deref_mut(&mut self) -> &mut M::Object {
-        self.object.as_mut().expect(LENT)
+        &mut self.object.as_mut().expect(LENT).object
     }
 }
 
@@ -100,7 +107,7 @@ where
     fn fmt(&self, f: &mut fmt::Formatter<'_>) -> fmt::Result {
         f.debug_struct("Pooled")
             .field("id", &self.id)
-            .field("object", &self.object)
+            .field("object", &**self)
             .finish()
     }
 }

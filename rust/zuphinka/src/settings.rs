@@ -149,6 +149,13 @@ impl Settings {
             })
     }
 
+    /// Returns whether a text, which is TOML, names `maxWaitMillis`: then the key cannot be given once more in front of it.
+    pub fn names_max_wait(text: &str) -> bool {
+        let text = text.strip_prefix('\u{feff}').unwrap_or(text);
+        let with_key = ["maxWaitMillis = 0\n", text].concat();
+        matches!(settings_of(&with_key), Err((status, _)) if status == sys::NOT_TOML)
+    }
+
     /// Whether a borrow begins with the removal of abandoned objects.
     pub fn removes_on_borrow(&self) -> bool {
         self.abandoned.is_some_and(|abandoned| abandoned.on_borrow)

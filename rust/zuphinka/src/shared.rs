@@ -1,16 +1,18 @@
 //! What all handles of a pool share, and its critical sections: each is one step of the core under the lock, or two if nothing lies
 //! between them.
 
-use crate::clock::{Clock, Stamp};
+use crate::clock::{Aged, Clock, Stamp};
 use crate::error::Error;
+use crate::failure::Failure;
 use crate::locked::{Guard, Locked};
 use crate::locked_pool::{Borrowed, LockedPool, TakenBack};
+use crate::maintenance::Maintainer;
 use crate::manager::Manager;
 use crate::settings::Settings;
 use crate::step::{Answer, Cause, Input, StepFault};
 use crate::writing::Outlet;
 use std::panic::{catch_unwind, AssertUnwindSafe};
-use std::sync::{Condvar, Mutex};
+use std::sync::{Condvar, Mutex, MutexGuard, PoisonError};
 use std::thread;
 use std::time::{Duration, Instant};
 
@@ -23,9 +25,21 @@ pub(crate) enum WaitLimit {
     AsSet,
 }
 
+/// What the pool does of its own about its objects.
+pub(crate) struct Policy<M: Manager> {
+    /// How old an object may get, in milliseconds.
+    pub max_lifetime: Option<u64>,
+    /// Whether eviction runs validate idle objects, and do not only look at their age.
+    pub tests_idle: bool,
+    pub on_error: Option<OnError<M>>,
+}
+
+/// Receives the failures that no call returns.
+pub(crate) type OnError<M> = Box<dyn Fn(Failure<<M as Manager>::Error>) + Send + Sync>;
+
 /// A pool. The manager is called without the lock.
 pub(crate) struct Shared<M: Manager> {
-    state: Locked<LockedPool<M::Object>>,
+    state: Locked<LockedPool<Item<M>>>,
     changed: Condvar,
     clock: Clock,
     /// A thread that cut the journal is done.
@@ -35,16 +49,22 @@ pub(crate) struct Shared<M: Manager> {
     /// Where segments go.
     pub outlet: Option<Outlet>,
     pub manager: M,
+    /// The settings as the core has them.
     pub settings: Settings,
-    /// The settings as the core has them, in TOML.
+    /// The same in TOML.
     pub settings_text: String,
+    pub policy: Policy<M>,
+    maintainer: Mutex<Option<Maintainer>>,
 }
 
+/// An object of a manager, with its age.
+pub(crate) type Item<M> = Aged<<M as Manager>::Object>;
+
 /// The lock of a pool, held.
-pub(crate) type Held<'a, M> = Guard<'a, LockedPool<<M as Manager>::Object>>;
+pub(crate) type Held<'a, M> = Guard<'a, LockedPool<Item<M>>>;
 
 /// The result of a critical section: the answer, and the value that is returned with it.
-pub(crate) type Stepped<M> = (Answer, Option<<M as Manager>::Object>);
+pub(crate) type Stepped<M> = (Answer, Option<Item<M>>);
 
 /// An object that a borrow got.
 pub(crate) enum Acquired<T> {
@@ -76,11 +96,12 @@ impl Wakes {
 
 impl<M: Manager> Shared<M> {
     pub fn new(
-        state: LockedPool<M::Object>,
+        state: LockedPool<Item<M>>,
         clock: Clock,
         outlet: Option<Outlet>,
         manager: M,
         settings: Settings,
+        policy: Policy<M>,
     ) -> Shared<M> {
         Shared {
             state: Locked::new(state),
@@ -92,7 +113,28 @@ impl<M: Manager> Shared<M> {
             manager,
             settings_text: settings.to_string(),
             settings,
+            policy,
+            maintainer: Mutex::new(None),
         }
+    }
+
+    pub fn maintainer(&self) -> MutexGuard<'_, Option<Maintainer>> {
+        let maintainer = self.maintainer.lock();
+        maintainer.unwrap_or_else(PoisonError::into_inner)
+    }
+
+    /// Reports a failure that no call returns. A panic of the receiver is ignored.
+    pub fn report(&self, failure: Failure<M::Error>) {
+        if let Some(on_error) = &self.policy.on_error {
+            let _ = catch_unwind(AssertUnwindSafe(|| on_error(failure)));
+        }
+    }
+
+    /// Returns whether an object has reached the age at which it is destroyed.
+    #[inline]
+    pub fn is_too_old(&self, object: &Item<M>, time: u64) -> bool {
+        let most = self.policy.max_lifetime;
+        most.is_some_and(|most| time.saturating_sub(object.made) >= most)
     }
 
     /// Returns the time, in milliseconds. If the clock panics, it is that of the last entry.
@@ -105,7 +147,7 @@ impl<M: Manager> Shared<M> {
     }
 
     /// Returns the time, in milliseconds, to a thread that holds the lock.
-    fn now_under_lock(&self, state: &LockedPool<M::Object>) -> u64 {
+    fn now_under_lock(&self, state: &LockedPool<Item<M>>) -> u64 {
         self.clock.read().unwrap_or_else(|| state.last_time())
     }
 
@@ -125,6 +167,11 @@ impl<M: Manager> Shared<M> {
         self.state.lock()
     }
 
+    /// Takes the lock if it is free.
+    pub fn try_lock(&self) -> Option<Held<'_, M>> {
+        self.state.try_lock()
+    }
+
     /// Takes one step under the lock, and wakes the threads that wait for its result. The clock is read before. If the journal is full,
     /// the step is taken again after a segment was written.
     ///
@@ -133,7 +180,7 @@ impl<M: Manager> Shared<M> {
         &self,
         caller: u32,
         input: Input,
-        mut value: Option<M::Object>,
+        mut value: Option<Item<M>>,
     ) -> Result<Stepped<M>, Error<M::Error>> {
         loop {
             match self.try_section(caller, input, value.take()) {
@@ -148,7 +195,7 @@ impl<M: Manager> Shared<M> {
         &self,
         caller: u32,
         input: Input,
-        value: Option<M::Object>,
+        value: Option<Item<M>>,
     ) -> Result<Stepped<M>, Error<M::Error>> {
         let time = self.now();
         let mut state = self.lock();
@@ -170,9 +217,10 @@ impl<M: Manager> Shared<M> {
     }
 
     /// Takes an object back, and makes it idle if nothing is to be done before.
-    pub fn take_back(&self, caller: u32, id: u64, value: M::Object) -> TakenBack<M::Object> {
-        let parks_at_once = !M::PASSIVATES && !self.settings.test_on_return;
+    pub fn take_back(&self, caller: u32, id: u64, value: Item<M>) -> TakenBack<Item<M>> {
         let time = self.now();
+        let parks_at_once =
+            !M::PASSIVATES && !self.settings.test_on_return && !self.is_too_old(&value, time);
         let mut state = self.lock();
         let taken = state.take_back(Stamp { caller, time }, id, value, parks_at_once);
         match taken {
@@ -216,7 +264,7 @@ impl<M: Manager> Shared<M> {
         began: u64,
         mut time: u64,
         limit: WaitLimit,
-    ) -> Result<Acquired<M::Object>, Error<M::Error>> {
+    ) -> Result<Acquired<Item<M>>, Error<M::Error>> {
         loop {
             match self.try_to_acquire(caller, began, time, limit) {
                 Err(Error::JournalFull) if self.make_room(limit) => time = self.now(),
@@ -231,7 +279,7 @@ impl<M: Manager> Shared<M> {
         began: u64,
         mut time: u64,
         limit: WaitLimit,
-    ) -> Result<Acquired<M::Object>, Error<M::Error>> {
+    ) -> Result<Acquired<Item<M>>, Error<M::Error>> {
         let lends_at_once = !M::ACTIVATES && !self.settings.test_on_borrow;
         let input = Input::Borrow { began };
         let mut has_slept = false;
@@ -295,7 +343,7 @@ impl<M: Manager> Shared<M> {
     }
 
     /// Returns how long a borrow that began at a time may still wait, by the settings.
-    fn time_left(&self, state: &LockedPool<M::Object>, began: u64) -> Option<Duration> {
+    fn time_left(&self, state: &LockedPool<Item<M>>, began: u64) -> Option<Duration> {
         let most = u64::try_from(self.settings.max_wait_millis).ok()?;
         let waited = self.now_under_lock(state).saturating_sub(began);
         Some(Duration::from_millis(most.saturating_sub(waited)))

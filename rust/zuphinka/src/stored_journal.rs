@@ -24,9 +24,9 @@ pub(crate) enum Mode {
 #[derive(Clone, Copy, Debug, PartialEq, Eq)]
 pub(crate) enum Writer {
     None,
-    /// It copies entries, so that no other may cut them.
+    /// It copies entries, and may write them, so that no other may cut or drop them.
     Copying(ThreadId),
-    /// It has cut the journal, and writes.
+    /// It has cut the journal, and writes what it has copied.
     Writing(ThreadId),
 }
 
@@ -45,13 +45,6 @@ pub(crate) struct CutSegment {
     pub position: u64,
     pub entries: u64,
     pub text: Vec<u8>,
-}
-
-impl CutSegment {
-    /// Returns the position after its last entry.
-    pub fn end(&self) -> u64 {
-        self.position + self.entries
-    }
 }
 
 /// What is to be done about the journal.

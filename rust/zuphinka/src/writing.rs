@@ -1,5 +1,6 @@
 //! Cuts of the journal, and the segments that are handed to a sink.
 
+use crate::failure::Failure;
 use crate::journal::{copy_lines, out_of_memory, Cut};
 use crate::manager::Manager;
 use crate::proved_core::Core;
@@ -74,35 +75,52 @@ impl<M: Manager> Shared<M> {
         Some(Turn(self))
     }
 
-    /// Cuts the journal. The segment is kept as unwritten, and begins with the one that is unwritten if `joins`.
-    fn cut_off(&self, turn: &Turn<'_, M>, joined: Option<Cut>) -> io::Result<Cut> {
-        let shared = turn.0;
-        let (mut text, mut position, mut before) = (Vec::new(), None, 0);
-        match joined {
-            Some(segment) => {
-                text.extend_from_slice(&segment.text);
-                (position, before) = (Some(segment.position), segment.entries);
-            }
-            None => {
-                let core = &mut shared.lock().core;
-                copy_lines(core, Core::base_line, 0, u64::MAX, &mut text)?;
-            }
-        }
+    /// Copies and cuts the journal. The segment is kept as unwritten.
+    fn cut_off(&self, turn: &Turn<'_, M>) -> io::Result<Cut> {
+        let mut text = self.copy_base()?;
         let mut copied = 0;
         for _ in 0..ROUNDS {
-            copied = shared.copy_stored(copied, &mut text)?;
+            copied = self.copy_stored(copied, &mut text)?;
         }
-        let mut state = shared.lock();
-        let (first, len) = (state.journal.first, state.journal.len);
-        debug_assert_eq!(state.core.steps(), len);
-        copy_lines(&mut state.core, Core::line, copied, len, &mut text)?;
+        self.cut_after(turn, copied, text)
+    }
+
+    /// Writes and cuts the journal. The segment is kept as unwritten. Returns how many of its bytes are written: if that fails, nothing is
+    /// cut.
+    fn write_and_cut(&self, turn: &Turn<'_, M>, out: &mut dyn Write) -> io::Result<(Cut, usize)> {
+        let mut text = self.copy_base()?;
+        let (mut copied, mut written) = (0, 0);
+        for _ in 0..ROUNDS {
+            copied = self.copy_stored(copied, &mut text)?;
+            out.write_all(&text[written..])?;
+            written = text.len();
+        }
+        out.flush()?;
+        let segment = self.cut_after(turn, copied, text)?;
+        Ok((segment, written))
+    }
+
+    /// Returns the lines of the base, which are the same as long as no other thread may cut the journal.
+    fn copy_base(&self) -> io::Result<Vec<u8>> {
+        let mut text = Vec::new();
+        let mut state = self.lock();
+        copy_lines(&mut state.core, Core::base_line, 0, u64::MAX, &mut text)?;
+        Ok(text)
+    }
+
+    /// Copies the entries that are not copied yet, and cuts the journal. The segment is kept as unwritten.
+    fn cut_after(&self, turn: &Turn<'_, M>, copied: u64, mut text: Vec<u8>) -> io::Result<Cut> {
+        let mut state = turn.0.lock();
+        let (position, entries) = (state.journal.first, state.journal.len);
+        debug_assert_eq!(state.core.steps(), entries);
+        copy_lines(&mut state.core, Core::line, copied, entries, &mut text)?;
         state.core.cut().map_err(out_of_memory)?;
         let room = state.core.room();
         state.journal.cut(room);
         state.journal.writer = Writer::Writing(thread::current().id());
         let segment = Arc::new(CutSegment {
-            position: position.unwrap_or(first),
-            entries: before + len,
+            position,
+            entries,
             text,
         });
         state.journal.unwritten = Some(Arc::clone(&segment));
@@ -111,7 +129,8 @@ impl<M: Manager> Shared<M> {
 
     /// Writes a segment, and cuts the journal after it. Returns the number of its entries.
     ///
-    /// The entries are copied and cut under the lock, and written without it. If that fails, the next cut writes them.
+    /// Entries are copied and cut under the lock, and written without it. All but the last are written before the cut. If the rest fails,
+    /// the next cut writes the same segment.
     pub fn cut(&self, out: &mut dyn Write) -> io::Result<u64> {
         let state = self.lock();
         if self.outlet.is_some() {
@@ -121,25 +140,15 @@ impl<M: Manager> Shared<M> {
         let turn = self.take_turn(state, None).ok_or_else(|| {
             io::Error::new(io::ErrorKind::Other, "a journal is cut while it is cut")
         })?;
-        let segment = self.next_segment(&turn)?;
-        out.write_all(&segment.text)?;
+        let unwritten = self.lock().journal.unwritten.clone();
+        let (segment, written) = match unwritten {
+            Some(segment) => (segment, 0),
+            None => self.write_and_cut(&turn, out)?,
+        };
+        out.write_all(&segment.text[written..])?;
         out.flush()?;
         self.lock().journal.unwritten = None;
         Ok(segment.entries)
-    }
-
-    /// Cuts off what the next segment has: the entries that were cut off and not written, and those after them unless there would be
-    /// more than the journal may have, or some between them were dropped.
-    fn next_segment(&self, turn: &Turn<'_, M>) -> io::Result<Cut> {
-        let state = self.lock();
-        let unwritten = state.journal.unwritten.clone();
-        let (first, len) = (state.journal.first, state.journal.len);
-        drop(state);
-        let most = self.settings.journal_limit.unsigned_abs();
-        match unwritten {
-            Some(segment) if segment.end() != first || segment.entries + len > most => Ok(segment),
-            joined => self.cut_off(turn, joined),
-        }
     }
 
     /// Hands the entries that are in memory to the sink. Returns their number, or 0 without a sink.
@@ -221,8 +230,9 @@ impl<M: Manager> Shared<M> {
     }
 
     fn write_and_report(&self, turn: &Turn<'_, M>, outlet: &Outlet) {
-        // An error is kept in what is unwritten.
-        let _ = self.write_out(turn, outlet);
+        if let Err(error) = self.write_out(turn, outlet) {
+            self.report(Failure::Sink(error));
+        }
     }
 
     /// Hands to the sink what is unwritten, and then the stored entries. Returns their number.
@@ -243,7 +253,7 @@ impl<M: Manager> Shared<M> {
             written += self.hand_over(outlet, &segment)?;
         }
         if self.lock().journal.len > 0 {
-            let segment = self.cut_off(turn, None)?;
+            let segment = self.cut_off(turn)?;
             written += self.hand_over(outlet, &segment)?;
         }
         Ok(written)

@@ -455,7 +455,7 @@ fn a_waiter_is_woken_by_what_it_waits_for<const HOOKS: bool>() {
         assert_eq!(while_waiting(&pool, call, || drop(held)), Ok(0));
 
         let held = pool.get().unwrap();
-        let invalidated = || assert_eq!(pool.invalidate(held), Returned::Destroyed);
+        let invalidated = || assert_eq!(Pooled::invalidate(held), Returned::Destroyed);
         assert_eq!(while_waiting(&pool, call, invalidated), Ok(1));
 
         if HOOKS {
@@ -1289,10 +1289,7 @@ fn settings_out_of_range_open_nothing<const HOOKS: bool>() {
 
 fn errors_say_what_happened<const HOOKS: bool>() {
     let error = Error::Make(Broken("it"));
-    assert_eq!(
-        error.to_string(),
-        "an object could not be made: it is broken"
-    );
+    assert_eq!(error.to_string(), "an object could not be made");
     assert_eq!(
         std::error::Error::source(&error).unwrap().to_string(),
         "it is broken"

@@ -68,7 +68,17 @@ fn settings_are_taken_and_refused_as_the_cases_say() {
 #[test]
 fn the_example_with_all_settings_has_the_defaults() {
     let text = fs::read_to_string(top().join("examples/settings.toml")).unwrap();
-    assert_eq!(settings_of(&text), settings_of(""));
+    // The crate's own default of a wait is 30 seconds.
+    let named = settings_of("maxWaitMillis = -1\n");
+    assert_eq!(settings_of(&text), named);
+    let limited = named
+        .unwrap()
+        .replace("maxWaitMillis = -1\n", "maxWaitMillis = 30000\n");
+    assert_eq!(settings_of("").as_ref(), Ok(&limited));
+    assert_eq!(
+        settings_of("\u{feff}maxWaitMillis = 7\n").map(drop),
+        settings_of("\u{feff}").map(drop)
+    );
     let kept = Pool::builder().journal(Journal::Memory(None));
     assert_eq!(settings_of(""), Ok(kept.build(Numbers).unwrap().settings()));
 }

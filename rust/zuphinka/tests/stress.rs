@@ -225,6 +225,7 @@ impl Manner {
             Manner::Waiting => builder
                 .clock(ticking)
                 .max_total(1)
+                .max_wait(None)
                 .lifo(false)
                 .min_evictable_idle(Duration::from_millis(40))
                 .soft_min_evictable_idle(Duration::from_millis(20))
@@ -398,8 +399,7 @@ impl<'a, const HOOKS: bool> Player<'a, HOOKS> {
 
     fn invalidate(&mut self, object: Pooled<Fickle<HOOKS>>) {
         self.marks.push(Mark::Invalidates(Pooled::id(&object)));
-        let pool = self.pool();
-        caught(|| pool.invalidate(object));
+        caught(|| Pooled::invalidate(object));
     }
 
     /// It panics while it holds an object.

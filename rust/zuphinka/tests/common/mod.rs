@@ -127,7 +127,8 @@ pub fn assert_segments_legal<M: Manager>(pool: &Pool<M>, segments: &[String]) {
         .sum();
     assert_eq!(entries as u64, pool.counts().steps);
     let verdict = judge_segments(&pool.settings(), segments);
-    assert_eq!(verdict, format!("legal {entries}\n"), "{segments:?}");
+    let count = segments.len();
+    assert_eq!(verdict, format!("legal {entries}\n"), "{count} segments");
 }
 
 /// Sees that the program finds the journal of a pool legal.
