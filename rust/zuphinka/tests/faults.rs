@@ -40,6 +40,7 @@ with_and_without_hooks! {
     a_wake_is_not_lost_by_a_clock_that_panics
     a_closed_pool_with_a_full_journal_is_closed
     a_destruction_may_panic_while_its_holder_panics
+    a_destruction_may_panic_after_a_test_panicked
     what_a_cleanup_borrows_is_returned
     a_borrow_that_makes_its_object_gets_it_from_a_closed_pool
     a_weak_handle_does_not_keep_a_pool_open
@@ -324,6 +325,19 @@ fn a_destruction_may_panic_while_its_holder_panics<const HOOKS: bool>() {
         let _held = held;
         panic::resume_unwind(Box::new("the holder panics"));
     }));
+    assert!(board.panicking.lock().unwrap().is_empty());
+    assert_eq!(board.ended.lock().unwrap().len(), 1);
+    assert_eq!(pool.try_get().unwrap().id, 1);
+    assert_legal(&pool);
+}
+
+fn a_destruction_may_panic_after_a_test_panicked<const HOOKS: bool>() {
+    let tests = |builder: Builder<Troubled<HOOKS>>| builder.test_on_borrow(true).max_total(1);
+    let (pool, board) = pool_with::<HOOKS>(tests);
+    fill(&pool, 1);
+    board.panic("validate");
+    board.panic("destroy");
+    assert!(panics(|| pool.get()));
     assert!(board.panicking.lock().unwrap().is_empty());
     assert_eq!(board.ended.lock().unwrap().len(), 1);
     assert_eq!(pool.try_get().unwrap().id, 1);
