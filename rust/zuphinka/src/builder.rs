@@ -261,24 +261,41 @@ impl<M: Manager> Builder<M> {
     /// # Errors
     ///
     /// A number or a time is out of its range, settings contradict each other, or there is no memory.
-    pub fn build(self, manager: M) -> Result<Pool<M>, OpenError> {
-        let Builder {
-            mut settings,
-            mut chosen,
-            journal,
-            clock,
-            max_lifetime,
-            on_error,
-            maintenance,
-        } = self;
-        Settings::from_toml(&settings.to_string())?;
+    pub fn build(mut self, manager: M) -> Result<Pool<M>, OpenError> {
+        Settings::from_toml(&self.settings.to_string())?;
         let policy = Policy {
-            max_lifetime: max_lifetime.map(|time| millis(time).unsigned_abs()),
-            tests_idle: settings.test_while_idle,
-            on_error,
+            max_lifetime: self.max_lifetime.map(|time| millis(time).unsigned_abs()),
+            tests_idle: self.settings.test_while_idle,
+            on_error: self.on_error.take(),
         };
-        settings.test_while_idle |= max_lifetime.is_some();
-        let (mode, limit, outlet) = match journal {
+        self.settings.test_while_idle |= self.max_lifetime.is_some();
+        let (mode, outlet) = self.take_journal();
+        if let Some(found) = self.chosen.contradiction(&self.settings, mode != Mode::Off) {
+            return Err(OpenError::Contradiction(found));
+        }
+        let state = LockedPool::new(open_core(&self.settings)?, mode);
+        let clock = match self.clock {
+            Some(clock) => Clock::Given(clock),
+            None => Clock::Since(Instant::now()),
+        };
+        let pool = Arc::new(Shared::new(
+            state,
+            clock,
+            outlet,
+            manager,
+            self.settings,
+            policy,
+        ));
+        if let Some((start, time)) = self.maintenance {
+            let started = start(&pool, time).map_err(|error| OpenError::Thread(error.kind()))?;
+            *pool.maintainer() = Some(started);
+        }
+        Ok(Pool::of(pool))
+    }
+
+    /// Returns what becomes of the journal, whose limit is set then.
+    fn take_journal(&mut self) -> (Mode, Option<Outlet>) {
+        let (mode, limit, outlet) = match std::mem::take(&mut self.journal) {
             Journal::Off => (Mode::Off, Some(GREATEST_LIMIT), None),
             Journal::Memory(limit) => (Mode::Memory, limit, None),
             Journal::Segments(segments) => {
@@ -286,33 +303,22 @@ impl<M: Manager> Builder<M> {
             }
         };
         if let Some(entries) = limit {
-            settings.journal_limit = i64::try_from(entries).unwrap_or(i64::MAX);
-            chosen.journal_limit = true;
+            self.settings.journal_limit = i64::try_from(entries).unwrap_or(i64::MAX);
+            self.chosen.journal_limit = true;
         }
-        let text = settings.to_string();
-        Settings::from_toml(&text)?;
-        if let Some(found) = chosen.contradiction(&settings, mode != Mode::Off) {
-            return Err(OpenError::Contradiction(found));
-        }
-        let core = Core::open(&text).map_err(|fault| match fault {
-            OpenFault::OutOfMemory => OpenError::OutOfMemory,
-            OpenFault::Settings(status) => {
-                unreachable!("the core refuses its settings with status {status}")
-            }
-        })?;
-        let clock = match clock {
-            Some(clock) => Clock::Given(clock),
-            None => Clock::Since(Instant::now()),
-        };
-        let state = LockedPool::new(core, mode);
-        let pool = Shared::new(state, clock, outlet, manager, settings, policy);
-        let pool = Arc::new(pool);
-        if let Some((start, time)) = maintenance {
-            let started = start(&pool, time).map_err(|error| OpenError::Thread(error.kind()))?;
-            *pool.maintainer() = Some(started);
-        }
-        Ok(Pool::of(pool))
+        (mode, outlet)
     }
+}
+
+fn open_core(settings: &Settings) -> Result<Core, OpenError> {
+    let text = settings.to_string();
+    Settings::from_toml(&text)?;
+    Core::open(&text).map_err(|fault| match fault {
+        OpenFault::OutOfMemory => OpenError::OutOfMemory,
+        OpenFault::Settings(status) => {
+            unreachable!("the core refuses its settings with status {status}")
+        }
+    })
 }
 
 impl<M: Manager + 'static> Builder<M> {

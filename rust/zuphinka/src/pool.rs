@@ -316,14 +316,12 @@ impl<M: Manager> Clone for Pool<M> {
 /// Shows the counts, unless another thread has the lock.
 impl<M: Manager> fmt::Debug for Pool<M> {
     fn fmt(&self, f: &mut fmt::Formatter<'_>) -> fmt::Result {
-        let counts = match self.shared.try_lock() {
-            Some(mut state) => format!("{:?}", state.core.counts()),
-            None => "<locked>".to_owned(),
+        let mut shown = f.debug_struct("Pool");
+        match self.shared.try_lock() {
+            Some(mut state) => shown.field("counts", &state.core.counts()),
+            None => shown.field("counts", &format_args!("<locked>")),
         };
-        let counts = format_args!("{counts}");
-        f.debug_struct("Pool")
-            .field("counts", &counts)
-            .finish_non_exhaustive()
+        shown.finish_non_exhaustive()
     }
 }
 

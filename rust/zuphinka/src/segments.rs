@@ -134,6 +134,7 @@ impl SegmentFolder {
     pub fn create(path: impl AsRef<Path>) -> io::Result<SegmentFolder> {
         let path = path.as_ref().to_owned();
         fs::create_dir_all(&path)?;
+        sync_folder(path.parent().unwrap_or(&path))?;
         for entry in fs::read_dir(&path)? {
             let name = entry?.file_name();
             let name = name.to_string_lossy();
@@ -155,8 +156,17 @@ impl SegmentFolder {
         file.write_all(contents)?;
         file.sync_all()?;
         fs::rename(&unfinished, self.path.join(name))?;
-        File::open(&self.path)?.sync_all()
+        sync_folder(&self.path)
     }
+}
+
+/// Waits until the names in a folder are stored. No name is that of the current folder.
+fn sync_folder(path: &Path) -> io::Result<()> {
+    let path = match path.as_os_str().is_empty() {
+        true => Path::new("."),
+        false => path,
+    };
+    File::open(path)?.sync_all()
 }
 
 impl SegmentSink for SegmentFolder {

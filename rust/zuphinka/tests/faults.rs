@@ -44,6 +44,7 @@ with_and_without_hooks! {
     what_a_cleanup_borrows_is_returned
     a_borrow_that_makes_its_object_gets_it_from_a_closed_pool
     a_weak_handle_does_not_keep_a_pool_open
+    one_loan_fits_into_the_smallest_journal
 }
 
 /// What a manager and its objects share.
@@ -484,10 +485,9 @@ fn contradictions_open_nothing() {
         .is_ok());
 }
 
-#[test]
-fn one_loan_fits_into_the_smallest_journal() {
-    let small = |builder: Builder<Troubled<true>>| builder.journal(Journal::Memory(Some(7)));
-    let (pool, _) = pool_with::<true>(small);
+fn one_loan_fits_into_the_smallest_journal<const HOOKS: bool>() {
+    let small = |builder: Builder<Troubled<HOOKS>>| builder.journal(Journal::Memory(Some(7)));
+    let (pool, _) = pool_with::<HOOKS>(small);
     assert_eq!(Pooled::give_back(pool.get().unwrap()), Returned::Parked);
     assert_eq!(pool.close(), 1);
     assert_eq!(pool.counts().steps, 7);

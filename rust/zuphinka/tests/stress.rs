@@ -549,7 +549,64 @@ impl<'a, const HOOKS: bool> Player<'a, HOOKS> {
     }
 }
 
-/// Plays with a seed: how many objects there were, and the journal.
+/// What a caller did, by its number.
+type Played = Vec<(u32, Vec<Mark>)>;
+
+/// Lets all threads play.
+fn play_all<const HOOKS: bool>(table: &Table<HOOKS>, seed: u64) -> Played {
+    thread::scope(|scope| {
+        let start = |number| {
+            let player = Player::new(table, seed * 1_000 + number);
+            scope.spawn(move || player.play())
+        };
+        let players: Vec<_> = (0..THREADS).map(start).collect();
+        players
+            .into_iter()
+            .map(|player| player.join().unwrap())
+            .collect()
+    })
+}
+
+/// Closes a pool, and sees that no object is left in it.
+fn close_empty<const HOOKS: bool>(pool: &Pool<Fickle<HOOKS>>, seed: u64) {
+    while caught(|| pool.close()).is_none() || pool.counts().idle > 0 {
+        caught(|| pool.clear());
+    }
+    let counts = pool.counts();
+    let left = (counts.idle, counts.lent, counts.reserved);
+    assert_eq!(left, (0, 0, 0), "seed {seed}");
+    let ended = counts.destroyed + counts.reclaimed;
+    assert_eq!(counts.created, ended, "seed {seed}");
+}
+
+/// Sees that the segments are one legal journal with all entries, in which stands what each thread did.
+fn check_segments<const HOOKS: bool>(
+    pool: &Pool<Fickle<HOOKS>>,
+    segments: &[String],
+    played: &Played,
+    seed: u64,
+) {
+    let steps = pool.counts().steps;
+    let verdict = judge_segments(&pool.settings(), segments);
+    assert_eq!(verdict, format!("legal {steps}\n"), "seed {seed}");
+    let journal = joined(segments);
+    assert_eq!(journal.lines().count() as u64, steps, "seed {seed}");
+    for (caller, marks) in played {
+        let told = told(&journal, *caller);
+        assert!(
+            tells(&told, marks),
+            "seed {seed}, caller {caller}: {told:?} isn't {marks:?}"
+        );
+    }
+}
+
+/// The entries of segments.
+fn joined(segments: &[String]) -> String {
+    let entries = segments.iter().flat_map(|segment| entries_of(segment));
+    entries.flat_map(|entry| [entry, "\n"]).collect()
+}
+
+/// Plays with a seed. Returns the number of objects, and the journal that is there.
 fn play<const HOOKS: bool>(seed: u64) -> (usize, String) {
     let drops = Arc::new(Drops::default());
     let (manner, panics) = (Manner::of(seed), seed % 4 == 0);
@@ -569,66 +626,26 @@ fn play<const HOOKS: bool>(seed: u64) -> (usize, String) {
         keeping,
         is_calm: !panics,
     };
-    let played: Vec<_> = thread::scope(|scope| {
-        let start = |number| {
-            let player = Player::new(&table, seed * 1_000 + number);
-            scope.spawn(move || player.play())
-        };
-        let players: Vec<_> = (0..THREADS).map(start).collect();
-        players
-            .into_iter()
-            .map(|player| player.join().unwrap())
-            .collect()
-    });
-    let Table {
-        pool,
-        handed,
-        drained,
-        segments,
-        ..
-    } = table;
-    for object in handed.into_inner().unwrap() {
+    let played = play_all(&table, seed);
+    let pool = table.pool;
+    for object in table.handed.into_inner().unwrap() {
         caught(|| drop(object));
     }
-    while caught(|| pool.close()).is_none() || pool.counts().idle > 0 {
-        caught(|| pool.clear());
-    }
-    let counts = pool.counts();
-    assert_eq!(
-        (counts.idle, counts.lent, counts.reserved),
-        (0, 0, 0),
-        "seed {seed}"
-    );
-    assert_eq!(
-        counts.created,
-        counts.destroyed + counts.reclaimed,
-        "seed {seed}"
-    );
+    close_empty(&pool, seed);
 
-    let mut segments = segments.into_inner().unwrap();
+    let mut segments = table.segments.into_inner().unwrap();
     while keeping == Keeping::Stored && pool.flush_journal().is_err() {}
     segments.extend(texts_of(&stored));
     segments.push(journal_of(&pool));
     let is_in_parts = keeping == Keeping::Cut || keeping == Keeping::Stored;
     assert_eq!(is_in_parts, segments.len() > 2, "seed {seed}");
-    let entries = segments.iter().flat_map(|segment| entries_of(segment));
-    let journal: String = entries.flat_map(|entry| [entry, "\n"]).collect();
-    if keeping == Keeping::Dropped {
-        assert!((journal.lines().count() as u64) < counts.steps);
-    } else {
-        assert_eq!(journal.lines().count() as u64, counts.steps, "seed {seed}");
-        let verdict = judge_segments(&pool.settings(), &segments);
-        assert_eq!(verdict, format!("legal {}\n", counts.steps), "seed {seed}");
-        for (caller, marks) in played {
-            let told = told(&journal, caller);
-            assert!(
-                tells(&told, &marks),
-                "seed {seed}, caller {caller}: {told:?} isn't {marks:?}"
-            );
-        }
+    let journal = joined(&segments);
+    match keeping {
+        Keeping::Dropped => assert!((journal.lines().count() as u64) < pool.counts().steps),
+        _ => check_segments(&pool, &segments, &played, seed),
     }
     if keeping == Keeping::Drained {
-        let mut drained = drained.into_inner().unwrap();
+        let mut drained = table.drained.into_inner().unwrap();
         pool.drain_journal(&mut drained).unwrap();
         assert_eq!(String::from_utf8(drained).unwrap(), journal, "seed {seed}");
     }
