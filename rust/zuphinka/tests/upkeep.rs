@@ -32,6 +32,7 @@ macro_rules! with_and_without_hooks {
 
 with_and_without_hooks! {
     failures_that_no_call_returns_are_reported
+    failures_that_a_call_returns_are_not_reported
     failures_of_sinks_are_reported
     a_detached_object_is_its_holders
     an_object_that_is_too_old_ends_at_its_return
@@ -138,60 +139,67 @@ fn panic_quietly() {
     std::panic::resume_unwind(Box::new("it panics"));
 }
 
+/// Has something of the manager fail in a call of a pool with one idle object.
+type Failing<const HOOKS: bool> = fn(&Pool<Maker<HOOKS>>, &dyn Fn());
+
+fn borrow_idle<const HOOKS: bool>(pool: &Pool<Maker<HOOKS>>, fail: &dyn Fn()) {
+    fail();
+    assert_eq!(*pool.get().unwrap(), 1);
+}
+
+fn return_broken<const HOOKS: bool>(pool: &Pool<Maker<HOOKS>>, fail: &dyn Fn()) {
+    let held = pool.get().unwrap();
+    fail();
+    assert_eq!(Pooled::give_back(held), Returned::Destroyed);
+}
+
+fn evict_broken<const HOOKS: bool>(pool: &Pool<Maker<HOOKS>>, fail: &dyn Fn()) {
+    fail();
+    assert_eq!(pool.evict().unwrap().destroyed, 1);
+}
+
 fn failures_that_no_call_returns_are_reported<const HOOKS: bool>() {
+    let activation = "idle object 0 could not be activated: activate";
+    let (test, passivation) = (
+        "object 0 did not pass its test",
+        "object 0 could not be passivated: passivate",
+    );
+    let cases: [(Failing<HOOKS>, &'static str, &str); 7] = [
+        (borrow_idle, "activate", activation),
+        (borrow_idle, "validate", test),
+        (return_broken, "validate", test),
+        (return_broken, "passivate", passivation),
+        (evict_broken, "activate", activation),
+        (evict_broken, "validate", test),
+        (evict_broken, "passivate", passivation),
+    ];
+    let has_call = |name: &str| HOOKS || name == "validate";
+    for (act, name, wanted) in cases.into_iter().filter(|case| has_call(case.1)) {
+        let (reports, on_error) = reports();
+        let (pool, maker, _) = pool_with::<HOOKS>(|builder| {
+            let builder = builder.test_on_borrow(true).test_on_return(true);
+            builder.test_while_idle(true).on_error(on_error)
+        });
+        pool.add().unwrap();
+        act(&pool, &|| maker.fail(name));
+        assert_eq!(*reports.lock().unwrap(), [wanted]);
+        assert_legal(&pool);
+    }
+}
+
+fn failures_that_a_call_returns_are_not_reported<const HOOKS: bool>() {
     let (reports, on_error) = reports();
     let (pool, maker, _) = pool_with::<HOOKS>(|builder| {
-        let builder = builder.test_on_borrow(true).test_on_return(true);
-        builder.test_while_idle(true).on_error(on_error)
+        let builder = builder.test_on_create(true).test_on_borrow(true);
+        builder.on_error(on_error)
     });
     maker.fail("make");
     assert!(matches!(pool.get(), Err(Error::Make(_))));
+    maker.fail("validate");
+    assert!(matches!(pool.get(), Err(Error::CreateTest)));
+    maker.fail("validate");
+    assert!(matches!(pool.add(), Err(Error::CreateTest)));
     assert!(reports.lock().unwrap().is_empty());
-    let names = ["activate", "validate", "passivate"];
-    let names = names.iter().filter(|name| HOOKS || **name == "validate");
-    let mut wanted = Vec::new();
-    for (number, name) in (1..).step_by(3).zip(names) {
-        let text = |id: u64, verb: &str, was: &str| match *name {
-            "validate" => format!("object {id} did not pass its test"),
-            _ => format!("{was} {id} could not be {verb}d: {name}"),
-        };
-        // An idle object before it is lent.
-        if *name != "passivate" {
-            pool.add().unwrap();
-            maker.fail(name);
-            drop(pool.get().unwrap());
-            wanted.push(text(number, name, "idle object"));
-        } else {
-            pool.add().unwrap();
-            pool.add().unwrap();
-        }
-        // One that comes back.
-        if *name != "activate" {
-            let held = pool.get().unwrap();
-            maker.fail(name);
-            let id = *held;
-            assert_eq!(Pooled::give_back(held), Returned::Destroyed);
-            wanted.push(text(id, name, "object"));
-        }
-        // One that is tested while it is idle.
-        pool.clear().unwrap();
-        pool.add().unwrap();
-        let id = pool.counts().created - 1;
-        maker.fail(name);
-        assert_eq!(pool.evict().unwrap().destroyed, 1);
-        let was = match *name {
-            "activate" => "idle object",
-            _ => "object",
-        };
-        wanted.push(text(id, name, was));
-        // The next name begins with the id that it counts on.
-        while pool.counts().created < number + 3 {
-            pool.add().unwrap();
-        }
-        pool.clear().unwrap();
-    }
-    assert_eq!(*reports.lock().unwrap(), wanted);
-    assert_legal(&pool);
 }
 
 fn failures_of_sinks_are_reported<const HOOKS: bool>() {
