@@ -16,8 +16,8 @@ use std::fmt;
 use std::sync::Arc;
 use std::time::{Duration, Instant};
 
-/// Settings for a pool that is to be opened. Each has the default of Commons Pool 2, which is told with it; the name in
-/// brackets is that of the property, in settings files and in `docs/settings.md`.
+/// The settings of a pool to be opened. The brackets have the name of the property, in settings files and in `docs/settings.md`, and its
+/// default, which is that of Commons Pool 2 unless the text says otherwise.
 ///
 /// A time is rounded up to whole milliseconds.
 #[must_use = "a builder does nothing until `build` is called"]
@@ -31,12 +31,12 @@ pub struct Builder<M: Manager> {
     maintenance: Option<(Start<M>, Duration)>,
 }
 
-/// A number of objects, where there may be no limit.
+/// Returns a number of objects, or -1 for no limit.
 fn limit(number: Option<u32>) -> i64 {
     number.map_or(-1, i64::from)
 }
 
-/// A time in milliseconds, where there may be none.
+/// Returns a time in milliseconds, or -1 for no limit.
 fn limit_in_millis(time: Option<Duration>) -> i64 {
     time.map_or(-1, millis)
 }
@@ -76,53 +76,51 @@ impl<M: Manager> Builder<M> {
     ///
     /// # Errors
     ///
-    /// The text is no TOML, or one of its keys or values isn't lawful.
+    /// The text is no TOML, or one of its keys or values is invalid.
     pub fn settings(mut self, toml: &str) -> Result<Builder<M>, SettingsError> {
         self.settings = Settings::from_toml(toml)?;
-        if !Settings::names_max_wait(toml) {
+        if !Settings::names_max_wait(toml)? {
             self.settings.max_wait_millis = DEFAULT_WAIT_MILLIS;
         }
         self.chosen = Chosen::default();
         Ok(self)
     }
 
-    /// How many objects may be present at once, lent ones included, up to 2^31 - 1; `None`: no limit (`maxTotal`, 8).
+    /// Sets the most objects at one time, lent ones included, up to 2^31 - 1; `None`: no limit (`maxTotal`, 8).
     pub fn max_total(mut self, objects: impl Into<Option<u32>>) -> Builder<M> {
         self.settings.max_total = limit(objects.into());
         self.chosen.max_total = true;
         self
     }
 
-    /// How many objects may be idle, up to 2^31 - 1: one that comes back beyond it is destroyed; `None`: no limit
-    /// (`maxIdle`, 8).
+    /// Sets the most idle objects, up to 2^31 - 1: one that is returned beyond it is destroyed; `None`: no limit (`maxIdle`, 8).
     pub fn max_idle(mut self, objects: impl Into<Option<u32>>) -> Builder<M> {
         self.settings.max_idle = limit(objects.into());
         self.chosen.max_idle = true;
         self
     }
 
-    /// How many idle objects [`fill`](Pool::fill) and [`maintain`](Pool::maintain) keep ready, up to 2^31 - 1, as far as
-    /// `maxIdle` goes (`minIdle`, 0).
+    /// Sets how many idle objects [`fill`](Pool::fill) and [`maintain`](Pool::maintain) keep ready, up to 2^31 - 1 (`minIdle`, 0).
     pub fn min_idle(mut self, objects: u32) -> Builder<M> {
         self.settings.min_idle = objects.into();
         self.chosen.min_idle = true;
         self
     }
 
-    /// Whether the object that came back last is lent next, instead of the one that was idle for longest (`lifo`, true).
+    /// Sets whether the object that was returned last is lent next, instead of the one that was idle longest (`lifo`, true).
     pub fn lifo(mut self, is_set: bool) -> Builder<M> {
         self.settings.lifo = is_set;
         self
     }
 
-    /// Whether [`get`](Pool::get) waits for an object where all are lent (`blockWhenExhausted`, true).
+    /// Sets whether [`get`](Pool::get) waits for an object if all are lent (`blockWhenExhausted`, true).
     pub fn block_when_exhausted(mut self, is_set: bool) -> Builder<M> {
         self.settings.block_when_exhausted = is_set;
         self.chosen.blocking = true;
         self
     }
 
-    /// For how long a borrow waits at most, up to 2^53 milliseconds; `None`: no limit (`maxWaitMillis`, 30 seconds; in Commons Pool 2 there is
+    /// Sets how long a borrow waits at most, up to 2^53 milliseconds; `None`: no limit (`maxWaitMillis`, 30 seconds; in Commons Pool 2 there is
     /// no limit).
     pub fn max_wait(mut self, time: impl Into<Option<Duration>>) -> Builder<M> {
         self.settings.max_wait_millis = limit_in_millis(time.into());
@@ -130,45 +128,44 @@ impl<M: Manager> Builder<M> {
         self
     }
 
-    /// Whether a new object is validated (`testOnCreate`, false).
+    /// Sets whether a new object is validated (`testOnCreate`, false).
     pub fn test_on_create(mut self, is_set: bool) -> Builder<M> {
         self.settings.test_on_create = is_set;
         self
     }
 
-    /// Whether an object is validated before it is lent (`testOnBorrow`, false).
+    /// Sets whether an object is validated before it is lent (`testOnBorrow`, false).
     pub fn test_on_borrow(mut self, is_set: bool) -> Builder<M> {
         self.settings.test_on_borrow = is_set;
         self
     }
 
-    /// Whether an object is validated when it comes back (`testOnReturn`, false).
+    /// Sets whether an object is validated at its return (`testOnReturn`, false).
     pub fn test_on_return(mut self, is_set: bool) -> Builder<M> {
         self.settings.test_on_return = is_set;
         self
     }
 
-    /// Whether an eviction run validates the objects that it doesn't evict (`testWhileIdle`, false).
+    /// Sets whether an eviction run validates the objects that it does not evict (`testWhileIdle`, false).
     pub fn test_while_idle(mut self, is_set: bool) -> Builder<M> {
         self.settings.test_while_idle = is_set;
         self
     }
 
-    /// An eviction run destroys an object that was idle for longer, up to 2^53 milliseconds; `None` or no time: none for
-    /// that (`minEvictableIdleMillis`, 30 minutes).
+    /// Sets how long an object may be idle, up to 2^53 milliseconds: an eviction run destroys it after that; `None` or no time: for ever
+    /// (`minEvictableIdleMillis`, 30 minutes).
     pub fn min_evictable_idle(mut self, time: impl Into<Option<Duration>>) -> Builder<M> {
         self.settings.min_evictable_idle_millis = limit_in_millis(time.into());
         self
     }
 
-    /// The same, as long as more than `minIdle` objects are idle (`softMinEvictableIdleMillis`, none).
+    /// Sets the same for a pool in which more than `minIdle` objects are idle (`softMinEvictableIdleMillis`, none).
     pub fn soft_min_evictable_idle(mut self, time: impl Into<Option<Duration>>) -> Builder<M> {
         self.settings.soft_min_evictable_idle_millis = limit_in_millis(time.into());
         self
     }
 
-    /// How many objects an eviction run examines; of `-n` one *n*-th of the idle ones, rounded up
-    /// (`numTestsPerEvictionRun`, 3).
+    /// Sets how many objects an eviction run examines; `-n`: one *n*-th of the idle ones, rounded up (`numTestsPerEvictionRun`, 3).
     pub fn tests_per_eviction_run(mut self, tests: i32) -> Builder<M> {
         self.settings.num_tests_per_eviction_run = tests.into();
         self
@@ -188,14 +185,14 @@ impl<M: Manager> Builder<M> {
         self
     }
 
-    /// When lent objects are taken for abandoned and lose their places; `None`: never (`[abandoned]`, none).
+    /// Sets when lent objects count as abandoned and lose their places; `None`: never (`[abandoned]`, none).
     pub fn abandoned(mut self, abandoned: impl Into<Option<Abandoned>>) -> Builder<M> {
         self.settings.abandoned = abandoned.into();
         self.chosen.abandoned = true;
         self
     }
 
-    /// A clock that returns times in milliseconds, instead of the time since the pool was opened. It may be read under the pool's
+    /// Sets a clock that returns times in milliseconds, instead of the time since the pool was opened. It may be read under the pool's
     /// lock, and must not call the pool.
     ///
     /// Times in the journal never fall: a time before that of the last entry counts as that one. If the clock panics, the time of the last

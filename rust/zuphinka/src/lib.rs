@@ -1,13 +1,12 @@
-//! An object pool for threads, round the proved core of Zuphinka.
+//! An object pool for threads, over the proved core of Zuphinka.
 //!
-//! **Proved** is each step of the core: what it answers, which entry it appends to the journal, and that a step that finishes
-//! what was begun is never refused. In every legal journal no more than `maxTotal` objects are present, none is lent to two at once, and
-//! none that was made is lost. **Not proved** is this crate: its lock, its sections (which steps a call takes, and what it does
-//! with the objects between them), its waits and wakes, and the binding of the C library. They are tested. But **the journal of a
-//! run can be judged**: `pool check SETTINGS JOURNAL` says whether the answers on which all calls of this very run went were those
-//! that the definitions say are due.
+//! **Proved** is each step of the core: its answer, the entry that it appends to the journal, and that a completing step never fails. In every
+//! legal journal no more than `maxTotal` objects are present, none is lent to two at once, and none that was made is lost. **Tested, not
+//! proved** is this crate: its lock, its critical sections (which steps a call takes, and what it does with the objects between them), its
+//! waits and wakes, and the binding of the C library. But **the journal of a run can be checked**: `pool check SETTINGS JOURNAL` says whether
+//! the answers in this very run were the expected ones.
 //!
-//! A [`Manager`] makes objects; a [`Pool`] lends them, as [`Pooled`] guards that give them back when they are dropped.
+//! A [`Manager`] makes objects; a [`Pool`] lends them, as [`Pooled`] guards that return them when they are dropped.
 //!
 //! ```
 //! use zuphinka::{Manager, Pool};

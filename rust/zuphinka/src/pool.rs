@@ -13,18 +13,18 @@ use std::time::{Duration, Instant};
 
 /// A pool that threads share. A clone is a handle of the same pool.
 ///
-/// All calls may come from any thread. Each is made of sections, in which the pool's lock is held for one step of the core and one
-/// entry of the journal; the manager is called between them. The entries stand under the number of the thread that calls
-/// ([`caller_number`](crate::caller_number)), with the moment in milliseconds since the pool was opened.
+/// Any thread may make any call. A call consists of critical sections, in which the pool's lock is held for one step of the core and one
+/// entry of the journal, or two if nothing lies between them; the manager is called without the lock. An entry has the number of the calling
+/// thread ([`caller_number`](crate::caller_number)), and the time in milliseconds since the pool was opened.
 ///
-/// When the last handle and the last lent object are gone the pool is closed, if it wasn't before. A thread that is to end with the pool,
-/// as one that maintains it, has a [`WeakPool`] instead of a handle.
+/// When the last handle and the last lent object are gone, the pool is closed. A thread that is to end with the pool, as one that maintains
+/// it, has a [`WeakPool`] instead of a handle.
 pub struct Pool<M: Manager> {
     shared: Arc<Shared<M>>,
 }
 
 impl<M: Manager> Pool<M> {
-    /// Settings for a pool, with their defaults.
+    /// Returns the settings of a pool to be opened, with their defaults.
     pub fn builder() -> Builder<M> {
         Builder::new()
     }
@@ -47,10 +47,10 @@ impl<M: Manager> Pool<M> {
         &self.shared
     }
 
-    /// Lends an object: an idle one, or a new one where a place is free. Where there is neither it waits, or is refused, as
-    /// the settings say (`blockWhenExhausted`, `maxWaitMillis`).
+    /// Lends an object: an idle one, or a new one if a place is free. If there is neither, it waits or fails, as the settings say
+    /// (`blockWhenExhausted`, `maxWaitMillis`).
     ///
-    /// An idle object that isn't activated, or doesn't pass the test of `testOnBorrow`, is destroyed, and the borrow goes on.
+    /// An idle object that is not activated, or does not pass the test of `testOnBorrow`, is destroyed, and the borrow continues.
     ///
     /// ```
     /// # use zuphinka::{Manager, Pool};
@@ -72,18 +72,18 @@ impl<M: Manager> Pool<M> {
     ///
     /// # Errors
     ///
-    /// [`Error::Exhausted`], [`Error::TimedOut`] and [`Error::Closed`]. Of a new object [`Error::Make`],
-    /// [`Error::CreateTest`], [`Error::Activate`] and [`Error::BorrowTest`]: it is destroyed, and its place is free again.
+    /// [`Error::Exhausted`], [`Error::TimedOut`] and [`Error::Closed`]. For a new object [`Error::Make`], [`Error::CreateTest`],
+    /// [`Error::Activate`] and [`Error::BorrowTest`]: it is destroyed, and its place is free.
     /// [`Error::JournalFull`] and [`Error::OutOfMemory`].
     pub fn get(&self) -> Result<Pooled<M>, Error<M::Error>> {
         self.shared.borrow(WaitLimit::AsSet)
     }
 
-    /// Lends an object without waiting for another to come back: an idle one, or a new one where a place is free.
+    /// Lends an object without waiting for one: an idle one, or a new one if a place is free.
     ///
     /// # Errors
     ///
-    /// [`Error::Exhausted`], where there is neither. The others are those of [`get`](Pool::get), but for [`Error::TimedOut`].
+    /// [`Error::Exhausted`] if there is neither. The others are those of [`get`](Pool::get), except [`Error::TimedOut`].
     pub fn try_get(&self) -> Result<Pooled<M>, Error<M::Error>> {
         match self.shared.borrow(WaitLimit::None) {
             // So the core answers where `maxWaitMillis` is 0.
@@ -104,48 +104,48 @@ impl<M: Manager> Pool<M> {
             .borrow(end.map_or(WaitLimit::AsSet, WaitLimit::Until))
     }
 
-    /// Makes an object and parks it, where a place is free.
+    /// Makes an object and adds it to the idle ones, if a place is free.
     ///
     /// # Errors
     ///
-    /// [`Error::Closed`]; [`Error::Make`], [`Error::CreateTest`] and [`Error::Passivate`]: the object is destroyed, and its
-    /// place is free again; [`Error::JournalFull`] and [`Error::OutOfMemory`], before there is an object.
+    /// [`Error::Closed`]. [`Error::Make`], [`Error::CreateTest`] and [`Error::Passivate`]: the object is destroyed, and its place is
+    /// free. [`Error::JournalFull`] and [`Error::OutOfMemory`]: no object was made.
     pub fn add(&self) -> Result<Addition, Error<M::Error>> {
         self.shared.add()
     }
 
-    /// Makes objects and parks them, until `minIdle` are idle or no place is free: how many. On a closed pool it is 0.
+    /// Adds idle objects until there are `minIdle` or no place is free, and returns the number added. On a closed pool it is 0.
     ///
     /// # Errors
     ///
-    /// Those of [`add`](Pool::add) but for [`Error::Closed`]. What was parked before stays.
+    /// Those of [`add`](Pool::add) except [`Error::Closed`]. Objects that were added before stay.
     pub fn fill(&self) -> Result<u64, Error<M::Error>> {
         self.shared.fill()
     }
 
-    /// Examines idle objects, as many as the settings say, and goes on where the last run stopped. Each is destroyed that was idle
-    /// for too long, or that fails where idle objects are tested.
+    /// Examines idle objects, as many as the settings say, and continues where the last run stopped. An object is destroyed if it was idle for
+    /// too long, is too old ([`Builder::max_lifetime`]), or fails the test of `testWhileIdle`.
     ///
     /// # Errors
     ///
-    /// [`Error::Closed`]; [`Error::JournalFull`] and [`Error::OutOfMemory`], also in the midst: what was done before stays.
+    /// [`Error::Closed`]. [`Error::JournalFull`] and [`Error::OutOfMemory`], also in the middle: what was done before stays.
     pub fn evict(&self) -> Result<Eviction, Error<M::Error>> {
         self.shared.evict()
     }
 
-    /// Takes abandoned objects from their holders, where the settings say so for maintenance: how many. Their places are free at
-    /// once; a holder keeps the object, and it is destroyed when it comes back.
+    /// Reclaims abandoned objects, if the settings say so for maintenance, and returns their number. Their places are free at once. A holder
+    /// keeps its object, which is destroyed at its return.
     ///
     /// # Errors
     ///
-    /// [`Error::JournalFull`] and [`Error::OutOfMemory`], also in the midst: what was done before stays.
+    /// [`Error::JournalFull`] and [`Error::OutOfMemory`], also in the middle: what was done before stays.
     pub fn reclaim(&self) -> Result<u64, Error<M::Error>> {
         self.shared.reclaim(caller_number(), When::Maintain)
     }
 
-    /// What a thread of yours calls now and then: [`evict`](Pool::evict), [`reclaim`](Pool::reclaim) and
-    /// [`fill`](Pool::fill), in this order; or the pool's own thread ([`Builder::maintain_every`]). If objects have a lifetime
-    /// ([`Builder::max_lifetime`]), each idle object is examined, and else as many as the settings say.
+    /// Maintains the pool: calls [`evict`](Pool::evict), [`reclaim`](Pool::reclaim) and [`fill`](Pool::fill), in this order. Call it now
+    /// and then, or have the pool's own thread call it ([`Builder::maintain_every`]). If objects have a lifetime
+    /// ([`Builder::max_lifetime`]), it examines all idle objects.
     ///
     /// # Errors
     ///
@@ -183,8 +183,7 @@ impl<M: Manager> Pool<M> {
         self.shared.lock().is_closed
     }
 
-    /// How many entries there were since the pool was opened, and how many objects there are and were, all of one moment. It takes
-    /// the lock.
+    /// Returns the number of entries since the pool was opened, and the numbers of objects, all of one time. It takes the lock.
     pub fn counts(&self) -> Counts {
         self.shared.lock().core.counts()
     }
@@ -299,7 +298,7 @@ impl<M: Manager> Pool<M> {
         }
     }
 
-    /// The manager.
+    /// Returns the manager.
     pub fn manager(&self) -> &M {
         &self.shared.manager
     }

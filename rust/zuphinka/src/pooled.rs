@@ -8,13 +8,12 @@ use std::panic::{catch_unwind, AssertUnwindSafe};
 use std::sync::Arc;
 use std::thread;
 
-/// An object that is lent. It is used through this guard, which gives it back when it is dropped, from whatever thread.
+/// A lent object. It is used through this guard, which returns it when it is dropped, in any thread.
 ///
 /// A guard that is dropped by a panic of its thread invalidates its object, whose state is unknown. One that a thread got while it panicked
 /// already, in a destructor, returns it.
 ///
-/// It keeps the pool alive. What a guard can do besides is called as `Pooled::id(&guard)`, so that no method of the object is
-/// hidden.
+/// It keeps the pool open. Its own functions are called as `Pooled::id(&guard)`, so that they hide no method of the object.
 pub struct Pooled<M: Manager> {
     pool: Arc<Shared<M>>,
     id: u64,
@@ -35,18 +34,18 @@ impl<M: Manager> Pooled<M> {
         }
     }
 
-    /// The id of the object, as the journal has it.
+    /// Returns the id of the object in the journal.
     pub fn id(this: &Pooled<M>) -> u64 {
         this.id
     }
 
-    /// Gives the object back, as a drop does, and says what became of it.
+    /// Returns the object to the pool, as a drop does, and says what became of it.
     pub fn give_back(mut this: Pooled<M>) -> Returned {
         let object = this.object.take().expect(LENT);
         this.pool.give_back(this.id, object)
     }
 
-    /// Gives the object back as one that can't be used any more: it is destroyed.
+    /// Returns the object as one that cannot be used any more: it is destroyed.
     pub fn invalidate(mut this: Pooled<M>) -> Returned {
         let object = this.object.take().expect(LENT);
         this.pool.invalidate(this.id, object)
@@ -59,11 +58,11 @@ impl<M: Manager> Pooled<M> {
         object.object
     }
 
-    /// Notes that the object is used, so that it doesn't count as abandoned.
+    /// Notes that the object is used, so that it does not count as abandoned.
     ///
     /// # Errors
     ///
-    /// [`Error::JournalFull`] and [`Error::OutOfMemory`]: it isn't noted, and the object is still lent.
+    /// [`Error::JournalFull`] and [`Error::OutOfMemory`]: it is not noted, and the object is still lent.
     pub fn touch(this: &Pooled<M>) -> Result<Touched, Error<M::Error>> {
         this.pool.touch(this.id)
     }

@@ -149,11 +149,14 @@ impl Settings {
             })
     }
 
-    /// Returns whether a text, which is TOML, names `maxWaitMillis`: then the key cannot be given once more in front of it.
-    pub fn names_max_wait(text: &str) -> bool {
+    /// Returns whether a text, which can be taken, names `maxWaitMillis`: then the key cannot be given once more in front of it.
+    pub fn names_max_wait(text: &str) -> Result<bool, SettingsError> {
         let text = text.strip_prefix('\u{feff}').unwrap_or(text);
-        let with_key = ["maxWaitMillis = 0\n", text].concat();
-        matches!(settings_of(&with_key), Err((status, _)) if status == sys::NOT_TOML)
+        match settings_of(&["maxWaitMillis = 0\n", text].concat()) {
+            Ok(_) => Ok(false),
+            Err((sys::OUT_OF_MEMORY, _)) => Err(SettingsError::OutOfMemory),
+            Err(_) => Ok(true),
+        }
     }
 
     /// Whether a borrow begins with the removal of abandoned objects.

@@ -223,10 +223,11 @@ impl<M: Manager> Shared<M> {
             !M::PASSIVATES && !self.settings.test_on_return && !self.is_too_old(&value, time);
         let mut state = self.lock();
         let taken = state.take_back(Stamp { caller, time }, id, value, parks_at_once);
-        match taken {
-            TakenBack::Parked => self.leave(state, Wakes::One),
-            _ => drop(state),
-        }
+        let wakes = match taken {
+            TakenBack::Parked => Wakes::One,
+            _ => Wakes::None,
+        };
+        self.leave(state, wakes);
         taken
     }
 
