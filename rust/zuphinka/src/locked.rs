@@ -218,6 +218,15 @@ mod tests {
     }
 
     #[test]
+    fn a_spin_ends_while_the_mutex_is_held() {
+        let locked = Locked::new(1);
+        let guard = locked.lock();
+        assert!(locked.spin().is_none());
+        drop(guard);
+        assert_eq!(locked.spin().map(|value| *value), Some(1));
+    }
+
+    #[test]
     fn a_wait_frees_the_mutex() {
         let (locked, condition) = (Locked::new(false), Condvar::new());
         thread::scope(|scope| {

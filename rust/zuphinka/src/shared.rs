@@ -235,7 +235,7 @@ impl<M: Manager> Shared<M> {
     /// one is due.
     #[inline]
     fn leave(&self, mut state: Held<'_, M>, wakes: Wakes) {
-        let is_due = state.journal.is_due;
+        let is_due = state.journal.wants_writer();
         match wakes {
             Wakes::None => drop(state),
             Wakes::One => {

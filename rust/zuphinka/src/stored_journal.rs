@@ -69,8 +69,8 @@ pub(crate) struct StoredJournal {
     pub len: u64,
     /// The number of stored entries at which the journal is looked at.
     look_at: u64,
-    /// Whether a segment is to be written by the next call that leaves the lock.
-    pub is_due: bool,
+    /// Whether a segment is to be written.
+    is_due: bool,
     /// The position up to which entries were drained.
     pub drained: u64,
     pub unwritten: Option<Arc<CutSegment>>,
@@ -153,6 +153,12 @@ impl StoredJournal {
             // Half of the room is used up then, if no more entries become outstanding.
             Mode::Segments => self.len + room.saturating_sub(self.len).div_ceil(2).max(1),
         };
+    }
+
+    /// Returns whether a segment is to be written, and no thread does.
+    #[inline]
+    pub fn wants_writer(&self) -> bool {
+        self.is_due && self.writer == Writer::None
     }
 
     /// A segment is to be written.

@@ -183,7 +183,7 @@ impl<M: Manager> Shared<M> {
             return;
         };
         let state = self.lock();
-        if !state.journal.is_due || state.journal.writer != Writer::None {
+        if !state.journal.wants_writer() {
             return;
         }
         if let Some(turn) = self.take_turn(state, None) {
