@@ -3,9 +3,9 @@
 
     check_rust.py POOL
 
-POOL is the program. The crate's tests are cargo's: those in its files, in tests/ and in its pages. The journal of the example `servers` is
+POOL is the program. The crate's tests are cargo's: those in its files, in tests/ and in its pages. The segments that the example `servers` stores are
 judged by the program; what the example `settings` writes of a file must be what Python reads there; the example `pairs` must make as many
-entries as its rounds are; and the codes, the fields and the functions of `src/sys.rs` must be those of `c/zuphinka.h`. Where no
+entries as its rounds are, whatever becomes of its journal, and the segments that it stores are judged too; and the codes, the fields and the functions of `src/sys.rs` must be those of `c/zuphinka.h`. Where no
 cargo runs, all of it is left out.
 
 Prints what fails, and in the end the line 'N passed, M failed'.
@@ -62,14 +62,22 @@ def built_examples(environment):
     return pathlib.Path(target) / "release/examples"
 
 
+def judged(pool, folder):
+    """What the program says of the segments in a folder, and how many entries they have."""
+    segments = sorted(folder.glob("segment-*"))
+    entries = sum(text.count(b" = ") for text in (file.read_bytes() for file in segments))
+    done = subprocess.run([pool, "check", folder / "settings.toml", *segments], capture_output=True, text=True)
+    return done.stdout + done.stderr, entries
+
+
 def check_servers(servers, pool):
-    """The journal of the example, judged by the program with the settings that the example has."""
-    with tempfile.NamedTemporaryFile() as journal:
-        done = subprocess.run([servers], stdout=journal, stderr=subprocess.PIPE, text=True, timeout=LONGEST)
-        entries = pathlib.Path(journal.name).read_bytes().count(b"\n")
-        judged = subprocess.run([pool, "check", CRATE / "examples/servers.toml", journal.name], capture_output=True, text=True)
-    right = (done.returncode, judged.stdout) == (0, f"legal {entries}\n") and entries > 0
-    yield None if right else f"servers: status {done.returncode}, {done.stderr!r}; {entries} entries, {judged.stdout + judged.stderr!r}"
+    """The journal that the example stores, judged by the program."""
+    with tempfile.TemporaryDirectory() as folder:
+        journal = pathlib.Path(folder) / "journal"
+        done = subprocess.run([servers, journal], capture_output=True, text=True, timeout=LONGEST)
+        verdict, entries = judged(pool, journal)
+    right = (done.returncode, verdict) == (0, f"legal {entries}\n") and entries > 0
+    yield None if right else f"servers: status {done.returncode}, {done.stderr!r}; {entries} entries, {verdict!r}"
 
 
 def defaults():
@@ -79,8 +87,9 @@ def defaults():
 
 
 def check_settings(settings):
-    """What the example writes of each file that can be taken, and what Python reads there."""
+    """What the example writes of each file that can be taken, and what Python reads there. The crate has a default of its own for the wait."""
     plain, abandoned = defaults()
+    plain["maxWaitMillis"] = 30_000
     taken = [path for path in sorted((TOP / "tests/cases/settings").glob("*.toml")) if path.with_suffix(".answer").read_bytes() == b"ok\n"]
     for path in [*sorted((TOP / "examples").glob("*.toml")), *taken]:
         wanted = plain | tomllib.loads(path.read_text())
@@ -124,18 +133,20 @@ def check_version():
     yield None if text == [crate] == [".".join(numbers)] else f"the crate has version {crate}, the header {text} and {numbers}"
 
 
-def check_pairs(pairs):
+def check_pairs(pairs, pool):
     """Four entries a round where nobody waits, and two more for each object and one for the close in the end."""
-    with tempfile.NamedTemporaryFile("w", suffix=".toml") as file:
-        file.write(f"maxTotal = {WORKERS}\nmaxIdle = {WORKERS}\n")
-        file.flush()
-        for clock in [], ["instant"]:
-            command = [pairs, file.name, str(WORKERS), str(ROUNDS), *clock]
+    with tempfile.TemporaryDirectory() as folder:
+        settings, journal = pathlib.Path(folder) / "settings.toml", pathlib.Path(folder) / "journal"
+        settings.write_text(f"maxTotal = {WORKERS}\nmaxIdle = {WORKERS}\n")
+        for words in [], ["instant"], ["hooks"], ["memory", "instant"], [f"segments={journal}", "hooks"]:
+            command = [pairs, settings, str(WORKERS), str(ROUNDS), *words]
             done = subprocess.run(command, capture_output=True, text=True, timeout=LONGEST)
             told = dict(line.split() for line in done.stdout.splitlines())
             created, destroyed, steps = (int(told.get(name, -1)) for name in ("created", "destroyed", "steps"))
             right = 1 <= created <= WORKERS and destroyed == created and steps == 4 * WORKERS * ROUNDS + 2 * created + 1
-            yield None if right and told["refused"] == "0" else f"pairs {clock}: {done.stdout + done.stderr!r}"
+            yield None if right and told["refused"] == "0" else f"pairs {words}: {done.stdout + done.stderr!r}"
+        verdict, entries = judged(pool, journal)
+        yield None if verdict == f"legal {steps}\n" and entries == steps else f"pairs: {entries} of {steps} entries, {verdict!r}"
 
 
 def main(pool):
@@ -146,7 +157,7 @@ def main(pool):
     environment = os.environ | {"ZUPHINKA_POOL": str(pathlib.Path(pool).resolve())}
     passed, failed = run_tests(environment)
     examples = built_examples(environment)
-    checks = [check_servers(examples / "servers", pool), check_settings(examples / "settings"), check_pairs(examples / "pairs")]
+    checks = [check_servers(examples / "servers", pool), check_settings(examples / "settings"), check_pairs(examples / "pairs", pool)]
     checks += [check_binding(), check_version()]
     for check in checks:
         for fault in check:

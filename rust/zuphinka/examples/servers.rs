@@ -1,15 +1,16 @@
-//! Four servers answer requests over a pool of three connections, while a keeper maintains it. In the end the pool is closed, and
-//! its journal is written to standard output.
+//! Four servers answer requests over a pool of three connections, while a keeper maintains it. The pool's journal is stored in a new
+//! folder, in segments, so that the servers could run for years.
 //!
-//!     cargo run --offline --example servers > journal
-//!     ../../pool check examples/servers.toml journal
+//!     cargo run --offline --example servers -- servers.journal
+//!     ../../pool check servers.journal/settings.toml servers.journal/segment-*
 
+use std::env;
 use std::error::Error;
 use std::io;
 use std::sync::atomic::{AtomicBool, Ordering};
 use std::thread;
 use std::time::Duration;
-use zuphinka::{Manager, Pool};
+use zuphinka::{Journal, Manager, Pool, Segments};
 
 const SETTINGS: &str = include_str!("servers.toml");
 const SERVERS: u64 = 4;
@@ -65,7 +66,14 @@ fn serve(pool: &Pool<Connector>) -> u64 {
 }
 
 fn main() -> Result<(), Box<dyn Error>> {
-    let pool = Pool::builder().settings(SETTINGS)?.build(Connector)?;
+    let folder = env::args_os()
+        .nth(1)
+        .ok_or("which folder for the journal?")?;
+    let journal = Journal::Segments(Segments::in_folder(folder)?);
+    let pool = Pool::builder()
+        .settings(SETTINGS)?
+        .journal(journal)
+        .build(Connector)?;
     let is_over = AtomicBool::new(false);
     let answered: u64 = thread::scope(|scope| {
         scope.spawn(|| {
@@ -90,6 +98,6 @@ fn main() -> Result<(), Box<dyn Error>> {
         "{answered} requests were answered over {} connections",
         counts.created
     );
-    pool.journal(io::stdout().lock())?;
+    pool.flush_journal()?;
     Ok(())
 }

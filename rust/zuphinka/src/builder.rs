@@ -1,31 +1,42 @@
-use crate::core::{Core, OpenFault};
-use crate::desk::Desk;
+use crate::clock::{Clock, GivenClock};
+use crate::contradictions::Chosen;
 use crate::error::{OpenError, SettingsError};
+use crate::failure::Failure;
+use crate::journal::Journal;
+use crate::locked_pool::LockedPool;
+use crate::maintenance::{Maintainer, Start};
 use crate::manager::Manager;
 use crate::pool::Pool;
+use crate::proved_core::{Core, OpenFault};
 use crate::settings::{millis, Abandoned, Settings};
-use crate::shared::{Clock, Shared};
+use crate::shared::{OnError, Policy, Shared};
+use crate::stored_journal::Mode;
+use crate::writing::Outlet;
 use std::fmt;
-use std::marker::PhantomData;
+use std::sync::Arc;
 use std::time::{Duration, Instant};
 
-/// Settings for a pool that is to be opened. Each has the default of Commons Pool 2, which is told with it; the name in
-/// brackets is that of the property, in settings files and in `docs/settings.md`.
+/// The settings of a pool to be opened. The brackets have the name of the property, in settings files and in `docs/settings.md`, and its
+/// default, which is that of Commons Pool 2 unless the text says otherwise.
 ///
 /// A time is rounded up to whole milliseconds.
 #[must_use = "a builder does nothing until `build` is called"]
-pub struct Builder<M> {
+pub struct Builder<M: Manager> {
     settings: Settings,
-    clock: Option<Box<dyn Fn() -> u64 + Send + Sync>>,
-    of: PhantomData<fn(M)>,
+    chosen: Chosen,
+    journal: Journal,
+    clock: Option<GivenClock>,
+    max_lifetime: Option<Duration>,
+    on_error: Option<OnError<M>>,
+    maintenance: Option<(Start<M>, Duration)>,
 }
 
-/// A number of objects, where there may be no limit.
+/// Returns a number of objects, or -1 for no limit.
 fn limit(number: Option<u32>) -> i64 {
     number.map_or(-1, i64::from)
 }
 
-/// A time in milliseconds, where there may be none.
+/// Returns a time in milliseconds, or -1 for no limit.
 fn limit_in_millis(time: Option<Duration>) -> i64 {
     time.map_or(-1, millis)
 }
@@ -33,13 +44,21 @@ fn limit_in_millis(time: Option<Duration>) -> i64 {
 impl<M: Manager> Builder<M> {
     pub(crate) fn new() -> Builder<M> {
         Builder {
-            settings: Settings::default(),
+            settings: Settings {
+                max_wait_millis: DEFAULT_WAIT_MILLIS,
+                ..Settings::default()
+            },
+            chosen: Chosen::default(),
+            journal: Journal::default(),
             clock: None,
-            of: PhantomData,
+            max_lifetime: None,
+            on_error: None,
+            maintenance: None,
         }
     }
 
-    /// Takes all settings from a text in TOML, as of a settings file: those that it doesn't name have their defaults.
+    /// Takes all settings from a text in TOML, as of a settings file. Those that it does not name have their defaults; so the wait has a limit of
+    /// 30 seconds unless the text names `maxWaitMillis`.
     ///
     /// ```
     /// # use zuphinka::{Manager, Pool, SettingsError};
@@ -57,109 +76,127 @@ impl<M: Manager> Builder<M> {
     ///
     /// # Errors
     ///
-    /// The text is no TOML, or one of its keys or values isn't lawful.
+    /// The text is no TOML, or one of its keys or values is invalid.
     pub fn settings(mut self, toml: &str) -> Result<Builder<M>, SettingsError> {
         self.settings = Settings::from_toml(toml)?;
+        if !Settings::names_max_wait(toml)? {
+            self.settings.max_wait_millis = DEFAULT_WAIT_MILLIS;
+        }
+        self.chosen = Chosen::default();
         Ok(self)
     }
 
-    /// How many objects may be present at once, lent ones included, up to 2^31 - 1; `None`: no limit (`maxTotal`, 8).
+    /// Sets the most objects at one time, lent ones included, up to 2^31 - 1; `None`: no limit (`maxTotal`, 8).
     pub fn max_total(mut self, objects: impl Into<Option<u32>>) -> Builder<M> {
         self.settings.max_total = limit(objects.into());
+        self.chosen.max_total = true;
         self
     }
 
-    /// How many objects may be idle, up to 2^31 - 1: one that comes back beyond it is destroyed; `None`: no limit
-    /// (`maxIdle`, 8).
+    /// Sets the most idle objects, up to 2^31 - 1: one that is returned beyond it is destroyed; `None`: no limit (`maxIdle`, 8).
     pub fn max_idle(mut self, objects: impl Into<Option<u32>>) -> Builder<M> {
         self.settings.max_idle = limit(objects.into());
+        self.chosen.max_idle = true;
         self
     }
 
-    /// How many idle objects [`fill`](Pool::fill) and [`maintain`](Pool::maintain) keep ready, up to 2^31 - 1, as far as
-    /// `maxIdle` goes (`minIdle`, 0).
+    /// Sets how many idle objects [`fill`](Pool::fill) and [`maintain`](Pool::maintain) keep ready, up to 2^31 - 1 (`minIdle`, 0).
     pub fn min_idle(mut self, objects: u32) -> Builder<M> {
         self.settings.min_idle = objects.into();
+        self.chosen.min_idle = true;
         self
     }
 
-    /// Whether the object that came back last is lent next, instead of the one that was idle for longest (`lifo`, true).
+    /// Sets whether the object that was returned last is lent next, instead of the one that was idle longest (`lifo`, true).
     pub fn lifo(mut self, is_set: bool) -> Builder<M> {
         self.settings.lifo = is_set;
         self
     }
 
-    /// Whether [`get`](Pool::get) waits for an object where all are lent (`blockWhenExhausted`, true).
+    /// Sets whether [`get`](Pool::get) waits for an object if all are lent (`blockWhenExhausted`, true).
     pub fn block_when_exhausted(mut self, is_set: bool) -> Builder<M> {
         self.settings.block_when_exhausted = is_set;
+        self.chosen.blocking = true;
         self
     }
 
-    /// For how long a borrow waits at most, up to 2^53 milliseconds; `None`: no limit (`maxWaitMillis`, no limit).
+    /// Sets how long a borrow waits at most, up to 2^53 milliseconds; `None`: no limit (`maxWaitMillis`, 30 seconds; in Commons Pool 2 there is
+    /// no limit).
     pub fn max_wait(mut self, time: impl Into<Option<Duration>>) -> Builder<M> {
         self.settings.max_wait_millis = limit_in_millis(time.into());
+        self.chosen.max_wait = true;
         self
     }
 
-    /// Whether a new object is validated (`testOnCreate`, false).
+    /// Sets whether a new object is validated (`testOnCreate`, false).
     pub fn test_on_create(mut self, is_set: bool) -> Builder<M> {
         self.settings.test_on_create = is_set;
         self
     }
 
-    /// Whether an object is validated before it is lent (`testOnBorrow`, false).
+    /// Sets whether an object is validated before it is lent (`testOnBorrow`, false).
     pub fn test_on_borrow(mut self, is_set: bool) -> Builder<M> {
         self.settings.test_on_borrow = is_set;
         self
     }
 
-    /// Whether an object is validated when it comes back (`testOnReturn`, false).
+    /// Sets whether an object is validated at its return (`testOnReturn`, false).
     pub fn test_on_return(mut self, is_set: bool) -> Builder<M> {
         self.settings.test_on_return = is_set;
         self
     }
 
-    /// Whether an eviction run validates the objects that it doesn't evict (`testWhileIdle`, false).
+    /// Sets whether an eviction run validates the objects that it does not evict (`testWhileIdle`, false).
     pub fn test_while_idle(mut self, is_set: bool) -> Builder<M> {
         self.settings.test_while_idle = is_set;
         self
     }
 
-    /// An eviction run destroys an object that was idle for longer, up to 2^53 milliseconds; `None` or no time: none for
-    /// that (`minEvictableIdleMillis`, 30 minutes).
+    /// Sets how long an object may be idle, up to 2^53 milliseconds: an eviction run destroys it after that; `None` or no time: for ever
+    /// (`minEvictableIdleMillis`, 30 minutes).
     pub fn min_evictable_idle(mut self, time: impl Into<Option<Duration>>) -> Builder<M> {
         self.settings.min_evictable_idle_millis = limit_in_millis(time.into());
         self
     }
 
-    /// The same, as long as more than `minIdle` objects are idle (`softMinEvictableIdleMillis`, none).
+    /// Sets the same for a pool in which more than `minIdle` objects are idle (`softMinEvictableIdleMillis`, none).
     pub fn soft_min_evictable_idle(mut self, time: impl Into<Option<Duration>>) -> Builder<M> {
         self.settings.soft_min_evictable_idle_millis = limit_in_millis(time.into());
         self
     }
 
-    /// How many objects an eviction run examines; of `-n` one *n*-th of the idle ones, rounded up
-    /// (`numTestsPerEvictionRun`, 3).
+    /// Sets how many objects an eviction run examines; `-n`: one *n*-th of the idle ones, rounded up (`numTestsPerEvictionRun`, 3).
     pub fn tests_per_eviction_run(mut self, tests: i32) -> Builder<M> {
         self.settings.num_tests_per_eviction_run = tests.into();
         self
     }
 
-    /// How many entries the journal may have, from 1 to 2^32 (`journalLimit`, 1,000,000). A pool whose journal is full lends
-    /// nothing more. An entry is stored until the journal is [`cut`](Pool::cut) or the pool is dropped; a borrow and a return are four.
+    /// Sets what becomes of the journal. The default is [`Journal::Off`].
+    pub fn journal(mut self, journal: Journal) -> Builder<M> {
+        self.journal = journal;
+        self
+    }
+
+    /// Sets how many entries the journal has at most in memory, from 1 to 2^32 (`journalLimit`, 1,000,000). It applies to
+    /// [`Journal::Memory`] and [`Journal::Segments`], if these have no limit of their own. With [`Journal::Off`] it has no effect.
     pub fn journal_limit(mut self, entries: u64) -> Builder<M> {
         self.settings.journal_limit = i64::try_from(entries).unwrap_or(i64::MAX);
+        self.chosen.journal_limit = true;
         self
     }
 
-    /// When lent objects are taken for abandoned and lose their places; `None`: never (`[abandoned]`, none).
+    /// Sets when lent objects count as abandoned and lose their places; `None`: never (`[abandoned]`, none).
     pub fn abandoned(mut self, abandoned: impl Into<Option<Abandoned>>) -> Builder<M> {
         self.settings.abandoned = abandoned.into();
+        self.chosen.abandoned = true;
         self
     }
 
-    /// A clock that tells moments in milliseconds, instead of one that tells them since the pool was opened. It is read under the
-    /// pool's lock, and must not call the pool.
+    /// Sets a clock that returns times in milliseconds, instead of the time since the pool was opened. It may be read under the pool's
+    /// lock, and must not call the pool.
+    ///
+    /// Times in the journal never fall: a time before that of the last entry counts as that one. If the clock panics, the time of the last
+    /// entry is taken.
     ///
     /// ```
     /// # use std::sync::{Arc, atomic::{AtomicU64, Ordering}};
@@ -183,39 +220,121 @@ impl<M: Manager> Builder<M> {
         self
     }
 
+    /// Sets the age at which objects are destroyed; `None`: none is destroyed for its age, which is the default. An object is destroyed at its
+    /// return, or by [`maintain`](Pool::maintain) and [`evict`](Pool::evict) while it is idle; no object is taken from its holder.
+    ///
+    /// Eviction runs then test each object that they examine (`testWhileIdle` is set in [`Pool::settings`]), but validate it only if you set
+    /// [`test_while_idle`](Builder::test_while_idle). The age is a failed test in the journal.
+    pub fn max_lifetime(mut self, time: impl Into<Option<Duration>>) -> Builder<M> {
+        self.max_lifetime = time.into();
+        self
+    }
+
+    /// Sets what receives the [failures](Failure) that no call returns: of objects that are not passivated, of idle ones that are not activated or
+    /// do not pass a test, of sinks, and of the maintenance thread. It is called without the pool's lock, by the thread in whose call
+    /// it happened. A panic of it is ignored. Without it these failures are ignored.
+    ///
+    /// ```
+    /// # use zuphinka::{Manager, Pool};
+    /// # struct Numbers;
+    /// # impl Manager for Numbers {
+    /// #     type Object = u64;
+    /// #     type Error = std::io::Error;
+    /// #     fn make(&self, id: u64) -> std::io::Result<u64> { Ok(id) }
+    /// # }
+    /// let pool = Pool::builder().on_error(|failure| eprintln!("pool: {failure}")).build(Numbers)?;
+    /// # Ok::<(), zuphinka::OpenError>(())
+    /// ```
+    pub fn on_error(
+        mut self,
+        on_error: impl Fn(Failure<M::Error>) + Send + Sync + 'static,
+    ) -> Builder<M> {
+        self.on_error = Some(Box::new(on_error));
+        self
+    }
+
     /// Opens a pool with these settings. It makes no object yet.
     ///
     /// # Errors
     ///
-    /// A number or a time is out of the range that is told with it, or there is no memory.
-    pub fn build(self, manager: M) -> Result<Pool<M>, OpenError> {
-        let Builder {
-            settings,
-            clock,
-            of: _,
-        } = self;
-        let text = settings.to_string();
-        Settings::from_toml(&text)?;
-        let core = Core::open(&text).map_err(|fault| match fault {
-            OpenFault::OutOfMemory => OpenError::OutOfMemory,
-            OpenFault::Settings(status) => {
-                unreachable!("the core refuses its settings with status {status}")
-            }
-        })?;
-        let clock = match clock {
+    /// A number or a time is out of its range, settings contradict each other, or there is no memory.
+    pub fn build(mut self, manager: M) -> Result<Pool<M>, OpenError> {
+        Settings::from_toml(&self.settings.to_string())?;
+        let policy = Policy {
+            max_lifetime: self.max_lifetime.map(|time| millis(time).unsigned_abs()),
+            tests_idle: self.settings.test_while_idle,
+            on_error: self.on_error.take(),
+        };
+        self.settings.test_while_idle |= self.max_lifetime.is_some();
+        let (mode, outlet) = self.take_journal();
+        if let Some(found) = self.chosen.contradiction(&self.settings, mode != Mode::Off) {
+            return Err(OpenError::Contradiction(found));
+        }
+        let state = LockedPool::new(open_core(&self.settings)?, mode);
+        let clock = match self.clock {
             Some(clock) => Clock::Given(clock),
             None => Clock::Since(Instant::now()),
         };
-        Ok(Pool::of(Shared::new(
-            Desk::new(core),
+        let pool = Arc::new(Shared::new(
+            state,
             clock,
+            outlet,
             manager,
-            settings,
-        )))
+            self.settings,
+            policy,
+        ));
+        if let Some((start, time)) = self.maintenance {
+            let started = start(&pool, time).map_err(|error| OpenError::Thread(error.kind()))?;
+            *pool.maintainer() = Some(started);
+        }
+        Ok(Pool::of(pool))
+    }
+
+    /// Returns what becomes of the journal, whose limit is set then.
+    fn take_journal(&mut self) -> (Mode, Option<Outlet>) {
+        let (mode, limit, outlet) = match std::mem::take(&mut self.journal) {
+            Journal::Off => (Mode::Off, Some(GREATEST_LIMIT), None),
+            Journal::Memory(limit) => (Mode::Memory, limit, None),
+            Journal::Segments(segments) => {
+                (Mode::Segments, segments.limit, Some(Outlet::new(segments)))
+            }
+        };
+        if let Some(entries) = limit {
+            self.settings.journal_limit = i64::try_from(entries).unwrap_or(i64::MAX);
+            self.chosen.journal_limit = true;
+        }
+        (mode, outlet)
     }
 }
 
-impl<M> fmt::Debug for Builder<M> {
+fn open_core(settings: &Settings) -> Result<Core, OpenError> {
+    let text = settings.to_string();
+    Settings::from_toml(&text)?;
+    Core::open(&text).map_err(|fault| match fault {
+        OpenFault::OutOfMemory => OpenError::OutOfMemory,
+        OpenFault::Settings(status) => {
+            unreachable!("the core refuses its settings with status {status}")
+        }
+    })
+}
+
+impl<M: Manager + 'static> Builder<M> {
+    /// Has a thread of the pool's own call [`maintain`](Pool::maintain): at once, and then this long after each round, at least one millisecond.
+    /// Its errors go to [`on_error`](Builder::on_error). The thread ends when the pool is closed, once it has done its round, or when the last
+    /// handle and the last lent object are gone.
+    pub fn maintain_every(mut self, time: Duration) -> Builder<M> {
+        self.maintenance = Some((Maintainer::start, time));
+        self
+    }
+}
+
+/// The limit of a wait if nothing else is set: that of r2d2.
+const DEFAULT_WAIT_MILLIS: i64 = 30_000;
+
+/// The greatest `journalLimit`.
+const GREATEST_LIMIT: u64 = 1 << 32;
+
+impl<M: Manager> fmt::Debug for Builder<M> {
     fn fmt(&self, f: &mut fmt::Formatter<'_>) -> fmt::Result {
         f.debug_struct("Builder")
             .field("settings", &self.settings)

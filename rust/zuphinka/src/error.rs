@@ -1,5 +1,5 @@
 use crate::step::StepFault;
-use std::{error, fmt};
+use std::{error, fmt, io};
 
 /// Why a call of a pool didn't do what it was asked for. `E` is the manager's error.
 ///
@@ -48,7 +48,8 @@ impl<E> From<StepFault> for Error<E> {
     }
 }
 
-impl<E: fmt::Display> fmt::Display for Error<E> {
+/// Says what happened. The manager's own error is the source.
+impl<E> fmt::Display for Error<E> {
     fn fmt(&self, f: &mut fmt::Formatter<'_>) -> fmt::Result {
         match self {
             Error::Exhausted => f.write_str("all objects of the pool are lent"),
@@ -56,9 +57,9 @@ impl<E: fmt::Display> fmt::Display for Error<E> {
             Error::Closed => f.write_str("the pool is closed"),
             Error::JournalFull => f.write_str("the journal of the pool is full"),
             Error::OutOfMemory => f.write_str("out of memory"),
-            Error::Make(error) => write!(f, "an object could not be made: {error}"),
-            Error::Activate(error) => write!(f, "a new object could not be activated: {error}"),
-            Error::Passivate(error) => write!(f, "a new object could not be passivated: {error}"),
+            Error::Make(_) => f.write_str("an object could not be made"),
+            Error::Activate(_) => f.write_str("a new object could not be activated"),
+            Error::Passivate(_) => f.write_str("a new object could not be passivated"),
             Error::CreateTest => f.write_str("a new object did not pass its test"),
             Error::BorrowTest => {
                 f.write_str("a new object did not pass its test before it was lent")
@@ -82,9 +83,54 @@ impl<E: error::Error + 'static> error::Error for Error<E> {
 pub enum OpenError {
     /// The settings can't be taken.
     Settings(SettingsError),
+    /// Two settings of the builder contradict each other.
+    Contradiction(Contradiction),
     /// There was no memory.
     OutOfMemory,
+    /// The maintenance thread could not be started, for this.
+    Thread(io::ErrorKind),
 }
+
+/// Which settings of a builder contradict each other.
+///
+/// Only what the builder's own methods set is an error: a text of settings is taken as the program takes it.
+#[derive(Clone, Copy, Debug, PartialEq, Eq, Hash)]
+#[non_exhaustive]
+pub enum Contradiction {
+    /// `max_total` is 0, and a borrow waits without limit: each would wait for ever.
+    NothingToWaitFor,
+    /// `min_idle` is more than `max_total` allows.
+    MinIdleAboveMaxTotal,
+    /// `min_idle` is more than `max_idle` allows.
+    MinIdleAboveMaxIdle,
+    /// `max_wait` has a limit, and `block_when_exhausted` is off: no borrow waits.
+    WaitWithoutBlocking,
+    /// `abandoned` is set, and neither `on_borrow` nor `on_maintenance` is: no object is ever reclaimed.
+    NeverReclaimed,
+    /// The journal has less room than one borrow, its return and the close of the pool take: no object would ever be lent.
+    JournalTooSmall,
+}
+
+impl fmt::Display for Contradiction {
+    fn fmt(&self, f: &mut fmt::Formatter<'_>) -> fmt::Result {
+        f.write_str(match self {
+            Contradiction::NothingToWaitFor => {
+                "a borrow would wait for ever: max_total is 0, and max_wait has no limit"
+            }
+            Contradiction::MinIdleAboveMaxTotal => "min_idle is above max_total",
+            Contradiction::MinIdleAboveMaxIdle => "min_idle is above max_idle",
+            Contradiction::WaitWithoutBlocking => {
+                "max_wait is set, and block_when_exhausted is off"
+            }
+            Contradiction::NeverReclaimed => {
+                "abandoned is set with neither on_borrow nor on_maintenance"
+            }
+            Contradiction::JournalTooSmall => "the journal has too little room for one loan",
+        })
+    }
+}
+
+impl error::Error for Contradiction {}
 
 /// Why settings can't be taken. A key is named as in a settings file, one of the table `abandoned` as `abandoned.<key>`.
 #[derive(Clone, Debug, PartialEq, Eq)]
@@ -114,23 +160,19 @@ impl From<SettingsError> for OpenError {
     }
 }
 
+/// Says all that is wrong: it has no source.
 impl fmt::Display for OpenError {
     fn fmt(&self, f: &mut fmt::Formatter<'_>) -> fmt::Result {
         match self {
             OpenError::Settings(error) => write!(f, "settings: {error}"),
+            OpenError::Contradiction(contradiction) => write!(f, "settings: {contradiction}"),
             OpenError::OutOfMemory => f.write_str("out of memory"),
+            OpenError::Thread(kind) => write!(f, "the maintenance thread: {kind}"),
         }
     }
 }
 
-impl error::Error for OpenError {
-    fn source(&self) -> Option<&(dyn error::Error + 'static)> {
-        match self {
-            OpenError::Settings(error) => Some(error),
-            OpenError::OutOfMemory => None,
-        }
-    }
-}
+impl error::Error for OpenError {}
 
 impl fmt::Display for SettingsError {
     fn fmt(&self, f: &mut fmt::Formatter<'_>) -> fmt::Result {

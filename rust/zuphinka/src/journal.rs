@@ -1,27 +1,47 @@
-//! The journal as text, and its segments.
+//! What becomes of a journal, and its text.
 
-use crate::core::Core;
+use crate::locked_pool::LockedPool;
 use crate::manager::Manager;
+use crate::proved_core::Core;
+use crate::segments::Segments;
 use crate::shared::Shared;
 use crate::step::StepFault;
 use std::io::{self, Write};
-use std::sync::PoisonError;
+use std::sync::{Arc, PoisonError};
+
+/// What becomes of the entries of a pool's journal, for [`Builder::journal`](crate::Builder::journal).
+///
+/// A borrow and a return are four entries.
+#[derive(Debug, Default)]
+#[non_exhaustive]
+pub enum Journal {
+    /// The entries are dropped, some thousands at a time. The pool never stops lending for its journal, and its memory stays flat. The
+    /// setting `journalLimit` has no effect: the pool sets it to 2^32, its greatest value. This is the default.
+    #[default]
+    Off,
+    /// The entries are kept in memory, at most this many, from 7 to 2^32; with `None`, as many as the setting `journalLimit` says. A pool whose
+    /// journal is full lends nothing more ([`Error::JournalFull`](crate::Error::JournalFull)), until it is [cut](crate::Pool::cut).
+    Memory(Option<u64>),
+    /// The entries are handed to a sink as segments, each when about half of the room in memory is used up, and the rest by
+    /// [`Pool::flush_journal`](crate::Pool::flush_journal) and when the last handle and the last lent object are gone.
+    Segments(Segments),
+}
 
 /// How many lines are copied at once, under the lock.
 const AT_ONCE: u64 = 256;
 
-/// How often a cut writes the entries that came meanwhile, before it holds the lock for the rest.
+/// How often a copy begins again because the journal was cut meanwhile, before it holds the lock.
 const ROUNDS: u32 = 4;
 
-/// Appends a line at a position: whether there is one.
+/// Appends a line at a position. Returns whether there is one.
 type Line = fn(&mut Core, u64, &mut Vec<u8>) -> Result<bool, StepFault>;
 
-fn out_of_memory(_: StepFault) -> io::Error {
+pub(crate) fn out_of_memory(_: StepFault) -> io::Error {
     io::ErrorKind::OutOfMemory.into()
 }
 
-/// Appends the lines from a position up to another, as far as there are so many: up to where.
-fn copy_lines(
+/// Appends the lines from a position up to another, if there are as many. Returns the position after the last one.
+pub(crate) fn copy_lines(
     core: &mut Core,
     line: Line,
     from: u64,
@@ -36,83 +56,99 @@ fn copy_lines(
     Ok(to)
 }
 
+/// Appends the lines of the base that the stored entries continue, if there are entries before them.
+fn copy_base<T>(state: &mut LockedPool<T>, text: &mut Vec<u8>) -> io::Result<()> {
+    if state.journal.first > 0 {
+        copy_lines(&mut state.core, Core::base_line, 0, u64::MAX, text)?;
+    }
+    Ok(())
+}
+
 impl<M: Manager> Shared<M> {
-    /// Writes the entries that are stored, behind the lines of their base where the journal was cut: how many entries.
-    pub fn journal(&self, out: &mut dyn Write) -> io::Result<u64> {
-        let cut_off = self.cut_off.read().unwrap_or_else(PoisonError::into_inner);
-        if *cut_off > 0 {
-            self.write_base(out)?;
-        }
-        let mut written = 0;
-        self.write_entries(&mut written, out)?;
-        Ok(written)
-    }
-
-    /// Writes the entries that no drain and no cut has written: how many.
-    pub fn drain_journal(&self, out: &mut dyn Write) -> io::Result<u64> {
-        let mut drained = self.drained.lock().unwrap_or_else(PoisonError::into_inner);
-        let cut_off = self.cut_off.read().unwrap_or_else(PoisonError::into_inner);
-        let before = *drained - *cut_off;
-        let mut position = before;
-        let written = self.write_entries(&mut position, out);
-        *drained = *cut_off + position;
-        written.map(|()| position - before)
-    }
-
-    /// Writes a segment, and cuts the journal behind it: how many entries it has.
-    ///
-    /// The last entries are written under the lock, so that none is cut that wasn't written.
-    pub fn cut(&self, out: &mut dyn Write) -> io::Result<u64> {
-        let mut drained = self.drained.lock().unwrap_or_else(PoisonError::into_inner);
-        let mut cut_off = self.cut_off.write().unwrap_or_else(PoisonError::into_inner);
-        self.write_base(out)?;
-        let mut written = 0;
-        for _ in 0..ROUNDS {
-            self.write_entries(&mut written, out)?;
-        }
-        let mut desk = self.lock();
-        let (end, mut text) = (desk.core.steps(), Vec::new());
-        copy_lines(&mut desk.core, Core::line, written, end, &mut text)?;
+    /// Writes the stored entries, after the lines of their base if the journal was cut. Returns their number.
+    pub fn write_journal(&self, out: &mut dyn Write) -> io::Result<u64> {
+        let (text, entries) = self.copy_journal()?;
         out.write_all(&text)?;
-        out.flush()?;
-        desk.core.cut().map_err(out_of_memory)?;
-        drop(desk);
-        *cut_off += end;
-        *drained = *cut_off;
-        Ok(end)
+        Ok(entries)
     }
 
-    /// Writes the lines of the base. It is the same as long as nobody cuts the journal.
-    fn write_base(&self, out: &mut dyn Write) -> io::Result<()> {
-        let mut position = 0;
-        self.write_lines(Core::base_line, &mut position, u64::MAX, out)
-    }
-
-    /// Writes the entries from a position up to those that there are now, and moves it on with what was written.
-    fn write_entries(&self, position: &mut u64, out: &mut dyn Write) -> io::Result<()> {
-        let end = self.lock().core.steps();
-        self.write_lines(Core::line, position, end, out)
-    }
-
-    /// Writes lines up to a position or to the last that there is. The lock is held while some of them are copied.
-    fn write_lines(
-        &self,
-        line: Line,
-        position: &mut u64,
-        end: u64,
-        out: &mut dyn Write,
-    ) -> io::Result<()> {
-        let mut text = Vec::new();
-        while *position < end {
-            text.clear();
-            let wanted = end.min(*position + AT_ONCE);
-            let next = copy_lines(&mut self.lock().core, line, *position, wanted, &mut text)?;
-            out.write_all(&text)?;
-            *position = next;
-            if next < wanted {
-                break;
+    /// Copies the stored journal. Returns its text and the number of its entries.
+    fn copy_journal(&self) -> io::Result<(Vec<u8>, u64)> {
+        for _ in 0..ROUNDS {
+            if let Some(copied) = self.try_copy_journal()? {
+                return Ok(copied);
             }
         }
-        Ok(())
+        let mut state = self.lock();
+        let (len, mut text) = (state.journal.len, Vec::new());
+        copy_base(&mut state, &mut text)?;
+        copy_lines(&mut state.core, Core::line, 0, len, &mut text)?;
+        Ok((text, len))
+    }
+
+    /// Copies the stored journal, some hundred lines at a time. Returns none if it was cut meanwhile.
+    fn try_copy_journal(&self) -> io::Result<Option<(Vec<u8>, u64)>> {
+        let mut text = Vec::new();
+        let mut state = self.lock();
+        let (first, len) = (state.journal.first, state.journal.len);
+        copy_base(&mut state, &mut text)?;
+        drop(state);
+        let mut copied = 0;
+        while copied < len {
+            let mut state = self.lock();
+            if state.journal.first != first {
+                return Ok(None);
+            }
+            let to = len.min(copied + AT_ONCE);
+            copied = copy_lines(&mut state.core, Core::line, copied, to, &mut text)?;
+        }
+        Ok(Some((text, len)))
+    }
+
+    /// Copies the stored entries up to the last one, some hundred at a time, while no other thread may cut them. Returns how many were
+    /// copied.
+    pub fn copy_stored(&self, mut copied: u64, text: &mut Vec<u8>) -> io::Result<u64> {
+        let end = self.lock().journal.len;
+        while copied < end {
+            let mut state = self.lock();
+            copied = copy_lines(
+                &mut state.core,
+                Core::line,
+                copied,
+                end.min(copied + AT_ONCE),
+                text,
+            )?;
+        }
+        Ok(copied)
+    }
+
+    /// Writes the entries that no drain has written and no cut has taken. Returns their number.
+    pub fn drain_journal(&self, out: &mut dyn Write) -> io::Result<u64> {
+        let _one_at_a_time = self.draining.lock().unwrap_or_else(PoisonError::into_inner);
+        let end = self.lock().journal.end();
+        let (mut text, mut written) = (Vec::new(), 0);
+        loop {
+            text.clear();
+            let (from, to) = self.copy_undrained(end, &mut text)?;
+            if from >= to {
+                return Ok(written);
+            }
+            out.write_all(&text)?;
+            self.lock().journal.drained = to;
+            written += to - from;
+        }
+    }
+
+    /// Copies entries that were not drained, some hundred, up to a position. Returns the positions between which they are.
+    fn copy_undrained(&self, end: u64, text: &mut Vec<u8>) -> io::Result<(u64, u64)> {
+        let mut state = self.lock();
+        let first = state.journal.first;
+        let from = state.journal.drained.max(first);
+        let to = end.min(from + AT_ONCE).max(from);
+        copy_lines(&mut state.core, Core::line, from - first, to - first, text)?;
+        Ok((from, to))
     }
 }
+
+/// The text of a journal that a cut took, shared by the threads that read and write it.
+pub(crate) type Cut = Arc<crate::stored_journal::CutSegment>;

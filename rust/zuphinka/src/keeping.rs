@@ -1,16 +1,21 @@
-//! Additions, fills, eviction runs, removals, clears and closes, in their sections.
+//! Additions, fills, eviction runs, removals, clears and closes, in their critical sections.
 
+use crate::callers::caller_number;
 use crate::error::Error;
-use crate::hand::{Hand, Work};
+use crate::failure::Failure;
+use crate::in_progress::{InProgress, Work};
 use crate::manager::Manager;
 use crate::shared::{unexpected, Shared};
 use crate::step::{Answer, Cause, Input, Outcome, When};
+use std::any::Any;
+use std::panic::{catch_unwind, resume_unwind, AssertUnwindSafe};
+use std::thread;
 
 /// What became of an addition.
 #[derive(Clone, Copy, Debug, PartialEq, Eq, Hash)]
 #[non_exhaustive]
 pub enum Addition {
-    /// The new object lies idle.
+    /// The new object is idle.
     Idle,
     /// There is no free place, and no object was made.
     NoPlace,
@@ -18,39 +23,40 @@ pub enum Addition {
     Destroyed,
 }
 
-/// What an eviction run did.
+/// The result of an eviction run.
 #[derive(Clone, Copy, Debug, Default, PartialEq, Eq, Hash)]
 #[non_exhaustive]
 pub struct Eviction {
-    /// How many idle objects it examined.
+    /// The number of idle objects that it examined.
     pub examined: u64,
-    /// How many of them it destroyed.
+    /// The number of those that it destroyed.
     pub destroyed: u64,
 }
 
-/// What a maintenance did.
+/// The result of a maintenance.
 #[derive(Clone, Copy, Debug, Default, PartialEq, Eq, Hash)]
 #[non_exhaustive]
 pub struct Maintenance {
     /// Its eviction run.
     pub eviction: Eviction,
-    /// How many abandoned objects it took from their holders.
+    /// The number of abandoned objects that it took from their holders.
     pub reclaimed: u64,
-    /// How many new objects it parked.
+    /// The number of new objects that it added.
     pub filled: u64,
 }
 
-/// Whether an examined object stays.
-enum Fate {
+/// What an eviction run does with an object.
+enum Disposition {
     Kept,
     Destroyed,
 }
 
 impl<M: Manager> Shared<M> {
-    /// Makes an object and parks it, where there is a free place.
+    /// Makes an object and parks it, if a place is free.
     pub fn add(&self) -> Result<Addition, Error<M::Error>> {
-        match self.ask(Input::Add, None)? {
-            (Answer::Make(id), _) => self.stock(id),
+        let caller = caller_number();
+        match self.run_section(caller, Input::Add, None)? {
+            (Answer::Make(id), _) => self.stock(caller, id),
             (Answer::NoPlace, _) => Ok(Addition::NoPlace),
             (Answer::Refused(Cause::Closed), _) => Err(Error::Closed),
             (answer, _) => unexpected(Input::Add, answer),
@@ -58,67 +64,56 @@ impl<M: Manager> Shared<M> {
     }
 
     /// Makes an object for the place that was found, and parks it.
-    fn stock(&self, id: u64) -> Result<Addition, Error<M::Error>> {
-        let mut hand = Hand::new(self, id, Work::Stock);
-        let mut object = match hand.call(Outcome::MakeFailed, |manager| manager.make(id)) {
-            Ok(object) => object,
-            Err(error) => {
-                hand.fail();
-                return Err(Error::Make(error));
-            }
-        };
-        if let Err(error) = self.prepare(&mut hand, &mut object) {
-            hand.reject(object);
-            return Err(error);
-        }
-        match hand.succeed(Some(object)) {
+    fn stock(&self, caller: u32, id: u64) -> Result<Addition, Error<M::Error>> {
+        let mut object = InProgress::new(self, caller, id, Work::Stock);
+        object.make().map_err(Error::Make)?;
+        self.test_new(&mut object)?;
+        object.passivate().map_err(Error::Passivate)?;
+        match object.park() {
             true => Ok(Addition::Idle),
             false => Ok(Addition::Destroyed),
         }
     }
 
-    /// Makes a new object ready to lie idle.
-    fn prepare(
-        &self,
-        hand: &mut Hand<'_, M>,
-        object: &mut M::Object,
-    ) -> Result<(), Error<M::Error>> {
-        self.test_new(hand, object)?;
-        let passivated = hand.call(Outcome::PassivateFailed, |manager| {
-            manager.passivate(object)
-        });
-        passivated.map_err(Error::Passivate)
-    }
-
-    /// Makes objects and parks them, until as many lie idle as the settings want or there is no free place: how many.
+    /// Makes objects and parks them, until enough are idle by the settings or no place is free. Returns their number.
     pub fn fill(&self) -> Result<u64, Error<M::Error>> {
+        let caller = caller_number();
         let mut parked = 0;
         loop {
-            match self.ask(Input::Fill, None)? {
-                (Answer::Make(id), _) => {
-                    if self.stock(id)? == Addition::Idle {
+            match self.run_section(caller, Input::Fill, None) {
+                Ok((Answer::Make(id), _)) => {
+                    if self.stock(caller, id)? == Addition::Idle {
                         parked += 1;
                     }
                 }
-                (Answer::Enough | Answer::NoPlace, _) => return Ok(parked),
-                (answer, _) => unexpected(Input::Fill, answer),
+                Ok((Answer::Enough | Answer::NoPlace, _)) => return Ok(parked),
+                Ok((answer, _)) => unexpected(Input::Fill, answer),
+                // It has enough, whatever the journal has room for.
+                Err(_) if self.lock().is_closed => return Ok(parked),
+                Err(error) => return Err(error),
             }
         }
     }
 
     /// Examines idle objects, as many as the settings say.
     pub fn evict(&self) -> Result<Eviction, Error<M::Error>> {
-        let count = match self.ask(Input::Evict, None)? {
+        self.run_eviction(self.policy.tests_idle)
+    }
+
+    /// Examines idle objects, as many as the settings say, and looks at their age. `tests` says whether they are validated too.
+    fn run_eviction(&self, tests: bool) -> Result<Eviction, Error<M::Error>> {
+        let caller = caller_number();
+        let count = match self.run_section(caller, Input::Evict, None)? {
             (Answer::Count(count), _) => count,
             (Answer::Refused(Cause::Closed), _) => return Err(Error::Closed),
             (answer, _) => unexpected(Input::Evict, answer),
         };
         let mut run = Eviction::default();
         for _ in 0..count {
-            match self.examine()? {
-                Some(fate) => {
+            match self.examine(caller, tests)? {
+                Some(disposition) => {
                     run.examined += 1;
-                    run.destroyed += u64::from(matches!(fate, Fate::Destroyed));
+                    run.destroyed += u64::from(matches!(disposition, Disposition::Destroyed));
                 }
                 None => break,
             }
@@ -126,52 +121,65 @@ impl<M: Manager> Shared<M> {
         Ok(run)
     }
 
+    /// Runs an eviction, and then more runs if objects have a lifetime, until each object that was idle is examined. Only the first one
+    /// validates.
+    fn evict_all_too_old(&self) -> Result<Eviction, Error<M::Error>> {
+        let idle = self.lock().idle();
+        let mut eviction = self.evict()?;
+        let mut has_more = self.policy.max_lifetime.is_some() && eviction.examined > 0;
+        while has_more && eviction.examined < idle {
+            let run = self.run_eviction(false)?;
+            has_more = run.examined > 0;
+            eviction.examined += run.examined;
+            eviction.destroyed += run.destroyed;
+        }
+        Ok(eviction)
+    }
+
     /// Examines the next idle object, if there is one.
-    fn examine(&self) -> Result<Option<Fate>, Error<M::Error>> {
-        match self.ask(Input::EvictNext, None)? {
-            (Answer::KeptIdle(_), _) => Ok(Some(Fate::Kept)),
-            (Answer::Test(id), Some(object)) => Ok(Some(self.test(id, object))),
+    fn examine(&self, caller: u32, tests: bool) -> Result<Option<Disposition>, Error<M::Error>> {
+        match self.run_section(caller, Input::EvictNext, None)? {
+            (Answer::KeptIdle(_), _) => Ok(Some(Disposition::Kept)),
+            (Answer::Test(id), Some(object)) => {
+                let object = InProgress::of(self, caller, id, Work::Test, object);
+                Ok(Some(self.test(id, object, tests)))
+            }
             (Answer::DestroyIdle(id), Some(object)) => {
-                Hand::destroying(self, id).destroy(object);
-                Ok(Some(Fate::Destroyed))
+                InProgress::destroying(self, caller, id, object).destroy();
+                Ok(Some(Disposition::Destroyed))
             }
             (Answer::Nothing, _) => Ok(None),
             (answer, _) => unexpected(Input::EvictNext, answer),
         }
     }
 
-    /// Wakes an idle object, tests it and lays it to rest.
-    fn test(&self, id: u64, mut object: M::Object) -> Fate {
-        let mut hand = Hand::new(self, id, Work::Test);
-        let passes = hand
-            .call(Outcome::ActivateFailed, |manager| {
-                manager.activate(&mut object)
-            })
-            .is_ok()
-            && hand.call(Outcome::TestFailed, |manager| manager.validate(&mut object))
-            && hand
-                .call(Outcome::PassivateFailed, |manager| {
-                    manager.passivate(&mut object)
-                })
-                .is_ok();
-        if !passes {
-            hand.reject(object);
-            return Fate::Destroyed;
+    /// Looks at the age of an idle object, and tests it if it is to be validated.
+    fn test(&self, id: u64, mut object: InProgress<'_, M>, tests: bool) -> Disposition {
+        if object.is_too_old() {
+            object.give_up();
+            return Disposition::Destroyed;
         }
-        match hand.succeed(Some(object)) {
-            true => Fate::Kept,
-            false => Fate::Destroyed,
+        if tests {
+            if let Err(failure) = try_out(id, &mut object) {
+                object.give_up();
+                self.report(failure);
+                return Disposition::Destroyed;
+            }
+        }
+        match object.park() {
+            true => Disposition::Kept,
+            false => Disposition::Destroyed,
         }
     }
 
-    /// Takes abandoned objects from their holders: how many.
-    pub fn reclaim(&self, on: When) -> Result<u64, Error<M::Error>> {
-        let count = match self.ask(Input::Reclaim { on }, None)? {
+    /// Takes abandoned objects from their holders. Returns their number.
+    pub fn reclaim(&self, caller: u32, on: When) -> Result<u64, Error<M::Error>> {
+        let count = match self.run_section(caller, Input::Reclaim { on }, None)? {
             (Answer::Count(count), _) => count,
             (answer, _) => unexpected(Input::Reclaim { on }, answer),
         };
         for taken in 0..count {
-            match self.ask(Input::ReclaimNext, None)? {
+            match self.run_section(caller, Input::ReclaimNext, None)? {
                 (Answer::Reclaimed(_), _) => {}
                 (Answer::Nothing, _) => return Ok(taken),
                 (answer, _) => unexpected(Input::ReclaimNext, answer),
@@ -180,57 +188,119 @@ impl<M: Manager> Shared<M> {
         Ok(count)
     }
 
-    /// An eviction run, then a removal of abandoned objects, then a fill.
+    /// Runs an eviction, then a removal of abandoned objects, then a fill.
     pub fn maintain(&self) -> Result<Maintenance, Error<M::Error>> {
         Ok(Maintenance {
-            eviction: self.evict()?,
-            reclaimed: self.reclaim(When::Maintain)?,
+            eviction: self.evict_all_too_old()?,
+            reclaimed: self.reclaim(caller_number(), When::Maintain)?,
             filled: self.fill()?,
         })
     }
 
-    /// Destroys the idle objects: how many.
+    /// Destroys the idle objects. Returns their number.
     pub fn clear(&self) -> Result<u64, Error<M::Error>> {
-        match self.ask(Input::Clear, None)? {
-            (Answer::Count(count), _) => self.sweep(count).map_err(|(_, error)| error),
+        let caller = caller_number();
+        let swept = match self.run_section(caller, Input::Clear, None)? {
+            (Answer::Count(count), _) => self.sweep(caller, count),
             (answer, _) => unexpected(Input::Clear, answer),
-        }
+        };
+        let (destroyed, error) = swept.end();
+        error.map_or(Ok(destroyed), Err)
     }
 
-    /// Destroys idle objects, as many as there are up to a count: how many, also where it was refused.
-    fn sweep(&self, count: u64) -> Result<u64, (u64, Error<M::Error>)> {
-        for taken in 0..count {
-            match self
-                .ask(Input::ClearNext, None)
-                .map_err(|error| (taken, error))?
-            {
-                (Answer::DestroyIdle(id), Some(object)) => {
-                    Hand::destroying(self, id).destroy(object)
+    /// Destroys idle objects, at most `count`, also if the manager panics meanwhile.
+    fn sweep(&self, caller: u32, count: u64) -> Swept<M::Error> {
+        let mut swept = Swept {
+            destroyed: 0,
+            error: None,
+            panic: None,
+        };
+        while swept.destroyed < count {
+            match self.run_section(caller, Input::ClearNext, None) {
+                Ok((Answer::DestroyIdle(id), Some(object))) => {
+                    let object = InProgress::destroying(self, caller, id, object);
+                    let destroyed = catch_unwind(AssertUnwindSafe(|| object.destroy()));
+                    swept.panic = swept.panic.or(destroyed.err());
+                    swept.destroyed += 1;
                 }
-                (Answer::Nothing, _) => return Ok(taken),
-                (answer, _) => unexpected(Input::ClearNext, answer),
+                Ok((Answer::Nothing, _)) => break,
+                Ok((answer, _)) => unexpected(Input::ClearNext, answer),
+                Err(error) => {
+                    swept.error = Some(error);
+                    break;
+                }
             }
         }
-        Ok(count)
+        swept
     }
 
-    /// Closes the pool, and destroys the idle objects: how many.
+    /// Closes the pool, and destroys the idle objects. Returns their number.
     pub fn close(&self) -> u64 {
-        match self.ask(Input::Close, None) {
-            // It is refused for room or memory only where no object is idle any more.
-            Ok((Answer::Count(count), _)) => self.sweep(count).unwrap_or_else(|(taken, _)| taken),
-            // The first close is never refused.
-            Ok((Answer::Nothing, _)) | Err(_) => 0,
+        if let Some(maintainer) = &*self.maintainer() {
+            maintainer.stop();
+        }
+        let caller = caller_number();
+        let count = match self.run_section(caller, Input::Close, None) {
+            Ok((Answer::Count(count), _)) => count,
+            // The first close never fails. A later one destroys what is left, if an earlier one could not.
+            Ok((Answer::Nothing, _)) | Err(_) => self.lock().idle(),
             Ok((answer, _)) => unexpected(Input::Close, answer),
+        };
+        // It fails for room or memory only if no object is idle any more.
+        let (destroyed, _) = self.sweep(caller, count).end();
+        destroyed
+    }
+}
+
+/// Activates an idle object, validates it and passivates it.
+fn try_out<M: Manager>(id: u64, object: &mut InProgress<'_, M>) -> Result<(), Failure<M::Error>> {
+    let activated = object.activate();
+    activated.map_err(|error| Failure::Activate { id, error })?;
+    if !object.validate(Outcome::TestFailed) {
+        return Err(Failure::Test { id });
+    }
+    let passivated = object.passivate();
+    passivated.map_err(|error| Failure::Passivate { id, error })
+}
+
+/// The result of the destruction of idle objects.
+struct Swept<E> {
+    destroyed: u64,
+    /// Why it ended early.
+    error: Option<Error<E>>,
+    /// The first panic of the manager.
+    panic: Option<Box<dyn Any + Send>>,
+}
+
+impl<E> Swept<E> {
+    /// Returns the number of destroyed objects, and an error. A panic of the manager continues, unless this thread panics already.
+    fn end(self) -> (u64, Option<Error<E>>) {
+        match self.panic {
+            Some(panic) if !thread::panicking() => resume_unwind(panic),
+            _ => (self.destroyed, self.error),
         }
     }
 }
 
-/// Nobody has the pool any more, nor an object of it: it is closed, so that the manager destroys the idle objects.
+/// The last handle and the last lent object are gone: the pool is closed, so that the manager destroys the idle objects, and the rest of
+/// the journal is handed to its sink.
 impl<M: Manager> Drop for Shared<M> {
     fn drop(&mut self) {
-        if !self.lock().is_closed {
-            self.close();
+        let state = self.lock();
+        let is_done = state.is_closed && state.idle() == 0;
+        drop(state);
+        let closed = match is_done {
+            true => Ok(0),
+            false => catch_unwind(AssertUnwindSafe(|| self.close())),
+        };
+        self.write_rest();
+        let maintainer = self.maintainer().take();
+        if let Some(maintainer) = maintainer {
+            maintainer.join();
+        }
+        match closed {
+            Err(panic) if !thread::panicking() => resume_unwind(panic),
+            _ => {}
         }
     }
 }

@@ -1,18 +1,21 @@
-//! Borrows, returns, invalidations and uses, in their sections.
+//! Borrows, returns, invalidations and uses, in their critical sections.
 
+use crate::callers::caller_number;
 use crate::error::Error;
-use crate::hand::{Hand, Work};
+use crate::failure::Failure;
+use crate::in_progress::{InProgress, Work};
+use crate::locked_pool::TakenBack;
 use crate::manager::Manager;
 use crate::pooled::Pooled;
-use crate::shared::{unexpected, Patience, Shared};
-use crate::step::{Answer, Cause, Input, Outcome, When};
+use crate::shared::{unexpected, Acquired, Item, Shared, WaitLimit};
+use crate::step::{Answer, Input, Outcome, When};
 use std::sync::Arc;
 
-/// What became of an object that was given back or invalidated.
+/// What became of an object that was returned or invalidated.
 #[derive(Clone, Copy, Debug, PartialEq, Eq, Hash)]
 #[non_exhaustive]
 pub enum Returned {
-    /// It lies idle.
+    /// It is idle.
     Parked,
     /// It was destroyed, and its place is free.
     Destroyed,
@@ -31,140 +34,145 @@ pub enum Touched {
 }
 
 impl<M: Manager> Shared<M> {
-    /// Lends an object: an idle one, or a new one where there is a free place.
-    pub fn borrow(self: &Arc<Self>, patience: Patience) -> Result<Pooled<M>, Error<M::Error>> {
+    /// Lends an object: an idle one, or a new one if a place is free.
+    pub fn borrow(self: &Arc<Self>, limit: WaitLimit) -> Result<Pooled<M>, Error<M::Error>> {
+        let caller = caller_number();
         let began = self.now();
         if self.settings.removes_on_borrow() {
-            self.reclaim(When::Borrow)?;
+            self.reclaim(caller, When::Borrow)?;
         }
+        let mut time = began;
         loop {
-            match self.look(began, patience)? {
-                (Answer::Take(id), Some(object)) => {
-                    if let Some(pooled) = self.lend_taken(id, object) {
-                        return Ok(pooled);
-                    }
-                }
-                (Answer::Make(id), _) => return self.lend_made(id),
-                (Answer::Refused(Cause::Closed), _) => return Err(Error::Closed),
-                (Answer::Exhausted, _) => return Err(Error::Exhausted),
-                (Answer::TimedOut, _) => return Err(Error::TimedOut),
-                (answer, _) => unexpected(Input::Borrow { began }, answer),
+            let (id, object) = match self.acquire(caller, began, time, limit)? {
+                Acquired::Lent(id, object) => (id, Some(object)),
+                Acquired::Taken(id, object) => (id, self.ready_taken(caller, id, object)),
+                Acquired::New(id) => (id, Some(self.ready_new(caller, id)?)),
+            };
+            if let Some(object) = object {
+                return Ok(Pooled::new(Arc::clone(self), id, object));
             }
+            time = self.now();
         }
     }
 
-    /// An idle object that was taken. There is none where it didn't get ready: then it was destroyed.
-    fn lend_taken(self: &Arc<Self>, id: u64, mut object: M::Object) -> Option<Pooled<M>> {
-        let mut hand = Hand::new(self, id, Work::Lend);
-        if self.activate(&mut hand, &mut object).is_err() {
-            hand.reject(object);
-            return None;
-        }
-        Some(self.lend(hand, id, object))
-    }
-
-    fn lend_made(self: &Arc<Self>, id: u64) -> Result<Pooled<M>, Error<M::Error>> {
-        let mut hand = Hand::new(self, id, Work::Lend);
-        let mut object = match hand.call(Outcome::MakeFailed, |manager| manager.make(id)) {
-            Ok(object) => object,
+    /// Makes an idle object ready for its holder. Returns none if that failed: then the object was destroyed.
+    fn ready_taken(&self, caller: u32, id: u64, object: Item<M>) -> Option<Item<M>> {
+        let mut object = InProgress::of(self, caller, id, Work::Lend, object);
+        match self.ready(&mut object) {
+            Ok(()) => Some(object.lend()),
             Err(error) => {
-                hand.fail();
-                return Err(Error::Make(error));
+                object.give_up();
+                self.report(match error {
+                    Error::Activate(error) => Failure::Activate { id, error },
+                    _ => Failure::Test { id },
+                });
+                None
             }
-        };
-        if let Err(error) = self.ready(&mut hand, &mut object) {
-            hand.reject(object);
-            return Err(error);
         }
-        Ok(self.lend(hand, id, object))
     }
 
-    /// Makes a new object ready for a holder.
-    fn ready(&self, hand: &mut Hand<'_, M>, object: &mut M::Object) -> Result<(), Error<M::Error>> {
-        self.test_new(hand, object)?;
-        self.activate(hand, object)
+    /// Makes a new object, and makes it ready for its holder.
+    fn ready_new(&self, caller: u32, id: u64) -> Result<Item<M>, Error<M::Error>> {
+        let mut object = InProgress::new(self, caller, id, Work::Lend);
+        object.make().map_err(Error::Make)?;
+        self.test_new(&mut object)?;
+        self.ready(&mut object)?;
+        Ok(object.lend())
     }
 
-    /// Tests a new object, where that is set.
-    pub fn test_new(
-        &self,
-        hand: &mut Hand<'_, M>,
-        object: &mut M::Object,
-    ) -> Result<(), Error<M::Error>> {
-        let test = |manager: &M| manager.validate(object);
-        if self.settings.test_on_create && !hand.call(Outcome::CreateTestFailed, test) {
+    /// Tests a new object, if that is set.
+    pub fn test_new(&self, object: &mut InProgress<'_, M>) -> Result<(), Error<M::Error>> {
+        if self.settings.test_on_create && !object.validate(Outcome::CreateTestFailed) {
             return Err(Error::CreateTest);
         }
         Ok(())
     }
 
-    fn activate(
-        &self,
-        hand: &mut Hand<'_, M>,
-        object: &mut M::Object,
-    ) -> Result<(), Error<M::Error>> {
-        let activated = hand.call(Outcome::ActivateFailed, |manager| manager.activate(object));
-        activated.map_err(Error::Activate)?;
-        let test = |manager: &M| manager.validate(object);
-        if self.settings.test_on_borrow && !hand.call(Outcome::TestFailed, test) {
+    fn ready(&self, object: &mut InProgress<'_, M>) -> Result<(), Error<M::Error>> {
+        object.activate().map_err(Error::Activate)?;
+        if self.settings.test_on_borrow && !object.validate(Outcome::TestFailed) {
             return Err(Error::BorrowTest);
         }
         Ok(())
     }
 
-    /// A ready object is its holder's.
-    fn lend(self: &Arc<Self>, hand: Hand<'_, M>, id: u64, object: M::Object) -> Pooled<M> {
-        hand.succeed(None);
-        Pooled::new(Arc::clone(self), id, object)
-    }
-
     /// Takes an object back.
-    pub fn give_back(&self, id: u64, object: M::Object) -> Returned {
-        match self.ask(Input::GiveBack { id }, None) {
-            Ok((Answer::Check, _)) => self.park(id, object),
-            // It is refused for room or memory only where the object isn't lent any more.
-            Ok((Answer::Gone, _)) | Err(_) => self.let_go(object),
-            Ok((answer, _)) => unexpected(Input::GiveBack { id }, answer),
+    pub fn give_back(&self, id: u64, object: Item<M>) -> Returned {
+        let caller = caller_number();
+        match self.take_back(caller, id, object) {
+            TakenBack::Parked => Returned::Parked,
+            TakenBack::Check(object) => self.park(caller, id, object),
+            TakenBack::Destroy(object) => {
+                InProgress::destroying(self, caller, id, object).destroy();
+                Returned::Destroyed
+            }
+            TakenBack::Gone(object) => self.let_go(object),
         }
     }
 
-    /// An object that came back lies idle, if it passes and there is room for it.
-    fn park(&self, id: u64, mut object: M::Object) -> Returned {
-        let mut hand = Hand::new(self, id, Work::Park);
-        let test = |manager: &M| manager.validate(&mut object);
-        let passes = !self.settings.test_on_return || hand.call(Outcome::TestFailed, test);
-        let rest = |manager: &M| manager.passivate(&mut object);
-        if !passes || hand.call(Outcome::PassivateFailed, rest).is_err() {
-            hand.reject(object);
+    /// Makes a returned object idle, if it passes and there is room for it.
+    fn park(&self, caller: u32, id: u64, object: Item<M>) -> Returned {
+        let mut object = InProgress::of(self, caller, id, Work::Park, object);
+        if object.is_too_old() {
+            object.give_up();
             return Returned::Destroyed;
         }
-        match hand.succeed(Some(object)) {
+        if self.settings.test_on_return && !object.validate(Outcome::TestFailed) {
+            object.give_up();
+            self.report(Failure::Test { id });
+            return Returned::Destroyed;
+        }
+        if let Err(error) = object.passivate() {
+            object.give_up();
+            self.report(Failure::Passivate { id, error });
+            return Returned::Destroyed;
+        }
+        match object.park() {
             true => Returned::Parked,
             false => Returned::Destroyed,
         }
     }
 
-    /// Takes an object back that can't be used any more.
-    pub fn invalidate(&self, id: u64, object: M::Object) -> Returned {
-        match self.ask(Input::Invalidate { id }, None) {
+    /// Takes an object back that cannot be used any more.
+    pub fn invalidate(&self, id: u64, object: Item<M>) -> Returned {
+        let caller = caller_number();
+        match self.run_section(caller, Input::Invalidate { id }, None) {
             Ok((Answer::Destroy, _)) => {
-                Hand::destroying(self, id).destroy(object);
+                InProgress::destroying(self, caller, id, object).destroy();
                 Returned::Destroyed
             }
+            // It fails for room or memory only if the object is not lent any more.
             Ok((Answer::Gone, _)) | Err(_) => self.let_go(object),
             Ok((answer, _)) => unexpected(Input::Invalidate { id }, answer),
         }
     }
 
-    /// An object that was reclaimed has no place to be given up.
-    fn let_go(&self, object: M::Object) -> Returned {
-        self.manager.destroy(object);
+    /// Frees the place of an object that its holder keeps. One that was reclaimed has none.
+    pub fn detach(&self, id: u64) {
+        let caller = caller_number();
+        match self.run_section(caller, Input::Invalidate { id }, None) {
+            Ok((Answer::Destroy, _)) => {
+                let input = Input::Destroyed { id };
+                match self.complete(caller, input) {
+                    Answer::Freed => {}
+                    answer => unexpected(input, answer),
+                }
+            }
+            // It fails for room or memory only if the object is not lent any more.
+            Ok((Answer::Gone, _)) | Err(_) => {}
+            Ok((answer, _)) => unexpected(Input::Invalidate { id }, answer),
+        }
+    }
+
+    /// Destroys an object that was reclaimed: it has no place to be freed.
+    fn let_go(&self, object: Item<M>) -> Returned {
+        self.destroy(object.object);
         Returned::Gone
     }
 
     /// Notes that an object is used.
     pub fn touch(&self, id: u64) -> Result<Touched, Error<M::Error>> {
-        match self.ask(Input::Use { id }, None)? {
+        match self.run_section(caller_number(), Input::Use { id }, None)? {
             (Answer::Noted, _) => Ok(Touched::Noted),
             (Answer::Gone, _) => Ok(Touched::Gone),
             (answer, _) => unexpected(Input::Use { id }, answer),

@@ -1,13 +1,12 @@
-//! An object pool for threads, round the proved core of Zuphinka.
+//! An object pool for threads, over the proved core of Zuphinka.
 //!
-//! **Proved** is each step of the core: what it answers, which entry it appends to the journal, and that a step that finishes
-//! what was begun is never refused. In every legal journal no more than `maxTotal` objects are present, none is lent to two at once, and
-//! none that was made is lost. **Not proved** is this crate: its lock, its sections (which steps a call takes, and what it does
-//! with the objects between them), its waits and wakes, and the binding of the C library. They are tested. But **the journal of a
-//! run can be judged**: `pool check SETTINGS JOURNAL` says whether the answers on which all calls of this very run went were those
-//! that the definitions say are due.
+//! **Proved** is each step of the core: its answer, the entry that it appends to the journal, and that a completing step never fails. In every
+//! legal journal no more than `maxTotal` objects are present, none is lent to two at once, and none that was made is lost. **Tested, not
+//! proved** is this crate: its lock, its critical sections (which steps a call takes, and what it does with the objects between them), its
+//! waits and wakes, and the binding of the C library. But **the journal of a run can be checked**: `pool check SETTINGS JOURNAL` says whether
+//! the answers in this very run were the expected ones.
 //!
-//! A [`Manager`] makes objects; a [`Pool`] lends them, as [`Pooled`] guards that give them back when they are dropped.
+//! A [`Manager`] makes objects; a [`Pool`] lends them, as [`Pooled`] guards that return them when they are dropped.
 //!
 //! ```
 //! use zuphinka::{Manager, Pool};
@@ -36,14 +35,11 @@
 //!     }
 //! });
 //! assert_eq!(pool.counts().lent, 0);
-//! pool.close();
-//! pool.journal(std::io::stdout())?;
 //! # Ok::<(), Box<dyn std::error::Error>>(())
 //! ```
 //!
-//! The journal is kept in memory, and has at most `journalLimit` entries ([`Builder::journal_limit`]), 1,000,000 where nothing else is
-//! set. A borrow and a return are four. **A pool whose journal is full lends nothing more**: look at [`Pool::room`], and cut the journal
-//! in time ([`Pool::cut`]). Then a pool runs for years, and its segments are judged as one journal.
+//! A pool lends for ever: by default it drops the entries of its journal, some thousands at a time. [`Builder::journal`] keeps them in memory
+//! ([`Journal::Memory`]), or stores them in segments ([`Journal::Segments`]), which `pool check` checks as one journal.
 //!
 //! Build the C library first, by `python3 tools/build.py zuphinka`; `build.rs` says where else it may lie.
 #![warn(missing_docs)]
@@ -51,32 +47,49 @@
 
 mod builder;
 mod callers;
-mod core;
-mod desk;
+mod clock;
+mod contradictions;
+#[cfg(test)]
+mod dropped_segments;
 mod error;
-mod hand;
+mod failure;
+mod idle_values;
+mod in_progress;
 mod journal;
 mod keeping;
-mod kept;
 mod lending;
+mod locked;
+mod locked_pool;
+mod maintenance;
 mod manager;
 mod pool;
 mod pooled;
+mod proved_core;
+mod segments;
 mod settings;
 mod shared;
 mod step;
+mod stored_journal;
 mod sys;
+mod writing;
 
 pub use builder::Builder;
 pub use callers::caller_number;
-pub use error::{Error, OpenError, SettingsError};
+pub use error::{Contradiction, Error, OpenError, SettingsError};
+pub use failure::Failure;
+pub use journal::Journal;
 pub use keeping::{Addition, Eviction, Maintenance};
 pub use lending::{Returned, Touched};
 pub use manager::Manager;
-pub use pool::Pool;
+pub use pool::{Pool, WeakPool};
 pub use pooled::Pooled;
+pub use segments::{Segment, SegmentFolder, SegmentSink, Segments, SinkFailure};
 pub use settings::Abandoned;
 pub use step::Counts;
+
+// The tests in `src` share what those in `tests` do, which name this crate.
+#[cfg(test)]
+extern crate self as zuphinka;
 
 /// The code that the README shows.
 #[cfg(doctest)]

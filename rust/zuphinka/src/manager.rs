@@ -1,7 +1,6 @@
-/// How the objects of a pool are made, readied, tested and destroyed.
+/// Makes, activates, validates, passivates and destroys the objects of a pool.
 ///
-/// All calls come without the pool's lock, from the thread whose call of the pool needs them, so they may take long and run
-/// beside each other. Where one panics, the object is dropped, its place is free again, and the panic goes on.
+/// The pool calls it without its lock, in the thread whose call needs it, so calls may take long and run in parallel. If one panics, its object is destroyed, its place is freed, and the panic continues.
 ///
 /// ```
 /// use std::net::{SocketAddr, TcpStream};
@@ -25,38 +24,43 @@ pub trait Manager: Send + Sync {
     /// What is lent.
     type Object: Send;
 
-    /// Why an object couldn't be made, activated or passivated.
+    /// Why an object could not be made, activated or passivated.
     type Error;
+
+    /// Whether [`activate`](Manager::activate) does anything. If this is false, it is never called: then a borrow of an idle object
+    /// takes the pool's lock once instead of twice, unless objects are validated before they are lent (`testOnBorrow`).
+    const ACTIVATES: bool = true;
+
+    /// Whether [`passivate`](Manager::passivate) does anything. If this is false, it is never called: then a return takes the pool's
+    /// lock once instead of twice, unless objects are validated at their return (`testOnReturn`).
+    const PASSIVATES: bool = true;
 
     /// Makes an object. The id is the one that it has in the journal; ids count from 0, and none is given twice.
     ///
     /// # Errors
     ///
-    /// There is no object. Its place is free again, and the call that wanted it ends with [`Error::Make`](crate::Error::Make).
+    /// There is no object. Its place is freed, and the call that needed it fails with [`Error::Make`](crate::Error::Make).
     fn make(&self, id: u64) -> Result<Self::Object, Self::Error>;
 
-    /// Makes an object ready for a holder: one that was made for it, one that lay idle, and one that is to be tested in an
-    /// eviction run.
+    /// Makes an object ready for a holder: a new one, an idle one, or one that an eviction run is to validate.
     ///
     /// # Errors
     ///
-    /// The object is destroyed. A borrow then takes another one, or ends with [`Error::Activate`](crate::Error::Activate)
-    /// where the object was new.
+    /// The object is destroyed. A borrow then takes another one, or fails with [`Error::Activate`](crate::Error::Activate) if the
+    /// object was new.
     fn activate(&self, object: &mut Self::Object) -> Result<(), Self::Error> {
         let _ = object;
         Ok(())
     }
 
-    /// Whether the object can be used. It is asked where the settings say so: of a new object (`testOnCreate`), before one
-    /// is lent (`testOnBorrow`), after it came back (`testOnReturn`), and in an eviction run (`testWhileIdle`). One that
-    /// can't is destroyed.
+    /// Returns whether the object can be used; otherwise it is destroyed. It is called if the settings say so: for a new object
+    /// (`testOnCreate`), before one is lent (`testOnBorrow`), at its return (`testOnReturn`), and in an eviction run (`testWhileIdle`).
     fn validate(&self, object: &mut Self::Object) -> bool {
         let _ = object;
         true
     }
 
-    /// Makes an object ready to lie idle: one that came back, one that was added to the stock, and one that was tested in
-    /// an eviction run.
+    /// Makes an object ready to be idle: one that was returned, one that was added, or one that an eviction run validated.
     ///
     /// # Errors
     ///
@@ -66,7 +70,8 @@ pub trait Manager: Send + Sync {
         Ok(())
     }
 
-    /// Ends an object. Its place is free once this returns. What goes wrong in it is the manager's own matter.
+    /// Ends an object. Its place is freed once this returns or panics. It may be called while the thread panics, and then a panic of its own
+    /// is ignored.
     fn destroy(&self, object: Self::Object) {
         drop(object);
     }

@@ -1,29 +1,30 @@
 use crate::builder::Builder;
+use crate::callers::caller_number;
 use crate::error::{Error, OpenError};
 use crate::keeping::{Addition, Eviction, Maintenance};
-use crate::lending::Returned;
 use crate::manager::Manager;
 use crate::pooled::Pooled;
-use crate::shared::{Patience, Shared};
+use crate::shared::{Shared, WaitLimit};
 use crate::step::{Counts, When};
 use std::fmt;
 use std::io::{self, Write};
-use std::sync::Arc;
+use std::sync::{Arc, Weak};
 use std::time::{Duration, Instant};
 
 /// A pool that threads share. A clone is a handle of the same pool.
 ///
-/// All calls may come from any thread. Each is made of sections, in which the pool's lock is held for one step of the core and one
-/// entry of the journal; the manager is called between them. The entries stand under the number of the thread that calls
-/// ([`caller_number`](crate::caller_number)), with the moment in milliseconds since the pool was opened.
+/// Any thread may make any call. A call consists of critical sections, in which the pool's lock is held for one step of the core and one
+/// entry of the journal, or two if nothing lies between them; the manager is called without the lock. An entry has the number of the calling
+/// thread ([`caller_number`](crate::caller_number)), and the time in milliseconds since the pool was opened.
 ///
-/// When the last handle and the last lent object are gone the pool is closed, if it wasn't before.
+/// When the last handle and the last lent object are gone, the pool is closed. A thread that is to end with the pool, as one that maintains
+/// it, has a [`WeakPool`] instead of a handle.
 pub struct Pool<M: Manager> {
     shared: Arc<Shared<M>>,
 }
 
 impl<M: Manager> Pool<M> {
-    /// Settings for a pool, with their defaults.
+    /// Returns the settings of a pool to be opened, with their defaults.
     pub fn builder() -> Builder<M> {
         Builder::new()
     }
@@ -37,41 +38,62 @@ impl<M: Manager> Pool<M> {
         Builder::new().build(manager)
     }
 
-    pub(crate) fn of(shared: Shared<M>) -> Pool<M> {
-        Pool {
-            shared: Arc::new(shared),
-        }
+    pub(crate) fn of(shared: Arc<Shared<M>>) -> Pool<M> {
+        Pool { shared }
     }
 
-    /// Lends an object: an idle one, or a new one where a place is free. Where there is neither it waits, or is refused, as
-    /// the settings say (`blockWhenExhausted`, `maxWaitMillis`).
+    #[cfg(test)]
+    pub(crate) fn shared(&self) -> &Shared<M> {
+        &self.shared
+    }
+
+    /// Lends an object: an idle one, or a new one if a place is free. If there is neither, it waits or fails, as the settings say
+    /// (`blockWhenExhausted`, `maxWaitMillis`).
     ///
-    /// An idle object that isn't activated, or doesn't pass the test of `testOnBorrow`, is destroyed, and the borrow goes on.
+    /// An idle object that is not activated, or does not pass the test of `testOnBorrow`, is destroyed, and the borrow continues.
+    ///
+    /// ```
+    /// # use zuphinka::{Manager, Pool};
+    /// # struct Sockets;
+    /// # impl Manager for Sockets {
+    /// #     type Object = std::net::UdpSocket;
+    /// #     type Error = std::io::Error;
+    /// #     fn make(&self, _id: u64) -> std::io::Result<std::net::UdpSocket> {
+    /// #         std::net::UdpSocket::bind("127.0.0.1:0")
+    /// #     }
+    /// # }
+    /// fn port_of(pool: &Pool<Sockets>) -> Result<u16, Box<dyn std::error::Error + Send + Sync>> {
+    ///     let socket = pool.get()?;
+    ///     Ok(socket.local_addr()?.port())
+    /// }
+    /// # assert_ne!(port_of(&Pool::new(Sockets)?).unwrap(), 0);
+    /// # Ok::<(), zuphinka::OpenError>(())
+    /// ```
     ///
     /// # Errors
     ///
-    /// [`Error::Exhausted`], [`Error::TimedOut`] and [`Error::Closed`]. Of a new object [`Error::Make`],
-    /// [`Error::CreateTest`], [`Error::Activate`] and [`Error::BorrowTest`]: it is destroyed, and its place is free again.
+    /// [`Error::Exhausted`], [`Error::TimedOut`] and [`Error::Closed`]. For a new object [`Error::Make`], [`Error::CreateTest`],
+    /// [`Error::Activate`] and [`Error::BorrowTest`]: it is destroyed, and its place is free.
     /// [`Error::JournalFull`] and [`Error::OutOfMemory`].
     pub fn get(&self) -> Result<Pooled<M>, Error<M::Error>> {
-        self.shared.borrow(Patience::AsSet)
+        self.shared.borrow(WaitLimit::AsSet)
     }
 
-    /// Lends an object without waiting for another to come back: an idle one, or a new one where a place is free.
+    /// Lends an object without waiting for one: an idle one, or a new one if a place is free.
     ///
     /// # Errors
     ///
-    /// [`Error::Exhausted`], where there is neither. The others are those of [`get`](Pool::get), but for [`Error::TimedOut`].
+    /// [`Error::Exhausted`] if there is neither. The others are those of [`get`](Pool::get), except [`Error::TimedOut`].
     pub fn try_get(&self) -> Result<Pooled<M>, Error<M::Error>> {
-        match self.shared.borrow(Patience::None) {
+        match self.shared.borrow(WaitLimit::None) {
             // So the core answers where `maxWaitMillis` is 0.
             Err(Error::TimedOut) => Err(Error::Exhausted),
             lent => lent,
         }
     }
 
-    /// Lends an object as [`get`](Pool::get) does, and waits no longer than this time, nor than the settings say. What the
-    /// manager does takes the time that it takes.
+    /// Lends an object as [`get`](Pool::get) does, and waits for one no longer than this time, nor than the settings allow. The time does not
+    /// bound what the manager does: if [`make`](Manager::make) takes a minute, so does this call.
     ///
     /// # Errors
     ///
@@ -79,56 +101,51 @@ impl<M: Manager> Pool<M> {
     pub fn get_timeout(&self, timeout: Duration) -> Result<Pooled<M>, Error<M::Error>> {
         let end = Instant::now().checked_add(timeout);
         self.shared
-            .borrow(end.map_or(Patience::AsSet, Patience::Until))
+            .borrow(end.map_or(WaitLimit::AsSet, WaitLimit::Until))
     }
 
-    /// Takes back an object that can't be used any more, and destroys it. Where the guard is of another pool, it goes back
-    /// to that one.
-    pub fn invalidate(&self, object: Pooled<M>) -> Returned {
-        Pooled::invalidate(object)
-    }
-
-    /// Makes an object and parks it, where a place is free.
+    /// Makes an object and adds it to the idle ones, if a place is free.
     ///
     /// # Errors
     ///
-    /// [`Error::Closed`]; [`Error::Make`], [`Error::CreateTest`] and [`Error::Passivate`]: the object is destroyed, and its
-    /// place is free again; [`Error::JournalFull`] and [`Error::OutOfMemory`], before there is an object.
+    /// [`Error::Closed`]. [`Error::Make`], [`Error::CreateTest`] and [`Error::Passivate`]: the object is destroyed, and its place is
+    /// free. [`Error::JournalFull`] and [`Error::OutOfMemory`]: no object was made.
     pub fn add(&self) -> Result<Addition, Error<M::Error>> {
         self.shared.add()
     }
 
-    /// Makes objects and parks them, until `minIdle` are idle or no place is free: how many. On a closed pool it is 0.
+    /// Adds idle objects until there are `minIdle` or no place is free, and returns the number added. On a closed pool it is 0.
     ///
     /// # Errors
     ///
-    /// Those of [`add`](Pool::add) but for [`Error::Closed`]. What was parked before stays.
+    /// Those of [`add`](Pool::add) except [`Error::Closed`]. Objects that were added before stay.
     pub fn fill(&self) -> Result<u64, Error<M::Error>> {
         self.shared.fill()
     }
 
-    /// Examines idle objects, as many as the settings say, and goes on where the last run stopped. Each is destroyed that was idle
-    /// for too long, or that fails where idle objects are tested.
+    /// Examines idle objects, as many as the settings say, and continues where the last run stopped. An object is destroyed if it was idle for
+    /// too long, is too old ([`Builder::max_lifetime`]), or fails the test of `testWhileIdle`.
     ///
     /// # Errors
     ///
-    /// [`Error::Closed`]; [`Error::JournalFull`] and [`Error::OutOfMemory`], also in the midst: what was done before stays.
+    /// [`Error::Closed`]. [`Error::JournalFull`] and [`Error::OutOfMemory`], also in the middle: what was done before stays.
     pub fn evict(&self) -> Result<Eviction, Error<M::Error>> {
         self.shared.evict()
     }
 
-    /// Takes abandoned objects from their holders, where the settings say so for maintenance: how many. Their places are free at
-    /// once; a holder keeps the object, and it is destroyed when it comes back.
+    /// Reclaims abandoned objects, if the settings say so for maintenance, and returns their number. Their places are free at once. A holder
+    /// keeps its object, which is destroyed at its return.
     ///
     /// # Errors
     ///
-    /// [`Error::JournalFull`] and [`Error::OutOfMemory`], also in the midst: what was done before stays.
+    /// [`Error::JournalFull`] and [`Error::OutOfMemory`], also in the middle: what was done before stays.
     pub fn reclaim(&self) -> Result<u64, Error<M::Error>> {
-        self.shared.reclaim(When::Maintain)
+        self.shared.reclaim(caller_number(), When::Maintain)
     }
 
-    /// What a thread of yours calls now and then: [`evict`](Pool::evict), [`reclaim`](Pool::reclaim) and
-    /// [`fill`](Pool::fill), in this order. The pool has no thread of its own.
+    /// Maintains the pool: calls [`evict`](Pool::evict), [`reclaim`](Pool::reclaim) and [`fill`](Pool::fill), in this order. Call it now
+    /// and then, or have the pool's own thread call it ([`Builder::maintain_every`]). If objects have a lifetime
+    /// ([`Builder::max_lifetime`]), it examines all idle objects.
     ///
     /// # Errors
     ///
@@ -137,66 +154,90 @@ impl<M: Manager> Pool<M> {
         self.shared.maintain()
     }
 
-    /// Destroys the idle objects: how many.
+    /// Destroys the idle objects, and returns their number.
     ///
     /// # Errors
     ///
-    /// [`Error::JournalFull`] and [`Error::OutOfMemory`], also in the midst: what was done before stays.
+    /// [`Error::JournalFull`] and [`Error::OutOfMemory`], also in the middle: what was done before stays.
+    ///
+    /// # Panics
+    ///
+    /// If the manager panics in [`destroy`](Manager::destroy): the other objects are destroyed before the first panic continues.
     pub fn clear(&self) -> Result<u64, Error<M::Error>> {
         self.shared.clear()
     }
 
-    /// Closes the pool, and destroys the idle objects: how many. Whoever waits is refused, nothing is lent any more, and what
-    /// comes back is destroyed. A second close does nothing. It can't fail: the first has its room and memory kept.
+    /// Closes the pool, destroys the idle objects, and returns their number. A borrow that waits or begins is refused
+    /// ([`Error::Closed`]). One that is making or activating its object now still gets it. What is returned is destroyed. A second close only
+    /// destroys idle objects that are left. It cannot fail: room and memory for the first are set aside.
+    ///
+    /// # Panics
+    ///
+    /// If the manager panics in [`destroy`](Manager::destroy): the other objects are destroyed before the first panic continues.
     pub fn close(&self) -> u64 {
         self.shared.close()
     }
 
-    /// How many entries there were since the pool was opened, and how many objects there are and were, all of one moment. It takes
-    /// the lock.
+    /// Returns whether the pool is closed. It takes the lock.
+    pub fn is_closed(&self) -> bool {
+        self.shared.lock().is_closed
+    }
+
+    /// Returns the number of entries since the pool was opened, and the numbers of objects, all of one time. It takes the lock.
     pub fn counts(&self) -> Counts {
         self.shared.lock().core.counts()
     }
 
-    /// How many entries the journal can still take, besides those that may be needed to finish what was begun and to close the
-    /// pool. At 0 nothing is lent any more, until the journal is [`cut`](Pool::cut).
+    /// Returns how many entries the journal can still take in memory, besides those that are set aside for completing steps and for the close
+    /// of the pool. With [`Journal::Memory`](crate::Journal::Memory) nothing more is lent at 0, until the journal is
+    /// [cut](Pool::cut).
     pub fn room(&self) -> u64 {
         self.shared.lock().core.room()
     }
 
-    /// Writes the journal as text, from its first entry up to the last that there was when this was called: how many entries. `pool
-    /// check` judges it, over a file with these [`settings`](Pool::settings). Of a journal that was [`cut`](Pool::cut) it is the segment
-    /// from there on, which is judged behind those that were cut off.
-    ///
-    /// The lock is held while some hundred lines are copied, and never while they are written.
-    ///
-    /// # Errors
-    ///
-    /// The writer's. `out` may then have a part of the text.
-    pub fn journal(&self, mut out: impl Write) -> io::Result<u64> {
-        self.shared.journal(&mut out)
+    /// Returns whether it is time to cut the journal: less than a quarter of its limit is left, or too little for one borrow. With
+    /// [`Journal::Segments`](crate::Journal::Segments) it means that the sink fails or is too slow. With
+    /// [`Journal::Off`](crate::Journal::Off) it is false.
+    pub fn is_low(&self) -> bool {
+        self.shared.is_low()
     }
 
-    /// Writes those entries of the journal that no drain and no [`cut`](Pool::cut) has written before: how many. All that drains write,
-    /// one after the other, is the journal, where it is never cut. One drain or cut of a pool runs at a time.
+    /// Writes the stored journal as text, up to the last entry at this call, and returns the number of entries. `pool check` checks it, with
+    /// these [`settings`](Pool::settings). If entries were cut off before, or dropped, or handed to a sink, the text is a segment: it
+    /// begins with the lines of the base that its entries continue. A segment that is cut off and could not be written is not part of it.
     ///
-    /// Entries that were drained are still stored, and take room and memory as before, until they are cut off.
+    /// The text is copied first, under the lock for some hundred lines at a time; then it is written without the lock. Only a journal that
+    /// is cut again and again meanwhile is copied as a whole under the lock.
     ///
     /// # Errors
     ///
-    /// The writer's. The next drain goes on with the lines that this one wanted to write last; those may stand there already, or in part.
+    /// Those of the writer: `out` may then have a part of the text. There is no memory for the text.
+    pub fn journal(&self, mut out: impl Write) -> io::Result<u64> {
+        self.shared.write_journal(&mut out)
+    }
+
+    /// Writes the entries of the journal that no drain has written and no [`cut`](Pool::cut) has taken, and returns their number. All that
+    /// drains write, one after the other, is the journal, if it is kept in memory and never cut. Entries that the pool drops or hands to a
+    /// sink are left out. One drain of a pool runs at a time.
+    ///
+    /// Drained entries stay in memory, and take room as before, until they are cut off.
+    ///
+    /// # Errors
+    ///
+    /// Those of the writer. The next drain continues with the lines that this one wanted to write last, some hundred; those may have been
+    /// written already, or in part. The same holds if the writer panics.
     pub fn drain_journal(&self, mut out: impl Write) -> io::Result<u64> {
         self.shared.drain_journal(&mut out)
     }
 
-    /// Writes the journal as a segment, and cuts it: how many entries the segment has. They are dropped from memory, and the pool goes on
-    /// from the base that they came to, with all its room. Objects, holders and [`counts`](Pool::counts) stay as they are.
+    /// Writes the journal as a segment, cuts it, and returns the number of entries of the segment. They are dropped from memory, and the pool
+    /// continues from their base, with all its room. Objects, holders and [`counts`](Pool::counts) are unchanged.
     ///
-    /// A segment begins with the lines of the base that its entries go on from. Write each to a file of its own: `pool check` judges all of
-    /// them, in their order, as the one journal that they are.
+    /// A segment begins with the lines of the base that its entries continue. Write each to a file of its own: `pool check` checks all
+    /// of them, in their order, as the one journal that they are.
     ///
     /// ```
-    /// # use zuphinka::{Manager, Pool};
+    /// # use zuphinka::{Journal, Manager, Pool};
     /// # struct Numbers;
     /// # impl Manager for Numbers {
     /// #     type Object = u64;
@@ -205,11 +246,11 @@ impl<M: Manager> Pool<M> {
     /// # }
     /// # let folder = std::env::temp_dir().join(format!("zuphinka-cut-{}", std::process::id()));
     /// # std::fs::create_dir(&folder)?;
-    /// let pool = Pool::builder().journal_limit(1_000).build(Numbers)?;
+    /// let pool = Pool::builder().journal(Journal::Memory(Some(1_000))).build(Numbers)?;
     /// let mut first = 0; // the position of a segment's first entry, by which it is named
     /// for _ in 0..2_000 {
     ///     drop(pool.get().unwrap());
-    ///     if pool.room() < 100 {
+    ///     if pool.is_low() {
     ///         let mut file = std::fs::File::create(folder.join(format!("segment-{first:020}")))?;
     ///         first += pool.cut(&mut file)?;
     ///         file.sync_all()?;
@@ -220,24 +261,44 @@ impl<M: Manager> Pool<M> {
     /// # Ok::<(), Box<dyn std::error::Error>>(())
     /// ```
     ///
-    /// The lock is held while some hundred lines are copied, and in the end while those entries are written that came meanwhile, `out` is
-    /// flushed and the journal is cut: so no entry falls between two segments. `out` must not call the pool. One drain or cut of a pool
-    /// runs at a time.
+    /// The lock is held while some hundred lines are copied, and at the end while the last ones are copied and the journal is cut: so no
+    /// entry falls between two segments. The text is written and flushed without the lock. One cut of a pool runs at a time, and others wait
+    /// for it; with [`Journal::Off`](crate::Journal::Off) nothing is dropped meanwhile.
     ///
     /// # Errors
     ///
-    /// The writer's, or there is no memory. The journal isn't cut then, and nothing is lost: the next cut writes the whole segment, and `out`
-    /// may have a part of it.
+    /// Those of the writer, which may have a part of the segment. Nothing is lost: mostly the journal is not cut then. If only the last entries
+    /// were still to be written or flushed, it is cut, and the whole segment is kept in memory: then the next cut writes this segment and no
+    /// other. There is no memory: the journal is unchanged. [`io::ErrorKind::Unsupported`] if the pool hands its segments to a sink.
+    /// Another error if `out` cuts the journal itself.
     pub fn cut(&self, mut out: impl Write) -> io::Result<u64> {
         self.shared.cut(&mut out)
     }
 
-    /// The settings, as a file in TOML that has all of them.
-    pub fn settings(&self) -> String {
-        self.shared.settings.to_string()
+    /// Hands the entries that are in memory to the sink of [`Journal::Segments`](crate::Journal::Segments), as a segment, and returns their
+    /// number. Without a sink it does nothing and returns 0.
+    ///
+    /// # Errors
+    ///
+    /// Those of the sink: what becomes of the segment is set by [`Segments::on_failure`](crate::Segments::on_failure). There is no memory: the
+    /// journal is unchanged. Another error if the sink calls this itself.
+    pub fn flush_journal(&self) -> io::Result<u64> {
+        self.shared.flush_journal()
     }
 
-    /// The manager.
+    /// Returns the settings, as a file in TOML that has all of them, with which the journal is checked.
+    pub fn settings(&self) -> String {
+        self.shared.settings_text.clone()
+    }
+
+    /// Returns a handle that does not keep the pool open.
+    pub fn downgrade(&self) -> WeakPool<M> {
+        WeakPool {
+            shared: Arc::downgrade(&self.shared),
+        }
+    }
+
+    /// Returns the manager.
     pub fn manager(&self) -> &M {
         &self.shared.manager
     }
@@ -251,10 +312,64 @@ impl<M: Manager> Clone for Pool<M> {
     }
 }
 
+/// Shows the counts, unless another thread has the lock.
 impl<M: Manager> fmt::Debug for Pool<M> {
     fn fmt(&self, f: &mut fmt::Formatter<'_>) -> fmt::Result {
-        f.debug_struct("Pool")
-            .field("counts", &self.counts())
-            .finish_non_exhaustive()
+        let mut shown = f.debug_struct("Pool");
+        match self.shared.try_lock() {
+            Some(mut state) => shown.field("counts", &state.core.counts()),
+            None => shown.field("counts", &format_args!("<locked>")),
+        };
+        shown.finish_non_exhaustive()
+    }
+}
+
+/// A handle of a pool that does not keep it open.
+///
+/// ```
+/// # use std::time::Duration;
+/// # use zuphinka::{Manager, Pool};
+/// # struct Numbers;
+/// # impl Manager for Numbers {
+/// #     type Object = u64;
+/// #     type Error = ();
+/// #     fn make(&self, id: u64) -> Result<u64, ()> { Ok(id) }
+/// # }
+/// let pool = Pool::builder().min_idle(1).build(Numbers)?;
+/// let weak = pool.downgrade();
+/// let keeper = std::thread::spawn(move || {
+///     while let Some(pool) = weak.upgrade() {
+///         let _ = pool.maintain();
+///         drop(pool);
+///         std::thread::sleep(Duration::from_millis(10));
+///     }
+/// });
+/// drop(pool);
+/// keeper.join().unwrap();
+/// # Ok::<(), zuphinka::OpenError>(())
+/// ```
+pub struct WeakPool<M: Manager> {
+    shared: Weak<Shared<M>>,
+}
+
+impl<M: Manager> WeakPool<M> {
+    /// Returns a handle of the pool, or none if the last handle and the last lent object are gone.
+    pub fn upgrade(&self) -> Option<Pool<M>> {
+        let shared = self.shared.upgrade()?;
+        Some(Pool { shared })
+    }
+}
+
+impl<M: Manager> Clone for WeakPool<M> {
+    fn clone(&self) -> WeakPool<M> {
+        WeakPool {
+            shared: Weak::clone(&self.shared),
+        }
+    }
+}
+
+impl<M: Manager> fmt::Debug for WeakPool<M> {
+    fn fmt(&self, f: &mut fmt::Formatter<'_>) -> fmt::Result {
+        f.write_str("WeakPool")
     }
 }

@@ -1,57 +1,68 @@
 use crate::error::Error;
 use crate::lending::{Returned, Touched};
 use crate::manager::Manager;
-use crate::shared::Shared;
+use crate::shared::{Item, Shared};
 use std::fmt;
 use std::ops::{Deref, DerefMut};
+use std::panic::{catch_unwind, AssertUnwindSafe};
 use std::sync::Arc;
 use std::thread;
 
-/// An object that is lent. It is used through this guard, which gives it back when it is dropped, from whatever thread.
+/// A lent object. It is used through this guard, which returns it when it is dropped, in any thread.
 ///
-/// A guard that is dropped while its thread panics invalidates its object, since nobody knows in what state it is.
+/// A guard that is dropped by a panic of its thread invalidates its object, whose state is unknown. One that a thread got while it panicked
+/// already, in a destructor, returns it.
 ///
-/// It keeps the pool alive. What a guard can do besides is called as `Pooled::id(&guard)`, so that no method of the object is
-/// hidden.
+/// It keeps the pool open. Its own functions are called as `Pooled::id(&guard)`, so that they hide no method of the object.
 pub struct Pooled<M: Manager> {
     pool: Arc<Shared<M>>,
     id: u64,
-    object: Option<M::Object>,
+    object: Option<Item<M>>,
+    /// Whether the thread that got it was panicking.
+    was_panicking: bool,
 }
 
 const LENT: &str = "a guard has its object until it is dropped";
 
 impl<M: Manager> Pooled<M> {
-    pub(crate) fn new(pool: Arc<Shared<M>>, id: u64, object: M::Object) -> Pooled<M> {
+    pub(crate) fn new(pool: Arc<Shared<M>>, id: u64, object: Item<M>) -> Pooled<M> {
         Pooled {
             pool,
             id,
             object: Some(object),
+            was_panicking: thread::panicking(),
         }
     }
 
-    /// The id of the object, as the journal has it.
+    /// Returns the id of the object in the journal.
     pub fn id(this: &Pooled<M>) -> u64 {
         this.id
     }
 
-    /// Gives the object back, as a drop does, and says what became of it.
+    /// Returns the object to the pool, as a drop does, and says what became of it.
     pub fn give_back(mut this: Pooled<M>) -> Returned {
         let object = this.object.take().expect(LENT);
         this.pool.give_back(this.id, object)
     }
 
-    /// Gives the object back as one that can't be used any more: it is destroyed.
+    /// Returns the object as one that cannot be used any more: it is destroyed.
     pub fn invalidate(mut this: Pooled<M>) -> Returned {
         let object = this.object.take().expect(LENT);
         this.pool.invalidate(this.id, object)
     }
 
-    /// Notes that the object is used, so that it doesn't count as abandoned.
+    /// Takes the object out of the pool: its place is free, and the object is the caller's. The manager does not destroy it.
+    pub fn detach(mut this: Pooled<M>) -> M::Object {
+        let object = this.object.take().expect(LENT);
+        this.pool.detach(this.id);
+        object.object
+    }
+
+    /// Notes that the object is used, so that it does not count as abandoned.
     ///
     /// # Errors
     ///
-    /// [`Error::JournalFull`] and [`Error::OutOfMemory`]: it isn't noted, and the object is still lent.
+    /// [`Error::JournalFull`] and [`Error::OutOfMemory`]: it is not noted, and the object is still lent.
     pub fn touch(this: &Pooled<M>) -> Result<Touched, Error<M::Error>> {
         this.pool.touch(this.id)
     }
@@ -61,25 +72,30 @@ impl<M: Manager> Deref for Pooled<M> {
     type Target = M::Object;
 
     fn deref(&self) -> &M::Object {
-        self.object.as_ref().expect(LENT)
+        &self.object.as_ref().expect(LENT).object
     }
 }
 
 impl<M: Manager> DerefMut for Pooled<M> {
     fn deref_mut(&mut self) -> &mut M::Object {
-        self.object.as_mut().expect(LENT)
+        &mut self.object.as_mut().expect(LENT).object
     }
 }
 
 impl<M: Manager> Drop for Pooled<M> {
     fn drop(&mut self) {
-        if let Some(object) = self.object.take() {
-            if thread::panicking() {
-                self.pool.invalidate(self.id, object);
-            } else {
-                self.pool.give_back(self.id, object);
-            }
+        let Some(object) = self.object.take() else {
+            return;
+        };
+        if !thread::panicking() {
+            self.pool.give_back(self.id, object);
+            return;
         }
+        // A panic of the manager ends here, since a second one would end the process.
+        let _ = catch_unwind(AssertUnwindSafe(|| match self.was_panicking {
+            true => self.pool.give_back(self.id, object),
+            false => self.pool.invalidate(self.id, object),
+        }));
     }
 }
 
@@ -90,7 +106,7 @@ where
     fn fmt(&self, f: &mut fmt::Formatter<'_>) -> fmt::Result {
         f.debug_struct("Pooled")
             .field("id", &self.id)
-            .field("object", &self.object)
+            .field("object", &**self)
             .finish()
     }
 }

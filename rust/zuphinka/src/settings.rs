@@ -1,7 +1,7 @@
 //! The settings of a pool, as a settings file has them.
 
-use crate::core::settings_of;
 use crate::error::SettingsError;
+use crate::proved_core::settings_of;
 use crate::sys;
 use std::fmt;
 use std::time::Duration;
@@ -149,6 +149,16 @@ impl Settings {
                 sys::STATUS_OUT_OF_RANGE => SettingsError::OutOfRange(key),
                 status => unreachable!("settings came to status {status}"),
             })
+    }
+
+    /// Returns whether a text, which can be taken, names `maxWaitMillis`: then the key cannot be given once more in front of it.
+    pub fn names_max_wait(text: &str) -> Result<bool, SettingsError> {
+        let text = text.strip_prefix('\u{feff}').unwrap_or(text);
+        match settings_of(&["maxWaitMillis = 0\n", text].concat()) {
+            Ok(_) => Ok(false),
+            Err((sys::STATUS_OUT_OF_MEMORY, _)) => Err(SettingsError::OutOfMemory),
+            Err(_) => Ok(true),
+        }
     }
 
     /// Whether a borrow begins with the removal of abandoned objects.

@@ -1,207 +1,380 @@
-//! What all handles of a pool share, and its sections: each is one step of the core under the lock.
+//! What all handles of a pool share, and its critical sections: each is one step of the core under the lock, or two if nothing lies
+//! between them.
 
-use crate::callers::caller_number;
-use crate::desk::{Desk, Refused};
+use crate::clock::{Aged, Clock, Stamp};
 use crate::error::Error;
+use crate::failure::Failure;
+use crate::locked::{Guard, Locked};
+use crate::locked_pool::{Borrowed, LockedPool, TakenBack};
+use crate::maintenance::Maintainer;
 use crate::manager::Manager;
 use crate::settings::Settings;
-use crate::step::{Answer, Input};
-use std::sync::{Condvar, Mutex, MutexGuard, PoisonError, RwLock};
+use crate::step::{Answer, Cause, Input, StepFault};
+use crate::writing::Outlet;
+use std::panic::{catch_unwind, AssertUnwindSafe};
+use std::sync::{Condvar, Mutex, MutexGuard, PoisonError};
+use std::thread;
 use std::time::{Duration, Instant};
-
-/// Tells moments, in milliseconds.
-pub(crate) enum Clock {
-    /// Since this moment.
-    Since(Instant),
-    Given(Box<dyn Fn() -> u64 + Send + Sync>),
-}
-
-impl Clock {
-    #[inline]
-    fn now(&self) -> u64 {
-        match self {
-            Clock::Since(start) => start.elapsed().as_millis() as u64,
-            Clock::Given(clock) => clock(),
-        }
-    }
-}
 
 /// For how long a borrow waits.
 #[derive(Clone, Copy)]
-pub(crate) enum Patience {
+pub(crate) enum WaitLimit {
     None,
-    /// Until this moment, and no longer than the settings say.
+    /// Until this instant, and no longer than the settings allow.
     Until(Instant),
     AsSet,
 }
 
-/// A pool. The manager is called without the lock.
-pub(crate) struct Shared<M: Manager> {
-    desk: Mutex<Desk<M::Object>>,
-    changed: Condvar,
-    clock: Clock,
-    /// How many entries were drained or cut off. Who holds it may take the next two locks, in their order.
-    pub drained: Mutex<u64>,
-    /// How many entries were cut off. Who holds it, also to read, may take the lock of the desk, and then nobody cuts.
-    pub cut_off: RwLock<u64>,
-    pub manager: M,
-    pub settings: Settings,
+/// What the pool does of its own about its objects.
+pub(crate) struct Policy<M: Manager> {
+    /// How old an object may get, in milliseconds.
+    pub max_lifetime: Option<u64>,
+    /// Whether eviction runs validate idle objects, and do not only look at their age.
+    pub tests_idle: bool,
+    pub on_error: Option<OnError<M>>,
 }
 
-/// What a section gives: the answer, and the value that comes out with it.
-pub(crate) type Stepped<M> = (Answer, Option<<M as Manager>::Object>);
+/// Receives the failures that no call returns.
+pub(crate) type OnError<M> = Box<dyn Fn(Failure<<M as Manager>::Error>) + Send + Sync>;
+
+/// A pool. The manager is called without the lock.
+pub(crate) struct Shared<M: Manager> {
+    state: Locked<LockedPool<Item<M>>>,
+    changed: Condvar,
+    clock: Clock,
+    /// A thread that cut the journal is done.
+    pub written: Condvar,
+    /// Held by a thread that drains the journal. It may take the lock of the state.
+    pub draining: Mutex<()>,
+    /// Where segments go.
+    pub outlet: Option<Outlet>,
+    pub manager: M,
+    /// The settings as the core has them.
+    pub settings: Settings,
+    /// The same in TOML.
+    pub settings_text: String,
+    pub policy: Policy<M>,
+    maintainer: Mutex<Option<Maintainer>>,
+}
+
+/// An object of a manager, with its age.
+pub(crate) type Item<M> = Aged<<M as Manager>::Object>;
+
+/// The lock of a pool, held.
+pub(crate) type Held<'a, M> = Guard<'a, LockedPool<Item<M>>>;
+
+/// The result of a critical section: the answer, and the value that is returned with it.
+pub(crate) type Stepped<M> = (Answer, Option<Item<M>>);
+
+/// An object that a borrow got.
+pub(crate) enum Acquired<T> {
+    /// It is lent.
+    Lent(u64, T),
+    /// It was idle, and is to be made ready.
+    Taken(u64, T),
+    /// It is to be made.
+    New(u64),
+}
+
+/// Which sleepers a step wakes.
+enum Wakes {
+    None,
+    One,
+    All,
+}
+
+impl Wakes {
+    /// One for an object or a place, and all if the pool closed.
+    fn of(input: Input, answer: Answer) -> Wakes {
+        match answer {
+            Answer::Parked | Answer::Kept | Answer::Freed | Answer::Reclaimed(_) => Wakes::One,
+            Answer::Count(_) if input == Input::Close => Wakes::All,
+            _ => Wakes::None,
+        }
+    }
+}
 
 impl<M: Manager> Shared<M> {
-    pub fn new(desk: Desk<M::Object>, clock: Clock, manager: M, settings: Settings) -> Shared<M> {
+    pub fn new(
+        state: LockedPool<Item<M>>,
+        clock: Clock,
+        outlet: Option<Outlet>,
+        manager: M,
+        settings: Settings,
+        policy: Policy<M>,
+    ) -> Shared<M> {
         Shared {
-            desk: Mutex::new(desk),
+            state: Locked::new(state),
             changed: Condvar::new(),
             clock,
-            drained: Mutex::new(0),
-            cut_off: RwLock::new(0),
+            written: Condvar::new(),
+            draining: Mutex::new(()),
+            outlet,
             manager,
+            settings_text: settings.to_string(),
             settings,
+            policy,
+            maintainer: Mutex::new(None),
         }
     }
 
+    pub fn maintainer(&self) -> MutexGuard<'_, Option<Maintainer>> {
+        let maintainer = self.maintainer.lock();
+        maintainer.unwrap_or_else(PoisonError::into_inner)
+    }
+
+    /// Reports a failure that no call returns. A panic of the receiver is ignored.
+    pub fn report(&self, failure: Failure<M::Error>) {
+        if let Some(on_error) = &self.policy.on_error {
+            let _ = catch_unwind(AssertUnwindSafe(|| on_error(failure)));
+        }
+    }
+
+    /// Returns whether an object has reached the age at which it is destroyed.
+    #[inline]
+    pub fn is_too_old(&self, object: &Item<M>, time: u64) -> bool {
+        let most = self.policy.max_lifetime;
+        most.is_some_and(|most| time.saturating_sub(object.made) >= most)
+    }
+
+    /// Returns the time, in milliseconds. If the clock panics, it is that of the last entry.
+    #[inline]
     pub fn now(&self) -> u64 {
-        self.clock.now()
+        match self.clock.read() {
+            Some(time) => time,
+            None => self.lock().last_time(),
+        }
     }
 
-    /// Nobody else's code runs under the lock but the clock's and, in a cut, the writer's, and each step is done whole or not at all: so a
-    /// panic leaves nothing in the midst.
-    pub fn lock(&self) -> MutexGuard<'_, Desk<M::Object>> {
-        self.desk.lock().unwrap_or_else(PoisonError::into_inner)
+    /// Returns the time, in milliseconds, to a thread that holds the lock.
+    fn now_under_lock(&self, state: &LockedPool<Item<M>>) -> u64 {
+        self.clock.read().unwrap_or_else(|| state.last_time())
     }
 
-    fn step(
-        &self,
-        desk: &mut Desk<M::Object>,
-        input: Input,
-        value: Option<M::Object>,
-    ) -> Result<Stepped<M>, Refused<M::Object>> {
-        desk.step(caller_number(), self.now(), input, value)
+    /// Destroys an object. If this thread panics already, a panic of the manager ends here, since a second one would end the process.
+    pub fn destroy(&self, object: M::Object) {
+        if thread::panicking() {
+            let _ = catch_unwind(AssertUnwindSafe(|| self.manager.destroy(object)));
+        } else {
+            self.manager.destroy(object);
+        }
     }
 
-    /// One section. It wakes who waits for what it came to.
+    /// Takes the lock. No code of others runs under it except the clock of a thread that waits, and each step is done as a whole or not at
+    /// all. So a panic leaves nothing half done.
+    #[inline]
+    pub fn lock(&self) -> Held<'_, M> {
+        self.state.lock()
+    }
+
+    /// Takes the lock if it is free.
+    pub fn try_lock(&self) -> Option<Held<'_, M>> {
+        self.state.try_lock()
+    }
+
+    /// Takes one step under the lock, and wakes the threads that wait for its result. The clock is read before. If the journal is full,
+    /// the step is taken again after a segment was written.
     ///
-    /// An input that goes on with an object is never refused, and no other carries a value.
-    pub fn ask(
+    /// An input that continues with an object never fails, and no other carries a value.
+    pub fn run_section(
         &self,
+        caller: u32,
         input: Input,
-        value: Option<M::Object>,
+        mut value: Option<Item<M>>,
     ) -> Result<Stepped<M>, Error<M::Error>> {
-        let mut desk = self.lock();
-        match self.step(&mut desk, input, value) {
+        loop {
+            match self.try_section(caller, input, value.take()) {
+                Err(Error::JournalFull) if self.make_room(WaitLimit::AsSet) => {}
+                stepped => return stepped,
+            }
+        }
+    }
+
+    #[inline]
+    fn try_section(
+        &self,
+        caller: u32,
+        input: Input,
+        value: Option<Item<M>>,
+    ) -> Result<Stepped<M>, Error<M::Error>> {
+        let time = self.now();
+        let mut state = self.lock();
+        match state.step(Stamp { caller, time }, input, value) {
             Ok((answer, out)) => {
-                self.wake(desk, input, answer);
+                self.leave(state, Wakes::of(input, answer));
                 Ok((answer, out))
             }
-            Err((fault, _)) => Err(fault.into()),
+            Err((fault, _)) => Err(error_of(&state, input, fault)),
         }
     }
 
-    /// A section in which a call goes on with its object.
-    pub fn carry_on(&self, input: Input) -> Answer {
-        match self.ask(input, None) {
+    /// Takes a step that continues with an object, and never fails.
+    pub fn complete(&self, caller: u32, input: Input) -> Answer {
+        match self.run_section(caller, input, None) {
             Ok((answer, _)) => answer,
-            Err(_) => unreachable!("{input:?} was refused"),
+            Err(_) => unreachable!("{input:?} failed"),
         }
     }
 
-    /// Gives the lock back, and wakes one sleeper for one object or place, and all where the pool closed.
-    fn wake(&self, mut desk: MutexGuard<'_, Desk<M::Object>>, input: Input, answer: Answer) {
-        match answer {
-            Answer::Parked | Answer::Kept | Answer::Freed | Answer::Reclaimed(_) => {
-                self.wake_one(desk)
+    /// Takes an object back, and makes it idle if nothing is to be done before.
+    pub fn take_back(&self, caller: u32, id: u64, value: Item<M>) -> TakenBack<Item<M>> {
+        let time = self.now();
+        let parks_at_once =
+            !M::PASSIVATES && !self.settings.test_on_return && !self.is_too_old(&value, time);
+        let mut state = self.lock();
+        let taken = state.take_back(Stamp { caller, time }, id, value, parks_at_once);
+        let wakes = match taken {
+            TakenBack::Parked => Wakes::One,
+            _ => Wakes::None,
+        };
+        self.leave(state, wakes);
+        taken
+    }
+
+    /// Frees the lock, and wakes sleepers: one only if there is something to find that none is on its way to. Then it writes a segment if
+    /// one is due.
+    #[inline]
+    fn leave(&self, mut state: Held<'_, M>, wakes: Wakes) {
+        let is_due = state.journal.wants_writer();
+        match wakes {
+            Wakes::None => drop(state),
+            Wakes::One => {
+                let wakes = state.wakes_one(self.settings.max_total);
+                drop(state);
+                if wakes {
+                    self.changed.notify_one();
+                }
             }
-            Answer::Count(_) if input == Input::Close => {
-                let wakes = desk.wakes_all();
-                drop(desk);
+            Wakes::All => {
+                let wakes = state.wakes_all();
+                drop(state);
                 if wakes {
                     self.changed.notify_all();
                 }
             }
-            _ => {}
+        }
+        if is_due {
+            self.write_due();
         }
     }
 
-    /// Gives the lock back, and wakes a sleeper where there is something to find that none is on its way to.
-    fn wake_one(&self, mut desk: MutexGuard<'_, Desk<M::Object>>) {
-        let wakes = desk.wakes_one(self.settings.max_total);
-        drop(desk);
-        if wakes {
-            self.changed.notify_one();
-        }
-    }
-
-    /// Asks for an object, and waits while there is none, as far as patience and settings go.
-    pub fn look(&self, began: u64, patience: Patience) -> Result<Stepped<M>, Error<M::Error>> {
-        let mut desk = self.lock();
-        let mut has_slept = false;
+    /// Borrows an object, and waits while there is none, as far as the limit and the settings allow.
+    pub fn acquire(
+        &self,
+        caller: u32,
+        began: u64,
+        mut time: u64,
+        limit: WaitLimit,
+    ) -> Result<Acquired<Item<M>>, Error<M::Error>> {
         loop {
-            match self.step(&mut desk, Input::Borrow { began }, None) {
-                Ok((Answer::Wait, _)) => desk = self.sleep(desk, began, patience)?,
-                Ok(found) => return Ok(found),
-                Err((fault, _)) => {
-                    if has_slept {
-                        // Another may be able to take what this one was woken for.
-                        self.wake_one(desk);
-                    }
-                    return Err(fault.into());
+            match self.try_to_acquire(caller, began, time, limit) {
+                Err(Error::JournalFull) if self.make_room(limit) => time = self.now(),
+                acquired => return acquired,
+            }
+        }
+    }
+
+    fn try_to_acquire(
+        &self,
+        caller: u32,
+        began: u64,
+        mut time: u64,
+        limit: WaitLimit,
+    ) -> Result<Acquired<Item<M>>, Error<M::Error>> {
+        let lends_at_once = !M::ACTIVATES && !self.settings.test_on_borrow;
+        let input = Input::Borrow { began };
+        let mut has_slept = false;
+        let mut state = self.lock();
+        loop {
+            match state.borrow(Stamp { caller, time }, began, lends_at_once) {
+                Ok(Borrowed::Without(Answer::Wait)) => state = self.sleep(state, began, limit)?,
+                Ok(borrowed) => {
+                    self.leave(state, Wakes::None);
+                    return acquired(input, borrowed);
+                }
+                Err(fault) => {
+                    let error = error_of(&state, input, fault);
+                    // Another may be able to take what this thread was woken for.
+                    let wakes = if has_slept { Wakes::One } else { Wakes::None };
+                    self.leave(state, wakes);
+                    return Err(error);
                 }
             }
             has_slept = true;
+            time = self.now_under_lock(&state);
         }
     }
 
-    /// Sleeps until there may be an object, the pool was closed, or the settings say that the wait is over; and no longer
-    /// than patience goes. Who is woken for nothing sleeps on, and makes no entry.
+    /// Sleeps until there may be an object, the pool was closed, or the wait is over by the settings; and no longer than the limit. A
+    /// thread that is woken for nothing sleeps on, and makes no entry.
     fn sleep<'a>(
         &'a self,
-        mut desk: MutexGuard<'a, Desk<M::Object>>,
+        mut state: Held<'a, M>,
         began: u64,
-        patience: Patience,
-    ) -> Result<MutexGuard<'a, Desk<M::Object>>, Error<M::Error>> {
+        limit: WaitLimit,
+    ) -> Result<Held<'a, M>, Error<M::Error>> {
         loop {
-            let asked = match patience {
-                Patience::None => return Err(Error::Exhausted),
-                Patience::Until(end) => match end.saturating_duration_since(Instant::now()) {
+            let asked = match limit {
+                WaitLimit::None => return Err(Error::Exhausted),
+                WaitLimit::Until(end) => match end.saturating_duration_since(Instant::now()) {
                     Duration::ZERO => return Err(Error::TimedOut),
                     left => Some(left),
                 },
-                Patience::AsSet => None,
+                WaitLimit::AsSet => None,
             };
-            let longest = asked.into_iter().chain(self.time_left(began)).min();
-            desk.fall_asleep();
-            desk = match longest {
-                Some(time) => match self.changed.wait_timeout(desk, time) {
-                    Ok((desk, _)) => desk,
-                    Err(poisoned) => poisoned.into_inner().0,
-                },
-                None => self
-                    .changed
-                    .wait(desk)
-                    .unwrap_or_else(PoisonError::into_inner),
-            };
-            desk.wake_up();
-            if !desk.has_nothing(self.settings.max_total)
-                || self.time_left(began) == Some(Duration::ZERO)
+            let longest = asked.into_iter().chain(self.time_left(&state, began)).min();
+            state.fall_asleep();
+            state = self.state.wait(state, &self.changed, longest);
+            state.wake_up();
+            if !state.has_nothing(self.settings.max_total)
+                || self.time_left(&state, began) == Some(Duration::ZERO)
             {
-                return Ok(desk);
+                return Ok(state);
             }
         }
     }
 
-    /// For how long a borrow that began then may wait still, by the settings.
-    fn time_left(&self, began: u64) -> Option<Duration> {
+    /// Sleeps until a thread that cut the journal is done, and no longer than a time.
+    pub fn wait_for_writer<'a>(
+        &'a self,
+        state: Held<'a, M>,
+        longest: Option<Duration>,
+    ) -> Held<'a, M> {
+        self.state.wait(state, &self.written, longest)
+    }
+
+    /// Returns how long a borrow that began at a time may still wait, by the settings.
+    fn time_left(&self, state: &LockedPool<Item<M>>, began: u64) -> Option<Duration> {
         let most = u64::try_from(self.settings.max_wait_millis).ok()?;
-        let waited = self.now().saturating_sub(began);
+        let waited = self.now_under_lock(state).saturating_sub(began);
         Some(Duration::from_millis(most.saturating_sub(waited)))
     }
 }
 
-/// Where the answers of the core don't fit the sections.
+/// Returns the object that a borrow got, or why it got none.
+#[inline]
+fn acquired<T, E>(input: Input, borrowed: Borrowed<T>) -> Result<Acquired<T>, Error<E>> {
+    match borrowed {
+        Borrowed::Lent(id, value) => Ok(Acquired::Lent(id, value)),
+        Borrowed::Taken(id, value) => Ok(Acquired::Taken(id, value)),
+        Borrowed::Without(Answer::Make(id)) => Ok(Acquired::New(id)),
+        Borrowed::Without(Answer::Exhausted) => Err(Error::Exhausted),
+        Borrowed::Without(Answer::TimedOut) => Err(Error::TimedOut),
+        Borrowed::Without(Answer::Refused(Cause::Closed)) => Err(Error::Closed),
+        Borrowed::Without(answer) => unexpected(input, answer),
+    }
+}
+
+/// Returns the error of a step that failed. A closed pool is closed, whatever else is wrong.
+#[cold]
+fn error_of<T, E>(state: &LockedPool<T>, input: Input, fault: StepFault) -> Error<E> {
+    match input {
+        Input::Borrow { .. } | Input::Add | Input::Evict if state.is_closed => Error::Closed,
+        _ => fault.into(),
+    }
+}
+
+/// Ends the program where an answer of the core does not fit its input.
 #[cold]
 pub(crate) fn unexpected(input: Input, answer: Answer) -> ! {
     unreachable!("{input:?} was answered {answer:?}")

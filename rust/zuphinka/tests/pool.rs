@@ -2,16 +2,75 @@
 
 mod common;
 
-use common::{assert_legal, cut_off, entries_of, journal_of, judge_segments};
+use common::{assert_legal, assert_segments_legal, cut_off, entries_of, journal_of};
 use std::panic::{self, AssertUnwindSafe};
 use std::sync::atomic::{AtomicU64, Ordering};
 use std::sync::{mpsc, Arc, Mutex};
 use std::thread;
 use std::time::{Duration, Instant};
 use zuphinka::{
-    caller_number, Abandoned, Addition, Builder, Error, Manager, OpenError, Pool, Pooled, Returned,
-    SettingsError, Touched,
+    caller_number, Abandoned, Addition, Builder, Error, Journal, Manager, OpenError, Pool, Pooled,
+    Returned, SettingsError, Touched,
 };
+
+/// Makes two tests of each function: over a manager whose hooks `activate` and `passivate` are called, and over one without them.
+macro_rules! with_and_without_hooks {
+    ($($name:ident)*) => {
+        $(mod $name {
+            #[test]
+            fn with_hooks() {
+                super::$name::<true>()
+            }
+
+            #[test]
+            fn without_hooks() {
+                super::$name::<false>()
+            }
+        })*
+    };
+}
+
+with_and_without_hooks! {
+    a_journal_is_as_the_readme_shows_it
+    moments_are_milliseconds_since_the_pool_was_opened
+    the_clock_is_read_where_time_may_pass
+    times_never_fall
+    each_thread_stands_under_its_own_number
+    the_last_or_the_first_parked_is_lent
+    tests_come_where_they_are_set
+    an_exhausted_pool_refuses
+    a_wait_is_as_long_as_the_settings_say
+    a_waiter_is_woken_by_what_it_waits_for
+    a_waiter_is_woken_by_a_removal
+    a_use_puts_a_removal_off
+    a_new_object_that_fails_is_destroyed
+    a_new_object_that_fails_its_second_test_is_destroyed
+    an_idle_object_that_fails_makes_way_for_another
+    what_comes_back_broken_is_destroyed
+    no_more_are_idle_than_may_be
+    additions_and_fills_go_as_far_as_there_are_places
+    an_eviction_destroys_what_is_idle_for_too_long_or_fails
+    maintenance_evicts_and_reclaims_and_fills
+    a_clear_destroys_what_is_idle
+    a_closed_pool_lends_nothing_and_keeps_nothing
+    a_pool_that_nobody_has_is_closed
+    an_object_goes_back_from_any_thread
+    what_a_panicking_thread_holds_is_destroyed
+    a_manager_that_panics_costs_its_object_only
+    a_full_journal_takes_back_and_closes
+    all_who_wait_hear_of_a_close
+    all_who_wait_hear_of_a_full_journal
+    who_is_woken_for_nothing_makes_no_entry
+    a_drain_goes_on_where_the_last_ended
+    a_drain_that_fails_loses_nothing
+    a_pool_whose_journal_is_cut_lends_on
+    a_cut_that_fails_loses_nothing
+    a_drain_goes_on_behind_a_cut
+    segments_of_four_threads_are_one_journal
+    what_is_written_while_others_cut_is_whole
+    settings_out_of_range_open_nothing
+    errors_say_what_happened
+}
 
 /// A moment that tests set, in milliseconds.
 #[derive(Clone, Default)]
@@ -30,7 +89,7 @@ impl Clock {
 
 /// Makes widgets, which know their ids. It writes down what it is called for, and fails or panics where it is told to.
 #[derive(Clone, Default)]
-struct Maker {
+struct Maker<const HOOKS: bool> {
     calls: Arc<Mutex<Vec<String>>>,
     failing: Arc<Mutex<Vec<&'static str>>>,
     panicking: Arc<Mutex<Vec<&'static str>>>,
@@ -66,7 +125,7 @@ fn take_out(list: &Mutex<Vec<&'static str>>, name: &str) -> bool {
     place.map(|place| list.remove(place)).is_some()
 }
 
-impl Maker {
+impl<const HOOKS: bool> Maker<HOOKS> {
     /// The next call of this name fails.
     fn fail(&self, name: &'static str) {
         self.failing.lock().unwrap().push(name);
@@ -99,9 +158,11 @@ impl Maker {
     }
 }
 
-impl Manager for Maker {
+impl<const HOOKS: bool> Manager for Maker<HOOKS> {
     type Object = Widget;
     type Error = Broken;
+    const ACTIVATES: bool = HOOKS;
+    const PASSIVATES: bool = HOOKS;
 
     fn make(&self, id: u64) -> Result<Widget, Broken> {
         self.done("make", id)?;
@@ -129,13 +190,16 @@ impl Manager for Maker {
 }
 
 /// A pool with a clock that stands still, and its manager.
-fn pool_with(change: impl FnOnce(Builder<Maker>) -> Builder<Maker>) -> (Pool<Maker>, Maker, Clock) {
-    let (maker, clock) = (Maker::default(), Clock::default());
-    let builder = change(Pool::builder().clock(clock.told()));
+fn pool_with<const HOOKS: bool>(
+    change: impl FnOnce(Builder<Maker<HOOKS>>) -> Builder<Maker<HOOKS>>,
+) -> (Pool<Maker<HOOKS>>, Maker<HOOKS>, Clock) {
+    let (maker, clock) = (Maker::<HOOKS>::default(), Clock::default());
+    let kept = Pool::builder().journal(Journal::Memory(None));
+    let builder = change(kept.clock(clock.told()));
     (builder.build(maker.clone()).unwrap(), maker, clock)
 }
 
-fn all_tests(builder: Builder<Maker>) -> Builder<Maker> {
+fn all_tests<const HOOKS: bool>(builder: Builder<Maker<HOOKS>>) -> Builder<Maker<HOOKS>> {
     builder
         .test_on_create(true)
         .test_on_borrow(true)
@@ -143,8 +207,15 @@ fn all_tests(builder: Builder<Maker>) -> Builder<Maker> {
         .test_while_idle(true)
 }
 
+/// Those of some calls, or of the steps that report them, that there are with or without hooks.
+fn of_hooks<const HOOKS: bool>(calls: &[&'static str]) -> Vec<&'static str> {
+    let is_of_hook = |call: &str| call.contains("activate") || call.contains("passivate");
+    let calls = calls.iter().copied();
+    calls.filter(|call| HOOKS || !is_of_hook(call)).collect()
+}
+
 /// The journal without callers, moments and what is the same in each line.
-fn steps_of(pool: &Pool<Maker>) -> Vec<String> {
+fn steps_of<const HOOKS: bool>(pool: &Pool<Maker<HOOKS>>) -> Vec<String> {
     let journal = journal_of(pool);
     journal
         .lines()
@@ -153,15 +224,14 @@ fn steps_of(pool: &Pool<Maker>) -> Vec<String> {
 }
 
 /// The steps that tell of a failure.
-fn failures_of(pool: &Pool<Maker>) -> Vec<String> {
+fn failures_of<const HOOKS: bool>(pool: &Pool<Maker<HOOKS>>) -> Vec<String> {
     let mut steps = steps_of(pool);
     steps.retain(|step| step.contains("fail"));
     steps
 }
 
-#[test]
-fn a_journal_is_as_the_readme_shows_it() {
-    let (pool, maker, clock) = pool_with(|builder| builder);
+fn a_journal_is_as_the_readme_shows_it<const HOOKS: bool>() {
+    let (pool, maker, clock) = pool_with::<HOOKS>(|builder| builder);
     clock.set(10);
     let widget = pool.get().unwrap();
     clock.set(15);
@@ -171,14 +241,17 @@ fn a_journal_is_as_the_readme_shows_it() {
         "{me} 10 borrow 10 = make 0\n{me} 10 ready 0 good = lent\n{me} 15 return 0 = check\n{me} 15 park 0 good = parked\n"
     );
     assert_eq!(journal_of(&pool), wanted);
-    assert_eq!(maker.calls(), ["make 0", "activate 0", "passivate 0"]);
+    assert_eq!(
+        maker.calls(),
+        of_hooks::<HOOKS>(&["make 0", "activate 0", "passivate 0"])
+    );
     assert_legal(&pool);
 }
 
-#[test]
-fn moments_are_milliseconds_since_the_pool_was_opened() {
+fn moments_are_milliseconds_since_the_pool_was_opened<const HOOKS: bool>() {
     let before = Instant::now();
-    let pool = Pool::new(Maker::default()).unwrap();
+    let kept = Pool::builder().journal(Journal::Memory(None));
+    let pool = kept.build(Maker::<HOOKS>::default()).unwrap();
     let opened = Instant::now();
     thread::sleep(Duration::from_millis(20));
     let least = opened.elapsed().as_millis();
@@ -193,9 +266,46 @@ fn moments_are_milliseconds_since_the_pool_was_opened() {
     }
 }
 
-#[test]
-fn each_thread_stands_under_its_own_number() {
-    let (pool, ..) = pool_with(|builder| builder);
+/// The times in a journal.
+fn times_of<const HOOKS: bool>(pool: &Pool<Maker<HOOKS>>) -> Vec<u64> {
+    let journal = journal_of(pool);
+    let time = |line: &str| line.split(' ').nth(1).unwrap().parse().unwrap();
+    journal.lines().map(time).collect()
+}
+
+fn the_clock_is_read_where_time_may_pass<const HOOKS: bool>() {
+    let reads = AtomicU64::new(0);
+    let clock = move || reads.fetch_add(1, Ordering::SeqCst);
+    let pool = Pool::builder()
+        .journal(Journal::Memory(None))
+        .clock(clock)
+        .build(Maker::<HOOKS>::default())
+        .unwrap();
+    for _ in 0..2 {
+        drop(pool.get().unwrap());
+    }
+    let wanted = match HOOKS {
+        true => [0, 1, 2, 3, 4, 5, 6, 7],
+        false => [0, 1, 2, 2, 3, 3, 4, 4],
+    };
+    assert_eq!(times_of(&pool), wanted);
+    assert_legal(&pool);
+}
+
+fn times_never_fall<const HOOKS: bool>() {
+    let (pool, _, clock) = pool_with::<HOOKS>(|builder| builder);
+    clock.set(10);
+    let widget = pool.get().unwrap();
+    clock.set(5);
+    drop(widget);
+    clock.set(12);
+    pool.add().unwrap();
+    assert_eq!(times_of(&pool), [10, 10, 10, 10, 12, 12]);
+    assert_legal(&pool);
+}
+
+fn each_thread_stands_under_its_own_number<const HOOKS: bool>() {
+    let (pool, ..) = pool_with::<HOOKS>(|builder| builder);
     let me = caller_number();
     let (other, widget) = thread::scope(|scope| {
         let lend = || (caller_number(), pool.get().unwrap());
@@ -211,10 +321,9 @@ fn each_thread_stands_under_its_own_number() {
     assert_eq!(callers, [other, other, me, me]);
 }
 
-#[test]
-fn the_last_or_the_first_parked_is_lent() {
+fn the_last_or_the_first_parked_is_lent<const HOOKS: bool>() {
     for (lifo, wanted) in [(true, 1), (false, 0)] {
-        let (pool, ..) = pool_with(|builder| builder.lifo(lifo));
+        let (pool, ..) = pool_with::<HOOKS>(|builder| builder.lifo(lifo));
         let (first, second) = (pool.get().unwrap(), pool.get().unwrap());
         drop(first);
         drop(second);
@@ -222,37 +331,41 @@ fn the_last_or_the_first_parked_is_lent() {
     }
 }
 
-#[test]
-fn tests_come_where_they_are_set() {
-    let (pool, maker, _) = pool_with(all_tests);
+fn tests_come_where_they_are_set<const HOOKS: bool>() {
+    let (pool, maker, _) = pool_with::<HOOKS>(all_tests);
     drop(pool.get().unwrap());
     assert_eq!(
         maker.calls(),
-        [
+        of_hooks::<HOOKS>(&[
             "make 0",
             "validate 0",
             "activate 0",
             "validate 0",
             "validate 0",
             "passivate 0"
-        ]
+        ])
     );
     drop(pool.get().unwrap());
     assert_eq!(
         maker.calls(),
-        ["activate 0", "validate 0", "validate 0", "passivate 0"]
+        of_hooks::<HOOKS>(&["activate 0", "validate 0", "validate 0", "passivate 0"])
     );
     let run = pool.evict().unwrap();
     assert_eq!((run.examined, run.destroyed), (1, 0));
-    assert_eq!(maker.calls(), ["activate 0", "validate 0", "passivate 0"]);
+    assert_eq!(
+        maker.calls(),
+        of_hooks::<HOOKS>(&["activate 0", "validate 0", "passivate 0"])
+    );
     assert_eq!(pool.add().unwrap(), Addition::Idle);
-    assert_eq!(maker.calls(), ["make 1", "validate 1", "passivate 1"]);
+    assert_eq!(
+        maker.calls(),
+        of_hooks::<HOOKS>(&["make 1", "validate 1", "passivate 1"])
+    );
     assert_legal(&pool);
 }
 
-#[test]
-fn an_exhausted_pool_refuses() {
-    let (pool, ..) = pool_with(|builder| builder.max_total(1));
+fn an_exhausted_pool_refuses<const HOOKS: bool>() {
+    let (pool, ..) = pool_with::<HOOKS>(|builder| builder.max_total(1));
     let _held = pool.get().unwrap();
     assert_eq!(pool.try_get().unwrap_err(), Error::Exhausted);
     assert_eq!(
@@ -264,7 +377,7 @@ fn an_exhausted_pool_refuses() {
     assert!(start.elapsed() >= short);
     assert_legal(&pool);
 
-    let (pool, ..) = pool_with(|builder| builder.max_total(1).block_when_exhausted(false));
+    let (pool, ..) = pool_with::<HOOKS>(|builder| builder.max_total(1).block_when_exhausted(false));
     let _held = pool.get().unwrap();
     assert_eq!(pool.get().unwrap_err(), Error::Exhausted);
     assert_eq!(
@@ -272,17 +385,17 @@ fn an_exhausted_pool_refuses() {
         Error::Exhausted
     );
 
-    let (pool, ..) = pool_with(|builder| builder.max_total(1).max_wait(Duration::ZERO));
+    let (pool, ..) = pool_with::<HOOKS>(|builder| builder.max_total(1).max_wait(Duration::ZERO));
     let _held = pool.get().unwrap();
     assert_eq!(pool.get().unwrap_err(), Error::TimedOut);
     assert_eq!(pool.try_get().unwrap_err(), Error::Exhausted);
 }
 
-#[test]
-fn a_wait_is_as_long_as_the_settings_say() {
-    let maker = Maker::default();
+fn a_wait_is_as_long_as_the_settings_say<const HOOKS: bool>() {
+    let maker = Maker::<HOOKS>::default();
     let short = Duration::from_millis(40);
     let pool = Pool::builder()
+        .journal(Journal::Memory(None))
         .max_total(1)
         .max_wait(short)
         .build(maker)
@@ -314,8 +427,8 @@ fn fall_asleep() {
 }
 
 /// Lets a thread wait in a call, and then does something: what the call came to.
-fn while_waiting<R: Send>(
-    pool: &Pool<Maker>,
+fn while_waiting<R: Send, const HOOKS: bool>(
+    pool: &Pool<Maker<HOOKS>>,
     call: impl FnOnce() -> R + Send,
     act: impl FnOnce(),
 ) -> R {
@@ -330,11 +443,10 @@ fn while_waiting<R: Send>(
     })
 }
 
-#[test]
-fn a_waiter_is_woken_by_what_it_waits_for() {
+fn a_waiter_is_woken_by_what_it_waits_for<const HOOKS: bool>() {
     let waits = [None, Some(Duration::from_secs(60))];
     for wait in waits {
-        let (pool, maker, _) = pool_with(|builder| builder.max_total(1));
+        let (pool, maker, _) = pool_with::<HOOKS>(|builder| builder.max_total(1));
         let call = || match wait {
             None => pool.get().map(|widget| Pooled::id(&widget)),
             Some(time) => pool.get_timeout(time).map(|widget| Pooled::id(&widget)),
@@ -343,30 +455,32 @@ fn a_waiter_is_woken_by_what_it_waits_for() {
         assert_eq!(while_waiting(&pool, call, || drop(held)), Ok(0));
 
         let held = pool.get().unwrap();
-        let invalidated = || assert_eq!(pool.invalidate(held), Returned::Destroyed);
+        let invalidated = || assert_eq!(Pooled::invalidate(held), Returned::Destroyed);
         assert_eq!(while_waiting(&pool, call, invalidated), Ok(1));
 
-        let held = pool.get().unwrap();
-        maker.fail("passivate");
-        assert_eq!(while_waiting(&pool, call, || drop(held)), Ok(2));
+        if HOOKS {
+            let held = pool.get().unwrap();
+            maker.fail("passivate");
+            assert_eq!(while_waiting(&pool, call, || drop(held)), Ok(2));
+        }
 
         let held = pool.get().unwrap();
         let closed = || assert_eq!(pool.close(), 0);
         assert_eq!(while_waiting(&pool, call, closed), Err(Error::Closed));
         drop(held);
-        assert_eq!(maker.dropped(), [0, 1, 2]);
+        assert_eq!(maker.dropped(), [0, 1, 2][..if HOOKS { 3 } else { 2 }]);
         assert_legal(&pool);
     }
 }
 
-#[test]
-fn a_waiter_is_woken_by_a_removal() {
+fn a_waiter_is_woken_by_a_removal<const HOOKS: bool>() {
     let abandoned = Abandoned {
         on_maintenance: true,
         timeout: Duration::from_millis(100),
         ..Abandoned::default()
     };
-    let (pool, maker, clock) = pool_with(|builder| builder.max_total(1).abandoned(abandoned));
+    let (pool, maker, clock) =
+        pool_with::<HOOKS>(|builder| builder.max_total(1).abandoned(abandoned));
     let held = pool.get().unwrap();
     let get = || pool.get().map(|widget| Pooled::id(&widget));
     let removed = || {
@@ -379,19 +493,18 @@ fn a_waiter_is_woken_by_a_removal() {
     assert_eq!(held.id, 0);
     maker.calls();
     assert_eq!(Pooled::give_back(held), Returned::Gone);
-    assert_eq!(maker.calls(), ["destroy 0"]);
+    assert_eq!(maker.calls(), of_hooks::<HOOKS>(&["destroy 0"]));
     assert_eq!(maker.dropped(), [0]);
     assert_legal(&pool);
 }
 
-#[test]
-fn a_use_puts_a_removal_off() {
+fn a_use_puts_a_removal_off<const HOOKS: bool>() {
     let abandoned = Abandoned {
         on_borrow: true,
         timeout: Duration::from_millis(100),
         ..Abandoned::default()
     };
-    let (pool, _, clock) = pool_with(|builder| builder.max_total(2).abandoned(abandoned));
+    let (pool, _, clock) = pool_with::<HOOKS>(|builder| builder.max_total(2).abandoned(abandoned));
     let (used, unused) = (pool.get().unwrap(), pool.get().unwrap());
     clock.set(60);
     assert_eq!(Pooled::touch(&used).unwrap(), Touched::Noted);
@@ -403,67 +516,73 @@ fn a_use_puts_a_removal_off() {
     assert_legal(&pool);
 }
 
-#[test]
-fn a_new_object_that_fails_is_destroyed() {
-    let (pool, maker, _) = pool_with(|builder| all_tests(builder).max_total(1));
+fn a_new_object_that_fails_is_destroyed<const HOOKS: bool>() {
+    let (pool, maker, _) = pool_with::<HOOKS>(|builder| all_tests(builder).max_total(1));
     maker.fail("make");
     assert_eq!(pool.get().unwrap_err(), Error::Make(Broken("make")));
     maker.fail("validate");
     assert_eq!(pool.get().unwrap_err(), Error::CreateTest);
-    maker.fail("activate");
-    assert_eq!(pool.get().unwrap_err(), Error::Activate(Broken("activate")));
-    assert_eq!(
-        maker.calls(),
-        [
-            "make 0",
-            "make 1",
-            "validate 1",
-            "destroy 1",
-            "make 2",
-            "validate 2",
-            "activate 2",
-            "destroy 2"
-        ]
-    );
     maker.fail("make");
     assert_eq!(pool.add().unwrap_err(), Error::Make(Broken("make")));
     maker.fail("validate");
     assert_eq!(pool.add().unwrap_err(), Error::CreateTest);
-    maker.fail("passivate");
-    assert_eq!(
-        pool.add().unwrap_err(),
-        Error::Passivate(Broken("passivate"))
-    );
-    assert_eq!(
-        maker.calls(),
-        [
-            "make 3",
-            "make 4",
-            "validate 4",
-            "destroy 4",
-            "make 5",
-            "validate 5",
-            "passivate 5",
-            "destroy 5"
-        ]
-    );
-    assert_eq!(maker.dropped(), [1, 2, 4, 5]);
+    let wanted = [
+        "make 0",
+        "make 1",
+        "validate 1",
+        "destroy 1",
+        "make 2",
+        "make 3",
+        "validate 3",
+        "destroy 3",
+    ];
+    assert_eq!(maker.calls(), wanted);
+    assert_eq!(maker.dropped(), [1, 3]);
     let counts = pool.counts();
     assert_eq!(
         (counts.created, counts.destroyed, counts.reserved),
-        (6, 6, 0)
+        (4, 4, 0)
     );
     assert_legal(&pool);
 }
 
 #[test]
-fn a_new_object_that_fails_its_second_test_is_destroyed() {
-    let (pool, maker, _) = pool_with(|builder| builder.test_on_borrow(true));
+fn a_new_object_whose_hook_fails_is_destroyed() {
+    let (pool, maker, _) = pool_with::<true>(|builder| all_tests(builder).max_total(1));
+    maker.fail("activate");
+    assert_eq!(pool.get().unwrap_err(), Error::Activate(Broken("activate")));
+    maker.fail("passivate");
+    assert_eq!(
+        pool.add().unwrap_err(),
+        Error::Passivate(Broken("passivate"))
+    );
+    let wanted = [
+        "make 0",
+        "validate 0",
+        "activate 0",
+        "destroy 0",
+        "make 1",
+        "validate 1",
+        "passivate 1",
+        "destroy 1",
+    ];
+    assert_eq!(maker.calls(), wanted);
+    assert_eq!(maker.dropped(), [0, 1]);
+    let counts = pool.counts();
+    assert_eq!(
+        (counts.created, counts.destroyed, counts.reserved),
+        (2, 2, 0)
+    );
+    assert_legal(&pool);
+}
+
+fn a_new_object_that_fails_its_second_test_is_destroyed<const HOOKS: bool>() {
+    let (pool, maker, _) = pool_with::<HOOKS>(|builder| builder.test_on_borrow(true));
     maker.fail("validate");
     assert_eq!(pool.get().unwrap_err(), Error::BorrowTest);
     assert_eq!(
         maker.calls(),
-        ["make 0", "activate 0", "validate 0", "destroy 0"]
+        of_hooks::<HOOKS>(&["make 0", "activate 0", "validate 0", "destroy 0"])
     );
     assert_eq!(
         steps_of(&pool),
@@ -476,9 +595,30 @@ fn a_new_object_that_fails_its_second_test_is_destroyed() {
     assert_legal(&pool);
 }
 
+fn an_idle_object_that_fails_makes_way_for_another<const HOOKS: bool>() {
+    let (pool, maker, _) = pool_with::<HOOKS>(|builder| builder.test_on_borrow(true));
+    for _ in 0..2 {
+        pool.add().unwrap();
+    }
+    maker.calls();
+    maker.fail("validate");
+    assert_eq!(pool.get().unwrap().id, 0);
+    let wanted = [
+        "activate 1",
+        "validate 1",
+        "destroy 1",
+        "activate 0",
+        "validate 0",
+        "passivate 0",
+    ];
+    assert_eq!(maker.calls(), of_hooks::<HOOKS>(&wanted));
+    assert_eq!(failures_of(&pool), ["ready 1 testfail = destroy"]);
+    assert_legal(&pool);
+}
+
 #[test]
-fn an_idle_object_that_fails_makes_way_for_another() {
-    let (pool, maker, _) = pool_with(|builder| builder.test_on_borrow(true));
+fn an_idle_object_whose_hook_fails_makes_way_for_another() {
+    let (pool, maker, _) = pool_with::<true>(|builder| builder.test_on_borrow(true));
     for _ in 0..2 {
         pool.add().unwrap();
     }
@@ -508,41 +648,39 @@ fn an_idle_object_that_fails_makes_way_for_another() {
     assert_legal(&pool);
 }
 
-#[test]
-fn what_comes_back_broken_is_destroyed() {
-    let (pool, maker, _) = pool_with(|builder| builder.test_on_return(true));
-    for name in ["validate", "passivate"] {
+fn what_comes_back_broken_is_destroyed<const HOOKS: bool>() {
+    let (pool, maker, _) = pool_with::<HOOKS>(|builder| builder.test_on_return(true));
+    for name in of_hooks::<HOOKS>(&["validate", "passivate"]) {
         let widget = pool.get().unwrap();
         maker.fail(name);
         assert_eq!(Pooled::give_back(widget), Returned::Destroyed);
     }
-    assert_eq!(maker.dropped(), [0, 1]);
-    assert_eq!(pool.counts().destroyed, 2);
-    assert_eq!(
-        failures_of(&pool),
-        [
-            "park 0 testfail = destroy",
-            "park 1 passivatefail = destroy"
-        ]
-    );
+    let wanted = of_hooks::<HOOKS>(&[
+        "park 0 testfail = destroy",
+        "park 1 passivatefail = destroy",
+    ]);
+    assert_eq!(failures_of(&pool), wanted);
+    assert_eq!(maker.dropped(), [0, 1][..wanted.len()]);
+    assert_eq!(pool.counts().destroyed, wanted.len() as u64);
     assert_legal(&pool);
 }
 
-#[test]
-fn no_more_are_idle_than_may_be() {
-    let (pool, maker, _) = pool_with(|builder| builder.max_idle(1));
+fn no_more_are_idle_than_may_be<const HOOKS: bool>() {
+    let (pool, maker, _) = pool_with::<HOOKS>(|builder| builder.max_idle(1));
     let (first, second) = (pool.get().unwrap(), pool.get().unwrap());
     assert_eq!(Pooled::give_back(first), Returned::Parked);
     maker.calls();
     assert_eq!(Pooled::give_back(second), Returned::Destroyed);
-    assert_eq!(maker.calls(), ["passivate 1", "destroy 1"]);
+    assert_eq!(
+        maker.calls(),
+        of_hooks::<HOOKS>(&["passivate 1", "destroy 1"])
+    );
     assert_eq!(maker.dropped(), [1]);
     assert_legal(&pool);
 }
 
-#[test]
-fn additions_and_fills_go_as_far_as_there_are_places() {
-    let (pool, ..) = pool_with(|builder| builder.max_total(3).min_idle(2));
+fn additions_and_fills_go_as_far_as_there_are_places<const HOOKS: bool>() {
+    let (pool, ..) = pool_with::<HOOKS>(|builder| builder.max_total(3).min_idle(2));
     assert_eq!(pool.fill().unwrap(), 2);
     assert_eq!(pool.fill().unwrap(), 0);
     assert_eq!(pool.add().unwrap(), Addition::Idle);
@@ -555,64 +693,91 @@ fn additions_and_fills_go_as_far_as_there_are_places() {
     assert_legal(&pool);
 }
 
-#[test]
-fn an_eviction_destroys_what_is_idle_for_too_long_or_fails() {
-    let settings = |builder: Builder<Maker>| {
+fn an_eviction_destroys_what_is_idle_for_too_long_or_fails<const HOOKS: bool>() {
+    let settings = |builder: Builder<Maker<HOOKS>>| {
         builder
             .min_evictable_idle(Duration::from_millis(50))
             .tests_per_eviction_run(-1)
             .test_while_idle(true)
     };
-    let (pool, maker, clock) = pool_with(settings);
+    let (pool, maker, clock) = pool_with::<HOOKS>(settings);
     pool.add().unwrap();
     clock.set(30);
     for _ in 0..3 {
         pool.add().unwrap();
     }
     clock.set(60);
+    maker.fail("validate");
+    maker.calls();
+    let run = pool.evict().unwrap();
+    assert_eq!((run.examined, run.destroyed), (4, 2));
+    let wanted = [
+        "destroy 0",
+        "activate 1",
+        "validate 1",
+        "destroy 1",
+        "activate 2",
+        "validate 2",
+        "passivate 2",
+        "activate 3",
+        "validate 3",
+        "passivate 3",
+    ];
+    assert_eq!(maker.calls(), of_hooks::<HOOKS>(&wanted));
+    assert_eq!(pool.counts().evicted, 2);
+    assert_eq!(failures_of(&pool), ["tested 1 testfail = destroy"]);
+    assert_legal(&pool);
+}
+
+#[test]
+fn an_eviction_destroys_what_a_hook_fails_for() {
+    let settings =
+        |builder: Builder<Maker<true>>| builder.tests_per_eviction_run(-1).test_while_idle(true);
+    let (pool, maker, _) = pool_with::<true>(settings);
+    for _ in 0..3 {
+        pool.add().unwrap();
+    }
     for name in ["activate", "validate", "passivate"] {
         maker.fail(name);
     }
     maker.calls();
     let run = pool.evict().unwrap();
-    assert_eq!((run.examined, run.destroyed), (4, 4));
+    assert_eq!((run.examined, run.destroyed), (3, 3));
     let wanted = [
+        "activate 0",
         "destroy 0",
         "activate 1",
+        "validate 1",
         "destroy 1",
         "activate 2",
         "validate 2",
+        "passivate 2",
         "destroy 2",
-        "activate 3",
-        "validate 3",
-        "passivate 3",
-        "destroy 3",
     ];
     assert_eq!(maker.calls(), wanted);
-    assert_eq!(pool.counts().evicted, 4);
+    assert_eq!(pool.counts().evicted, 3);
     let wanted = [
-        "tested 1 activatefail = destroy",
-        "tested 2 testfail = destroy",
-        "tested 3 passivatefail = destroy",
+        "tested 0 activatefail = destroy",
+        "tested 1 testfail = destroy",
+        "tested 2 passivatefail = destroy",
     ];
     assert_eq!(failures_of(&pool), wanted);
     assert_legal(&pool);
 }
 
-#[test]
-fn maintenance_evicts_and_reclaims_and_fills() {
+fn maintenance_evicts_and_reclaims_and_fills<const HOOKS: bool>() {
     let abandoned = Abandoned {
         on_maintenance: true,
         timeout: Duration::from_millis(100),
         ..Abandoned::default()
     };
-    let settings = |builder: Builder<Maker>| {
+    let settings = |builder: Builder<Maker<HOOKS>>| {
         builder
             .min_idle(2)
             .min_evictable_idle(Duration::from_millis(50))
             .abandoned(abandoned)
     };
-    let (pool, _, clock) = pool_with(settings);
+    let (pool, _, clock) = pool_with::<HOOKS>(settings);
     let _forgotten = pool.get().unwrap();
     pool.add().unwrap();
     clock.set(100);
@@ -631,9 +796,8 @@ fn maintenance_evicts_and_reclaims_and_fills() {
     assert_legal(&pool);
 }
 
-#[test]
-fn a_clear_destroys_what_is_idle() {
-    let (pool, maker, _) = pool_with(|builder| builder);
+fn a_clear_destroys_what_is_idle<const HOOKS: bool>() {
+    let (pool, maker, _) = pool_with::<HOOKS>(|builder| builder);
     let held = pool.get().unwrap();
     pool.add().unwrap();
     pool.add().unwrap();
@@ -645,9 +809,8 @@ fn a_clear_destroys_what_is_idle() {
     assert_legal(&pool);
 }
 
-#[test]
-fn a_closed_pool_lends_nothing_and_keeps_nothing() {
-    let (pool, maker, _) = pool_with(|builder| builder);
+fn a_closed_pool_lends_nothing_and_keeps_nothing<const HOOKS: bool>() {
+    let (pool, maker, _) = pool_with::<HOOKS>(|builder| builder);
     let held = pool.get().unwrap();
     pool.add().unwrap();
     assert_eq!(pool.close(), 1);
@@ -656,14 +819,16 @@ fn a_closed_pool_lends_nothing_and_keeps_nothing() {
     assert_eq!(pool.try_get().unwrap_err(), Error::Closed);
     maker.calls();
     assert_eq!(Pooled::give_back(held), Returned::Destroyed);
-    assert_eq!(maker.calls(), ["passivate 0", "destroy 0"]);
+    assert_eq!(
+        maker.calls(),
+        of_hooks::<HOOKS>(&["passivate 0", "destroy 0"])
+    );
     assert_eq!(maker.dropped(), [1, 0]);
     assert_legal(&pool);
 }
 
-#[test]
-fn a_pool_that_nobody_has_is_closed() {
-    let (pool, maker, _) = pool_with(|builder| builder);
+fn a_pool_that_nobody_has_is_closed<const HOOKS: bool>() {
+    let (pool, maker, _) = pool_with::<HOOKS>(|builder| builder);
     let other = pool.clone();
     let held = pool.get().unwrap();
     pool.add().unwrap();
@@ -676,17 +841,16 @@ fn a_pool_that_nobody_has_is_closed() {
     drop(held);
     assert_eq!(
         maker.calls(),
-        ["passivate 0", "destroy 1", "destroy 2", "destroy 0"]
+        of_hooks::<HOOKS>(&["passivate 0", "destroy 1", "destroy 2", "destroy 0"])
     );
     assert_eq!(maker.dropped(), [1, 2, 0]);
 }
 
-#[test]
-fn an_object_goes_back_from_any_thread() {
-    let (pool, ..) = pool_with(|builder| builder.max_total(1));
+fn an_object_goes_back_from_any_thread<const HOOKS: bool>() {
+    let (pool, ..) = pool_with::<HOOKS>(|builder| builder.max_total(1));
     let (hand, take) = mpsc::channel();
     let other = thread::spawn(move || {
-        let widget: Pooled<Maker> = take.recv().unwrap();
+        let widget: Pooled<Maker<HOOKS>> = take.recv().unwrap();
         Pooled::give_back(widget)
     });
     hand.send(pool.get().unwrap()).unwrap();
@@ -699,16 +863,15 @@ fn panics<R>(call: impl FnOnce() -> R) -> bool {
     panic::catch_unwind(AssertUnwindSafe(call)).is_err()
 }
 
-#[test]
-fn what_a_panicking_thread_holds_is_destroyed() {
-    let (pool, maker, _) = pool_with(|builder| builder);
+fn what_a_panicking_thread_holds_is_destroyed<const HOOKS: bool>() {
+    let (pool, maker, _) = pool_with::<HOOKS>(|builder| builder);
     let widget = pool.get().unwrap();
     maker.calls();
     assert!(panics(move || {
         let _held = widget;
         panic!("the holder panics");
     }));
-    assert_eq!(maker.calls(), ["destroy 0"]);
+    assert_eq!(maker.calls(), of_hooks::<HOOKS>(&["destroy 0"]));
     assert_eq!(
         steps_of(&pool)[2..],
         ["invalidate 0 = destroy", "destroyed 0 = freed"]
@@ -716,10 +879,9 @@ fn what_a_panicking_thread_holds_is_destroyed() {
     assert_legal(&pool);
 }
 
-#[test]
-fn a_manager_that_panics_costs_its_object_only() {
-    for name in ["make", "validate", "activate", "passivate", "destroy"] {
-        let (pool, maker, _) = pool_with(|builder| all_tests(builder).max_total(1));
+fn a_manager_that_panics_costs_its_object_only<const HOOKS: bool>() {
+    for name in of_hooks::<HOOKS>(&["make", "validate", "activate", "passivate", "destroy"]) {
+        let (pool, maker, _) = pool_with::<HOOKS>(|builder| all_tests(builder).max_total(1));
         maker.panic(name);
         match name {
             "passivate" => {
@@ -743,15 +905,16 @@ fn a_manager_that_panics_costs_its_object_only() {
         assert_eq!(pool.try_get().unwrap().id, 1, "{name}");
         assert_legal(&pool);
     }
-    for name in ["make", "validate", "passivate"] {
-        let (pool, maker, _) = pool_with(|builder| all_tests(builder).max_total(1));
+    for name in of_hooks::<HOOKS>(&["make", "validate", "passivate"]) {
+        let (pool, maker, _) = pool_with::<HOOKS>(|builder| all_tests(builder).max_total(1));
         maker.panic(name);
         assert!(panics(|| pool.add()));
         assert_eq!(pool.add().unwrap(), Addition::Idle, "{name}");
         assert_legal(&pool);
     }
-    for name in ["activate", "validate", "passivate"] {
-        let (pool, maker, _) = pool_with(|builder| builder.test_while_idle(true).max_total(1));
+    for name in of_hooks::<HOOKS>(&["activate", "validate", "passivate"]) {
+        let (pool, maker, _) =
+            pool_with::<HOOKS>(|builder| builder.test_while_idle(true).max_total(1));
         pool.add().unwrap();
         maker.panic(name);
         assert!(panics(|| pool.evict()));
@@ -761,9 +924,8 @@ fn a_manager_that_panics_costs_its_object_only() {
     }
 }
 
-#[test]
-fn a_full_journal_takes_back_and_closes() {
-    let (pool, maker, _) = pool_with(|builder| builder.journal_limit(12));
+fn a_full_journal_takes_back_and_closes<const HOOKS: bool>() {
+    let (pool, maker, _) = pool_with::<HOOKS>(|builder| builder.journal_limit(12));
     let held = pool.get().unwrap();
     fill_journal(&pool);
     assert_eq!(pool.get().unwrap_err(), Error::JournalFull);
@@ -782,14 +944,17 @@ fn a_full_journal_takes_back_and_closes() {
 }
 
 /// Makes entries that change nothing, until there is no room for more.
-fn fill_journal(pool: &Pool<Maker>) {
+fn fill_journal<const HOOKS: bool>(pool: &Pool<Maker<HOOKS>>) {
     while pool.room() > 0 {
         assert_eq!(pool.reclaim(), Ok(0));
     }
 }
 
 /// Lets two threads wait, and then does something: what their borrows came to.
-fn while_two_wait(pool: &Pool<Maker>, act: impl FnOnce()) -> [Result<u64, Error<Broken>>; 2] {
+fn while_two_wait<const HOOKS: bool>(
+    pool: &Pool<Maker<HOOKS>>,
+    act: impl FnOnce(),
+) -> [Result<u64, Error<Broken>>; 2] {
     thread::scope(|scope| {
         let wait = || scope.spawn(|| pool.get().map(|widget| widget.id));
         let waiting = [wait(), wait()];
@@ -808,9 +973,8 @@ fn while_two_wait(pool: &Pool<Maker>, act: impl FnOnce()) -> [Result<u64, Error<
     })
 }
 
-#[test]
-fn all_who_wait_hear_of_a_close() {
-    let (pool, ..) = pool_with(|builder| builder.max_total(1));
+fn all_who_wait_hear_of_a_close<const HOOKS: bool>() {
+    let (pool, ..) = pool_with::<HOOKS>(|builder| builder.max_total(1));
     let held = pool.get().unwrap();
     let came = while_two_wait(&pool, || assert_eq!(pool.close(), 0));
     assert_eq!(came, [Err(Error::Closed), Err(Error::Closed)]);
@@ -818,9 +982,8 @@ fn all_who_wait_hear_of_a_close() {
     assert_legal(&pool);
 }
 
-#[test]
-fn all_who_wait_hear_of_a_full_journal() {
-    let (pool, ..) = pool_with(|builder| builder.max_total(1).journal_limit(12));
+fn all_who_wait_hear_of_a_full_journal<const HOOKS: bool>() {
+    let (pool, ..) = pool_with::<HOOKS>(|builder| builder.max_total(1).journal_limit(12));
     let held = pool.get().unwrap();
     let came = while_two_wait(&pool, || {
         fill_journal(&pool);
@@ -830,9 +993,8 @@ fn all_who_wait_hear_of_a_full_journal() {
     assert_legal(&pool);
 }
 
-#[test]
-fn who_is_woken_for_nothing_makes_no_entry() {
-    let (pool, ..) = pool_with(|builder| builder.max_total(1));
+fn who_is_woken_for_nothing_makes_no_entry<const HOOKS: bool>() {
+    let (pool, ..) = pool_with::<HOOKS>(|builder| builder.max_total(1));
     let held = pool.get().unwrap();
     assert_eq!(while_two_wait(&pool, || drop(held)), [Ok(0), Ok(0)]);
     let journal = journal_of(&pool);
@@ -846,9 +1008,8 @@ fn who_is_woken_for_nothing_makes_no_entry() {
     assert_legal(&pool);
 }
 
-#[test]
-fn a_drain_goes_on_where_the_last_ended() {
-    let (pool, ..) = pool_with(|builder| builder);
+fn a_drain_goes_on_where_the_last_ended<const HOOKS: bool>() {
+    let (pool, ..) = pool_with::<HOOKS>(|builder| builder);
     let mut text = Vec::new();
     assert_eq!(pool.drain_journal(&mut text).unwrap(), 0);
     drop(pool.get().unwrap());
@@ -866,7 +1027,7 @@ struct Narrow(usize, Vec<u8>);
 impl std::io::Write for Narrow {
     fn write(&mut self, bytes: &[u8]) -> std::io::Result<usize> {
         if self.1.len() + bytes.len() > self.0 {
-            return Err(std::io::ErrorKind::StorageFull.into());
+            return Err(std::io::ErrorKind::WriteZero.into());
         }
         self.1.extend_from_slice(bytes);
         Ok(bytes.len())
@@ -876,9 +1037,8 @@ impl std::io::Write for Narrow {
     }
 }
 
-#[test]
-fn a_drain_that_fails_loses_nothing() {
-    let (pool, ..) = pool_with(|builder| builder);
+fn a_drain_that_fails_loses_nothing<const HOOKS: bool>() {
+    let (pool, ..) = pool_with::<HOOKS>(|builder| builder);
     for _ in 0..200 {
         drop(pool.get().unwrap());
     }
@@ -890,20 +1050,8 @@ fn a_drain_that_fails_loses_nothing() {
     assert_eq!(String::from_utf8(narrow.1).unwrap(), journal);
 }
 
-/// Sees that the program finds these segments legal, with so many entries.
-fn assert_segments_legal<M: Manager>(pool: &Pool<M>, segments: &[String]) {
-    let entries: usize = segments
-        .iter()
-        .map(|segment| entries_of(segment).count())
-        .sum();
-    assert_eq!(entries as u64, pool.counts().steps);
-    let verdict = judge_segments(&pool.settings(), segments);
-    assert_eq!(verdict, format!("legal {entries}\n"), "{segments:?}");
-}
-
-#[test]
-fn a_pool_whose_journal_is_cut_lends_on() {
-    let (pool, maker, _) = pool_with(|builder| builder.journal_limit(12));
+fn a_pool_whose_journal_is_cut_lends_on<const HOOKS: bool>() {
+    let (pool, maker, _) = pool_with::<HOOKS>(|builder| builder.journal_limit(12));
     drop(pool.get().unwrap());
     let mut segments = vec![cut_off(&pool)];
     let room = pool.room();
@@ -928,8 +1076,7 @@ fn a_pool_whose_journal_is_cut_lends_on() {
     assert_eq!(*maker.dropped.lock().unwrap(), [0]);
 }
 
-#[test]
-fn a_cut_that_fails_loses_nothing() {
+fn a_cut_that_fails_loses_nothing<const HOOKS: bool>() {
     /// Takes all, and fails at the end.
     struct Lossy(Vec<u8>);
     impl std::io::Write for Lossy {
@@ -940,7 +1087,7 @@ fn a_cut_that_fails_loses_nothing() {
             Err(std::io::ErrorKind::BrokenPipe.into())
         }
     }
-    let (pool, ..) = pool_with(|builder| builder);
+    let (pool, ..) = pool_with::<HOOKS>(|builder| builder);
     let first = cut_off(&pool);
     for _ in 0..200 {
         drop(pool.get().unwrap());
@@ -960,9 +1107,8 @@ fn a_cut_that_fails_loses_nothing() {
     assert_segments_legal(&pool, &segments);
 }
 
-#[test]
-fn a_drain_goes_on_behind_a_cut() {
-    let (pool, ..) = pool_with(|builder| builder);
+fn a_drain_goes_on_behind_a_cut<const HOOKS: bool>() {
+    let (pool, ..) = pool_with::<HOOKS>(|builder| builder);
     let mut drained = Vec::new();
     drop(pool.get().unwrap());
     assert_eq!(pool.drain_journal(&mut drained).unwrap(), 4);
@@ -987,10 +1133,9 @@ fn a_drain_goes_on_behind_a_cut() {
     assert_segments_legal(&pool, &[segment, last]);
 }
 
-#[test]
-fn segments_of_four_threads_are_one_journal() {
+fn segments_of_four_threads_are_one_journal<const HOOKS: bool>() {
     const ROUNDS: u64 = 2_000;
-    let (pool, ..) = pool_with(|builder| builder.max_total(2).journal_limit(400));
+    let (pool, ..) = pool_with::<HOOKS>(|builder| builder.max_total(2).journal_limit(400));
     let segments = Mutex::new(Vec::new());
     let cut = || {
         let mut segments = segments.lock().unwrap();
@@ -1021,10 +1166,9 @@ fn segments_of_four_threads_are_one_journal() {
     assert_segments_legal(&pool, &segments);
 }
 
-#[test]
-fn what_is_written_while_others_cut_is_whole() {
+fn what_is_written_while_others_cut_is_whole<const HOOKS: bool>() {
     const TIMES: u64 = 50;
-    let (pool, ..) = pool_with(|builder| builder.max_total(2).journal_limit(20_000));
+    let (pool, ..) = pool_with::<HOOKS>(|builder| builder.max_total(2).journal_limit(20_000));
     let (cuts, copied, is_over) = (AtomicU64::new(0), AtomicU64::new(0), AtomicU64::new(0));
     let goes_on = || is_over.load(Ordering::SeqCst) == 0;
     let is_enough = || {
@@ -1087,9 +1231,9 @@ fn what_is_written_while_others_cut_is_whole() {
     assert!(drained.lines().all(|line| rest.any(|entry| *entry == line)));
 }
 
-#[test]
-fn settings_out_of_range_open_nothing() {
-    let opened = |builder: Builder<Maker>| builder.build(Maker::default()).map(|_| ());
+fn settings_out_of_range_open_nothing<const HOOKS: bool>() {
+    let opened =
+        |builder: Builder<Maker<HOOKS>>| builder.build(Maker::<HOOKS>::default()).map(|_| ());
     let refused = |key: &str| {
         Err(OpenError::Settings(SettingsError::OutOfRange(
             key.to_owned(),
@@ -1143,13 +1287,9 @@ fn settings_out_of_range_open_nothing() {
     );
 }
 
-#[test]
-fn errors_say_what_happened() {
+fn errors_say_what_happened<const HOOKS: bool>() {
     let error = Error::Make(Broken("it"));
-    assert_eq!(
-        error.to_string(),
-        "an object could not be made: it is broken"
-    );
+    assert_eq!(error.to_string(), "an object could not be made");
     assert_eq!(
         std::error::Error::source(&error).unwrap().to_string(),
         "it is broken"

@@ -4,7 +4,7 @@ mod common;
 
 use common::top;
 use std::fs;
-use zuphinka::{Manager, OpenError, Pool, SettingsError};
+use zuphinka::{Journal, Manager, OpenError, Pool, SettingsError};
 
 /// Makes numbers.
 struct Numbers;
@@ -20,7 +20,8 @@ impl Manager for Numbers {
 
 /// The settings of a pool that is opened with a text: all of them, in TOML.
 fn settings_of(text: &str) -> Result<String, SettingsError> {
-    match Pool::builder().settings(text)?.build(Numbers) {
+    let kept = Pool::builder().journal(Journal::Memory(None));
+    match kept.settings(text)?.build(Numbers) {
         Ok(pool) => Ok(pool.settings()),
         Err(OpenError::Settings(error)) => Err(error),
         Err(error) => panic!("{error}"),
@@ -67,8 +68,19 @@ fn settings_are_taken_and_refused_as_the_cases_say() {
 #[test]
 fn the_example_with_all_settings_has_the_defaults() {
     let text = fs::read_to_string(top().join("examples/settings.toml")).unwrap();
-    assert_eq!(settings_of(&text), settings_of(""));
-    assert_eq!(settings_of(""), Ok(Pool::new(Numbers).unwrap().settings()));
+    // The crate's own default of a wait is 30 seconds.
+    let named = settings_of("maxWaitMillis = -1\n");
+    assert_eq!(settings_of(&text), named);
+    let limited = named
+        .unwrap()
+        .replace("maxWaitMillis = -1\n", "maxWaitMillis = 30000\n");
+    assert_eq!(settings_of("").as_ref(), Ok(&limited));
+    assert_eq!(
+        settings_of("\u{feff}maxWaitMillis = 7\n").map(drop),
+        settings_of("\u{feff}").map(drop)
+    );
+    let kept = Pool::builder().journal(Journal::Memory(None));
+    assert_eq!(settings_of(""), Ok(kept.build(Numbers).unwrap().settings()));
 }
 
 const USUAL: &str = "\

@@ -1,18 +1,19 @@
 //! Four threads call a pool by chance, over a manager that fails and panics by chance, with 20 seeds.
 //!
-//! Each object that was made is dropped once, the program `pool` finds the journal legal, what each thread did stands in it in
-//! its order, all that was drained is the journal, or where it was cut its segments are, and no object is left anywhere.
+//! Each object that was made is dropped once, and no object is left anywhere. Unless the journal is dropped, the program `pool` finds it legal,
+//! what each thread did stands in it in its order, and all that was drained is the journal, or all segments are that were cut off or
+//! stored.
 
 mod common;
 
-use common::{cut_off, entries_of, journal_of, judge_segments};
+use common::{cut_off, entries_of, journal_of, judge_segments, texts_of, MemorySink, Stored};
 use std::collections::HashSet;
 use std::panic::{self, AssertUnwindSafe};
 use std::sync::atomic::{AtomicU64, Ordering};
 use std::sync::{Arc, Mutex};
 use std::thread;
 use std::time::Duration;
-use zuphinka::{caller_number, Abandoned, Error, Manager, Pool, Pooled};
+use zuphinka::{caller_number, Abandoned, Error, Journal, Manager, Pool, Pooled, Segments};
 
 const SEEDS: u64 = 20;
 const THREADS: u64 = 4;
@@ -55,7 +56,7 @@ impl Drop for Thing {
 }
 
 /// A manager whose calls fail by chance, each by its number.
-struct Fickle {
+struct Fickle<const HOOKS: bool> {
     seed: u64,
     calls: AtomicU64,
     drops: Arc<Drops>,
@@ -65,7 +66,7 @@ struct Fickle {
 #[derive(Debug)]
 struct Failed;
 
-impl Fickle {
+impl<const HOOKS: bool> Fickle<HOOKS> {
     /// Whether a call fails.
     fn fails(&self) -> bool {
         let call = self.calls.fetch_add(1, Ordering::Relaxed);
@@ -89,9 +90,11 @@ impl Fickle {
     }
 }
 
-impl Manager for Fickle {
+impl<const HOOKS: bool> Manager for Fickle<HOOKS> {
     type Object = Thing;
     type Error = Failed;
+    const ACTIVATES: bool = HOOKS;
+    const PASSIVATES: bool = HOOKS;
 
     fn make(&self, _id: u64) -> Result<Thing, Failed> {
         self.done()?;
@@ -129,6 +132,48 @@ impl Manager for Fickle {
     }
 }
 
+/// What becomes of the journal.
+#[derive(Clone, Copy, PartialEq)]
+enum Keeping {
+    /// It is kept in memory, and drained.
+    Drained,
+    /// It is kept in memory, and cut.
+    Cut,
+    /// It is handed to a sink, which fails now and then.
+    Stored,
+    Dropped,
+}
+
+impl Keeping {
+    fn of(seed: u64) -> Keeping {
+        match (seed + seed / 4) % 4 {
+            0 => Keeping::Drained,
+            1 => Keeping::Cut,
+            2 => Keeping::Stored,
+            _ => Keeping::Dropped,
+        }
+    }
+
+    /// The journal, whose sink fails in one call of so many, but never twice in succession.
+    fn journal(self, seed: u64, stored: &Stored) -> Journal {
+        let (mut dice, mut has_failed) = (Dice(seed), false);
+        let fails = move || {
+            has_failed = !has_failed && dice.roll(3) == 0;
+            has_failed
+        };
+        let stored = Arc::clone(stored);
+        match self {
+            Keeping::Drained | Keeping::Cut => Journal::Memory(None),
+            Keeping::Stored => {
+                let sink = MemorySink { stored, fails };
+                // There is room for all entries, so that no call fails for a slow thread that writes.
+                Journal::Segments(Segments::new(sink).limit(100_000))
+            }
+            Keeping::Dropped => Journal::Off,
+        }
+    }
+}
+
 /// What threads do in a pool that has nothing to lend.
 #[derive(Clone, Copy, PartialEq)]
 enum Manner {
@@ -149,7 +194,11 @@ impl Manner {
         }
     }
 
-    fn open(self, manager: Fickle) -> Pool<Fickle> {
+    fn open<const HOOKS: bool>(
+        self,
+        manager: Fickle<HOOKS>,
+        journal: Journal,
+    ) -> Pool<Fickle<HOOKS>> {
         let abandoned = |timeout| Abandoned {
             on_borrow: true,
             on_maintenance: true,
@@ -158,6 +207,7 @@ impl Manner {
         let moment = AtomicU64::new(0);
         let ticking = move || moment.fetch_add(1, Ordering::Relaxed);
         let builder = Pool::builder()
+            .journal(journal)
             .min_idle(1)
             .test_on_borrow(true)
             .test_while_idle(true);
@@ -175,6 +225,7 @@ impl Manner {
             Manner::Waiting => builder
                 .clock(ticking)
                 .max_total(1)
+                .max_wait(None)
                 .lifo(false)
                 .min_evictable_idle(Duration::from_millis(40))
                 .soft_min_evictable_idle(Duration::from_millis(20))
@@ -258,23 +309,22 @@ fn tells(told: &[Mark], marks: &[Mark]) -> bool {
 }
 
 /// What the threads share.
-struct Table {
-    pool: Pool<Fickle>,
+struct Table<const HOOKS: bool> {
+    pool: Pool<Fickle<HOOKS>>,
     manner: Manner,
     /// Objects that one hands to another.
-    handed: Mutex<Vec<Pooled<Fickle>>>,
+    handed: Mutex<Vec<Pooled<Fickle<HOOKS>>>>,
     drained: Mutex<Vec<u8>>,
     segments: Mutex<Vec<String>>,
-    /// Whether the journal is cut, and else it is drained.
-    is_cut: bool,
+    keeping: Keeping,
     is_calm: bool,
 }
 
 /// A thread that calls by chance, and writes down what it did.
-struct Player<'a> {
-    table: &'a Table,
+struct Player<'a, const HOOKS: bool> {
+    table: &'a Table<HOOKS>,
     dice: Dice,
-    held: Vec<Pooled<Fickle>>,
+    held: Vec<Pooled<Fickle<HOOKS>>>,
     marks: Vec<Mark>,
 }
 
@@ -283,8 +333,8 @@ fn caught<R>(call: impl FnOnce() -> R) -> Option<R> {
     panic::catch_unwind(AssertUnwindSafe(call)).ok()
 }
 
-impl<'a> Player<'a> {
-    fn new(table: &'a Table, seed: u64) -> Player<'a> {
+impl<'a, const HOOKS: bool> Player<'a, HOOKS> {
+    fn new(table: &'a Table<HOOKS>, seed: u64) -> Player<'a, HOOKS> {
         Player {
             table,
             dice: Dice(seed),
@@ -293,7 +343,7 @@ impl<'a> Player<'a> {
         }
     }
 
-    fn pool(&self) -> &'a Pool<Fickle> {
+    fn pool(&self) -> &'a Pool<Fickle<HOOKS>> {
         &self.table.pool
     }
 
@@ -315,7 +365,7 @@ impl<'a> Player<'a> {
         });
         match lent {
             Some(Ok(object)) => {
-                assert!(object.is_awake, "what is lent is active");
+                assert_eq!(object.is_awake, HOOKS, "what is lent is active");
                 self.marks.push(Mark::Lent(Pooled::id(&object)));
                 self.held.push(object);
             }
@@ -333,12 +383,12 @@ impl<'a> Player<'a> {
     }
 
     /// One of the objects that it holds, by chance.
-    fn pick(&mut self) -> Option<Pooled<Fickle>> {
+    fn pick(&mut self) -> Option<Pooled<Fickle<HOOKS>>> {
         let count = self.held.len() as u64;
         (count > 0).then(|| self.held.swap_remove(self.dice.roll(count) as usize))
     }
 
-    fn give_back(&mut self, object: Pooled<Fickle>) {
+    fn give_back(&mut self, object: Pooled<Fickle<HOOKS>>) {
         self.marks.push(Mark::GivesBack(Pooled::id(&object)));
         if self.dice.roll(2) == 0 {
             caught(|| Pooled::give_back(object));
@@ -347,14 +397,13 @@ impl<'a> Player<'a> {
         }
     }
 
-    fn invalidate(&mut self, object: Pooled<Fickle>) {
+    fn invalidate(&mut self, object: Pooled<Fickle<HOOKS>>) {
         self.marks.push(Mark::Invalidates(Pooled::id(&object)));
-        let pool = self.pool();
-        caught(|| pool.invalidate(object));
+        caught(|| Pooled::invalidate(object));
     }
 
     /// It panics while it holds an object.
-    fn stumble(&mut self, object: Pooled<Fickle>) {
+    fn stumble(&mut self, object: Pooled<Fickle<HOOKS>>) {
         if self.table.is_calm {
             self.marks.push(Mark::Invalidates(Pooled::id(&object)));
             caught(move || {
@@ -366,13 +415,13 @@ impl<'a> Player<'a> {
         }
     }
 
-    fn touch(&mut self, object: Pooled<Fickle>) {
+    fn touch(&mut self, object: Pooled<Fickle<HOOKS>>) {
         self.marks.push(Mark::Uses(Pooled::id(&object)));
         Pooled::touch(&object).unwrap();
         self.held.push(object);
     }
 
-    fn hand_on(&mut self, object: Pooled<Fickle>) {
+    fn hand_on(&mut self, object: Pooled<Fickle<HOOKS>>) {
         if self.table.manner == Manner::Waiting {
             self.held.push(object);
             return;
@@ -437,14 +486,20 @@ impl<'a> Player<'a> {
         caught(|| pool.close());
     }
 
-    /// Drains the journal, or cuts it.
+    /// Drains the journal, cuts it, or hands it to its sink.
     fn write(&mut self) {
-        if self.table.is_cut {
-            let mut segments = self.table.segments.lock().unwrap();
-            segments.push(cut_off(self.pool()));
-        } else {
-            let mut drained = self.table.drained.lock().unwrap();
-            self.pool().drain_journal(&mut *drained).unwrap();
+        match self.table.keeping {
+            Keeping::Drained => {
+                let mut drained = self.table.drained.lock().unwrap();
+                self.pool().drain_journal(&mut *drained).unwrap();
+            }
+            Keeping::Cut => {
+                let mut segments = self.table.segments.lock().unwrap();
+                segments.push(cut_off(self.pool()));
+            }
+            // It may fail, and then it is tried again.
+            Keeping::Stored => drop(self.pool().flush_journal()),
+            Keeping::Dropped => assert!(!journal_of(self.pool()).is_empty()),
         }
     }
 
@@ -494,28 +549,14 @@ impl<'a> Player<'a> {
     }
 }
 
-/// Plays with a seed: how many objects there were, and the journal.
-fn play(seed: u64) -> (usize, String) {
-    let drops = Arc::new(Drops::default());
-    let (manner, panics) = (Manner::of(seed), seed % 4 == 0);
-    let manager = Fickle {
-        seed,
-        calls: AtomicU64::new(0),
-        drops: Arc::clone(&drops),
-        panics,
-    };
-    let table = Table {
-        pool: manner.open(manager),
-        manner,
-        handed: Mutex::default(),
-        drained: Mutex::default(),
-        segments: Mutex::default(),
-        is_cut: seed % 3 == 1,
-        is_calm: !panics,
-    };
-    let played: Vec<_> = thread::scope(|scope| {
+/// What a caller did, by its number.
+type Played = Vec<(u32, Vec<Mark>)>;
+
+/// Lets all threads play.
+fn play_all<const HOOKS: bool>(table: &Table<HOOKS>, seed: u64) -> Played {
+    thread::scope(|scope| {
         let start = |number| {
-            let player = Player::new(&table, seed * 1_000 + number);
+            let player = Player::new(table, seed * 1_000 + number);
             scope.spawn(move || player.play())
         };
         let players: Vec<_> = (0..THREADS).map(start).collect();
@@ -523,50 +564,88 @@ fn play(seed: u64) -> (usize, String) {
             .into_iter()
             .map(|player| player.join().unwrap())
             .collect()
-    });
-    let Table {
-        pool,
-        handed,
-        drained,
-        segments,
-        is_cut,
-        ..
-    } = table;
-    for object in handed.into_inner().unwrap() {
-        caught(|| drop(object));
-    }
+    })
+}
+
+/// Closes a pool, and sees that no object is left in it.
+fn close_empty<const HOOKS: bool>(pool: &Pool<Fickle<HOOKS>>, seed: u64) {
     while caught(|| pool.close()).is_none() || pool.counts().idle > 0 {
         caught(|| pool.clear());
     }
     let counts = pool.counts();
-    assert_eq!(
-        (counts.idle, counts.lent, counts.reserved),
-        (0, 0, 0),
-        "seed {seed}"
-    );
-    assert_eq!(
-        counts.created,
-        counts.destroyed + counts.reclaimed,
-        "seed {seed}"
-    );
+    let left = (counts.idle, counts.lent, counts.reserved);
+    assert_eq!(left, (0, 0, 0), "seed {seed}");
+    let ended = counts.destroyed + counts.reclaimed;
+    assert_eq!(counts.created, ended, "seed {seed}");
+}
 
-    let mut segments = segments.into_inner().unwrap();
-    segments.push(journal_of(&pool));
-    let entries = segments.iter().flat_map(|segment| entries_of(segment));
-    let journal: String = entries.flat_map(|entry| [entry, "\n"]).collect();
-    assert_eq!(journal.lines().count() as u64, counts.steps, "seed {seed}");
-    assert_eq!(is_cut, segments.len() > 1, "seed {seed}");
-    let verdict = judge_segments(&pool.settings(), &segments);
-    assert_eq!(verdict, format!("legal {}\n", counts.steps), "seed {seed}");
+/// Sees that the segments are one legal journal with all entries, in which stands what each thread did.
+fn check_segments<const HOOKS: bool>(
+    pool: &Pool<Fickle<HOOKS>>,
+    segments: &[String],
+    played: &Played,
+    seed: u64,
+) {
+    let steps = pool.counts().steps;
+    let verdict = judge_segments(&pool.settings(), segments);
+    assert_eq!(verdict, format!("legal {steps}\n"), "seed {seed}");
+    let journal = joined(segments);
+    assert_eq!(journal.lines().count() as u64, steps, "seed {seed}");
     for (caller, marks) in played {
-        let told = told(&journal, caller);
+        let told = told(&journal, *caller);
         assert!(
-            tells(&told, &marks),
+            tells(&told, marks),
             "seed {seed}, caller {caller}: {told:?} isn't {marks:?}"
         );
     }
-    if !is_cut {
-        let mut drained = drained.into_inner().unwrap();
+}
+
+/// The entries of segments.
+fn joined(segments: &[String]) -> String {
+    let entries = segments.iter().flat_map(|segment| entries_of(segment));
+    entries.flat_map(|entry| [entry, "\n"]).collect()
+}
+
+/// Plays with a seed. Returns the number of objects, and the journal that is there.
+fn play<const HOOKS: bool>(seed: u64) -> (usize, String) {
+    let drops = Arc::new(Drops::default());
+    let (manner, panics) = (Manner::of(seed), seed % 4 == 0);
+    let (keeping, stored) = (Keeping::of(seed), Stored::default());
+    let manager = Fickle::<HOOKS> {
+        seed,
+        calls: AtomicU64::new(0),
+        drops: Arc::clone(&drops),
+        panics,
+    };
+    let table = Table {
+        pool: manner.open(manager, keeping.journal(seed, &stored)),
+        manner,
+        handed: Mutex::default(),
+        drained: Mutex::default(),
+        segments: Mutex::default(),
+        keeping,
+        is_calm: !panics,
+    };
+    let played = play_all(&table, seed);
+    let pool = table.pool;
+    for object in table.handed.into_inner().unwrap() {
+        caught(|| drop(object));
+    }
+    close_empty(&pool, seed);
+
+    let mut segments = table.segments.into_inner().unwrap();
+    while keeping == Keeping::Stored && pool.flush_journal().is_err() {}
+    segments.extend(texts_of(&stored));
+    segments.push(journal_of(&pool));
+    let is_in_parts = keeping == Keeping::Cut || keeping == Keeping::Stored;
+    assert_eq!(is_in_parts, segments.len() > 2, "seed {seed}");
+    let journal = joined(&segments);
+    match keeping {
+        Keeping::Dropped => assert!((journal.lines().count() as u64) < pool.counts().steps),
+        _ => check_segments(&pool, &segments, &played, seed),
+    }
+    if keeping == Keeping::Drained {
+        let mut drained = table.drained.into_inner().unwrap();
         pool.drain_journal(&mut drained).unwrap();
         assert_eq!(String::from_utf8(drained).unwrap(), journal, "seed {seed}");
     }
@@ -615,9 +694,10 @@ fn objects_are_dropped_once_and_journals_are_legal() {
     }));
     let (mut objects, mut journals) = (0, String::new());
     for seed in 1..=SEEDS {
-        let (more, journal) = play(seed);
-        objects += more;
-        journals += &journal;
+        for (more, journal) in [play::<true>(seed), play::<false>(seed)] {
+            objects += more;
+            journals += &journal;
+        }
     }
     assert!(objects > 1_000, "there were {objects} objects only");
     let answers: HashSet<_> = journals

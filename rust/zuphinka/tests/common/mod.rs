@@ -1,11 +1,13 @@
 //! What the tests share.
 #![allow(dead_code, reason = "each test takes a part of it")]
 
+use std::io;
 use std::path::{Path, PathBuf};
 use std::process::Command;
 use std::sync::atomic::{AtomicU64, Ordering};
+use std::sync::{Arc, Mutex};
 use std::{env, fs};
-use zuphinka::{Manager, Pool};
+use zuphinka::{Manager, Pool, Segment, SegmentSink};
 
 /// The repository.
 pub fn top() -> PathBuf {
@@ -29,12 +31,52 @@ pub fn judge(settings: &str, journal: &[u8]) -> String {
     judge_segments(settings, &[journal])
 }
 
-/// What the program says of the segments of a journal with these settings.
-pub fn judge_segments<T: AsRef<[u8]>>(settings: &str, segments: &[T]) -> String {
+/// A new folder for temporary files.
+pub fn new_folder() -> PathBuf {
     static NEXT: AtomicU64 = AtomicU64::new(0);
     let number = NEXT.fetch_add(1, Ordering::Relaxed);
     let folder = env::temp_dir().join(format!("zuphinka-{}-{number}", std::process::id()));
     fs::create_dir(&folder).unwrap();
+    folder
+}
+
+/// Segments that a sink stored, each with its position.
+pub type Stored = Arc<Mutex<Vec<(u64, String)>>>;
+
+/// A sink that stores segments in memory. Before each it asks whether it is to fail.
+pub struct MemorySink<F> {
+    pub stored: Stored,
+    pub fails: F,
+}
+
+impl<F: FnMut() -> bool + Send> SegmentSink for MemorySink<F> {
+    fn store(&mut self, segment: &Segment<'_>) -> io::Result<()> {
+        if (self.fails)() {
+            return Err(io::ErrorKind::BrokenPipe.into());
+        }
+        let text = String::from_utf8(segment.text.to_vec()).unwrap();
+        assert_eq!(segment.entries, entries_of(&text).count() as u64);
+        assert!(text.starts_with(&format!("pool-journal 2 {} ", segment.position)));
+        self.stored.lock().unwrap().push((segment.position, text));
+        Ok(())
+    }
+}
+
+/// The texts of segments that follow one another from the first entry on.
+pub fn texts_of(stored: &Stored) -> Vec<String> {
+    let mut end = 0;
+    let mut texts = Vec::new();
+    for (position, text) in stored.lock().unwrap().iter() {
+        assert_eq!(*position, end);
+        end += entries_of(text).count() as u64;
+        texts.push(text.clone());
+    }
+    texts
+}
+
+/// What the program says of the segments of a journal with these settings.
+pub fn judge_segments<T: AsRef<[u8]>>(settings: &str, segments: &[T]) -> String {
+    let folder = new_folder();
     let settings_file = folder.join("settings.toml");
     fs::write(&settings_file, settings).unwrap();
     let files: Vec<_> = (0..segments.len())
@@ -75,6 +117,18 @@ pub fn journal_of<M: Manager>(pool: &Pool<M>) -> String {
     let text = String::from_utf8(journal).unwrap();
     assert_eq!(written, entries_of(&text).count() as u64);
     text
+}
+
+/// Sees that the program finds these segments legal, with as many entries as the pool has made.
+pub fn assert_segments_legal<M: Manager>(pool: &Pool<M>, segments: &[String]) {
+    let entries: usize = segments
+        .iter()
+        .map(|segment| entries_of(segment).count())
+        .sum();
+    assert_eq!(entries as u64, pool.counts().steps);
+    let verdict = judge_segments(&pool.settings(), segments);
+    let count = segments.len();
+    assert_eq!(verdict, format!("legal {entries}\n"), "{count} segments");
 }
 
 /// Sees that the program finds the journal of a pool legal.

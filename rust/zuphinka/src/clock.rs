@@ -1,0 +1,44 @@
+//! Times of steps, in milliseconds.
+
+use std::panic::{catch_unwind, AssertUnwindSafe};
+use std::time::Instant;
+
+/// A clock of the user's.
+pub(crate) type GivenClock = Box<dyn Fn() -> u64 + Send + Sync>;
+
+/// Returns times, in milliseconds.
+pub(crate) enum Clock {
+    /// The time since this instant.
+    Since(Instant),
+    Given(GivenClock),
+}
+
+impl Clock {
+    /// Returns the time, or none if the clock panicked.
+    #[inline]
+    pub fn read(&self) -> Option<u64> {
+        match self {
+            Clock::Since(start) => {
+                let passed = start.elapsed();
+                Some(passed.as_secs() * 1_000 + u64::from(passed.subsec_millis()))
+            }
+            Clock::Given(clock) => catch_unwind(AssertUnwindSafe(clock)).ok(),
+        }
+    }
+}
+
+/// An object, and when it was made.
+#[derive(Debug)]
+pub(crate) struct Aged<T> {
+    pub object: T,
+    /// In milliseconds; 0 if no lifetime is set.
+    pub made: u64,
+}
+
+/// Who takes a step, and when.
+#[derive(Clone, Copy, Debug)]
+pub(crate) struct Stamp {
+    pub caller: u32,
+    /// In milliseconds. A time before that of the last entry counts as that one.
+    pub time: u64,
+}

@@ -1,0 +1,64 @@
+//! Settings of a builder that contradict each other.
+
+use crate::error::Contradiction;
+use crate::settings::Settings;
+
+/// The least limit of a journal in which an object can be lent and the pool closed: one entry that makes the object, five that may be
+/// needed until it is destroyed, and one for the close.
+const LEAST_LIMIT: i64 = 7;
+
+/// Which settings were set by the builder's own methods. Only these are held against others.
+#[derive(Clone, Copy, Debug, Default)]
+pub(crate) struct Chosen {
+    pub abandoned: bool,
+    pub blocking: bool,
+    pub journal_limit: bool,
+    pub max_idle: bool,
+    pub max_total: bool,
+    pub max_wait: bool,
+    pub min_idle: bool,
+}
+
+/// Whether a number is above a limit; a negative limit is none.
+fn is_above(number: i64, limit: i64) -> bool {
+    limit >= 0 && number > limit
+}
+
+impl Chosen {
+    /// Returns the first contradiction of the settings, of a pool that keeps its journal or drops it.
+    pub fn contradiction(self, settings: &Settings, keeps_journal: bool) -> Option<Contradiction> {
+        let waits_for_ever = settings.block_when_exhausted && settings.max_wait_millis < 0;
+        let reclaims = settings.abandoned.map_or(true, |abandoned| {
+            abandoned.on_borrow || abandoned.on_maintenance
+        });
+        let found = [
+            (
+                (self.max_total || self.max_wait || self.blocking)
+                    && settings.max_total == 0
+                    && waits_for_ever,
+                Contradiction::NothingToWaitFor,
+            ),
+            (
+                (self.min_idle || self.max_total)
+                    && is_above(settings.min_idle, settings.max_total),
+                Contradiction::MinIdleAboveMaxTotal,
+            ),
+            (
+                (self.min_idle || self.max_idle) && is_above(settings.min_idle, settings.max_idle),
+                Contradiction::MinIdleAboveMaxIdle,
+            ),
+            (
+                self.max_wait && settings.max_wait_millis >= 0 && !settings.block_when_exhausted,
+                Contradiction::WaitWithoutBlocking,
+            ),
+            (self.abandoned && !reclaims, Contradiction::NeverReclaimed),
+            (
+                self.journal_limit && keeps_journal && settings.journal_limit < LEAST_LIMIT,
+                Contradiction::JournalTooSmall,
+            ),
+        ];
+        found
+            .into_iter()
+            .find_map(|(is_so, contradiction)| is_so.then_some(contradiction))
+    }
+}

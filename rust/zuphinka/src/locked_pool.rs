@@ -1,0 +1,361 @@
+//! The state that a pool's lock protects.
+
+use crate::clock::Stamp;
+use crate::idle_values::IdleValues;
+use crate::proved_core::Core;
+use crate::step::{Answer, Input, Outcome, StepFault};
+use crate::stored_journal::{Care, Mode, StoredJournal};
+
+/// The core with the values of its idle objects.
+pub(crate) struct LockedPool<T> {
+    pub core: Core,
+    pub journal: StoredJournal,
+    idle: IdleValues<T>,
+    /// How many objects have a place.
+    present: usize,
+    pub is_closed: bool,
+    /// The latest time of an entry, in milliseconds.
+    last_time: u64,
+    /// How many threads sleep until the pool changes.
+    sleepers: usize,
+    /// How many sleepers at least were woken and have not looked yet.
+    woken: usize,
+}
+
+/// A step that failed, with the value that was passed in.
+pub(crate) type FailedStep<T> = (StepFault, Option<T>);
+
+/// The result of a borrow.
+#[derive(Debug)]
+pub(crate) enum Borrowed<T> {
+    /// The object is lent.
+    Lent(u64, T),
+    /// An idle object was taken, to be made ready.
+    Taken(u64, T),
+    /// There is no object, or it is to be made.
+    Without(Answer),
+}
+
+/// The result of a return.
+#[derive(Debug)]
+pub(crate) enum TakenBack<T> {
+    /// The object is idle.
+    Parked,
+    /// The object is to be made ready to be idle.
+    Check(T),
+    Destroy(T),
+    /// The object was reclaimed before.
+    Gone(T),
+}
+
+impl<T> LockedPool<T> {
+    pub fn new(mut core: Core, mode: Mode) -> LockedPool<T> {
+        LockedPool {
+            journal: StoredJournal::new(mode, core.room()),
+            core,
+            idle: IdleValues::new(),
+            present: 0,
+            is_closed: false,
+            last_time: 0,
+            sleepers: 0,
+            woken: 0,
+        }
+    }
+
+    /// Takes one step of the core. The value is returned, unless its object keeps it.
+    ///
+    /// If an object may be made, a place for its value is reserved before, so that it can be kept later.
+    #[inline]
+    pub fn step(
+        &mut self,
+        stamp: Stamp,
+        input: Input,
+        value: Option<T>,
+    ) -> Result<(Answer, Option<T>), FailedStep<T>> {
+        if matches!(input, Input::Borrow { .. } | Input::Add | Input::Fill) {
+            self.idle
+                .reserve(self.present + 1)
+                .map_err(|_| (StepFault::OutOfMemory, None))?;
+        }
+        self.last_time = self.last_time.max(stamp.time);
+        let token = value.map(|value| self.idle.put(value));
+        let taken = self.core.step(stamp.caller, self.last_time, input, token);
+        match taken {
+            Ok((answer, out)) => {
+                self.note(input, answer);
+                if self.journal.count() {
+                    self.care_for_journal();
+                }
+                Ok((answer, out.map(|token| self.idle.take(token))))
+            }
+            Err(fault) => Err((fault, token.map(|token| self.idle.take(token)))),
+        }
+    }
+
+    #[inline]
+    fn note(&mut self, input: Input, answer: Answer) {
+        match (answer, input) {
+            (Answer::Make(_), _) => self.present += 1,
+            (Answer::Freed | Answer::Reclaimed(_), _) => self.present -= 1,
+            (Answer::Count(_), Input::Close) => self.is_closed = true,
+            _ => {}
+        }
+    }
+
+    /// Does what is to be done about the journal once so many entries are stored.
+    #[cold]
+    fn care_for_journal(&mut self) {
+        let room = self.core.room();
+        match self.journal.look(room, self.present) {
+            Care::Nothing => {}
+            Care::Write => self.journal.ask_for_writer(),
+            Care::Drop => self.drop_entries(),
+        }
+    }
+
+    /// Keeps the segment that is dropped, if a test wants it.
+    #[cfg(test)]
+    fn keep_dropped(&mut self) {
+        if let Some(mut dropped) = self.journal.dropped.take() {
+            let (mut text, mut position) = (Vec::new(), 0);
+            while self.core.base_line(position, &mut text).unwrap() {
+                position += 1;
+            }
+            for position in 0..self.journal.len {
+                assert!(self.core.line(position, &mut text).unwrap());
+            }
+            dropped.push(text);
+            self.journal.dropped = Some(dropped);
+        }
+    }
+
+    /// Drops the stored entries. Without memory for that they are dropped later.
+    fn drop_entries(&mut self) {
+        debug_assert_eq!(self.core.steps(), self.journal.len);
+        #[cfg(test)]
+        self.keep_dropped();
+        let cut = self.core.cut();
+        let room = self.core.room();
+        match cut {
+            Ok(()) => self.journal.cut(room),
+            Err(_) => self.journal.try_later(room),
+        }
+    }
+
+    /// Takes a step that never fails, since room and memory are set aside for it.
+    #[inline]
+    pub fn complete(
+        &mut self,
+        stamp: Stamp,
+        input: Input,
+        value: Option<T>,
+    ) -> (Answer, Option<T>) {
+        match self.step(stamp, input, value) {
+            Ok(answered) => answered,
+            Err((fault, _)) => unreachable!("{input:?} failed: {fault:?}"),
+        }
+    }
+
+    /// Borrows an object. If nothing is to be done with an idle one before, it is lent in a second step.
+    #[inline]
+    pub fn borrow(
+        &mut self,
+        stamp: Stamp,
+        began: u64,
+        lends_at_once: bool,
+    ) -> Result<Borrowed<T>, StepFault> {
+        let borrowed = self.step(stamp, Input::Borrow { began }, None);
+        match borrowed.map_err(|(fault, _)| fault)? {
+            (Answer::Take(id), Some(value)) if lends_at_once => {
+                let outcome = Outcome::Good;
+                self.complete(stamp, Input::Ready { id, outcome }, None);
+                Ok(Borrowed::Lent(id, value))
+            }
+            (Answer::Take(id), Some(value)) => Ok(Borrowed::Taken(id, value)),
+            (answer, _) => Ok(Borrowed::Without(answer)),
+        }
+    }
+
+    /// Takes an object back. If nothing is to be done with it before, it becomes idle in a second step.
+    #[inline]
+    pub fn take_back(
+        &mut self,
+        stamp: Stamp,
+        id: u64,
+        value: T,
+        parks_at_once: bool,
+    ) -> TakenBack<T> {
+        match self.step(stamp, Input::GiveBack { id }, None) {
+            Ok((Answer::Check, _)) if parks_at_once => {
+                let outcome = Outcome::Good;
+                match self.complete(stamp, Input::Park { id, outcome }, Some(value)) {
+                    (Answer::Destroy, Some(value)) => TakenBack::Destroy(value),
+                    _ => TakenBack::Parked,
+                }
+            }
+            Ok((Answer::Check, _)) => TakenBack::Check(value),
+            // It fails for room or memory only if the object is not lent any more.
+            Ok(_) | Err(_) => TakenBack::Gone(value),
+        }
+    }
+
+    /// Returns the latest time of an entry, in milliseconds.
+    pub fn last_time(&self) -> u64 {
+        self.last_time
+    }
+
+    /// Returns the number of idle objects, those under an idle test left out.
+    pub fn idle(&self) -> u64 {
+        self.idle.len() as u64
+    }
+
+    /// Returns whether a borrow would surely find nothing now, of at most `max_total` objects (negative: without limit). It spares a
+    /// sleeper an entry; the core is asked if it returns false.
+    pub fn has_nothing(&self, max_total: i64) -> bool {
+        !self.is_closed && self.available(max_total) == 0
+    }
+
+    /// Returns the number of borrows that would find an object or a place, of at most `max_total` objects (negative: without limit).
+    fn available(&self, max_total: i64) -> usize {
+        let free =
+            usize::try_from(max_total).map_or(usize::MAX, |most| most.saturating_sub(self.present));
+        self.idle.len().saturating_add(free)
+    }
+
+    /// A thread falls asleep.
+    pub fn fall_asleep(&mut self) {
+        self.sleepers += 1;
+    }
+
+    /// A thread that slept looks again, whatever the cause.
+    pub fn wake_up(&mut self) {
+        self.sleepers -= 1;
+        self.woken = self.woken.saturating_sub(1);
+    }
+
+    /// Returns whether one more sleeper is to be woken, which then counts as woken. There is one for each of the available objects and
+    /// places, of at most `max_total`. To wake one costs a system call: a thread that is on its way is enough for one object, however
+    /// often that one comes and goes before it looks.
+    pub fn wakes_one(&mut self, max_total: i64) -> bool {
+        let wakes = self.woken < self.sleepers.min(self.available(max_total));
+        self.woken += usize::from(wakes);
+        wakes
+    }
+
+    /// Returns whether there are sleepers. All of them are to be woken, and count as woken then.
+    pub fn wakes_all(&mut self) -> bool {
+        self.woken = self.sleepers;
+        self.sleepers > 0
+    }
+}
+
+#[cfg(test)]
+mod tests {
+    use super::{LockedPool, Mode, Stamp};
+    use crate::proved_core::Core;
+    use crate::step::{Input, Outcome};
+
+    const MOST: i64 = 2;
+
+    fn pool() -> LockedPool<()> {
+        LockedPool::new(Core::open("maxTotal = 2\n").unwrap(), Mode::Memory)
+    }
+
+    /// Takes steps that each need one object or none.
+    fn take(pool: &mut LockedPool<()>, inputs: &[(Input, Option<()>)]) {
+        for &(input, value) in inputs {
+            let stamp = Stamp { caller: 0, time: 0 };
+            pool.step(stamp, input, value).unwrap();
+        }
+    }
+
+    fn lend(id: u64) -> [(Input, Option<()>); 2] {
+        let outcome = Outcome::Good;
+        [
+            (Input::Borrow { began: 0 }, None),
+            (Input::Ready { id, outcome }, None),
+        ]
+    }
+
+    fn give_back(id: u64) -> [(Input, Option<()>); 2] {
+        let outcome = Outcome::Good;
+        [
+            (Input::GiveBack { id }, None),
+            (Input::Park { id, outcome }, Some(())),
+        ]
+    }
+
+    /// A pool of which both objects are lent, while three threads sleep.
+    fn exhausted() -> LockedPool<()> {
+        let mut pool = pool();
+        for id in 0..2 {
+            take(&mut pool, &lend(id));
+        }
+        assert!(pool.has_nothing(MOST));
+        (0..3).for_each(|_| pool.fall_asleep());
+        assert!(!pool.wakes_one(MOST));
+        pool
+    }
+
+    #[test]
+    fn one_sleeper_is_woken_for_one_object() {
+        let mut pool = exhausted();
+        for _ in 0..3 {
+            take(&mut pool, &give_back(0));
+            let is_first = pool.woken == 0;
+            assert_eq!(pool.wakes_one(MOST), is_first);
+            take(&mut pool, &lend(0));
+        }
+        assert_eq!((pool.sleepers, pool.woken), (3, 1));
+    }
+
+    #[test]
+    fn as_many_are_woken_as_find_something() {
+        let mut pool = exhausted();
+        for id in 0..2 {
+            take(&mut pool, &give_back(id));
+            assert!(pool.wakes_one(MOST));
+        }
+        assert!(!pool.wakes_one(MOST));
+        // One looks and takes nothing, so that the third is to look for it.
+        pool.wake_up();
+        assert!(pool.wakes_one(MOST));
+        assert!(!pool.wakes_one(MOST));
+        assert_eq!((pool.sleepers, pool.woken), (2, 2));
+    }
+
+    #[test]
+    fn a_free_place_is_looked_for() {
+        let mut pool = exhausted();
+        let id = 0;
+        take(
+            &mut pool,
+            &[
+                (Input::Invalidate { id }, None),
+                (Input::Destroyed { id }, None),
+            ],
+        );
+        assert!(pool.wakes_one(MOST));
+        assert!(!pool.wakes_one(MOST));
+    }
+
+    #[test]
+    fn who_wakes_unasked_leaves_the_others_to_be_woken() {
+        let mut pool = exhausted();
+        pool.wake_up();
+        assert_eq!((pool.sleepers, pool.woken), (2, 0));
+        take(&mut pool, &give_back(0));
+        assert!(pool.wakes_one(MOST));
+    }
+
+    #[test]
+    fn all_are_woken_by_a_close() {
+        let mut pool = exhausted();
+        take(&mut pool, &[(Input::Close, None)]);
+        assert!(!pool.has_nothing(MOST));
+        assert!(pool.wakes_all());
+        (0..3).for_each(|_| pool.wake_up());
+        assert!(!pool.wakes_all());
+        assert_eq!((pool.sleepers, pool.woken), (0, 0));
+    }
+}

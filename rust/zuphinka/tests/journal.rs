@@ -1,0 +1,557 @@
+//! What becomes of the journal of a pool: it is dropped, kept in memory, or handed to a sink.
+
+mod common;
+
+use common::{
+    assert_segments_legal, cut_off, entries_of, journal_of, judge_segments, new_folder, texts_of,
+    MemorySink, Stored,
+};
+use std::io::{self, Write};
+use std::panic::{self, AssertUnwindSafe};
+use std::path::Path;
+use std::sync::atomic::{AtomicBool, AtomicU64, Ordering};
+use std::sync::{mpsc, Arc, Mutex};
+use std::time::Duration;
+use std::{fs, thread};
+use zuphinka::{
+    Builder, Error, Journal, Manager, OpenError, Pool, Pooled, Segment, SegmentFolder, SegmentSink,
+    Segments, SettingsError, SinkFailure,
+};
+
+/// Makes numbers, with or without hooks.
+struct Numbers<const HOOKS: bool>;
+
+impl<const HOOKS: bool> Manager for Numbers<HOOKS> {
+    type Object = u64;
+    type Error = ();
+    const ACTIVATES: bool = HOOKS;
+    const PASSIVATES: bool = HOOKS;
+
+    fn make(&self, id: u64) -> Result<u64, ()> {
+        Ok(id)
+    }
+}
+
+/// Makes two tests of each function: over a manager with hooks and over one without.
+macro_rules! with_and_without_hooks {
+    ($($name:ident)*) => {
+        $(mod $name {
+            #[test]
+            fn with_hooks() {
+                super::$name::<true>()
+            }
+
+            #[test]
+            fn without_hooks() {
+                super::$name::<false>()
+            }
+        })*
+    };
+}
+
+with_and_without_hooks! {
+    a_sink_may_panic_and_call_its_pool
+    a_folder_has_the_segments_and_the_settings
+    a_folder_that_fails_is_written_later
+    the_last_handle_hands_over_the_rest
+    a_drain_whose_writer_panics_is_continued
+    a_cut_whose_writer_panics_loses_nothing
+    a_cut_that_fails_at_its_end_keeps_the_segment
+    the_limit_of_a_text_matters_where_entries_are_kept
+    a_copy_of_a_journal_that_is_dropped_meanwhile_is_whole
+    a_journal_that_is_not_kept_is_never_full
+    a_sink_gets_all_entries
+    a_sink_that_fails_once_loses_nothing
+    a_sink_that_fails_stops_the_pool_and_loses_nothing
+    a_sink_that_fails_leaves_a_gap_if_that_is_set
+    others_continue_while_a_segment_is_written
+    others_continue_while_a_cut_is_written
+}
+
+fn pair<const HOOKS: bool>(pool: &Pool<Numbers<HOOKS>>) {
+    drop(pool.get().unwrap());
+}
+
+fn a_journal_that_is_not_kept_is_never_full<const HOOKS: bool>() {
+    let builder = Pool::builder().journal_limit(12).max_total(2);
+    let pool = builder.build(Numbers::<HOOKS>).unwrap();
+    let held = pool.get().unwrap();
+    for _ in 0..10_000 {
+        pair(&pool);
+        assert!(!pool.is_low());
+    }
+    drop(held);
+    let counts = pool.counts();
+    assert_eq!((counts.steps, counts.created), (40_004, 2));
+    let stored = entries_of(&journal_of(&pool)).count();
+    assert!(stored < 2_100, "{stored} entries are stored");
+    assert_eq!(pool.flush_journal().unwrap(), 0);
+    // A part of it can be cut off, and the rest follows.
+    let segments = [cut_off(&pool), journal_of(&pool)];
+    assert_eq!(entries_of(&segments[0]).count(), stored);
+    assert!(segments[1].starts_with("pool-journal 2 40004 2 open "));
+}
+
+/// A pool whose segments are stored in memory, by a sink that fails when it is told to.
+fn pool_with_sink<const HOOKS: bool>(
+    change: impl FnOnce(Segments) -> Segments,
+    fails: impl FnMut() -> bool + Send + 'static,
+) -> (Pool<Numbers<HOOKS>>, Stored) {
+    let stored = Stored::default();
+    let sink = MemorySink {
+        stored: Arc::clone(&stored),
+        fails,
+    };
+    let segments = change(Segments::new(sink).limit(200));
+    let builder = Pool::builder()
+        .journal(Journal::Segments(segments))
+        .max_total(2);
+    (builder.build(Numbers::<HOOKS>).unwrap(), stored)
+}
+
+fn a_sink_gets_all_entries<const HOOKS: bool>() {
+    const PAIRS: u64 = 2_000;
+    // Each third call fails, and what it was to store comes again.
+    let mut calls = 0;
+    let fails = move || {
+        calls += 1;
+        calls % 3 == 0
+    };
+    let (pool, stored) = pool_with_sink::<HOOKS>(|segments| segments, fails);
+    thread::scope(|scope| {
+        for _ in 0..4 {
+            scope.spawn(|| (0..PAIRS).for_each(|_| pair(&pool)));
+        }
+    });
+    let refused = pool.cut(&mut Vec::new()).unwrap_err();
+    assert_eq!(refused.kind(), io::ErrorKind::Unsupported);
+    let rest = entries_of(&journal_of(&pool)).count() as u64;
+    let written = pool.flush_journal().or_else(|_| pool.flush_journal());
+    assert!(written.unwrap() >= rest);
+    assert_eq!(pool.flush_journal().unwrap(), 0);
+    let texts = texts_of(&stored);
+    assert!(
+        texts.len() as u64 > 4 * PAIRS * 4 / 200,
+        "{} segments",
+        texts.len()
+    );
+    assert!(texts.iter().all(|text| entries_of(text).count() <= 200));
+    assert_segments_legal(&pool, &texts);
+}
+
+/// Fails at one call, which is counted from 0.
+fn fails_at(call: u64) -> impl FnMut() -> bool + Send {
+    let mut calls = 0;
+    move || {
+        calls += 1;
+        calls == call + 1
+    }
+}
+
+fn a_sink_that_fails_once_loses_nothing<const HOOKS: bool>() {
+    for call in 0..6 {
+        let (pool, stored) = pool_with_sink::<HOOKS>(|segments| segments, fails_at(call));
+        (0..120).for_each(|_| pair(&pool));
+        pool.close();
+        while pool.flush_journal().is_err() {}
+        assert_segments_legal(&pool, &texts_of(&stored));
+    }
+}
+
+fn a_sink_that_fails_stops_the_pool_and_loses_nothing<const HOOKS: bool>() {
+    let is_broken = Arc::new(AtomicBool::new(true));
+    let told = Arc::clone(&is_broken);
+    let fails = move || told.load(Ordering::SeqCst);
+    let (pool, stored) = pool_with_sink::<HOOKS>(|segments| segments, fails);
+    let held = pool.get().unwrap();
+    let refused = std::iter::repeat_with(|| pool.get().map(drop)).find_map(Result::err);
+    assert_eq!(refused, Some(Error::JournalFull));
+    assert_eq!(pool.get().unwrap_err(), Error::JournalFull);
+    assert!(pool.is_low());
+    // One segment is cut off, and more entries are stored.
+    let rest = entries_of(&journal_of(&pool)).count() as u64;
+    let steps = pool.counts().steps;
+    assert!(rest > 150 && rest < steps, "{rest} of {steps} entries");
+    assert!(pool.flush_journal().is_err());
+    drop(held);
+
+    is_broken.store(false, Ordering::SeqCst);
+    (0..100).for_each(|_| pair(&pool));
+    assert!(!pool.is_low());
+    pool.flush_journal().unwrap();
+    assert_segments_legal(&pool, &texts_of(&stored));
+}
+
+fn a_sink_that_fails_leaves_a_gap_if_that_is_set<const HOOKS: bool>() {
+    let dropping = |segments: Segments| segments.on_failure(SinkFailure::Drop);
+    let (pool, stored) = pool_with_sink::<HOOKS>(dropping, fails_at(1));
+    (0..200).for_each(|_| pair(&pool));
+    pool.flush_journal().unwrap();
+    let stored = stored.lock().unwrap();
+    let ends = stored
+        .iter()
+        .map(|(position, text)| position + entries_of(text).count() as u64);
+    let ends: Vec<u64> = ends.collect();
+    let gaps = stored[1..]
+        .iter()
+        .zip(&ends)
+        .filter(|((position, _), end)| position != *end);
+    assert_eq!(gaps.count(), 1);
+    assert_eq!(ends.last(), Some(&pool.counts().steps));
+
+    let (pool, stored) = pool_with_sink::<HOOKS>(dropping, || true);
+    (0..1_000).for_each(|_| pair(&pool));
+    assert!(stored.lock().unwrap().is_empty());
+}
+
+/// Tells that it was called, and then waits until it may go on.
+struct Slow {
+    called: mpsc::Sender<()>,
+    may_go_on: mpsc::Receiver<()>,
+}
+
+impl Slow {
+    /// A slow one, what tells that it was called, and what lets it go on.
+    fn new() -> (Slow, mpsc::Receiver<()>, mpsc::Sender<()>) {
+        let (called, is_called) = mpsc::channel();
+        let (go_on, may_go_on) = mpsc::channel();
+        (Slow { called, may_go_on }, is_called, go_on)
+    }
+
+    fn wait(&self) {
+        let _ = self.called.send(());
+        let _ = self.may_go_on.recv();
+    }
+}
+
+impl SegmentSink for Slow {
+    fn store(&mut self, _segment: &Segment<'_>) -> io::Result<()> {
+        self.wait();
+        Ok(())
+    }
+}
+
+impl Write for Slow {
+    fn write(&mut self, bytes: &[u8]) -> io::Result<usize> {
+        self.wait();
+        Ok(bytes.len())
+    }
+
+    fn flush(&mut self) -> io::Result<()> {
+        Ok(())
+    }
+}
+
+fn others_continue_while_a_segment_is_written<const HOOKS: bool>() {
+    let (slow, is_called, go_on) = Slow::new();
+    let segments = Segments::new(slow).limit(200);
+    let builder = Pool::builder()
+        .journal(Journal::Segments(segments))
+        .max_total(2);
+    let pool = builder.build(Numbers::<HOOKS>).unwrap();
+    thread::scope(|scope| {
+        scope.spawn(|| (0..30).for_each(|_| pair(&pool)));
+        is_called.recv().unwrap();
+        for _ in 0..20 {
+            drop(pool.try_get().unwrap());
+        }
+        // The room is used up then: who doesn't wait is refused, and who waits for long enough is not.
+        let refused = std::iter::repeat_with(|| pool.try_get().map(drop)).find_map(Result::err);
+        assert_eq!(refused, Some(Error::JournalFull));
+        let short = Duration::from_millis(10);
+        assert_eq!(pool.get_timeout(short).unwrap_err(), Error::JournalFull);
+        let waiting = scope.spawn(|| pool.get().map(drop));
+        thread::sleep(short);
+        drop(go_on);
+        assert_eq!(waiting.join().unwrap(), Ok(()));
+    });
+}
+
+fn others_continue_while_a_cut_is_written<const HOOKS: bool>() {
+    let builder = Pool::builder().journal(Journal::Memory(Some(1_000)));
+    let pool = builder.build(Numbers::<HOOKS>).unwrap();
+    pair(&pool);
+    for by_cut in [true, false] {
+        let (slow, is_called, go_on) = Slow::new();
+        thread::scope(|scope| {
+            let pool = &pool;
+            scope.spawn(move || match by_cut {
+                true => pool.cut(slow).unwrap(),
+                false => pool.journal(slow).unwrap(),
+            });
+            is_called.recv().unwrap();
+            for _ in 0..20 {
+                drop(pool.try_get().unwrap());
+            }
+            if !by_cut {
+                assert_eq!(entries_of(&cut_off(pool)).count(), 80);
+            }
+            assert!(!journal_of(pool).is_empty());
+            drop(go_on);
+        });
+    }
+}
+
+fn a_sink_may_panic_and_call_its_pool<const HOOKS: bool>() {
+    /// Borrows from the pool whose segments it stores, panics at its first call, and cuts in vain.
+    struct Greedy<const HOOKS: bool>(Arc<Mutex<Option<Pool<Numbers<HOOKS>>>>>, Stored);
+    impl<const HOOKS: bool> SegmentSink for Greedy<HOOKS> {
+        fn store(&mut self, segment: &Segment<'_>) -> io::Result<()> {
+            let pool = self.0.lock().unwrap().clone();
+            if let Some(pool) = pool {
+                pair(&pool);
+                assert!(pool.flush_journal().is_err());
+            }
+            if self.1.lock().unwrap().is_empty() && segment.position > 0 {
+                panic::resume_unwind(Box::new(()));
+            }
+            let text = String::from_utf8(segment.text.to_vec()).unwrap();
+            self.1.lock().unwrap().push((segment.position, text));
+            Ok(())
+        }
+    }
+    let (whose, stored) = (Arc::new(Mutex::new(None)), Stored::default());
+    let sink = Greedy::<HOOKS>(Arc::clone(&whose), Arc::clone(&stored));
+    let segments = Segments::new(sink).limit(200);
+    let pool = Pool::builder().journal(Journal::Segments(segments));
+    let pool = pool.build(Numbers::<HOOKS>).unwrap();
+    *whose.lock().unwrap() = Some(pool.clone());
+    (0..500).for_each(|_| pair(&pool));
+    *whose.lock().unwrap() = None;
+    pool.flush_journal().unwrap();
+    assert_segments_legal(&pool, &texts_of(&stored));
+}
+
+/// The files in a folder, by name.
+fn files_in(folder: &Path) -> Vec<String> {
+    let files = fs::read_dir(folder).unwrap();
+    let mut names: Vec<_> = files
+        .map(|file| file.unwrap().file_name().into_string().unwrap())
+        .collect();
+    names.sort();
+    names
+}
+
+fn a_folder_has_the_segments_and_the_settings<const HOOKS: bool>() {
+    let folder = new_folder();
+    let path = folder.join("journal");
+    let segments = Segments::in_folder(&path).unwrap().limit(200);
+    let pool = Pool::builder().journal(Journal::Segments(segments));
+    let pool = pool.build(Numbers::<HOOKS>).unwrap();
+    let settings = pool.settings();
+    (0..100).for_each(|_| pair(&pool));
+    drop(pool);
+
+    let names = files_in(&path);
+    assert_eq!(names.last().map(String::as_str), Some("settings.toml"));
+    let mut position = 0;
+    let mut texts = Vec::new();
+    for name in &names[..names.len() - 1] {
+        assert_eq!(*name, format!("segment-{position:020}"));
+        let text = fs::read_to_string(path.join(name)).unwrap();
+        position += entries_of(&text).count();
+        texts.push(text);
+    }
+    // The pool was closed, and the object destroyed.
+    assert_eq!(position, 403);
+    assert_eq!(
+        fs::read_to_string(path.join("settings.toml")).unwrap(),
+        settings
+    );
+    assert_eq!(judge_segments(&settings, &texts), "legal 403\n");
+
+    let taken = SegmentFolder::create(&path).unwrap_err();
+    assert_eq!(taken.kind(), io::ErrorKind::AlreadyExists);
+    fs::remove_dir_all(folder).unwrap();
+}
+
+fn a_folder_that_fails_is_written_later<const HOOKS: bool>() {
+    let folder = new_folder();
+    let path = folder.join("journal");
+    let segments = Segments::in_folder(&path).unwrap().limit(200);
+    let pool = Pool::builder().journal(Journal::Segments(segments));
+    let pool = pool.build(Numbers::<HOOKS>).unwrap();
+    // What a crash left is in the way of nothing.
+    fs::write(path.join(".unfinished"), "a part").unwrap();
+    fs::rename(&path, folder.join("elsewhere")).unwrap();
+    (0..30).for_each(|_| pair(&pool));
+    assert!(pool.flush_journal().is_err());
+    fs::rename(folder.join("elsewhere"), &path).unwrap();
+    while pool.flush_journal().unwrap() > 0 {}
+    let names = files_in(&path);
+    let segments: Vec<_> = names
+        .iter()
+        .filter(|name| name.starts_with("segment-"))
+        .collect();
+    assert_eq!(names.len(), segments.len() + 1);
+    let texts: Vec<_> = segments
+        .iter()
+        .map(|name| fs::read_to_string(path.join(name)).unwrap())
+        .collect();
+    assert_segments_legal(&pool, &texts);
+    fs::remove_dir_all(folder).unwrap();
+}
+
+fn the_last_handle_hands_over_the_rest<const HOOKS: bool>() {
+    let (pool, stored) = pool_with_sink::<HOOKS>(|segments| segments, || false);
+    let settings = pool.settings();
+    let held = pool.get().unwrap();
+    drop(pool);
+    assert!(stored.lock().unwrap().is_empty());
+    assert_eq!(Pooled::id(&held), 0);
+    drop(held);
+    let texts = texts_of(&stored);
+    assert_eq!(judge_segments(&settings, &texts), "legal 7\n");
+}
+
+/// A writer that panics once it has got some bytes.
+struct Panicking(Vec<u8>);
+
+impl Write for Panicking {
+    fn write(&mut self, bytes: &[u8]) -> io::Result<usize> {
+        if self.0.len() > 10_000 {
+            panic::resume_unwind(Box::new(()));
+        }
+        self.0.extend_from_slice(bytes);
+        Ok(bytes.len())
+    }
+
+    fn flush(&mut self) -> io::Result<()> {
+        Ok(())
+    }
+}
+
+fn a_drain_whose_writer_panics_is_continued<const HOOKS: bool>() {
+    let builder = Pool::builder().journal(Journal::Memory(None));
+    let pool = builder.build(Numbers::<HOOKS>).unwrap();
+    (0..500).for_each(|_| pair(&pool));
+    let mut out = Panicking(Vec::new());
+    assert!(panic::catch_unwind(AssertUnwindSafe(|| pool.drain_journal(&mut out))).is_err());
+    let mut drained = out.0;
+    let before = drained.len();
+    assert!(before > 10_000);
+    pool.drain_journal(&mut drained).unwrap();
+    assert!(drained.len() > before);
+    assert_eq!(String::from_utf8(drained).unwrap(), journal_of(&pool));
+}
+
+fn a_cut_whose_writer_panics_loses_nothing<const HOOKS: bool>() {
+    let builder = Pool::builder().journal(Journal::Memory(None));
+    let pool = builder.build(Numbers::<HOOKS>).unwrap();
+    (0..500).for_each(|_| pair(&pool));
+    let mut out = Panicking(vec![0; 10_001]);
+    assert!(panic::catch_unwind(AssertUnwindSafe(|| pool.cut(&mut out))).is_err());
+    pair(&pool);
+    let segments = [cut_off(&pool), journal_of(&pool)];
+    assert_eq!(entries_of(&segments[0]).count(), 2_004);
+    assert_segments_legal(&pool, &segments);
+}
+
+/// A writer whose flush fails after so many.
+struct FailsAtFlush(u32);
+
+impl Write for FailsAtFlush {
+    fn write(&mut self, bytes: &[u8]) -> io::Result<usize> {
+        Ok(bytes.len())
+    }
+
+    fn flush(&mut self) -> io::Result<()> {
+        self.0 = self.0.checked_sub(1).ok_or(io::ErrorKind::BrokenPipe)?;
+        Ok(())
+    }
+}
+
+fn a_cut_that_fails_at_its_end_keeps_the_segment<const HOOKS: bool>() {
+    let builder = Pool::builder().journal(Journal::Memory(Some(100)));
+    let pool = builder.build(Numbers::<HOOKS>).unwrap();
+    let fill = || std::iter::repeat_with(|| pool.get().map(drop)).find_map(Result::err);
+    assert_eq!(fill(), Some(Error::JournalFull));
+    let room = pool.room();
+    assert!(pool.cut(FailsAtFlush(0)).is_err());
+    assert_eq!(pool.room(), room);
+    assert!(pool.cut(FailsAtFlush(1)).is_err());
+    assert!(pool.room() > 90);
+    // It is full again, and what was cut off is kept, however often a cut fails.
+    assert_eq!(fill(), Some(Error::JournalFull));
+    for _ in 0..3 {
+        assert!(pool.cut(FailsAtFlush(0)).is_err());
+        assert_eq!(fill(), Some(Error::JournalFull));
+    }
+    let segments = [cut_off(&pool), cut_off(&pool), journal_of(&pool)];
+    assert_segments_legal(&pool, &segments);
+    assert_eq!(pool.get().map(drop), Ok(()));
+}
+
+fn the_limit_of_a_text_matters_where_entries_are_kept<const HOOKS: bool>() {
+    let limit_with = |change: fn(Builder<Numbers<HOOKS>>) -> Builder<Numbers<HOOKS>>| {
+        let builder = Pool::builder().settings("journalLimit = 100\n").unwrap();
+        let settings = change(builder).build(Numbers::<HOOKS>).unwrap().settings();
+        let line = settings
+            .lines()
+            .find(|line| line.starts_with("journalLimit"));
+        line.unwrap().to_owned()
+    };
+    struct Nowhere;
+    impl SegmentSink for Nowhere {
+        fn store(&mut self, _: &Segment<'_>) -> io::Result<()> {
+            Ok(())
+        }
+    }
+    assert_eq!(limit_with(|it| it), "journalLimit = 4294967296");
+    assert_eq!(
+        limit_with(|it| it.journal(Journal::Memory(None))),
+        "journalLimit = 100"
+    );
+    assert_eq!(
+        limit_with(|it| it.journal(Journal::Memory(Some(50)))),
+        "journalLimit = 50"
+    );
+    assert_eq!(
+        limit_with(|it| it.journal(Journal::Segments(Segments::new(Nowhere)))),
+        "journalLimit = 100"
+    );
+    assert_eq!(
+        limit_with(|it| it.journal(Journal::Segments(Segments::new(Nowhere).limit(70)))),
+        "journalLimit = 70"
+    );
+    let too_many = Pool::builder().journal(Journal::Memory(Some((1 << 32) + 1)));
+    let refused = OpenError::Settings(SettingsError::OutOfRange("journalLimit".to_owned()));
+    assert_eq!(too_many.build(Numbers::<HOOKS>).map(drop), Err(refused));
+}
+
+fn a_copy_of_a_journal_that_is_dropped_meanwhile_is_whole<const HOOKS: bool>() {
+    let pool = Pool::builder()
+        .max_total(1)
+        .build(Numbers::<HOOKS>)
+        .unwrap();
+    let copies = AtomicU64::new(0);
+    thread::scope(|scope| {
+        scope.spawn(|| {
+            while copies.load(Ordering::SeqCst) < 50 {
+                pair(&pool);
+            }
+        });
+        for _ in 0..50 {
+            let journal = journal_of(&pool);
+            let head = journal.lines().next().map(str::to_owned);
+            let entries = entries_of(&journal).count();
+            assert_eq!(judge_alone(&pool.settings(), &journal), entries, "{head:?}");
+            copies.fetch_add(1, Ordering::SeqCst);
+        }
+    });
+}
+
+/// The number of entries of a text in which each entry follows from the one before, by the life of its single object.
+fn judge_alone(settings: &str, journal: &str) -> usize {
+    assert!(settings.contains("maxTotal = 1\n"));
+    let answers = ["= take 0", "= lent", "= check", "= parked"];
+    let entries: Vec<_> = entries_of(journal).collect();
+    let mut wanted = None;
+    for entry in &entries {
+        let at = answers.iter().position(|answer| entry.ends_with(answer));
+        let at = at.or(entry.ends_with("= make 0").then_some(0)).unwrap();
+        assert!(wanted.is_none() || wanted == Some(at), "{entry}");
+        wanted = Some((at + 1) % 4);
+    }
+    entries.len()
+}

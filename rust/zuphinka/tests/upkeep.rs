@@ -1,0 +1,423 @@
+//! What a pool does of its own: it reports failures, ends objects for their age, and has itself maintained.
+
+mod common;
+
+use common::{assert_legal, journal_of};
+use std::io;
+use std::sync::atomic::{AtomicU64, Ordering};
+use std::sync::{mpsc, Arc, Mutex};
+use std::thread;
+use std::time::{Duration, Instant};
+use zuphinka::{
+    Builder, Error, Failure, Journal, Manager, Pool, Pooled, Returned, Segment, SegmentSink,
+    Segments, Touched,
+};
+
+/// Makes two tests of each function: over a manager with hooks and over one without.
+macro_rules! with_and_without_hooks {
+    ($($name:ident)*) => {
+        $(mod $name {
+            #[test]
+            fn with_hooks() {
+                super::$name::<true>()
+            }
+
+            #[test]
+            fn without_hooks() {
+                super::$name::<false>()
+            }
+        })*
+    };
+}
+
+with_and_without_hooks! {
+    failures_that_no_call_returns_are_reported
+    failures_that_a_call_returns_are_not_reported
+    failures_of_sinks_are_reported
+    a_detached_object_is_its_holders
+    an_object_that_is_too_old_ends_at_its_return
+    an_object_that_is_too_old_ends_while_it_is_idle
+    an_object_of_a_lifetime_is_validated_only_if_that_is_set
+    a_pool_is_maintained_until_it_is_closed
+    the_last_handle_ends_the_maintenance
+    a_pool_says_whether_it_is_closed
+    debug_waits_for_no_lock
+}
+
+/// Makes objects, whose calls fail when they are told to.
+#[derive(Clone, Default)]
+struct Maker<const HOOKS: bool> {
+    failing: Arc<Mutex<Vec<&'static str>>>,
+    calls: Arc<Mutex<Vec<String>>>,
+}
+
+impl<const HOOKS: bool> Maker<HOOKS> {
+    fn fail(&self, name: &'static str) {
+        self.failing.lock().unwrap().push(name);
+    }
+
+    fn call(&self, name: &'static str, id: u64) -> Result<(), String> {
+        self.calls.lock().unwrap().push(format!("{name} {id}"));
+        let mut failing = self.failing.lock().unwrap();
+        match failing.iter().position(|one| *one == name) {
+            Some(place) => Err(failing.remove(place).to_owned()),
+            None => Ok(()),
+        }
+    }
+
+    /// The calls since it was asked last.
+    fn calls(&self) -> Vec<String> {
+        std::mem::take(&mut *self.calls.lock().unwrap())
+    }
+}
+
+impl<const HOOKS: bool> Manager for Maker<HOOKS> {
+    type Object = u64;
+    type Error = String;
+    const ACTIVATES: bool = HOOKS;
+    const PASSIVATES: bool = HOOKS;
+
+    fn make(&self, id: u64) -> Result<u64, String> {
+        self.call("make", id)?;
+        Ok(id)
+    }
+
+    fn activate(&self, id: &mut u64) -> Result<(), String> {
+        self.call("activate", *id)
+    }
+
+    fn validate(&self, id: &mut u64) -> bool {
+        self.call("validate", *id).is_ok()
+    }
+
+    fn passivate(&self, id: &mut u64) -> Result<(), String> {
+        self.call("passivate", *id)
+    }
+
+    fn destroy(&self, id: u64) {
+        self.call("destroy", id).unwrap();
+    }
+}
+
+/// A clock that tests set, in milliseconds.
+type Time = Arc<AtomicU64>;
+
+fn pool_with<const HOOKS: bool>(
+    change: impl FnOnce(Builder<Maker<HOOKS>>) -> Builder<Maker<HOOKS>>,
+) -> (Pool<Maker<HOOKS>>, Maker<HOOKS>, Time) {
+    let (maker, time) = (Maker::default(), Time::default());
+    let told = Arc::clone(&time);
+    let builder = Pool::builder()
+        .journal(Journal::Memory(None))
+        .clock(move || told.load(Ordering::SeqCst));
+    (change(builder).build(maker.clone()).unwrap(), maker, time)
+}
+
+/// The texts of what was reported.
+type Reports = Arc<Mutex<Vec<String>>>;
+
+/// What was reported, and what receives it.
+fn reports() -> (Reports, impl Fn(Failure<String>) + Send + Sync) {
+    let reports = Arc::new(Mutex::new(Vec::new()));
+    let received = Arc::clone(&reports);
+    let on_error = move |failure: Failure<String>| {
+        let text = match &failure {
+            Failure::Activate { error, .. } | Failure::Passivate { error, .. } => {
+                format!("{failure}: {error}")
+            }
+            Failure::Sink(error) => format!("{failure}: {}", error.kind()),
+            Failure::Maintenance(error) => format!("{failure}: {error}"),
+            _ => failure.to_string(),
+        };
+        received.lock().unwrap().push(text);
+        panic_quietly();
+    };
+    (reports, on_error)
+}
+
+fn panic_quietly() {
+    std::panic::resume_unwind(Box::new("it panics"));
+}
+
+/// Has something of the manager fail in a call of a pool with one idle object.
+type Failing<const HOOKS: bool> = fn(&Pool<Maker<HOOKS>>, &dyn Fn());
+
+fn borrow_idle<const HOOKS: bool>(pool: &Pool<Maker<HOOKS>>, fail: &dyn Fn()) {
+    fail();
+    assert_eq!(*pool.get().unwrap(), 1);
+}
+
+fn return_broken<const HOOKS: bool>(pool: &Pool<Maker<HOOKS>>, fail: &dyn Fn()) {
+    let held = pool.get().unwrap();
+    fail();
+    assert_eq!(Pooled::give_back(held), Returned::Destroyed);
+}
+
+fn evict_broken<const HOOKS: bool>(pool: &Pool<Maker<HOOKS>>, fail: &dyn Fn()) {
+    fail();
+    assert_eq!(pool.evict().unwrap().destroyed, 1);
+}
+
+fn failures_that_no_call_returns_are_reported<const HOOKS: bool>() {
+    let activation = "idle object 0 could not be activated: activate";
+    let (test, passivation) = (
+        "object 0 did not pass its test",
+        "object 0 could not be passivated: passivate",
+    );
+    let cases: [(Failing<HOOKS>, &'static str, &str); 7] = [
+        (borrow_idle, "activate", activation),
+        (borrow_idle, "validate", test),
+        (return_broken, "validate", test),
+        (return_broken, "passivate", passivation),
+        (evict_broken, "activate", activation),
+        (evict_broken, "validate", test),
+        (evict_broken, "passivate", passivation),
+    ];
+    let has_call = |name: &str| HOOKS || name == "validate";
+    for (act, name, wanted) in cases.into_iter().filter(|case| has_call(case.1)) {
+        let (reports, on_error) = reports();
+        let (pool, maker, _) = pool_with::<HOOKS>(|builder| {
+            let builder = builder.test_on_borrow(true).test_on_return(true);
+            builder.test_while_idle(true).on_error(on_error)
+        });
+        pool.add().unwrap();
+        act(&pool, &|| maker.fail(name));
+        assert_eq!(*reports.lock().unwrap(), [wanted]);
+        assert_legal(&pool);
+    }
+}
+
+fn failures_that_a_call_returns_are_not_reported<const HOOKS: bool>() {
+    let (reports, on_error) = reports();
+    let (pool, maker, _) = pool_with::<HOOKS>(|builder| {
+        let builder = builder.test_on_create(true).test_on_borrow(true);
+        builder.on_error(on_error)
+    });
+    maker.fail("make");
+    assert!(matches!(pool.get(), Err(Error::Make(_))));
+    maker.fail("validate");
+    assert!(matches!(pool.get(), Err(Error::CreateTest)));
+    maker.fail("validate");
+    assert!(matches!(pool.add(), Err(Error::CreateTest)));
+    assert!(reports.lock().unwrap().is_empty());
+}
+
+fn failures_of_sinks_are_reported<const HOOKS: bool>() {
+    struct Broken;
+    impl SegmentSink for Broken {
+        fn store(&mut self, _: &Segment<'_>) -> io::Result<()> {
+            Err(io::ErrorKind::BrokenPipe.into())
+        }
+    }
+    let (reports, on_error) = reports();
+    let (pool, ..) = pool_with::<HOOKS>(|builder| {
+        let segments = Segments::new(Broken).limit(100);
+        builder
+            .journal(Journal::Segments(segments))
+            .on_error(on_error)
+    });
+    while pool.get().is_ok() {}
+    let reported = reports.lock().unwrap().len();
+    assert!(reported > 1);
+    // What a call returns is not reported.
+    assert!(pool.flush_journal().is_err());
+    assert_eq!(reports.lock().unwrap().len(), reported);
+    drop(pool);
+    let reports = reports.lock().unwrap();
+    assert!(reports.len() > reported);
+    let wanted = format!(
+        "a segment of the journal could not be stored: {}",
+        io::ErrorKind::BrokenPipe
+    );
+    assert!(reports.iter().all(|report| *report == wanted));
+}
+
+fn a_detached_object_is_its_holders<const HOOKS: bool>() {
+    let (pool, maker, _) = pool_with::<HOOKS>(|builder| builder.max_total(1));
+    let held = pool.get().unwrap();
+    assert_eq!(Pooled::detach(held), 0);
+    assert_eq!(pool.counts().destroyed, 1);
+    assert_eq!(*pool.try_get().unwrap(), 1);
+    assert!(!maker.calls().contains(&"destroy 0".to_owned()));
+    assert_legal(&pool);
+}
+
+/// The steps in which an object ended.
+fn ends_of<const HOOKS: bool>(pool: &Pool<Maker<HOOKS>>) -> Vec<String> {
+    let journal = journal_of(pool);
+    let ends = journal.lines().filter(|line| line.ends_with(" = destroy"));
+    ends.map(|line| line.splitn(3, ' ').nth(2).unwrap().to_owned())
+        .collect()
+}
+
+fn an_object_that_is_too_old_ends_at_its_return<const HOOKS: bool>() {
+    let lifetime = Duration::from_millis(100);
+    let (pool, maker, time) = pool_with::<HOOKS>(|builder| builder.max_lifetime(lifetime));
+    time.store(5, Ordering::SeqCst);
+    let held = pool.get().unwrap();
+    time.store(104, Ordering::SeqCst);
+    assert_eq!(Pooled::give_back(held), Returned::Parked);
+    let held = pool.get().unwrap();
+    time.store(105, Ordering::SeqCst);
+    assert_eq!(Pooled::touch(&held).unwrap(), Touched::Noted);
+    maker.calls();
+    assert_eq!(Pooled::give_back(held), Returned::Destroyed);
+    assert_eq!(maker.calls(), ["destroy 0"]);
+    assert_eq!(ends_of(&pool), ["park 0 testfail = destroy"]);
+    assert_eq!(*pool.get().unwrap(), 1);
+    assert_legal(&pool);
+}
+
+fn an_object_that_is_too_old_ends_while_it_is_idle<const HOOKS: bool>() {
+    let lifetime = Duration::from_millis(100);
+    let (pool, maker, time) =
+        pool_with::<HOOKS>(|builder| builder.max_lifetime(lifetime).tests_per_eviction_run(2));
+    for id in 0..5 {
+        time.store(10 * id, Ordering::SeqCst);
+        pool.add().unwrap();
+    }
+    maker.calls();
+    time.store(130, Ordering::SeqCst);
+    let done = pool.maintain().unwrap();
+    assert_eq!((done.eviction.destroyed, done.filled), (4, 0));
+    assert!(done.eviction.examined >= 5);
+    let wanted = ["destroy 0", "destroy 1", "destroy 2", "destroy 3"];
+    assert_eq!(maker.calls(), wanted);
+    assert_eq!(ends_of(&pool)[0], "tested 0 testfail = destroy");
+    assert_eq!(*pool.get().unwrap(), 4);
+    assert!(pool.settings().contains("testWhileIdle = true\n"));
+    assert_legal(&pool);
+}
+
+fn an_object_of_a_lifetime_is_validated_only_if_that_is_set<const HOOKS: bool>() {
+    let lifetime = Duration::from_millis(100);
+    for is_set in [false, true] {
+        let (pool, maker, _) = pool_with::<HOOKS>(|builder| {
+            let builder = builder.max_lifetime(lifetime).test_while_idle(is_set);
+            builder.tests_per_eviction_run(1)
+        });
+        for _ in 0..3 {
+            pool.add().unwrap();
+        }
+        maker.calls();
+        let done = pool.maintain().unwrap();
+        assert_eq!((done.eviction.examined, done.eviction.destroyed), (3, 0));
+        // Only as many are validated as the settings say.
+        let calls = maker.calls();
+        let validated = calls.iter().filter(|call| call.starts_with("validate"));
+        assert_eq!(validated.count(), usize::from(is_set));
+        assert_eq!(calls.is_empty(), !is_set);
+        assert_legal(&pool);
+    }
+}
+
+/// Waits until something is so.
+fn wait_until(is_so: impl Fn() -> bool) {
+    let end = Instant::now() + Duration::from_secs(30);
+    while !is_so() {
+        assert!(Instant::now() < end, "it takes too long");
+        thread::sleep(Duration::from_millis(1));
+    }
+}
+
+fn a_pool_is_maintained_until_it_is_closed<const HOOKS: bool>() {
+    let (reports, on_error) = reports();
+    let often = Duration::from_millis(1);
+    let (pool, maker, _) = pool_with::<HOOKS>(|builder| {
+        let builder = builder.min_idle(2).on_error(on_error);
+        builder.maintain_every(often)
+    });
+    wait_until(|| pool.counts().idle == 2);
+    maker.fail("make");
+    pool.clear().unwrap();
+    wait_until(|| pool.counts().idle == 2);
+    // One round that failed, and no other; its error depends on whether the fill or the next one came first.
+    let reports = reports.lock().unwrap();
+    assert_eq!(
+        *reports,
+        ["the maintenance of the pool ended early: an object could not be made"]
+    );
+    pool.close();
+    assert_legal(&pool);
+}
+
+fn the_last_handle_ends_the_maintenance<const HOOKS: bool>() {
+    /// Says when its last copy is dropped.
+    struct Last(mpsc::Sender<()>);
+    impl Drop for Last {
+        fn drop(&mut self) {
+            let _ = self.0.send(());
+        }
+    }
+    let (last, is_dropped) = mpsc::channel();
+    let last = Last(last);
+    let rarely = Duration::from_secs(3_600);
+    let (pool, ..) = pool_with::<HOOKS>(|builder| {
+        let on_error = move |_| drop(last.0.clone());
+        builder
+            .min_idle(1)
+            .maintain_every(rarely)
+            .on_error(on_error)
+    });
+    wait_until(|| pool.counts().idle == 1);
+    let start = Instant::now();
+    drop(pool);
+    is_dropped.recv_timeout(Duration::from_secs(30)).unwrap();
+    assert!(start.elapsed() < Duration::from_secs(30));
+}
+
+fn a_pool_says_whether_it_is_closed<const HOOKS: bool>() {
+    let (pool, ..) = pool_with::<HOOKS>(|builder| builder);
+    assert!(!pool.is_closed());
+    pool.close();
+    assert!(pool.is_closed());
+}
+
+fn debug_waits_for_no_lock<const HOOKS: bool>() {
+    // A clock that shows a pool while it is read under its lock.
+    let shown = Arc::new(Mutex::new((None::<Pool<Maker<HOOKS>>>, Vec::new())));
+    let told = Arc::clone(&shown);
+    let clock = move || {
+        if let Ok(mut shown) = told.try_lock() {
+            let text = shown.0.as_ref().map(|pool| format!("{pool:?}"));
+            shown.1.extend(text);
+        }
+        0
+    };
+    let (pool, ..) = pool_with::<HOOKS>(|builder| builder.clock(clock).max_total(1));
+    let held = pool.get().unwrap();
+    shown.lock().unwrap().0 = Some(pool.clone());
+    let short = Duration::from_millis(5);
+    assert!(matches!(pool.get_timeout(short), Err(Error::TimedOut)));
+    drop(held);
+    let (handle, texts) = std::mem::take(&mut *shown.lock().unwrap());
+    assert!(
+        texts.iter().any(|text| text.contains("<locked>")),
+        "{texts:?}"
+    );
+    assert!(
+        texts.iter().any(|text| text.contains("lent: 1")),
+        "{texts:?}"
+    );
+    drop(handle);
+}
+
+#[test]
+fn a_wait_has_a_limit_of_30_seconds() {
+    let limit_of = |text: Option<&str>| {
+        let builder: Builder<Maker<true>> = Pool::builder();
+        let builder = match text {
+            Some(text) => builder.settings(text).unwrap(),
+            None => builder,
+        };
+        let settings = builder.build(Maker::default()).unwrap().settings();
+        let limit = settings
+            .lines()
+            .find_map(|line| line.strip_prefix("maxWaitMillis = "));
+        limit.unwrap().to_owned()
+    };
+    assert_eq!(limit_of(None), "30000");
+    assert_eq!(limit_of(Some("maxTotal = 2\n[abandoned]\n")), "30000");
+    assert_eq!(limit_of(Some("maxWaitMillis = -1\n")), "-1");
+    assert_eq!(limit_of(Some("maxTotal = 2\nmaxWaitMillis = 5\n")), "5");
+}
