@@ -12,6 +12,7 @@
 enum {
   KEPT = 1024,          /* entries that a pool without a journal keeps at least before it drops them */
   AT_ONCE = 256,        /* lines that are copied in one critical section */
+  TRIES = 16,           /* allocations that fail one after the other before a copy gives up */
   SMALLEST_TEXT = 4096, /* bytes */
 };
 
@@ -250,10 +251,14 @@ static uint32_t copy_part(struct zuphinka_pool *pool, bool is_base, uint64_t *po
   return status;
 }
 
-/* Copies all lines of the base or of the journal. */
+/* Copies all lines of the base or of the journal. Each line allocates, and other threads may free memory before it is tried again. */
 static uint32_t copy_all(struct zuphinka_pool *pool, bool is_base, uint64_t *position, struct text *text) {
   uint32_t status = ZUPHINKA_STATUS_DONE;
-  while (status == ZUPHINKA_STATUS_DONE) status = copy_part(pool, is_base, position, text);
+  for (int failures = 0; failures < TRIES && status != ZUPHINKA_STATUS_NO_ENTRY;) {
+    uint64_t before = *position;
+    status = copy_part(pool, is_base, position, text);
+    failures = *position > before ? 0 : failures + 1;
+  }
   return status;
 }
 

@@ -149,7 +149,10 @@ enum zuphinka_pool_error zuphinka_pool_get(struct zuphinka_pool *pool, struct zu
 /* Does the same without waiting: ZUPHINKA_POOL_ERROR_EXHAUSTED where it would wait. */
 enum zuphinka_pool_error zuphinka_pool_try_get(struct zuphinka_pool *pool, struct zuphinka_pool_loan *loan);
 
-/* Does the same, and waits for at most `milliseconds`, and no longer than the settings say. The time of the callbacks isn't counted. */
+/*
+ * Does the same, and waits for an object for at most `milliseconds`, and no longer than the settings say. Neither bounds the time of the
+ * callbacks; nor does `zuphinka_pool_try_get`. A call that finds the journal full waits for the segment that is being stored.
+ */
 enum zuphinka_pool_error zuphinka_pool_get_timed(struct zuphinka_pool *pool, uint64_t milliseconds, struct zuphinka_pool_loan *loan);
 
 /*

@@ -755,7 +755,10 @@ static bool write_file(const char *folder, const char *name, const char *text, s
 
 /* Writes a segment to a file, unless this call is to fail. */
 static bool store_segment(void *context, uint64_t first, const char *text, size_t size) {
-  struct sink *sink = &((struct maker *)context)->sink;
+  struct maker *made = context;
+  struct sink *sink = &made->sink;
+  struct zuphinka_counts counts;
+  if (made->pool) zuphinka_pool_counts(made->pool, &counts); /* which hangs if the pool holds its lock */
   int call = atomic_fetch_add(&sink->called, 1) + 1;
   char name[32];
   while (atomic_load(&sink->is_held)) sleep_for(1);
@@ -1227,8 +1230,9 @@ static void end_loan(struct table *table, struct zuphinka_pool_loan loan, bool i
   void *object = loan.object;
   let_go(&loan);
   enum zuphinka_pool_error error = is_broken ? zuphinka_pool_invalidate(table->pool, &loan) : zuphinka_pool_give_back(table->pool, &loan);
-  check(error == ZUPHINKA_POOL_ERROR_GONE || is_expected(table, error));
-  if (error && error != ZUPHINKA_POOL_ERROR_GONE) destroy_thing(&maker, object);
+  bool has_ended = error == ZUPHINKA_POOL_ERROR_NONE || error == ZUPHINKA_POOL_ERROR_GONE;
+  check((has_ended && loan.id == ZUPHINKA_POOL_NO_LOAN) || (error != ZUPHINKA_POOL_ERROR_CLOSED && is_expected(table, error)));
+  if (!has_ended) destroy_thing(&maker, object);
 }
 
 static void touch_at_random(struct player *player) {

@@ -39,7 +39,7 @@ SEEDS, THREADS, CALLS = 18, 4, 2_000
 SHARED_ROUNDS, SOAKED = 5_000, 5_000_000
 # Under valgrind and ThreadSanitizer, and while allocations fail.
 FEW_SEEDS, FEW_CALLS, MORE_THREADS = 9, 400, 8
-REFUSE_OF = 7
+REFUSE_OF = 20
 # A run that takes longer hangs, in seconds.
 LONGEST = 600
 LENT = re.compile(rb"^(\d+) \d+ ready \d+ good = lent$", re.MULTILINE)
