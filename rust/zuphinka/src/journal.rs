@@ -14,7 +14,7 @@ use std::sync::{Arc, PoisonError};
 #[derive(Debug, Default)]
 #[non_exhaustive]
 pub enum Journal {
-    /// The entries are dropped, some thousands at a time. The pool never stops lending for its journal, and its memory stays flat. The
+    /// The entries are dropped, a thousand or more at a time. The pool never stops lending for its journal, and its memory stays flat. The
     /// setting `journalLimit` has no effect: the pool sets it to 2^32, its greatest value. This is the default.
     #[default]
     Off,

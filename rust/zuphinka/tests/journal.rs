@@ -85,7 +85,7 @@ fn a_journal_that_is_not_kept_is_never_full<const HOOKS: bool>() {
     let counts = pool.counts();
     assert_eq!((counts.steps, counts.created), (40_004, 2));
     let stored = entries_of(&journal_of(&pool)).count();
-    assert!(stored < 2_100, "{stored} entries are stored");
+    assert!(stored < 1_100, "{stored} entries are stored");
     assert_eq!(pool.flush_journal().unwrap(), 0);
     // A part of it can be cut off, and the rest follows.
     let segments = [cut_off(&pool), journal_of(&pool)];
