@@ -1,6 +1,5 @@
 //! What becomes of a journal, and its text.
 
-use crate::locked_pool::LockedPool;
 use crate::manager::Manager;
 use crate::proved_core::Core;
 use crate::segments::Segments;
@@ -15,7 +14,7 @@ use std::sync::{Arc, PoisonError};
 #[derive(Debug, Default)]
 #[non_exhaustive]
 pub enum Journal {
-    /// The entries are dropped, some thousands at a time. The pool never stops lending for its journal, and its memory stays flat. The
+    /// The entries are dropped, a thousand or more at a time. The pool never stops lending for its journal, and its memory stays flat. The
     /// setting `journalLimit` has no effect: the pool sets it to 2^32, its greatest value. This is the default.
     #[default]
     Off,
@@ -56,14 +55,6 @@ pub(crate) fn copy_lines(
     Ok(to)
 }
 
-/// Appends the lines of the base that the stored entries continue, if there are entries before them.
-fn copy_base<T>(state: &mut LockedPool<T>, text: &mut Vec<u8>) -> io::Result<()> {
-    if state.journal.first > 0 {
-        copy_lines(&mut state.core, Core::base_line, 0, u64::MAX, text)?;
-    }
-    Ok(())
-}
-
 impl<M: Manager> Shared<M> {
     /// Writes the stored entries, after the lines of their base if the journal was cut. Returns their number.
     pub fn write_journal(&self, out: &mut dyn Write) -> io::Result<u64> {
@@ -81,7 +72,9 @@ impl<M: Manager> Shared<M> {
         }
         let mut state = self.lock();
         let (len, mut text) = (state.journal.len, Vec::new());
-        copy_base(&mut state, &mut text)?;
+        if state.journal.first > 0 {
+            copy_lines(&mut state.core, Core::base_line, 0, u64::MAX, &mut text)?;
+        }
         copy_lines(&mut state.core, Core::line, 0, len, &mut text)?;
         Ok((text, len))
     }
@@ -89,20 +82,42 @@ impl<M: Manager> Shared<M> {
     /// Copies the stored journal, some hundred lines at a time. Returns none if it was cut meanwhile.
     fn try_copy_journal(&self) -> io::Result<Option<(Vec<u8>, u64)>> {
         let mut text = Vec::new();
-        let mut state = self.lock();
+        let state = self.lock();
         let (first, len) = (state.journal.first, state.journal.len);
-        copy_base(&mut state, &mut text)?;
         drop(state);
+        let is_whole = (first == 0 || self.copy_base(first, &mut text)?)
+            && self.copy_in_parts(first, Core::line, len, &mut text)?;
+        Ok(is_whole.then_some((text, len)))
+    }
+
+    /// Copies the lines of the base at a position. Returns whether the journal was not cut meanwhile.
+    pub fn copy_base(&self, first: u64, text: &mut Vec<u8>) -> io::Result<bool> {
+        self.copy_in_parts(first, Core::base_line, u64::MAX, text)
+    }
+
+    /// Copies the first lines of the journal whose base has a position: `count`, or all if there are fewer, some hundred at a time. Returns
+    /// whether the journal was not cut meanwhile.
+    fn copy_in_parts(
+        &self,
+        first: u64,
+        line: Line,
+        count: u64,
+        text: &mut Vec<u8>,
+    ) -> io::Result<bool> {
         let mut copied = 0;
-        while copied < len {
+        while copied < count {
             let mut state = self.lock();
             if state.journal.first != first {
-                return Ok(None);
+                return Ok(false);
             }
-            let to = len.min(copied + AT_ONCE);
-            copied = copy_lines(&mut state.core, Core::line, copied, to, &mut text)?;
+            let to = count.min(copied + AT_ONCE);
+            let next = copy_lines(&mut state.core, line, copied, to, text)?;
+            if next < to {
+                break;
+            }
+            copied = next;
         }
-        Ok(Some((text, len)))
+        Ok(true)
     }
 
     /// Copies the stored entries up to the last one, some hundred at a time, while no other thread may cut them. Returns how many were

@@ -100,8 +100,8 @@ impl<M: Manager> Shared<M> {
         self.run_eviction(self.policy.tests_idle)
     }
 
-    /// Examines idle objects, as many as the settings say, and looks at their age. `tests` says whether they are validated too.
-    fn run_eviction(&self, tests: bool) -> Result<Eviction, Error<M::Error>> {
+    /// Examines idle objects, as many as the settings say, and looks at their age. `validates` says whether they are validated too.
+    fn run_eviction(&self, validates: bool) -> Result<Eviction, Error<M::Error>> {
         let caller = caller_number();
         let count = match self.run_section(caller, Input::Evict, None)? {
             (Answer::Count(count), _) => count,
@@ -110,7 +110,7 @@ impl<M: Manager> Shared<M> {
         };
         let mut run = Eviction::default();
         for _ in 0..count {
-            match self.examine(caller, tests)? {
+            match self.examine(caller, validates)? {
                 Some(disposition) => {
                     run.examined += 1;
                     run.destroyed += u64::from(matches!(disposition, Disposition::Destroyed));
@@ -123,7 +123,7 @@ impl<M: Manager> Shared<M> {
 
     /// Runs an eviction, and then more runs if objects have a lifetime, until each object that was idle is examined. Only the first one
     /// validates.
-    fn evict_all_too_old(&self) -> Result<Eviction, Error<M::Error>> {
+    fn evict_for_maintenance(&self) -> Result<Eviction, Error<M::Error>> {
         let idle = self.lock().idle();
         let mut eviction = self.evict()?;
         let mut has_more = self.policy.max_lifetime.is_some() && eviction.examined > 0;
@@ -137,12 +137,16 @@ impl<M: Manager> Shared<M> {
     }
 
     /// Examines the next idle object, if there is one.
-    fn examine(&self, caller: u32, tests: bool) -> Result<Option<Disposition>, Error<M::Error>> {
+    fn examine(
+        &self,
+        caller: u32,
+        validates: bool,
+    ) -> Result<Option<Disposition>, Error<M::Error>> {
         match self.run_section(caller, Input::EvictNext, None)? {
             (Answer::KeptIdle(_), _) => Ok(Some(Disposition::Kept)),
             (Answer::Test(id), Some(object)) => {
                 let object = InProgress::of(self, caller, id, Work::Test, object);
-                Ok(Some(self.test(id, object, tests)))
+                Ok(Some(self.test(id, object, validates)))
             }
             (Answer::DestroyIdle(id), Some(object)) => {
                 InProgress::destroying(self, caller, id, object).destroy();
@@ -154,12 +158,12 @@ impl<M: Manager> Shared<M> {
     }
 
     /// Looks at the age of an idle object, and tests it if it is to be validated.
-    fn test(&self, id: u64, mut object: InProgress<'_, M>, tests: bool) -> Disposition {
+    fn test(&self, id: u64, mut object: InProgress<'_, M>, validates: bool) -> Disposition {
         if object.is_too_old() {
             object.give_up();
             return Disposition::Destroyed;
         }
-        if tests {
+        if validates {
             if let Err(failure) = try_out(id, &mut object) {
                 object.give_up();
                 self.report(failure);
@@ -191,7 +195,7 @@ impl<M: Manager> Shared<M> {
     /// Runs an eviction, then a removal of abandoned objects, then a fill.
     pub fn maintain(&self) -> Result<Maintenance, Error<M::Error>> {
         Ok(Maintenance {
-            eviction: self.evict_all_too_old()?,
+            eviction: self.evict_for_maintenance()?,
             reclaimed: self.reclaim(caller_number(), When::Maintain)?,
             filled: self.fill()?,
         })

@@ -38,7 +38,7 @@
 //! # Ok::<(), Box<dyn std::error::Error>>(())
 //! ```
 //!
-//! A pool lends for ever: by default it drops the entries of its journal, some thousands at a time. [`Builder::journal`] keeps them in memory
+//! A pool lends for ever: by default it drops the entries of its journal, a thousand or more at a time. [`Builder::journal`] keeps them in memory
 //! ([`Journal::Memory`]), or stores them in segments ([`Journal::Segments`]), which `pool check` checks as one journal.
 //!
 //! Build the C library first, by `python3 tools/build.py zuphinka`; `build.rs` says where else it may lie.

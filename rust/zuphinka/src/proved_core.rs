@@ -161,6 +161,8 @@ impl Core {
         };
         match status {
             sys::STATUS_DONE => {
+                text.try_reserve(size as usize)
+                    .map_err(|_| StepFault::OutOfMemory)?;
                 text.extend_from_slice(&line[..size as usize]);
                 Ok(true)
             }

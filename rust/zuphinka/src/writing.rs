@@ -77,7 +77,7 @@ impl<M: Manager> Shared<M> {
 
     /// Copies and cuts the journal. The segment is kept as unwritten.
     fn cut_off(&self, turn: &Turn<'_, M>) -> io::Result<Cut> {
-        let mut text = self.copy_base()?;
+        let mut text = self.base_text()?;
         let mut copied = 0;
         for _ in 0..ROUNDS {
             copied = self.copy_stored(copied, &mut text)?;
@@ -88,7 +88,7 @@ impl<M: Manager> Shared<M> {
     /// Writes and cuts the journal. The segment is kept as unwritten. Returns how many of its bytes are written: if that fails, nothing is
     /// cut.
     fn write_and_cut(&self, turn: &Turn<'_, M>, out: &mut dyn Write) -> io::Result<(Cut, usize)> {
-        let mut text = self.copy_base()?;
+        let mut text = self.base_text()?;
         let (mut copied, mut written) = (0, 0);
         for _ in 0..ROUNDS {
             copied = self.copy_stored(copied, &mut text)?;
@@ -100,11 +100,12 @@ impl<M: Manager> Shared<M> {
         Ok((segment, written))
     }
 
-    /// Returns the lines of the base, which are the same as long as no other thread may cut the journal.
-    fn copy_base(&self) -> io::Result<Vec<u8>> {
+    /// Returns the lines of the base, while no other thread may cut the journal.
+    fn base_text(&self) -> io::Result<Vec<u8>> {
+        let first = self.lock().journal.first;
         let mut text = Vec::new();
-        let mut state = self.lock();
-        copy_lines(&mut state.core, Core::base_line, 0, u64::MAX, &mut text)?;
+        let is_whole = self.copy_base(first, &mut text)?;
+        debug_assert!(is_whole, "no other thread cuts the journal");
         Ok(text)
     }
 

@@ -60,6 +60,7 @@ with_and_without_hooks! {
     the_limit_of_a_text_matters_where_entries_are_kept
     a_copy_of_a_journal_that_is_dropped_meanwhile_is_whole
     a_journal_that_is_not_kept_is_never_full
+    a_journal_that_is_not_kept_takes_no_more_memory
     a_sink_gets_all_entries
     a_sink_that_fails_once_loses_nothing
     a_sink_that_fails_stops_the_pool_and_loses_nothing
@@ -84,12 +85,30 @@ fn a_journal_that_is_not_kept_is_never_full<const HOOKS: bool>() {
     let counts = pool.counts();
     assert_eq!((counts.steps, counts.created), (40_004, 2));
     let stored = entries_of(&journal_of(&pool)).count();
-    assert!(stored < 2_100, "{stored} entries are stored");
+    assert!(stored < 1_100, "{stored} entries are stored");
     assert_eq!(pool.flush_journal().unwrap(), 0);
     // A part of it can be cut off, and the rest follows.
     let segments = [cut_off(&pool), journal_of(&pool)];
     assert_eq!(entries_of(&segments[0]).count(), stored);
     assert!(segments[1].starts_with("pool-journal 2 40004 2 open "));
+}
+
+/// The resident memory of this process, in KiB.
+fn resident_memory() -> u64 {
+    let status = fs::read_to_string("/proc/self/status").unwrap();
+    let line = status.lines().find_map(|line| line.strip_prefix("VmRSS:"));
+    let memory = line.unwrap().trim_end_matches("kB").trim();
+    memory.parse().unwrap()
+}
+
+fn a_journal_that_is_not_kept_takes_no_more_memory<const HOOKS: bool>() {
+    let pool = Pool::builder().build(Numbers::<HOOKS>).unwrap();
+    (0..10_000).for_each(|_| pair(&pool));
+    let before = resident_memory();
+    (0..300_000).for_each(|_| pair(&pool));
+    // The entries would take 40 MB and more; other tests run meanwhile.
+    let more = resident_memory().saturating_sub(before);
+    assert!(more < 20_000, "{more} KiB more");
 }
 
 /// A pool whose segments are stored in memory, by a sink that fails when it is told to.
