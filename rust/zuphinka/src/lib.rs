@@ -45,6 +45,7 @@
 #![warn(missing_docs)]
 #![deny(unsafe_op_in_unsafe_fn)]
 
+mod async_manager;
 mod builder;
 mod callers;
 mod clock;
@@ -53,6 +54,7 @@ mod contradictions;
 mod dropped_segments;
 mod error;
 mod failure;
+mod get;
 mod idle_values;
 mod in_progress;
 mod journal;
@@ -71,12 +73,16 @@ mod shared;
 mod step;
 mod stored_journal;
 mod sys;
+mod waiters;
+mod waking;
 mod writing;
 
+pub use async_manager::{Async, AsyncManager};
 pub use builder::Builder;
 pub use callers::caller_number;
 pub use error::{Contradiction, Error, OpenError, SettingsError};
 pub use failure::Failure;
+pub use get::Get;
 pub use journal::Journal;
 pub use keeping::{Addition, Eviction, Maintenance};
 pub use lending::{Returned, Touched};

@@ -1,6 +1,7 @@
 use crate::builder::Builder;
 use crate::callers::caller_number;
 use crate::error::{Error, OpenError};
+use crate::get::Get;
 use crate::keeping::{Addition, Eviction, Maintenance};
 use crate::manager::Manager;
 use crate::pooled::Pooled;
@@ -102,6 +103,25 @@ impl<M: Manager> Pool<M> {
         let end = Instant::now().checked_add(timeout);
         self.shared
             .borrow(end.map_or(WaitLimit::AsSet, WaitLimit::Until))
+    }
+
+    /// Lends an object to a task: a future that does what [`get`](Pool::get) does, and lets its task wait instead of its thread. It needs no
+    /// runtime. Tasks and threads wait in one order, that of arrival.
+    ///
+    /// A poll is one look: one critical section, in which the task's waker is registered if there is nothing to lend. If it finds nothing again, it
+    /// makes no entry. An [`AsyncManager`](crate::AsyncManager) is awaited. Any other manager is called in the poll.
+    ///
+    /// The future has no timer. `maxWaitMillis` ends the wait at the first poll after that time, and nothing but an object or the close of the
+    /// pool causes a poll. Bound the wait by your runtime, as `tokio::time::timeout` does: dropping the future is safe at any time.
+    ///
+    /// # Errors
+    ///
+    /// Those of [`get`](Pool::get).
+    pub fn get_async(&self) -> Get<M>
+    where
+        M: 'static,
+    {
+        Get::new(Arc::clone(&self.shared))
     }
 
     /// Makes an object and adds it to the idle ones, if a place is free.
