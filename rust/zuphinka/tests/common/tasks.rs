@@ -26,6 +26,10 @@ impl Bell {
     pub fn rings(&self) -> usize {
         self.0.swap(0, Ordering::SeqCst)
     }
+
+    pub fn has_rung(&self) -> bool {
+        self.0.load(Ordering::SeqCst) > 0
+    }
 }
 
 impl Wake for Bell {
