@@ -1,4 +1,4 @@
-//! An object pool for threads, over the proved core of Zuphinka.
+//! An object pool for threads and tasks, over the proved core of Zuphinka.
 //!
 //! **Proved** is each step of the core: its answer, the entry that it appends to the journal, and that a completing step never fails. In every
 //! legal journal no more than `maxTotal` objects are present, none is lent to two at once, and none that was made is lost. **Tested, not
@@ -7,6 +7,7 @@
 //! the answers in this very run were the expected ones.
 //!
 //! A [`Manager`] makes objects; a [`Pool`] lends them, as [`Pooled`] guards that return them when they are dropped.
+//! Tasks borrow with [`Pool::get_async`], over a [`Manager`] or an [`AsyncManager`].
 //!
 //! ```
 //! use zuphinka::{Manager, Pool};
