@@ -157,66 +157,67 @@ fn an_aborted_task_frees_what_it_had() {
     assert_legal(&pool);
 }
 
+const TASKS: u64 = 100;
+const LOANS: u64 = 20;
+const THREADS: u64 = 2;
+/// Of this number of borrows one gives up early, at whatever it waits for.
+const HASTY_OF: u64 = 5;
+
 /// Uses a session, and lets other tasks run meanwhile.
 async fn use_alone(session: &Session) {
-    assert!(
-        !session.has_user.swap(true, Ordering::SeqCst),
-        "it has two users"
-    );
+    let had_user = session.has_user.swap(true, Ordering::SeqCst);
+    assert!(!had_user, "it has two users");
     tokio::task::yield_now().await;
     session.has_user.store(false, Ordering::SeqCst);
 }
 
+/// Borrows again and again, and counts the loans of borrows that are not hasty.
+async fn borrow_often(pool: Sessioned, number: u64, loans: Arc<AtomicU64>) {
+    for loan in 0..LOANS {
+        let is_hasty = (number + loan) % HASTY_OF == 0;
+        let longest = match is_hasty {
+            true => Duration::from_micros(100 * loan),
+            false => LONGEST,
+        };
+        match timeout(longest, pool.get_async()).await {
+            Ok(session) => {
+                use_alone(&session.unwrap()).await;
+                loans.fetch_add(u64::from(!is_hasty), Ordering::SeqCst);
+            }
+            Err(_) => assert!(is_hasty, "nobody wakes the task"),
+        }
+    }
+}
+
+/// The same on a thread, without haste.
+fn borrow_on_thread(pool: &Sessioned, loans: &AtomicU64) {
+    for _ in 0..LOANS {
+        drop(pool.get_timeout(LONGEST).unwrap());
+        loans.fetch_add(1, Ordering::SeqCst);
+    }
+}
+
 #[test]
 fn tasks_and_threads_of_the_runtime_share_a_pool() {
-    const TASKS: u64 = 100;
-    const LOANS: u64 = 20;
     let (pool, sessions) = pool_of(3, |builder| builder.test_on_borrow(true));
     set(&sessions.0.validate, Duration::from_micros(50));
     let loans = Arc::new(AtomicU64::new(0));
     run_on_four(async {
-        let task = |number: u64| {
+        let task = |number| tokio::spawn(borrow_often(pool.clone(), number, Arc::clone(&loans)));
+        let thread = |_| {
             let (pool, loans) = (pool.clone(), Arc::clone(&loans));
-            async move {
-                for loan in 0..LOANS {
-                    // Each fifth borrow gives up early, at whatever it waits for.
-                    let is_hasty = (number + loan) % 5 == 0;
-                    let longest = if is_hasty {
-                        Duration::from_micros(100 * loan)
-                    } else {
-                        LONGEST
-                    };
-                    match timeout(longest, pool.get_async()).await {
-                        Ok(session) => {
-                            use_alone(&session.unwrap()).await;
-                            loans.fetch_add(u64::from(!is_hasty), Ordering::SeqCst);
-                        }
-                        Err(_) => assert!(is_hasty, "nobody wakes the task"),
-                    }
-                }
-            }
-        };
-        let thread = || {
-            let (pool, loans) = (pool.clone(), Arc::clone(&loans));
-            move || {
-                for _ in 0..LOANS {
-                    drop(pool.get_timeout(LONGEST).unwrap());
-                    loans.fetch_add(1, Ordering::SeqCst);
-                }
-            }
+            spawn_blocking(move || borrow_on_thread(&pool, &loans))
         };
         let tasks: Vec<_> = (0..TASKS)
-            .map(|number| tokio::spawn(task(number)))
+            .map(task)
+            .chain((0..THREADS).map(thread))
             .collect();
-        let threads = [(); 2].map(|()| spawn_blocking(thread()));
-        for done in tasks.into_iter().chain(threads) {
-            done.await.unwrap();
+        for task in tasks {
+            task.await.unwrap();
         }
     });
-    assert_eq!(
-        loans.load(Ordering::SeqCst),
-        TASKS * LOANS * 4 / 5 + 2 * LOANS
-    );
+    let of_tasks = TASKS * LOANS * (HASTY_OF - 1) / HASTY_OF;
+    assert_eq!(loans.load(Ordering::SeqCst), of_tasks + THREADS * LOANS);
     let counts = pool.counts();
     assert_eq!((counts.lent, counts.reserved), (0, 0));
     assert_eq!(counts.idle + counts.destroyed, counts.created);

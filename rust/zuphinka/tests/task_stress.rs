@@ -362,6 +362,29 @@ fn close<const HOOKS: bool>(pool: &Pool<Manager<HOOKS>>) {
     assert_eq!(counts.created, counts.destroyed + counts.reclaimed);
 }
 
+/// Lets four threads play, and ends what they left. Returns the loans, in ascending order.
+fn play_all<const HOOKS: bool>(table: &Table<HOOKS>, seed: u64) -> Vec<(u32, u64)> {
+    let played: Vec<_> = thread::scope(|scope| {
+        let start = |number| {
+            let player = Player::new(table, seed * 1_000 + number);
+            scope.spawn(move || player.play())
+        };
+        let players: Vec<_> = (0..THREADS).map(start).collect();
+        let played = players.into_iter().map(|player| player.join().unwrap());
+        played.collect()
+    });
+    let mut last = Player::new(table, seed);
+    last.begun.append(&mut table.handed.lock().unwrap());
+    for player in played {
+        last.begun.extend(player.begun);
+        last.held.extend(player.held);
+        last.loans.extend(player.loans);
+    }
+    last.finish();
+    last.loans.sort();
+    last.loans
+}
+
 /// Plays with a seed. Returns the number of objects and of loans.
 fn play<const HOOKS: bool>(seed: u64) -> (usize, usize) {
     let (drops, stored) = (Arc::new(Drops::default()), Stored::default());
@@ -375,38 +398,18 @@ fn play<const HOOKS: bool>(seed: u64) -> (usize, usize) {
         pool: open(seed, manager, &stored),
         handed: Mutex::default(),
     };
-    let played: Vec<_> = thread::scope(|scope| {
-        let start = |number| {
-            let player = Player::new(&table, seed * 1_000 + number);
-            scope.spawn(move || player.play())
-        };
-        let players: Vec<_> = (0..THREADS).map(start).collect();
-        let played = players.into_iter().map(|player| player.join().unwrap());
-        played.collect()
-    });
-    let mut last = Player::new(&table, seed);
-    last.begun.append(&mut table.handed.lock().unwrap());
-    for player in played {
-        last.begun.extend(player.begun);
-        last.held.extend(player.held);
-        last.loans.extend(player.loans);
-    }
-    last.finish();
-    let mut loans = last.loans;
+    let loans = play_all(&table, seed);
     close(&table.pool);
     table.pool.flush_journal().unwrap();
     let mut segments = texts_of(&stored);
     segments.push(journal_of(&table.pool));
     assert_segments_legal(&table.pool, &segments);
-    loans.sort();
     assert_eq!(loans_of(&segments), loans, "seed {seed}");
 
     drop(table);
     let drops = drops.lock().unwrap();
-    assert!(
-        drops.iter().all(|times| *times == 1),
-        "seed {seed}: {drops:?}"
-    );
+    let are_dropped = drops.iter().all(|times| *times == 1);
+    assert!(are_dropped, "seed {seed}: {drops:?}");
     (drops.len(), loans.len())
 }
 

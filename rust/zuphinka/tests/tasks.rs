@@ -6,14 +6,15 @@ use common::tasks::{block_on, poll, poll_with, ready, run_all, yield_now, Bell, 
 use common::{assert_legal, journal_of};
 use std::future::{poll_fn, Future};
 use std::panic::{self, AssertUnwindSafe};
+use std::pin::Pin;
 use std::sync::atomic::{AtomicBool, AtomicU64, Ordering};
 use std::sync::{Arc, Mutex};
 use std::task::{Poll, Wake, Waker};
 use std::thread;
 use std::time::Duration;
 use zuphinka::{
-    caller_number, Abandoned, Async, AsyncManager, Builder, Error, Get, Journal, Manager, Pool,
-    Pooled, Returned,
+    caller_number, Abandoned, Async, AsyncManager, Builder, Error, Failure, Get, Journal, Manager,
+    Pool, Pooled, Returned,
 };
 
 /// What the next call of a name does.
@@ -808,6 +809,28 @@ fn an_idle_object_that_fails_makes_way_for_another() {
     }
 }
 
+#[test]
+fn an_idle_object_that_fails_is_reported() {
+    let reports = Arc::new(Mutex::new(Vec::new()));
+    let receiver = Arc::clone(&reports);
+    let (pool, maker) = awaited(|builder| {
+        let receive =
+            move |failure: Failure<_>| receiver.lock().unwrap().push(format!("{failure:?}"));
+        builder.test_on_borrow(true).on_error(receive)
+    });
+    let wanted = [
+        "Activate { id: 0, error: Broken(\"activate\") }",
+        "Test { id: 1 }",
+    ];
+    for (name, _) in OF_IDLE {
+        drop(pool.get().unwrap());
+        maker.expect(name, Event::Fails);
+        drop(lent(&mut pool.get_async(), &Bell::new()));
+    }
+    assert_eq!(*reports.lock().unwrap(), wanted);
+    assert_legal(&pool);
+}
+
 /// A pool whose manager is called in the poll, and that is woken for its object while another task waits.
 fn plain_borrow(maker: &Maker) -> (Pool<Plain<true>>, [Get<Plain<true>>; 2], Arc<Bell>) {
     let builder = kept().max_total(1).clock(|| 0);
@@ -906,67 +929,70 @@ fn the_pool_lives_as_long_as_its_borrows() {
     assert_eq!(maker.dropped(), [0]);
 }
 
-/// Uses an object that it alone has.
-fn assert_alone(object: &Widget) {
-    assert!(
-        !object.has_holder.swap(true, Ordering::SeqCst),
-        "two hold it"
-    );
-}
+const TASKS: u64 = 60;
+const LOANS: u64 = 20;
+const THREADS: u64 = 2;
+/// Of this number of borrows a task looks once for one, and drops it a little later.
+const DROPS_OF: u64 = 7;
 
-fn leave_alone(object: &Widget) {
+/// Uses an object that it alone has. The count grows by one.
+async fn use_alone(object: &Widget, loans: &AtomicU64) {
+    let had_holder = object.has_holder.swap(true, Ordering::SeqCst);
+    assert!(!had_holder, "two hold it");
+    yield_now().await;
     object.has_holder.store(false, Ordering::SeqCst);
+    loans.fetch_add(1, Ordering::SeqCst);
 }
 
-/// Lets tasks on two threads and two other threads share two objects, some of the tasks giving up. Returns the number of loans.
-fn share<M: Manager<Object = Widget> + 'static>(pool: &Pool<M>) -> u64
+/// Polls a borrow once, and drops it a little later.
+async fn look_and_drop<M: Manager + 'static>(mut get: Get<M>)
 where
-    M::Error: std::fmt::Debug + Send,
+    M::Error: Send,
 {
-    const TASKS: u64 = 60;
-    const LOANS: u64 = 20;
-    let loans = Arc::new(AtomicU64::new(0));
-    let task = |number: u64| {
-        let (pool, loans) = (pool.clone(), Arc::clone(&loans));
-        async move {
-            for loan in 0..LOANS {
-                let mut get = pool.get_async();
-                if (number + loan) % 7 == 0 {
-                    // It looks once, and gives up after a while if there is nothing.
-                    let mut looked = None;
-                    poll_fn(|context| {
-                        if let Poll::Ready(object) = std::pin::Pin::new(&mut get).poll(context) {
-                            looked = Some(object);
-                        }
-                        Poll::Ready(())
-                    })
-                    .await;
-                    yield_now().await;
-                    drop((looked, get));
-                    continue;
-                }
-                let object = get.await.unwrap();
-                assert_alone(&object);
-                yield_now().await;
-                leave_alone(&object);
-                drop(object);
-                loans.fetch_add(1, Ordering::SeqCst);
+    let looked = poll_fn(|context| Poll::Ready(Pin::new(&mut get).poll(context))).await;
+    yield_now().await;
+    drop((looked, get));
+}
+
+/// Borrows again and again.
+async fn borrow_often<M: Manager<Object = Widget> + 'static>(
+    pool: Pool<M>,
+    number: u64,
+    loans: Arc<AtomicU64>,
+) where
+    M::Error: Send,
+{
+    for loan in 0..LOANS {
+        let get = pool.get_async();
+        if (number + loan) % DROPS_OF == 0 {
+            look_and_drop(get).await;
+        } else {
+            match get.await {
+                Ok(object) => use_alone(&object, &loans).await,
+                Err(_) => panic!("a borrow fails"),
             }
         }
-    };
+    }
+}
+
+/// Lets tasks on two threads and other threads share two objects. Returns the number of loans, but for those of borrows that are dropped.
+fn share<M: Manager<Object = Widget> + 'static>(pool: &Pool<M>) -> u64
+where
+    M::Error: Send,
+{
+    let loans = Arc::new(AtomicU64::new(0));
     thread::scope(|scope| {
-        for _ in 0..2 {
+        for _ in 0..THREADS {
             scope.spawn(|| {
-                for _ in 0..TASKS * LOANS / 8 {
-                    let object = pool.get_timeout(LONGEST).unwrap();
-                    assert_alone(&object);
-                    thread::yield_now();
-                    leave_alone(&object);
-                    drop(object);
-                    loans.fetch_add(1, Ordering::SeqCst);
+                for _ in 0..LOANS {
+                    match pool.get_timeout(LONGEST) {
+                        Ok(object) => block_on(use_alone(&object, &loans)),
+                        Err(_) => panic!("a borrow fails"),
+                    }
                 }
             });
         }
+        let task = |number| borrow_often(pool.clone(), number, Arc::clone(&loans));
         run_all(2, (0..TASKS).map(task));
     });
     loans.load(Ordering::SeqCst)
@@ -974,10 +1000,8 @@ where
 
 #[test]
 fn tasks_and_threads_share_a_pool() {
-    let given_up = (0..60 * 20)
-        .filter(|number| (number / 20 + number % 20) % 7 == 0)
-        .count() as u64;
-    let wanted = 60 * 20 - given_up + 2 * (60 * 20 / 8);
+    let of_tasks = (0..TASKS * LOANS).filter(|at| (at / LOANS + at % LOANS) % DROPS_OF != 0);
+    let wanted = of_tasks.count() as u64 + THREADS * LOANS;
     let maker = Maker::default();
     let builder = kept().max_total(2).test_on_borrow(true);
     let pool = builder.build(Async(maker.clone())).unwrap();
