@@ -193,9 +193,11 @@ fn block_on<F: Future>(future: F) -> F::Output {
 mod tests {
     use super::block_on;
     use std::future::poll_fn;
+    use std::sync::atomic::{AtomicBool, Ordering};
     use std::sync::mpsc;
     use std::task::{Poll, Waker};
-    use std::thread;
+    use std::time::Duration;
+    use std::{mem, thread};
 
     #[test]
     fn a_future_that_is_ready_ends_at_once() {
@@ -219,23 +221,25 @@ mod tests {
     #[test]
     fn a_wake_from_another_thread_is_seen_and_no_other_unpark() {
         let (sender, receiver) = mpsc::channel::<Waker>();
-        let thread = thread::current();
-        let waking = thread::spawn(move || {
-            thread.unpark();
-            receiver.recv().unwrap().wake();
-        });
-        let mut polls = 0;
-        block_on(poll_fn(|context| {
-            polls += 1;
-            match polls {
-                1 => {
+        let is_woken = AtomicBool::new(false);
+        let (thread, is_woken) = (thread::current(), &is_woken);
+        thread::scope(|scope| {
+            scope.spawn(move || {
+                let waker = receiver.recv().unwrap();
+                thread.unpark();
+                thread::sleep(Duration::from_millis(20));
+                is_woken.store(true, Ordering::SeqCst);
+                waker.wake();
+            });
+            let mut is_first = true;
+            block_on(poll_fn(|context| {
+                if mem::take(&mut is_first) {
                     sender.send(context.waker().clone()).unwrap();
-                    Poll::Pending
+                    return Poll::Pending;
                 }
-                _ => Poll::Ready(()),
-            }
-        }));
-        waking.join().unwrap();
-        assert_eq!(polls, 2);
+                assert!(is_woken.load(Ordering::SeqCst));
+                Poll::Ready(())
+            }));
+        });
     }
 }

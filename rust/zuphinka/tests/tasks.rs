@@ -11,7 +11,7 @@ use std::sync::atomic::{AtomicBool, AtomicU64, Ordering};
 use std::sync::{Arc, Mutex};
 use std::task::{Poll, Wake, Waker};
 use std::thread;
-use std::time::Duration;
+use std::time::{Duration, Instant};
 use zuphinka::{
     caller_number, Abandoned, Async, AsyncManager, Builder, Error, Failure, Get, Journal, Manager,
     Pool, Pooled, Returned,
@@ -232,19 +232,15 @@ fn steps_of<M: Manager>(pool: &Pool<M>) -> Vec<String> {
     journal.lines().map(step).collect()
 }
 
-/// Lets a thread wait in a call, does something, and then returns what the call came to.
+/// Lets a thread wait in a call, does something, and then returns what the call came to. The thread is woken: its time is not over.
 fn while_waiting<M: Manager, R: Send>(
     pool: &Pool<M>,
     call: impl FnOnce() -> R + Send,
     act: impl FnOnce(),
 ) -> R {
-    let waits = || {
-        steps_of(pool)
-            .iter()
-            .filter(|step| step.ends_with("wait"))
-            .count()
-    };
-    let before = waits();
+    let is_wait = |step: &&String| step.ends_with("wait");
+    let waits = || steps_of(pool).iter().filter(is_wait).count();
+    let (before, began) = (waits(), Instant::now());
     thread::scope(|scope| {
         let waiting = scope.spawn(call);
         while waits() == before {
@@ -252,7 +248,9 @@ fn while_waiting<M: Manager, R: Send>(
         }
         thread::sleep(Duration::from_millis(30));
         act();
-        waiting.join().unwrap()
+        let came = waiting.join().unwrap();
+        assert!(began.elapsed() < LONGEST, "nobody wakes the thread");
+        came
     })
 }
 
@@ -606,29 +604,28 @@ fn all_who_wait_hear_of_a_full_journal() {
 #[test]
 fn a_borrow_stands_under_the_number_of_the_thread_that_polls_first() {
     let (pool, maker) = awaited(|builder| builder.test_on_borrow(true));
-    drop(pool.get().unwrap());
+    let (held, bell) = (pool.get().unwrap(), Bell::new());
     maker.expect("validate", Event::Waits);
-    let held = pool.get_async();
-    let bell = Bell::new();
-    let (mut get, caller) = thread::scope(|scope| {
-        let first = scope.spawn(|| {
-            let mut get = held;
-            assert!(poll(&mut get, &bell).is_pending());
-            (get, caller_number())
-        });
+    let first = thread::scope(|scope| {
+        let first = scope.spawn(|| (waiting(&pool, &bell), caller_number()));
         first.join().unwrap()
     });
-    maker.let_go();
-    assert_eq!(bell.rings(), 1);
-    let object = lent(&mut get, &bell);
+    let (mut get, caller) = first;
     assert_ne!(caller, caller_number());
-    let journal = journal_of(&pool);
-    let own = format!("{caller} ");
-    let steps: Vec<_> = journal
-        .lines()
-        .filter_map(|line| line.strip_prefix(&own))
-        .collect();
-    assert_eq!(steps, ["0 borrow 0 = take 0", "0 ready 0 good = lent"]);
+    drop(held);
+    assert!(poll(&mut get, &bell).is_pending());
+    maker.let_go();
+    let object = lent(&mut get, &bell);
+    let (journal, own) = (journal_of(&pool), format!("{caller} 0 "));
+    let steps = journal.lines().filter_map(|line| line.strip_prefix(&own));
+    assert_eq!(
+        steps.collect::<Vec<_>>(),
+        [
+            "borrow 0 = wait",
+            "borrow 0 = take 0",
+            "ready 0 good = lent"
+        ]
+    );
     drop(object);
     assert_legal(&pool);
 }
