@@ -8,12 +8,11 @@ use std::sync::Arc;
 use std::task::{Context, Poll, Wake, Waker};
 use std::thread::{self, Thread};
 
-/// How the objects of a pool are made, activated, tested, passivated and destroyed, if some of it is to be awaited. [`Async`] makes a
-/// [`Manager`] of it.
+/// Makes, activates and validates the objects of a pool in futures, and passivates and destroys them. [`Async`] makes a [`Manager`] of it.
 ///
-/// An implementation may write these functions as `async fn`. [`Pool::get_async`](crate::Pool::get_async) awaits them. A task that drops
-/// this future drops that of the manager with it, at any of its awaits; then the object is destroyed, and its place is freed. `passivate`
-/// and `destroy` are not awaited, since guards call them when they are dropped.
+/// An implementation may write the first three as `async fn`. [`Pool::get_async`](crate::Pool::get_async) awaits them. A task that drops its
+/// borrow drops the manager's future with it, at any of its awaits. Then the object is destroyed, and its place is freed. `passivate` and
+/// `destroy` are not awaited, since guards call them when they are dropped.
 ///
 /// ```
 /// use std::future::Future;
@@ -103,10 +102,13 @@ pub trait AsyncManager: Send + Sync {
 
 /// The [`Manager`] of an [`AsyncManager`], so that tasks and threads share one pool.
 ///
-/// [`Pool::get_async`](crate::Pool::get_async) awaits `make`, `activate` and `validate`. All other calls run them on the calling thread, which sleeps
-/// until they end: [`get`](crate::Pool::get), [`add`](crate::Pool::add), [`fill`](crate::Pool::fill), [`evict`](crate::Pool::evict) and
-/// [`maintain`](crate::Pool::maintain), and the return of an object with `testOnReturn`. Make these calls from a thread that the runtime does not
-/// need: a future that waits for a runtime with one thread never ends on that thread.
+/// [`Pool::get_async`](crate::Pool::get_async) awaits `make`, `activate` and `validate`. All other calls run them on the calling thread, which
+/// sleeps until they end: [`get`](crate::Pool::get), [`add`](crate::Pool::add), [`fill`](crate::Pool::fill), [`evict`](crate::Pool::evict),
+/// [`maintain`](crate::Pool::maintain), and the return of an object with `testOnReturn`.
+///
+/// Make these calls where the runtime does not need the thread: on a runtime with one thread, a future that waits for that runtime never ends.
+/// The thread of [`Builder::maintain_every`](crate::Builder::maintain_every) belongs to no runtime. If your futures need one, call `maintain`
+/// from a thread of it, as in `tokio::task::spawn_blocking`.
 #[derive(Clone, Copy, Debug, Default)]
 pub struct Async<A>(pub A);
 

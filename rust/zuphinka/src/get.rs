@@ -14,16 +14,16 @@ use std::pin::Pin;
 use std::sync::Arc;
 use std::task::{ready, Context, Poll};
 
-/// A borrow by a task: a future that lends an object, as [`Pool::get_async`](crate::Pool::get_async) returns it.
+/// A borrow by a task: the future that [`Pool::get_async`](crate::Pool::get_async) returns.
 ///
-/// It holds a handle of the pool, and is `Send`. Nothing happens before the first poll. The entries of the journal have the number of the thread
-/// that polls first ([`caller_number`](crate::caller_number)).
+/// It holds a handle of the pool, and may go to another thread. Nothing happens before the first poll. Its entries in the journal have the number
+/// of the thread that polls first ([`caller_number`](crate::caller_number)).
 ///
-/// **You may drop it at any time.** If it waits, it leaves its place in the order of arrival. If it was woken for an object, the next waiter
-/// is woken for that one. If an object is being made, activated or validated, that is cancelled: the object is destroyed, and then its place is
+/// **You may drop it at any time.** If it waits, it leaves the order of arrival. If it was woken for an object, the next waiter is woken for
+/// that one. If the manager is making, activating or validating an object, that is cancelled: the object is destroyed, and then its place is
 /// freed.
 ///
-/// **Poll it when it wakes its task, or drop it.** If it is neither polled nor dropped, the object that it was woken for stays idle.
+/// **Once it was polled, poll it when it wakes its task, or drop it.** If you do neither, the object that it was woken for stays idle.
 #[must_use = "a future does nothing until it is polled"]
 pub struct Get<M: Manager> {
     pool: Arc<Shared<M>>,

@@ -105,14 +105,15 @@ impl<M: Manager> Pool<M> {
             .borrow(end.map_or(WaitLimit::AsSet, WaitLimit::Until))
     }
 
-    /// Lends an object to a task: a future that does what [`get`](Pool::get) does, and lets its task wait instead of its thread. It needs no
-    /// runtime. Tasks and threads wait in one order, that of arrival.
+    /// Returns a future that lends an object to a task, as [`get`](Pool::get) lends one to a thread. It needs no runtime. Tasks and threads
+    /// share the pool, and those that wait are woken in the order of arrival.
     ///
-    /// A poll is one look: one critical section, in which the task's waker is registered if there is nothing to lend. If it finds nothing again, it
-    /// makes no entry. An [`AsyncManager`](crate::AsyncManager) is awaited. Any other manager is called in the poll.
+    /// A poll looks once, in one critical section. If there is nothing to lend, it registers the task's waker there. If it finds nothing again,
+    /// it makes no entry. It awaits an [`AsyncManager`](crate::AsyncManager), and calls any other manager itself. With
+    /// [`Journal::Segments`](crate::Journal::Segments) it may store a segment, as all calls do.
     ///
-    /// The future has no timer. `maxWaitMillis` ends the wait at the first poll after that time, and nothing but an object or the close of the
-    /// pool causes a poll. Bound the wait by your runtime, as `tokio::time::timeout` does: dropping the future is safe at any time.
+    /// The future has no timer. `maxWaitMillis` ends a wait at the first poll after that time. Only an object, a place, or the close of the pool
+    /// wakes the task. Let your runtime bound the wait, as `tokio::time::timeout` does: you may drop the future at any time.
     ///
     /// # Errors
     ///
