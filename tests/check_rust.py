@@ -21,6 +21,8 @@ import tomllib
 
 TOP = pathlib.Path(__file__).resolve().parent.parent
 CRATE = TOP / "rust/zuphinka"
+# The tests under tokio, and where Debian has its source.
+TRIAL, REGISTRY = TOP / "rust/tokio_trial", pathlib.Path("/usr/share/cargo/registry")
 RESULT = re.compile(r"^test result: \w+\. (\d+) passed; (\d+) failed;", flags=re.MULTILINE)
 # The types of C that the binding has; a token is a pointer in C.
 TYPES = {"u64": "uint64_t", "u32": "uint32_t", "i64": "int64_t", "i32": "int32_t", "usize": "void", "*mut u8": "void"}
@@ -29,9 +31,9 @@ LONGEST = 1200
 WORKERS, ROUNDS = 4, 20_000
 
 
-def cargo(environment, *words):
+def cargo(environment, *words, package=CRATE):
     command = ["cargo", *words, "--offline"]
-    return subprocess.run(command, cwd=CRATE, env=environment, capture_output=True, text=True, timeout=LONGEST)
+    return subprocess.run(command, cwd=package, env=environment, capture_output=True, text=True, timeout=LONGEST)
 
 
 def runs_cargo():
@@ -42,15 +44,24 @@ def runs_cargo():
         return False
 
 
-def run_tests(environment):
+def run_tests(environment, *options, package=CRATE):
     """How many tests passed and failed, where one more failed if cargo says so of none."""
-    done = cargo(environment, "test", "--no-fail-fast")
+    done = cargo(environment, "test", "--no-fail-fast", *options, package=package)
     counts = [(int(passed), int(failed)) for passed, failed in RESULT.findall(done.stdout)]
     passed, failed = (sum(column) for column in zip(*counts)) if counts else (0, 0)
     if done.returncode or not passed:
         print(done.stdout + done.stderr)
         failed = failed or 1
     return passed, failed
+
+
+def run_trial(environment):
+    """The same of the tests under tokio, whose source is Debian's. Without its package they are left out."""
+    if not any(REGISTRY.glob("tokio-[0-9]*")):
+        print(f"rust/tokio_trial is left out, since there is no librust-tokio-dev ({REGISTRY})")
+        return 0, 0
+    source = ["--config", 'source.crates-io.replace-with="debian"', "--config", f'source.debian.directory="{REGISTRY}"']
+    return run_tests(environment, *source, package=TRIAL)
 
 
 def built_examples(environment):
@@ -155,7 +166,7 @@ def main(pool):
         print("0 passed, 0 failed")
         return 0
     environment = os.environ | {"ZUPHINKA_POOL": str(pathlib.Path(pool).resolve())}
-    passed, failed = run_tests(environment)
+    passed, failed = (sum(column) for column in zip(run_tests(environment), run_trial(environment)))
     examples = built_examples(environment)
     checks = [check_servers(examples / "servers", pool), check_settings(examples / "settings"), check_pairs(examples / "pairs", pool)]
     checks += [check_binding(), check_version()]

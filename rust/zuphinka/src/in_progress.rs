@@ -99,12 +99,17 @@ impl<'a, M: Manager> InProgress<'a, M> {
     /// Makes the object.
     pub fn make(&mut self) -> Result<(), M::Error> {
         let object = self.pool.manager.make(self.id)?;
+        self.own(object);
+        Ok(())
+    }
+
+    /// Owns the object that was made, and notes the time if its age matters.
+    fn own(&mut self, object: M::Object) {
         let made = match self.pool.policy.max_lifetime {
             Some(_) => self.pool.now(),
             None => 0,
         };
         self.object = Some(Aged { object, made });
-        Ok(())
     }
 
     pub fn activate(&mut self) -> Result<(), M::Error> {
@@ -126,13 +131,40 @@ impl<'a, M: Manager> InProgress<'a, M> {
         self.call(failed, M::validate)
     }
 
+    /// Makes the object, and awaits it.
+    pub async fn make_async(&mut self) -> Result<(), M::Error> {
+        let object = self.pool.manager.make_async(self.id).await?;
+        self.own(object);
+        Ok(())
+    }
+
+    pub async fn activate_async(&mut self) -> Result<(), M::Error> {
+        if !M::ACTIVATES {
+            return Ok(());
+        }
+        let (manager, object) = self.begin(Outcome::ActivateFailed);
+        manager.activate_async(object).await
+    }
+
+    /// Tests the object, and awaits it. If it fails, `failed` is the outcome of the work.
+    pub async fn validate_async(&mut self, failed: Outcome) -> bool {
+        let (manager, object) = self.begin(failed);
+        manager.validate_async(object).await
+    }
+
     /// Calls the manager. If this fails or panics, `failed` is the outcome of the work.
     fn call<R>(&mut self, failed: Outcome, call: impl FnOnce(&M, &mut M::Object) -> R) -> R {
+        let (manager, object) = self.begin(failed);
+        call(manager, object)
+    }
+
+    /// Begins a call of the manager. If it fails, panics or is cancelled, `failed` is the outcome of the work.
+    fn begin(&mut self, failed: Outcome) -> (&M, &mut M::Object) {
         if let Stage::Working(_, outcome) = &mut self.stage {
             *outcome = failed;
         }
         let object = self.object.as_mut().expect(MADE);
-        call(&self.pool.manager, &mut object.object)
+        (&self.pool.manager, &mut object.object)
     }
 
     /// Returns whether the object has reached the age at which it is destroyed. This counts as a failed test then.

@@ -43,16 +43,27 @@ impl<M: Manager> Shared<M> {
         }
         let mut time = began;
         loop {
-            let (id, object) = match self.acquire(caller, began, time, limit)? {
-                Acquired::Lent(id, object) => (id, Some(object)),
-                Acquired::Taken(id, object) => (id, self.ready_taken(caller, id, object)),
-                Acquired::New(id) => (id, Some(self.ready_new(caller, id)?)),
-            };
-            if let Some(object) = object {
+            let acquired = self.acquire(caller, began, time, limit)?;
+            if let Some((id, object)) = self.prepare(caller, acquired)? {
                 return Ok(Pooled::new(Arc::clone(self), id, object));
             }
             time = self.now();
         }
+    }
+
+    /// Makes an object ready for its holder, if it is not. Returns none if it was idle and failed: then it was destroyed.
+    #[inline]
+    pub fn prepare(
+        &self,
+        caller: u32,
+        acquired: Acquired<Item<M>>,
+    ) -> Result<Option<(u64, Item<M>)>, Error<M::Error>> {
+        let (id, object) = match acquired {
+            Acquired::Lent(id, object) => (id, Some(object)),
+            Acquired::Taken(id, object) => (id, self.ready_taken(caller, id, object)),
+            Acquired::New(id) => (id, Some(self.ready_new(caller, id)?)),
+        };
+        Ok(object.map(|object| (id, object)))
     }
 
     /// Makes an idle object ready for its holder. Returns none if that failed: then the object was destroyed.
@@ -62,13 +73,18 @@ impl<M: Manager> Shared<M> {
             Ok(()) => Some(object.lend()),
             Err(error) => {
                 object.give_up();
-                self.report(match error {
-                    Error::Activate(error) => Failure::Activate { id, error },
-                    _ => Failure::Test { id },
-                });
+                self.report_unready(id, error);
                 None
             }
         }
+    }
+
+    /// Reports that an idle object was not made ready, and was destroyed.
+    pub fn report_unready(&self, id: u64, error: Error<M::Error>) {
+        self.report(match error {
+            Error::Activate(error) => Failure::Activate { id, error },
+            _ => Failure::Test { id },
+        });
     }
 
     /// Makes a new object, and makes it ready for its holder.

@@ -1,4 +1,4 @@
-//! An object pool for threads, over the proved core of Zuphinka.
+//! An object pool for threads and tasks, over the proved core of Zuphinka.
 //!
 //! **Proved** is each step of the core: its answer, the entry that it appends to the journal, and that a completing step never fails. In every
 //! legal journal no more than `maxTotal` objects are present, none is lent to two at once, and none that was made is lost. **Tested, not
@@ -7,6 +7,7 @@
 //! the answers in this very run were the expected ones.
 //!
 //! A [`Manager`] makes objects; a [`Pool`] lends them, as [`Pooled`] guards that return them when they are dropped.
+//! Tasks borrow with [`Pool::get_async`], over a [`Manager`] or an [`AsyncManager`].
 //!
 //! ```
 //! use zuphinka::{Manager, Pool};
@@ -45,6 +46,7 @@
 #![warn(missing_docs)]
 #![deny(unsafe_op_in_unsafe_fn)]
 
+mod async_manager;
 mod builder;
 mod callers;
 mod clock;
@@ -53,6 +55,7 @@ mod contradictions;
 mod dropped_segments;
 mod error;
 mod failure;
+mod get;
 mod idle_values;
 mod in_progress;
 mod journal;
@@ -71,12 +74,16 @@ mod shared;
 mod step;
 mod stored_journal;
 mod sys;
+mod waiters;
+mod waking;
 mod writing;
 
+pub use async_manager::{Async, AsyncManager};
 pub use builder::Builder;
 pub use callers::caller_number;
 pub use error::{Contradiction, Error, OpenError, SettingsError};
 pub use failure::Failure;
+pub use get::Get;
 pub use journal::Journal;
 pub use keeping::{Addition, Eviction, Maintenance};
 pub use lending::{Returned, Touched};

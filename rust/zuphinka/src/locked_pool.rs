@@ -5,6 +5,7 @@ use crate::idle_values::IdleValues;
 use crate::proved_core::Core;
 use crate::step::{Answer, Input, Outcome, StepFault};
 use crate::stored_journal::{Care, Mode, StoredJournal};
+use crate::waiters::{Waiters, Wake};
 
 /// The core with the values of its idle objects.
 pub(crate) struct LockedPool<T> {
@@ -16,10 +17,7 @@ pub(crate) struct LockedPool<T> {
     pub is_closed: bool,
     /// The latest time of an entry, in milliseconds.
     last_time: u64,
-    /// How many threads sleep until the pool changes.
-    sleepers: usize,
-    /// How many sleepers at least were woken and have not looked yet.
-    woken: usize,
+    pub waiters: Waiters,
 }
 
 /// A step that failed, with the value that was passed in.
@@ -57,8 +55,7 @@ impl<T> LockedPool<T> {
             present: 0,
             is_closed: false,
             last_time: 0,
-            sleepers: 0,
-            woken: 0,
+            waiters: Waiters::default(),
         }
     }
 
@@ -222,30 +219,14 @@ impl<T> LockedPool<T> {
         self.idle.len().saturating_add(free)
     }
 
-    /// A thread falls asleep.
-    pub fn fall_asleep(&mut self) {
-        self.sleepers += 1;
-    }
-
-    /// A thread that slept looks again, whatever the cause.
-    pub fn wake_up(&mut self) {
-        self.sleepers -= 1;
-        self.woken = self.woken.saturating_sub(1);
-    }
-
-    /// Returns whether one more sleeper is to be woken, which then counts as woken. There is one for each of the available objects and
-    /// places, of at most `max_total`. To wake one costs a system call: a thread that is on its way is enough for one object, however
-    /// often that one comes and goes before it looks.
-    pub fn wakes_one(&mut self, max_total: i64) -> bool {
-        let wakes = self.woken < self.sleepers.min(self.available(max_total));
-        self.woken += usize::from(wakes);
-        wakes
-    }
-
-    /// Returns whether there are sleepers. All of them are to be woken, and count as woken then.
-    pub fn wakes_all(&mut self) -> bool {
-        self.woken = self.sleepers;
-        self.sleepers > 0
+    /// Returns the waiter to wake, if there is one for an object or a place, of at most `max_total` (negative: without limit).
+    #[inline]
+    pub fn wake_one(&mut self, max_total: i64) -> Option<Wake> {
+        if self.waiters.is_empty() {
+            return None;
+        }
+        let available = self.available(max_total);
+        self.waiters.wake_one(available)
     }
 }
 
@@ -254,6 +235,7 @@ mod tests {
     use super::{LockedPool, Mode, Stamp};
     use crate::proved_core::Core;
     use crate::step::{Input, Outcome};
+    use crate::waiters::Ticket;
 
     const MOST: i64 = 2;
 
@@ -285,48 +267,58 @@ mod tests {
         ]
     }
 
+    /// A thread falls asleep.
+    fn fall_asleep(pool: &mut LockedPool<()>) -> Ticket {
+        let ticket = pool.waiters.draw_ticket();
+        pool.waiters.fall_asleep(ticket).unwrap();
+        ticket
+    }
+
+    fn wakes_one(pool: &mut LockedPool<()>) -> bool {
+        pool.wake_one(MOST).is_some()
+    }
+
     /// A pool of which both objects are lent, while three threads sleep.
-    fn exhausted() -> LockedPool<()> {
+    fn exhausted() -> (LockedPool<()>, [Ticket; 3]) {
         let mut pool = pool();
         for id in 0..2 {
             take(&mut pool, &lend(id));
         }
         assert!(pool.has_nothing(MOST));
-        (0..3).for_each(|_| pool.fall_asleep());
-        assert!(!pool.wakes_one(MOST));
-        pool
+        let tickets = [(); 3].map(|()| fall_asleep(&mut pool));
+        assert!(!wakes_one(&mut pool));
+        (pool, tickets)
     }
 
     #[test]
     fn one_sleeper_is_woken_for_one_object() {
-        let mut pool = exhausted();
-        for _ in 0..3 {
+        let (mut pool, _) = exhausted();
+        for round in 0..3 {
             take(&mut pool, &give_back(0));
-            let is_first = pool.woken == 0;
-            assert_eq!(pool.wakes_one(MOST), is_first);
+            assert_eq!(wakes_one(&mut pool), round == 0);
             take(&mut pool, &lend(0));
         }
-        assert_eq!((pool.sleepers, pool.woken), (3, 1));
+        assert_eq!(pool.waiters.asleep_and_woken(), (2, 1));
     }
 
     #[test]
     fn as_many_are_woken_as_find_something() {
-        let mut pool = exhausted();
+        let (mut pool, tickets) = exhausted();
         for id in 0..2 {
             take(&mut pool, &give_back(id));
-            assert!(pool.wakes_one(MOST));
+            assert!(wakes_one(&mut pool));
         }
-        assert!(!pool.wakes_one(MOST));
+        assert!(!wakes_one(&mut pool));
         // One looks and takes nothing, so that the third is to look for it.
-        pool.wake_up();
-        assert!(pool.wakes_one(MOST));
-        assert!(!pool.wakes_one(MOST));
-        assert_eq!((pool.sleepers, pool.woken), (2, 2));
+        pool.waiters.wake_up(tickets[0]);
+        assert!(wakes_one(&mut pool));
+        assert!(!wakes_one(&mut pool));
+        assert_eq!(pool.waiters.asleep_and_woken(), (0, 2));
     }
 
     #[test]
     fn a_free_place_is_looked_for() {
-        let mut pool = exhausted();
+        let (mut pool, _) = exhausted();
         let id = 0;
         take(
             &mut pool,
@@ -335,27 +327,14 @@ mod tests {
                 (Input::Destroyed { id }, None),
             ],
         );
-        assert!(pool.wakes_one(MOST));
-        assert!(!pool.wakes_one(MOST));
+        assert!(wakes_one(&mut pool));
+        assert!(!wakes_one(&mut pool));
     }
 
     #[test]
-    fn who_wakes_unasked_leaves_the_others_to_be_woken() {
-        let mut pool = exhausted();
-        pool.wake_up();
-        assert_eq!((pool.sleepers, pool.woken), (2, 0));
-        take(&mut pool, &give_back(0));
-        assert!(pool.wakes_one(MOST));
-    }
-
-    #[test]
-    fn all_are_woken_by_a_close() {
-        let mut pool = exhausted();
+    fn a_closed_pool_has_an_answer_for_all() {
+        let (mut pool, _) = exhausted();
         take(&mut pool, &[(Input::Close, None)]);
         assert!(!pool.has_nothing(MOST));
-        assert!(pool.wakes_all());
-        (0..3).for_each(|_| pool.wake_up());
-        assert!(!pool.wakes_all());
-        assert_eq!((pool.sleepers, pool.woken), (0, 0));
     }
 }

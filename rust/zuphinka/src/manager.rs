@@ -1,3 +1,5 @@
+use std::future::Future;
+
 /// Makes, activates, validates, passivates and destroys the objects of a pool.
 ///
 /// The pool calls it without its lock, in the thread whose call needs it, so calls may take long and run in parallel. If one panics, its object is destroyed, its place is freed, and the panic continues.
@@ -34,6 +36,11 @@ pub trait Manager: Send + Sync {
     /// Whether [`passivate`](Manager::passivate) does anything. If this is false, it is never called: then a return takes the pool's
     /// lock once instead of twice, unless objects are validated at their return (`testOnReturn`).
     const PASSIVATES: bool = true;
+
+    /// Whether `get_async` awaits the three functions below that return futures. [`Async`](crate::Async) sets it; implement
+    /// [`AsyncManager`](crate::AsyncManager) instead.
+    #[doc(hidden)]
+    const AWAITS: bool = false;
 
     /// Makes an object. The id is the one that it has in the journal; ids count from 0, and none is given twice.
     ///
@@ -74,5 +81,26 @@ pub trait Manager: Send + Sync {
     /// is ignored.
     fn destroy(&self, object: Self::Object) {
         drop(object);
+    }
+
+    #[doc(hidden)]
+    fn make_async(
+        &self,
+        id: u64,
+    ) -> impl Future<Output = Result<Self::Object, Self::Error>> + Send {
+        async move { self.make(id) }
+    }
+
+    #[doc(hidden)]
+    fn activate_async(
+        &self,
+        object: &mut Self::Object,
+    ) -> impl Future<Output = Result<(), Self::Error>> + Send {
+        async move { self.activate(object) }
+    }
+
+    #[doc(hidden)]
+    fn validate_async(&self, object: &mut Self::Object) -> impl Future<Output = bool> + Send {
+        async move { self.validate(object) }
     }
 }

@@ -1,6 +1,7 @@
 use crate::builder::Builder;
 use crate::callers::caller_number;
 use crate::error::{Error, OpenError};
+use crate::get::Get;
 use crate::keeping::{Addition, Eviction, Maintenance};
 use crate::manager::Manager;
 use crate::pooled::Pooled;
@@ -102,6 +103,26 @@ impl<M: Manager> Pool<M> {
         let end = Instant::now().checked_add(timeout);
         self.shared
             .borrow(end.map_or(WaitLimit::AsSet, WaitLimit::Until))
+    }
+
+    /// Returns a future that lends an object to a task, as [`get`](Pool::get) lends one to a thread. It needs no runtime. Tasks and threads
+    /// share the pool, and those that wait are woken in the order of arrival.
+    ///
+    /// A poll looks once, in one critical section. If there is nothing to lend, it registers the task's waker there. If it finds nothing again,
+    /// it makes no entry. It awaits an [`AsyncManager`](crate::AsyncManager), and calls any other manager itself. With
+    /// [`Journal::Segments`](crate::Journal::Segments) it may store a segment, as all calls do.
+    ///
+    /// The future has no timer. `maxWaitMillis` ends a wait at the first poll after that time. Only an object, a place, or the close of the pool
+    /// wakes the task. Let your runtime bound the wait, as `tokio::time::timeout` does: you may drop the future at any time.
+    ///
+    /// # Errors
+    ///
+    /// Those of [`get`](Pool::get).
+    pub fn get_async(&self) -> Get<M>
+    where
+        M: 'static,
+    {
+        Get::new(Arc::clone(&self.shared))
     }
 
     /// Makes an object and adds it to the idle ones, if a place is free.

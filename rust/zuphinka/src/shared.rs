@@ -40,7 +40,8 @@ pub(crate) type OnError<M> = Box<dyn Fn(Failure<<M as Manager>::Error>) + Send +
 /// A pool. The manager is called without the lock.
 pub(crate) struct Shared<M: Manager> {
     state: Locked<LockedPool<Item<M>>>,
-    changed: Condvar,
+    /// There may be something for a thread that sleeps.
+    pub changed: Condvar,
     clock: Clock,
     /// A thread that cut the journal is done.
     pub written: Condvar,
@@ -76,8 +77,8 @@ pub(crate) enum Acquired<T> {
     New(u64),
 }
 
-/// Which sleepers a step wakes.
-enum Wakes {
+/// Which waiters a step wakes.
+pub(crate) enum Wakes {
     None,
     One,
     All,
@@ -172,7 +173,7 @@ impl<M: Manager> Shared<M> {
         self.state.try_lock()
     }
 
-    /// Takes one step under the lock, and wakes the threads that wait for its result. The clock is read before. If the journal is full,
+    /// Takes one step under the lock, and wakes those that wait for its result. The clock is read before. If the journal is full,
     /// the step is taken again after a segment was written.
     ///
     /// An input that continues with an object never fails, and no other carries a value.
@@ -231,31 +232,35 @@ impl<M: Manager> Shared<M> {
         taken
     }
 
-    /// Frees the lock, and wakes sleepers: one only if there is something to find that none is on its way to. Then it writes a segment if
+    /// Frees the lock, and wakes waiters: one only if there is something to find that none is on its way to. Then it writes a segment if
     /// one is due.
     #[inline]
-    fn leave(&self, mut state: Held<'_, M>, wakes: Wakes) {
+    pub fn leave(&self, mut state: Held<'_, M>, wakes: Wakes) {
         let is_due = state.journal.wants_writer();
         match wakes {
             Wakes::None => drop(state),
             Wakes::One => {
-                let wakes = state.wakes_one(self.settings.max_total);
+                let wake = state.wake_one(self.settings.max_total);
                 drop(state);
-                if wakes {
-                    self.changed.notify_one();
+                if let Some(wake) = wake {
+                    self.wake(wake);
                 }
             }
             Wakes::All => {
-                let wakes = state.wakes_all();
+                let all = state.waiters.wake_all();
                 drop(state);
-                if wakes {
-                    self.changed.notify_all();
-                }
+                self.wake_all(all);
             }
         }
         if is_due {
             self.write_due();
         }
+    }
+
+    /// Returns whether an idle object is lent without a call of the manager.
+    #[inline]
+    pub fn lends_at_once(&self) -> bool {
+        !M::ACTIVATES && !self.settings.test_on_borrow
     }
 
     /// Borrows an object, and waits while there is none, as far as the limit and the settings allow.
@@ -281,7 +286,7 @@ impl<M: Manager> Shared<M> {
         mut time: u64,
         limit: WaitLimit,
     ) -> Result<Acquired<Item<M>>, Error<M::Error>> {
-        let lends_at_once = !M::ACTIVATES && !self.settings.test_on_borrow;
+        let lends_at_once = self.lends_at_once();
         let input = Input::Borrow { began };
         let mut has_slept = false;
         let mut state = self.lock();
@@ -313,6 +318,7 @@ impl<M: Manager> Shared<M> {
         began: u64,
         limit: WaitLimit,
     ) -> Result<Held<'a, M>, Error<M::Error>> {
+        let ticket = state.waiters.draw_ticket();
         loop {
             let asked = match limit {
                 WaitLimit::None => return Err(Error::Exhausted),
@@ -323,9 +329,10 @@ impl<M: Manager> Shared<M> {
                 WaitLimit::AsSet => None,
             };
             let longest = asked.into_iter().chain(self.time_left(&state, began)).min();
-            state.fall_asleep();
+            let waiting = state.waiters.fall_asleep(ticket);
+            waiting.map_err(|_| Error::OutOfMemory)?;
             state = self.state.wait(state, &self.changed, longest);
-            state.wake_up();
+            state.waiters.wake_up(ticket);
             if !state.has_nothing(self.settings.max_total)
                 || self.time_left(&state, began) == Some(Duration::ZERO)
             {
@@ -353,7 +360,7 @@ impl<M: Manager> Shared<M> {
 
 /// Returns the object that a borrow got, or why it got none.
 #[inline]
-fn acquired<T, E>(input: Input, borrowed: Borrowed<T>) -> Result<Acquired<T>, Error<E>> {
+pub(crate) fn acquired<T, E>(input: Input, borrowed: Borrowed<T>) -> Result<Acquired<T>, Error<E>> {
     match borrowed {
         Borrowed::Lent(id, value) => Ok(Acquired::Lent(id, value)),
         Borrowed::Taken(id, value) => Ok(Acquired::Taken(id, value)),
@@ -367,7 +374,7 @@ fn acquired<T, E>(input: Input, borrowed: Borrowed<T>) -> Result<Acquired<T>, Er
 
 /// Returns the error of a step that failed. A closed pool is closed, whatever else is wrong.
 #[cold]
-fn error_of<T, E>(state: &LockedPool<T>, input: Input, fault: StepFault) -> Error<E> {
+pub(crate) fn error_of<T, E>(state: &LockedPool<T>, input: Input, fault: StepFault) -> Error<E> {
     match input {
         Input::Borrow { .. } | Input::Add | Input::Evict if state.is_closed => Error::Closed,
         _ => fault.into(),

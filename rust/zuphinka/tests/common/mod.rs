@@ -1,6 +1,8 @@
 //! What the tests share.
 #![allow(dead_code, reason = "each test takes a part of it")]
 
+pub mod tasks;
+
 use std::io;
 use std::path::{Path, PathBuf};
 use std::process::Command;
