@@ -56,13 +56,13 @@ class Entrant:
     def run(self, row):
         """Runs the program once. Returns its seconds, by column."""
         command = [str(word) for word in self.command(row)]
-        began = time.monotonic_ns()
+        began = time.perf_counter()
         done = subprocess.run(command, env=os.environ | self.environment, capture_output=True, text=True, timeout=LONGEST)
-        seconds = (time.monotonic_ns() - began) / 1e9
+        seconds = time.perf_counter() - began
         report = dict(line.split(" ", 1) for line in done.stdout.splitlines() if " " in line)
         if done.returncode or not self.is_right(row, report):
             raise Miscounted(f"{row.name}: {' '.join(command)}: status {done.returncode}\n{done.stdout}{done.stderr}")
-        return self.times(report | {"began": began}, seconds)
+        return self.times(report, seconds)
 
 
 def whole(column):
@@ -187,18 +187,18 @@ class Entrants:
         if not self.has(THREADS_OF_LOAD, (shutil.which(compiler), "C compiler")):
             self.programs.append(Entrant(self.load, is_right_load, whole(LOAD)))
             return
-        library, joined = self.folder / "joined.so", self.folder / "joined"
-        build(compiler, "-O1", "-shared", "-fPIC", "-o", library, TOP / "bench/joined.c", "-ldl")
+        library, worked = self.folder / "worked.so", self.folder / "worked"
+        build(compiler, "-O1", "-shared", "-fPIC", "-o", library, TOP / "bench/worked.c", "-ldl")
 
         def times(report, seconds):
-            """The time of the whole process, and that until its threads ended, if it told."""
-            if not joined.exists():
+            """The time of the whole process, and that of its threads, if they told."""
+            if not worked.exists():
                 return {LOAD: seconds}
-            threads = (int(joined.read_text()) - report["began"]) / 1e9
-            joined.unlink()
+            threads = float(worked.read_text())
+            worked.unlink()
             return {LOAD: seconds, THREADS_OF_LOAD: threads}
 
-        self.programs.append(Entrant(self.load, is_right_load, times, {"LD_PRELOAD": str(library), "JOINED": str(joined)}))
+        self.programs.append(Entrant(self.load, is_right_load, times, {"LD_PRELOAD": str(library), "WORKED": str(worked)}))
 
     def load(self, row):
         return [self.pool, "load", self.settings(row), row.threads, row.each]

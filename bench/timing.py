@@ -68,15 +68,15 @@ def least_elapsed(commands, most):
 
 
 def least_worked(commands, most, library):
-    """The shortest of so many runs of each in seconds, the shortest work of its threads, which the library of bench/worked.c measures, and what
-    each wrote last on standard output."""
+    """The shortest of so many runs of each, and the shortest work of its threads, both in seconds, and what each wrote last on standard output. The
+    library is that of bench/worked.c."""
     shortest, least, written = [float("inf")] * len(commands), [float("inf")] * len(commands), [None] * len(commands)
     for _ in range(most):
         for place, command in enumerate(commands):
             with tempfile.TemporaryFile() as sink, tempfile.NamedTemporaryFile("r") as told:
                 environment = os.environ | {"LD_PRELOAD": str(library), "WORKED": told.name}
-                time_taken = elapsed(command, stdout=sink, stderr=subprocess.DEVNULL, env=environment)
-                shortest[place] = min(shortest[place], time_taken)
+                seconds = elapsed(command, stdout=sink, stderr=subprocess.DEVNULL, env=environment)
+                shortest[place] = min(shortest[place], seconds)
                 least[place] = min(least[place], float(told.read()))
                 written[place] = whole(sink)
     return shortest, least, written
