@@ -13,7 +13,8 @@ JAVA, RUST, CRATE = TOP / "bench/peers_java", TOP / "bench/peers_rust", TOP / "r
 JAR = pathlib.Path("/usr/share/java/commons-pool2.jar")
 REGISTRY = pathlib.Path("/usr/share/cargo/registry")
 COMMONS, R2D2, PLAIN = "Commons Pool 2", "r2d2", "plain Rust"
-COUNTER, CLOCK, LOAD, THREADS_OF_LOAD = "crate, counter", "crate, clock", "load", "load, threads alone"
+COUNTER, CLOCK, HOOKS = "crate, counter", "crate, clock", "crate, clock, hooks"
+LOAD, THREADS_OF_LOAD = "load", "load, threads alone"
 JOURNAL_LIMIT = 1 << 32
 # A run that takes longer hangs, in seconds.
 LONGEST = 600
@@ -177,10 +178,11 @@ class Entrants:
         if not self.has("crate", (runs_cargo(), "cargo")):
             return
         program = built_by_cargo(CRATE, "--example", "pairs") / "examples/pairs"
-        self.programs += [
-            Entrant(lambda row: [program, self.settings(row), row.threads, row.each], is_right_crate, whole(COUNTER)),
-            Entrant(lambda row: [program, self.settings(row), row.threads, row.each, "instant"], is_right_crate, whole(CLOCK)),
-        ]
+        for column, words in (COUNTER, []), (CLOCK, ["instant"]), (HOOKS, ["instant", "hooks"]):
+            self.enter_pairs(column, program, words)
+
+    def enter_pairs(self, column, program, words):
+        self.programs.append(Entrant(lambda row: [program, self.settings(row), row.threads, row.each, *words], is_right_crate, whole(column)))
 
     def enter_load(self):
         compiler = os.environ.get("CC", "cc")

@@ -19,7 +19,7 @@ import tempfile
 TOP = pathlib.Path(__file__).resolve().parent.parent
 sys.path.append(str(TOP / "bench"))
 
-from entrants import CLOCK, COMMONS, COUNTER, JAR, LOAD, PLAIN, R2D2, REGISTRY, runs_cargo
+from entrants import CLOCK, COMMONS, COUNTER, HOOKS, JAR, LOAD, PLAIN, R2D2, REGISTRY, runs_cargo
 from soaking import ROUNDS, THREADS, Length, fault_of_load, faults_of
 
 LONGEST = 600
@@ -80,7 +80,7 @@ def check_missing(pool):
     done = peers("--pool", pool, *ABSENT)
     for line in f"left out: {COMMONS}: no ", f"left out: {R2D2}: no ":
         yield None if line in done.stdout else f"{line!r} isn't said: {done.stdout}{done.stderr}"
-    yield fault_of_tables(done, [PLAIN, COUNTER, CLOCK, LOAD], [PLAIN])
+    yield fault_of_tables(done, [PLAIN, COUNTER, CLOCK, HOOKS, LOAD], [PLAIN])
     heads = [line for table in tables(done.stdout) for line in table[:1]]
     yield f"{heads} have a pool that is left out" if {COMMONS, R2D2} & set(sum(heads, [])) else None
     yield None if (done.returncode, last_line(done)) == (0, "0 rows, 0 short") else f"status {done.returncode}: {last_line(done)}"
@@ -92,7 +92,7 @@ def check_present(pool):
         print("Commons Pool 2 and r2d2 are left out: `bench/peers --help` says what they need")
         return
     done = peers("--pool", pool)
-    yield fault_of_tables(done, [COMMONS, R2D2, PLAIN, COUNTER, CLOCK, LOAD], [COMMONS, R2D2, PLAIN])
+    yield fault_of_tables(done, [COMMONS, R2D2, PLAIN, COUNTER, CLOCK, HOOKS, LOAD], [COMMONS, R2D2, PLAIN])
     short = {line.split(": ")[1] for line in done.stdout.splitlines() if line.startswith("short: ")}
     is_told = done.returncode == bool(short) and last_line(done) == f"5 rows, {len(short)} short" and short <= set(ROWS)
     yield None if is_told else f"status {done.returncode}: {done.stdout}{done.stderr}"
