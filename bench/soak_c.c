@@ -22,7 +22,7 @@ enum {
   CHUNK = 1000 /* the pairs that a thread takes at one time; in the first of them it invalidates its object */
 };
 
-static const struct timespec PAUSE = {.tv_nsec = 5000000};
+static const struct timespec PAUSE = {.tv_nsec = 10000000};
 
 static const char SETTINGS[] = "maxTotal = 3\nmaxIdle = 2\n";
 
@@ -59,18 +59,25 @@ static double share_done(void) {
   return is_timed ? (now() - began) / length : atomic_load(&sums.pairs) / length;
 }
 
-static void await_share(double share) {
-  while (share_done() < share) nanosleep(&PAUSE, NULL);
-}
-
-/* The most resident memory of this process so far, in KiB. */
-static uint64_t most_memory(void) {
-  FILE *file = fopen("/proc/self/status", "r");
+/* The resident memory of this process, in KiB. It is counted page by page, and so exact while threads run. */
+static uint64_t resident(void) {
+  FILE *file = fopen("/proc/self/smaps_rollup", "r");
   char line[256];
   unsigned long long found = 0;
-  while (file && fgets(line, sizeof line, file) && sscanf(line, "VmHWM: %llu", &found) != 1) continue;
+  while (file && fgets(line, sizeof line, file) && sscanf(line, "Rss: %llu", &found) != 1) continue;
   if (file) fclose(file);
   return found;
+}
+
+/* Waits until a share of the work is done. Returns the most memory that it saw meanwhile. */
+static uint64_t await_share(double share) {
+  uint64_t most = resident();
+  while (share_done() < share) {
+    nanosleep(&PAUSE, NULL);
+    uint64_t found = resident();
+    if (found > most) most = found;
+  }
+  return most;
 }
 
 static bool make_tool(void *context, uint64_t id, void **object) {
@@ -137,18 +144,16 @@ static void *work(void *argument) {
   return NULL;
 }
 
-/* Lets all threads work. Returns the most memory in the first tenth of the work. */
-static uint64_t run(struct zuphinka_pool *pool) {
+/* Lets all threads work. Stores the most memory in the first tenth of the work, and in the rest. */
+static void run(struct zuphinka_pool *pool, uint64_t *early, uint64_t *late) {
   pthread_t threads[THREADS];
   began = now();
   for (int i = 0; i < THREADS; i++)
     if (pthread_create(&threads[i], NULL, work, pool)) fail("no thread");
-  await_share(0.1);
-  uint64_t early = most_memory();
-  await_share(1.0);
+  *early = await_share(0.1);
+  *late = await_share(1.0);
   atomic_store(&left, 0);
   for (int i = 0; i < THREADS; i++) pthread_join(threads[i], NULL);
-  return early;
 }
 
 static void report(const char *word, uint64_t number) { printf("%s %llu\n", word, (unsigned long long)number); }
@@ -171,12 +176,14 @@ int main(int count, char **words) {
   struct zuphinka_pool *pool;
   struct zuphinka_pool_host host = {.make = make_tool, .destroy = destroy_tool};
   expect(zuphinka_pool_open(&pool, SETTINGS, strlen(SETTINGS), &host, ZUPHINKA_POOL_JOURNAL_OFF));
-  report("memory_early", run(pool));
-  report("memory", most_memory());
+  uint64_t early, late;
+  run(pool, &early, &late);
   zuphinka_pool_close(pool);
   struct zuphinka_counts counts;
   zuphinka_pool_counts(pool, &counts);
   expect(zuphinka_pool_end(pool));
+  report("memory_early", early);
+  report("memory", late > early ? late : early);
   report_sums();
   report("created", counts.created);
   report("freed", counts.destroyed);

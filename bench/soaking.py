@@ -11,10 +11,13 @@ from entrants import JOURNAL_LIMIT, TOP, build, built_by_cargo, numbers, runs_ca
 THREADS = 4
 # The rounds of each thread of a load, whose journal stays in memory.
 ROUNDS = 62_500
-# Memory is flat if it grows by at most this factor.
-FLAT = 1.1
+# Memory is flat if it grows by at most this factor. In a short run it may also grow by so many KiB: a buffer of a few hundred pages that
+# moves counts twice until its old place is used again.
+FLAT, SHORT_SLACK = 1.1, 256
 # A program hangs if it takes longer, in seconds: for a number of pairs, and beyond a number of seconds.
 LONGEST, BEYOND = 3_600, 60
+# The C library then keeps freed memory in one place for all threads, so that memory does not depend on which thread frees what.
+ONE_ARENA = {"MALLOC_ARENA_MAX": "1"}
 
 
 @dataclasses.dataclass
@@ -31,6 +34,9 @@ class Length:
     def longest(self):
         return LONGEST if self.kind == "pairs" else self.number + BEYOND
 
+    def is_flat(self, early, memory):
+        return 0 < early and memory <= FLAT * early + (SHORT_SLACK if self.kind == "seconds" else 0)
+
     def is_over(self, pairs, seconds):
         return (pairs if self.kind == "pairs" else seconds) >= self.number
 
@@ -39,7 +45,7 @@ def reported(length, *command):
     """The words that a program prints, each with what stands behind it, and its seconds. Adds its status and its errors."""
     began = time.monotonic()
     try:
-        done = subprocess.run([str(word) for word in command], capture_output=True, text=True, timeout=length.longest)
+        done = subprocess.run([str(word) for word in command], capture_output=True, text=True, timeout=length.longest, env=os.environ | ONE_ARENA)
     except subprocess.TimeoutExpired:
         return {"errors": "it hangs"}, time.monotonic() - began
     report = dict(line.split(" ", 1) for line in done.stdout.splitlines() if " " in line)
@@ -53,7 +59,7 @@ def faults_of(report, length, seconds):
     objects = numbers(report, "made", "destroyed", "created", "freed")
     has_worked = status == 0 and pairs > 0 and length.is_over(pairs, seconds)
     yield None if has_worked else f"status {status}, {pairs:,} pairs: {report['errors']}"
-    yield None if 0 < early <= memory <= FLAT * early else f"memory grew from {early:,} to {memory:,} KiB"
+    yield None if length.is_flat(early, memory) else f"memory grew from {early:,} to {memory:,} KiB"
     double, stray, excess = wrong
     told = f"{double} loans of an object that another thread held, {stray} under another id; {excess} objects without a place"
     yield None if wrong == [0, 0, 0] else told

@@ -116,6 +116,9 @@ def check_soak():
     yield None if any(faults_of({"errors": "it hangs"}, length, 1)) else "a program passes that hangs"
     for word, number in WRONG.items():
         yield None if any(faults_of(SOAKED | {word: number}, length, 1)) else f"a report passes with {word} {number}"
+    short = Length("seconds", 1)
+    yield None if list(faults_of(SOAKED | {"memory": "1356"}, short, 1)) == [None] * 4 else "a short run fails that is flat"
+    yield None if any(faults_of(SOAKED | {"memory": "1357"}, short, 1)) else "a short run passes that is not flat"
     yield fault_of_load(LOADED)
     for word, number in WRONG_LOAD.items():
         yield None if fault_of_load(LOADED | {word: number}) else f"a load passes with {word} {number}"

@@ -1,4 +1,3 @@
-import java.util.concurrent.BrokenBarrierException;
 import java.util.concurrent.CyclicBarrier;
 import org.apache.commons.pool2.BasePooledObjectFactory;
 import org.apache.commons.pool2.PooledObject;
@@ -9,9 +8,9 @@ import org.apache.commons.pool2.impl.GenericObjectPoolConfig;
 /**
  * Threads that borrow from a GenericObjectPool of Commons Pool 2 and return, for {@code bench/peers}.
  *
- * <p>{@code Bench OBJECTS THREADS ROUNDS}: each thread makes its rounds, in each of which it borrows one object and returns it. The same threads first
- * warm up for at least 1.5 seconds, in runs of at most 100,000 rounds, so that the measured run is compiled code. Prints the pairs of the
- * measured run as the pool counted them, the objects that were created in all, and the nanoseconds of the measured run.
+ * <p>{@code Bench OBJECTS THREADS ROUNDS}: in each round a thread borrows one object and returns it. The same threads first warm up for at least 1.5
+ * seconds, in runs of at most 100,000 rounds, so that the measured run is compiled code. Prints the pairs of the measured run as the pool
+ * counted them, the objects that were created in all, and the nanoseconds of the measured run.
  */
 public final class Bench {
     private static final long WARM_UP_NANOS = 1_500_000_000L;
@@ -35,6 +34,7 @@ public final class Bench {
 
     private final GenericObjectPool<Holder> pool;
     private final int threads;
+    private long began;
 
     private Bench(GenericObjectPool<Holder> pool, int threads) {
         this.pool = pool;
@@ -56,30 +56,28 @@ public final class Bench {
         }
     }
 
-    /** Runs all threads from the same time on. Returns the nanoseconds until the last one ended. */
-    private long run(long rounds) throws InterruptedException, BrokenBarrierException {
-        CyclicBarrier start = new CyclicBarrier(threads + 1);
+    /** Runs all threads. Returns the nanoseconds from the time at which they are all there until the last one ended. */
+    private long run(long rounds) throws InterruptedException {
+        CyclicBarrier start = new CyclicBarrier(threads, () -> began = System.nanoTime());
         Thread[] workers = new Thread[threads];
         for (int worker = 0; worker < threads; worker++) {
             workers[worker] = new Thread(() -> work(start, rounds));
             workers[worker].start();
         }
-        start.await();
-        long began = System.nanoTime();
         for (Thread worker : workers) {
             worker.join();
         }
         return System.nanoTime() - began;
     }
 
-    private void warmUp(long rounds) throws InterruptedException, BrokenBarrierException {
-        long began = System.nanoTime();
-        while (System.nanoTime() - began < WARM_UP_NANOS) {
+    private void warmUp(long rounds) throws InterruptedException {
+        long warmUpBegan = System.nanoTime();
+        while (System.nanoTime() - warmUpBegan < WARM_UP_NANOS) {
             run(Math.min(rounds, MOST_WARM_ROUNDS));
         }
     }
 
-    private void measure(long rounds) throws InterruptedException, BrokenBarrierException {
+    private void measure(long rounds) throws InterruptedException {
         warmUp(rounds);
         long borrowed = pool.getBorrowedCount();
         long returned = pool.getReturnedCount();

@@ -19,7 +19,7 @@ const OBJECTS: u32 = 3;
 const IDLE: u32 = 2;
 /// The pairs that a thread takes at one time. In the first of them it invalidates its object.
 const CHUNK: u64 = 1_000;
-const PAUSE: Duration = Duration::from_millis(5);
+const PAUSE: Duration = Duration::from_millis(10);
 
 /// The objects that the manager has made and not destroyed.
 static ALIVE: AtomicU32 = AtomicU32::new(0);
@@ -173,33 +173,35 @@ fn work(pool: &Pool<Tools>, work: &Work) {
     }
 }
 
-/// The most resident memory of this process so far, in KiB.
-fn most_memory() -> u64 {
-    let status = fs::read_to_string("/proc/self/status").unwrap_or_default();
-    let line = status.lines().find_map(|line| line.strip_prefix("VmHWM:"));
+/// The resident memory of this process, in KiB. It is counted page by page, and so exact while threads run.
+fn resident() -> u64 {
+    let memory = fs::read_to_string("/proc/self/smaps_rollup").unwrap_or_default();
+    let line = memory.lines().find_map(|line| line.strip_prefix("Rss:"));
     line.and_then(|line| line.trim_end_matches("kB").trim().parse().ok())
         .unwrap_or(0)
 }
 
-/// Waits until a share of the work is done.
-fn await_share(share: f64, length: Length, began: Instant) {
+/// Waits until a share of the work is done. Returns the most memory that it saw meanwhile.
+fn await_share(share: f64, length: Length, began: Instant) -> u64 {
+    let mut most = resident();
     while length.share_done(began) < share {
         thread::sleep(PAUSE);
+        most = most.max(resident());
     }
+    most
 }
 
-/// Lets all threads work. Returns the most memory in the first tenth of the work.
-fn run(pool: &Pool<Tools>, length: Length) -> u64 {
+/// Lets all threads work. Returns the most memory in the first tenth of the work, and in all of it.
+fn run(pool: &Pool<Tools>, length: Length) -> (u64, u64) {
     let (left, began) = (Work::new(length), Instant::now());
     thread::scope(|scope| {
         for _ in 0..THREADS {
             scope.spawn(|| work(pool, &left));
         }
-        await_share(0.1, length, began);
-        let early = most_memory();
-        await_share(1.0, length, began);
+        let early = await_share(0.1, length, began);
+        let memory = await_share(1.0, length, began);
         left.end();
-        early
+        (early, early.max(memory))
     })
 }
 
@@ -207,8 +209,7 @@ fn main() -> Result<(), Box<dyn Error>> {
     let length = Length::from_arguments().ok_or("soak pairs N, or soak seconds N")?;
     let builder = Pool::builder().max_total(OBJECTS).max_idle(IDLE);
     let pool = builder.build(Tools)?;
-    let early = run(&pool, length);
-    let memory = most_memory();
+    let (early, memory) = run(&pool, length);
     pool.close();
     let counts = pool.counts();
     let number = |sum: &AtomicU64| sum.load(Ordering::Relaxed);
