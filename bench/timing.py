@@ -65,3 +65,18 @@ def least_elapsed(commands, most):
                 shortest[place] = min(shortest[place], elapsed(command, stdout=sink, stderr=notes))
                 written[place] = whole(sink), whole(notes).decode().strip()
     return shortest, written
+
+
+def least_worked(commands, most, library):
+    """The shortest of so many runs of each, and the shortest work of its threads, both in seconds, and what each wrote last on standard output. The
+    library is that of bench/worked.c."""
+    shortest, least, written = [float("inf")] * len(commands), [float("inf")] * len(commands), [None] * len(commands)
+    for _ in range(most):
+        for place, command in enumerate(commands):
+            with tempfile.TemporaryFile() as sink, tempfile.NamedTemporaryFile("r") as told:
+                environment = os.environ | {"LD_PRELOAD": str(library), "WORKED": told.name}
+                seconds = elapsed(command, stdout=sink, stderr=subprocess.DEVNULL, env=environment)
+                shortest[place] = min(shortest[place], seconds)
+                least[place] = min(least[place], float(told.read()))
+                written[place] = whole(sink)
+    return shortest, least, written

@@ -1,4 +1,4 @@
-//! Threads that borrow an object and return it, for `bench/run`: what `pool load` does, by this crate.
+//! Threads that borrow an object and return it, for `bench/peers`: what `pool load` does, by this crate.
 //!
 //! `pairs SETTINGS WORKERS ROUNDS [WORD..]` lets each of WORKERS threads do ROUNDS rounds, closes the pool, and prints the number of refused
 //! borrows and the counts. The words, in any order:

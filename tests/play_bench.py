@@ -1,0 +1,140 @@
+#!/usr/bin/env python3
+"""Sees that bench/peers and bench/soak find what is wrong.
+
+    play_bench.py POOL
+
+POOL is the program. bench/peers must end with an error after a run with a pair too few, and name and leave out the pools whose packages are
+missing. Where all packages are installed, all its columns must come, in both tables. bench/soak must fail each report in which one number is wrong.
+
+Prints what fails, and in the end the line 'N passed, M failed'.
+"""
+
+import pathlib
+import re
+import shutil
+import subprocess
+import sys
+import tempfile
+
+TOP = pathlib.Path(__file__).resolve().parent.parent
+sys.path.append(str(TOP / "bench"))
+
+from entrants import CLOCK, COMMONS, COUNTER, HOOKS, JAR, LOAD, PLAIN, R2D2, REGISTRY, runs_cargo
+from soaking import ROUNDS, THREADS, Length, fault_of_load, faults_of
+
+LONGEST = 600
+PAIRS = 4_000
+ROWS = ["4 objects, 1 thread", "4 objects, 2 threads", "4 objects, 4 threads", "1 object, 2 threads", "1 object, 4 threads"]
+ABSENT = ["--jar", "/nowhere/commons-pool2.jar", "--registry", "/nowhere"]
+# A program in the place of POOL that makes one pair less than it is asked for.
+ONE_LESS = """#!/bin/sh
+pairs=$(($3 * $4 - 1))
+printf 'workers %d\\nrounds %d\\nrefused 0\\nborrowed %d\\nreturned %d\\ncreated 1\\ndestroyed 1\\n' $3 $4 $pairs $pairs
+"""
+# What a pool without a journal reports of 100 pairs, and numbers that are wrong in it.
+SOAKED = {
+    "status": "0", "errors": "", "pairs": "100", "uses": "100", "memory_early": "1000", "memory": "1100", "double": "0", "stray": "0", "excess": "0",
+    "made": "7", "destroyed": "7", "created": "7", "freed": "7", "left": "0",
+}
+WRONG = {
+    "status": "1", "pairs": "99", "uses": "99", "memory_early": "0", "memory": "1101", "double": "1", "stray": "1", "excess": "1",
+    "made": "8", "destroyed": "6", "created": "8", "freed": "6", "left": "1",
+}
+LOADED = {"status": "0", "refused": "0", "borrowed": str(THREADS * ROUNDS), "returned": str(THREADS * ROUNDS), "created": "4", "destroyed": "4"}
+WRONG_LOAD = {"status": "3", "refused": "1", "borrowed": "1", "returned": "1", "created": "5", "destroyed": "3"}
+
+
+def peers(*words):
+    command = [TOP / "bench/peers", "--pairs", str(PAIRS), "--rounds", "1", *words]
+    return subprocess.run(command, capture_output=True, text=True, timeout=LONGEST)
+
+
+def tables(text):
+    """The cells of each table, line by line."""
+    found = re.findall(r"^\|.*\|\n\|[-|]+\|\n(?:\|.*\|\n)+", text, flags=re.MULTILINE)
+    return [[[cell.strip() for cell in line.strip("|").split("|")] for line in table.splitlines() if not set(line) <= set("|-")] for table in found]
+
+
+def fault_of_tables(done, columns, peers_there):
+    """Why a run does not show these columns, and the ratios to these peers, if it doesn't."""
+    shown = tables(done.stdout)
+    if len(shown) != 2:
+        return f"{len(shown)} tables: {done.stdout}{done.stderr}"
+    (head, *_), (ratio_head, *_) = shown
+    if not set(columns) <= set(head):
+        return f"columns {head} instead of {columns}"
+    if any([line[0] for line in table[1:]] != ROWS for table in shown):
+        return f"other rows than {ROWS}: {shown}"
+    if not all(re.fullmatch(r"\d+\.\d\d", cell) for table in shown for line in table[1:] for cell in line[1:]):
+        return f"cells without a number: {shown}"
+    ratios = {title.split(" / ")[1] for title in ratio_head[1:]}
+    return None if ratios == set(peers_there) else f"ratios to {ratios}"
+
+
+def last_line(done):
+    return done.stdout.splitlines()[-1] if done.stdout else ""
+
+
+def check_missing(pool):
+    """Without the packages two pools are named and left out, and no row has a target."""
+    done = peers("--pool", pool, *ABSENT)
+    for line in f"left out: {COMMONS}: no ", f"left out: {R2D2}: no ":
+        yield None if line in done.stdout else f"{line!r} isn't said: {done.stdout}{done.stderr}"
+    yield fault_of_tables(done, [PLAIN, COUNTER, CLOCK, HOOKS, LOAD], [PLAIN])
+    heads = [line for table in tables(done.stdout) for line in table[:1]]
+    yield f"{heads} have a pool that is left out" if {COMMONS, R2D2} & set(sum(heads, [])) else None
+    yield None if (done.returncode, last_line(done)) == (0, "0 rows, 0 short") else f"status {done.returncode}: {last_line(done)}"
+
+
+def check_present(pool):
+    """With all packages all columns come, and each row has a target."""
+    if not (shutil.which("javac") and JAR.exists() and any(REGISTRY.glob("r2d2-[0-9]*"))):
+        print("Commons Pool 2 and r2d2 are left out: `bench/peers --help` says what they need")
+        return
+    done = peers("--pool", pool)
+    yield fault_of_tables(done, [COMMONS, R2D2, PLAIN, COUNTER, CLOCK, HOOKS, LOAD], [COMMONS, R2D2, PLAIN])
+    short = {line.split(": ")[1] for line in done.stdout.splitlines() if line.startswith("short: ")}
+    is_told = done.returncode == bool(short) and last_line(done) == f"5 rows, {len(short)} short" and short <= set(ROWS)
+    yield None if is_told else f"status {done.returncode}: {done.stdout}{done.stderr}"
+
+
+def check_counting():
+    """A run with a pair too few is an error."""
+    with tempfile.TemporaryDirectory() as folder:
+        program = pathlib.Path(folder) / "pool"
+        program.write_text(ONE_LESS)
+        program.chmod(0o755)
+        done = peers("--pool", str(program), *ABSENT)
+    found = done.returncode == 1 and "a run failed: 4 objects, 1 thread" in done.stderr
+    yield None if found else f"a pair too few: status {done.returncode}: {done.stdout}{done.stderr}"
+
+
+def check_soak():
+    """A right report passes four checks, and one with a wrong number fails."""
+    length = Length("pairs", 100)
+    yield None if list(faults_of(SOAKED, length, 1)) == [None] * 4 else f"a right report fails: {list(faults_of(SOAKED, length, 1))}"
+    yield None if any(faults_of({"errors": "it hangs"}, length, 1)) else "a program passes that hangs"
+    for word, number in WRONG.items():
+        yield None if any(faults_of(SOAKED | {word: number}, length, 1)) else f"a report passes with {word} {number}"
+    short = Length("seconds", 1)
+    yield None if list(faults_of(SOAKED | {"memory": "1356"}, short, 1)) == [None] * 4 else "a short run fails that is flat"
+    yield None if any(faults_of(SOAKED | {"memory": "1357"}, short, 1)) else "a short run passes that is not flat"
+    yield fault_of_load(LOADED)
+    for word, number in WRONG_LOAD.items():
+        yield None if fault_of_load(LOADED | {word: number}) else f"a load passes with {word} {number}"
+
+
+def main(pool):
+    checks = [*check_soak()]
+    if runs_cargo():
+        checks += [*check_missing(pool), *check_counting(), *check_present(pool)]
+    else:
+        print("bench/peers is left out, since no cargo runs here")
+    faults = [fault for fault in checks if fault]
+    print(*faults, sep="\n", end="\n" if faults else "")
+    print(f"{len(checks) - len(faults)} passed, {len(faults)} failed")
+    return 1 if faults else 0
+
+
+if __name__ == "__main__":
+    sys.exit(main(*sys.argv[1:]))
