@@ -1,8 +1,8 @@
 //! An example: four workers share a pool that could run for years. `archive FOLDER` fills a folder that has no archive yet.
 //!
-//! The pool's journal has room for 300 entries, and they make some eight thousand. So each of them cuts it now and then, and where it
-//! is full, and writes what was cut, a segment, to a file of its own, beside the pool's settings. In the folder
-//! `pool check archive.toml segment-*` judges all files as the one journal that they are.
+//! The pool's journal has room for 300 entries, and they make some eight thousand. So each of them looks now and then, and where it is
+//! full, whether little room is left, and if so cuts it and writes what was cut, a segment, to a file of its own, beside the pool's
+//! settings. In the folder `pool check archive.toml segment-*` judges all files as the one journal that they are.
 #![tactic(auto)]
 
 ghost use Rattle.std.specs.Prelude.{◌≡◌};
@@ -81,7 +81,7 @@ fn close<B: Room, R: Wait>(
     keeper: &mut Caller<B>,
 ) -> Result<u64, Fault> {
     pool.close(rt, keeper).map_err(|_| Fault::NotClosed)?;
-    archive.take_in(rt, pool, keeper)
+    archive.take_in_below(rt, pool, keeper, u64::MAX)
 }
 
 // What came of the work, and of the entries that were archived in the end.

@@ -12,6 +12,9 @@ const REQUESTS: u32 = 500;
 /// After how many of them it looks after the pool.
 const SPAN: u32 = 50;
 
+/// How much room the journal is to have, in entries.
+const LEAST: u64 = 100;
+
 /// How often a borrow is tried for which there was no room in the journal.
 const TRIES: u32 = 100;
 
@@ -22,7 +25,8 @@ pub struct Tally {
     pub archived: u64,
 }
 
-// Borrows a connection. Where the journal has no room for that, it is archived. Other workers may have filled it again by the next try.
+// Borrows a connection. Where the journal has no room for that, it is archived, unless another worker did so just now. Other workers may
+// have filled it again by the next try.
 fn borrow<B: Room, R: Wait>(
     rt: &R,
     archive: &Archive<'_>,
@@ -34,7 +38,7 @@ fn borrow<B: Room, R: Wait>(
         match pool.borrow(rt, me) {
             Ok(connection) => return Ok(connection),
             Err(BorrowFault::JournalFull) => {
-                let count = archive.take_in(rt, pool, me)?;
+                let count = archive.take_in_below(rt, pool, me, LEAST)?;
                 tally.archived = tally.archived.saturating_add(count);
             }
             Err(_) => return Err(Fault::NotBorrowed),
@@ -43,7 +47,7 @@ fn borrow<B: Room, R: Wait>(
     Err(Fault::NotBorrowed)
 }
 
-// Maintains the pool, and archives its journal. Maintenance that finds no room in the journal is left to who comes next.
+// Maintains the pool, and archives its journal if little room is left. Maintenance that finds no room is left to who comes next.
 fn look_after<B: Room, R: Wait>(
     rt: &R,
     archive: &Archive<'_>,
@@ -51,7 +55,7 @@ fn look_after<B: Room, R: Wait>(
     me: &mut Caller<B>,
 ) -> Result<u64, Fault> {
     match pool.maintain(rt, me) {
-        Ok(()) | Err(AddFault::JournalFull) => archive.take_in(rt, pool, me),
+        Ok(()) | Err(AddFault::JournalFull) => archive.take_in_below(rt, pool, me, LEAST),
         Err(_) => Err(Fault::NotMaintained),
     }
 }

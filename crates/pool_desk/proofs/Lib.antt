@@ -1,2 +1,3 @@
-pub mod Sections
 pub mod Answering
+pub mod Rooms
+pub mod Sections

@@ -4,3 +4,4 @@ pub mod Standings
 pub mod Ends
 pub mod Stored
 pub mod Answers
+pub mod Cell

@@ -1,37 +1,123 @@
 // The moves of the cell, each as what it does to the views of passes: a step says by its outcome what it makes of them.
-ghost use Rattle.std.specs.Prelude.{◌≡◌, []};
-ghost use Rattle.crossbeam_utils.specs.Register.{Forks, Merges, Turns};
-ghost use Rattle.crossbeam_utils.specs.Seq.{cell_view, IsSamePass};
-ghost use Rattle.pool_history.specs.Rule.{Kept};
+ghost use Rattle.std.specs.Prelude.{◌≡◌, ◌+◌, ◌^◌, ◌<◌, ℕ, [], ◌∷◌, length, IfOk};
+ghost use Rattle.crossbeam_utils.specs.Register.{Forks, Merges, Turns, TurnsAt};
+ghost use Rattle.crossbeam_utils.specs.Seq.{cell_view, Gathered, IsSamePass, Stays};
+ghost use Rattle.crossbeam_utils.specs.declared.atomic.seq_cell.Stage.TheVariants.{Writing};
+ghost use Rattle.pool_history.specs.Rule.{Kept, beginner};
 
-use crate::room::{Cell, Seen, View};
-use atomic_table::{Join, Split};
+use crate::plays::{Checks, Compares, Cut, Glue, Locks, Peeks, Publishes, Puts, Reads};
+use crate::room::{OneHistory, Seen, View};
+use atomic_table::{Join, Split, Table};
+use crossbeam_utils::Backoff;
+use crossbeam_utils::atomic::seq_cell::{Doing, Versions};
 use crossbeam_utils::rule::Outcome;
+use std::alloc::{AllocError, Global};
 use std::sync::Wait;
 
-/// Loads the words that are stored.
+/// How many words a value has. They lie behind the version, which is odd while a pass stores them.
+const WORDS: usize = 8;
+
+/// Eight words that one pass at a time stores and others read whole.
+#[derive(Drop)]
+pub struct Cell {
+    pub table: Table<[u64; 8], Doing<[u64; 8], View>, (), Versions<OneHistory, 8>, Global>,
+    ghost wide: { table.shared.table_id.words ≡ 9 },
+}
+
+/// A new cell with its keeper's pass.
+pub fn begin(alloc: Global) -> Result<(Cell, Seen), AllocError>
+    ensures { IfOk result (λ c. (c.1.table_id ≡ c.0.table.shared.table_id) × (cell_view c.1 ≡ beginner)) }
+{
+    let (table, keeper) = Table::of_words(alloc, &[0, 0, 0, 0, 0, 0, 0, 0, 0], &())?;
+    Ok((Cell { table }, keeper))
+}
+
+/// Reads the words, one by one.
+fn gather(cell: &Cell, pass: &mut Seen) -> [u64; 8]
+    requires { pass.old.table_id ≡ cell.now.table.shared.table_id }
+    ensures { Stays pass.old pass.new × (length result ≡ 8) × Gathered (λ words. words) 8 result pass.old.me.0.stage pass.new.me.0.stage }
+{
+    let mut words = [0; WORDS];
+    for i in 0..WORDS {
+        words[i] = cell.table.shared.load::<Peeks>(pass, i + 1);
+    }
+    words
+}
+
+/// Loads the words that are stored. It looks again until no store came between.
 pub fn load<M: Outcome<[u64; 8], View>, R: Wait>(rt: &R, cell: &Cell, pass: &mut Seen) -> [u64; 8]
     requires cell { pass.old.table_id ≡ cell.now.table.shared.table_id }
     requires turns { Turns Kept pass.old.id (cell_view pass.old) (λ words. words) M.then }
     ensures same { IsSamePass pass.old pass.new }
     ensures view { M.then (cell_view pass.old) result result (cell_view pass.new) }
 {
-    cell.load_as::<M, R>(rt, pass)
+    let backoff = Backoff::new();
+    for _ in rt.forever() {
+        let version = cell.table.shared.load::<Reads>(pass, 0);
+        if version % 2 == 0 {
+            let words = gather(cell, pass);
+            if cell.table.shared.load::<Checks<M>>(pass, 0) == version {
+                return words;
+            }
+        }
+        backoff.snooze();
+    }
+    unreachable!()
 }
 
-/// Stores words in place of those that are stored, which it answers.
-pub fn swap<M: Outcome<[u64; 8], View>, R: Wait>(
+/// Takes the cell to store words. The answer is the version, which is odd then. After 2^63 stores it waits for ever.
+fn take<R: Wait>(rt: &R, cell: &Cell, pass: &mut Seen, words: [u64; 8]) -> u64
+    requires { pass.old.table_id ≡ cell.now.table.shared.table_id }
+    ensures stays { Stays pass.old pass.new }
+    ensures taken { (old : _) × (pass.new.me.0.stage ≡ Writing result old words 0) }
+    ensures small { result + 1 < 2 ^ 64 }
+{
+    let backoff = Backoff::new();
+    for _ in rt.forever() {
+        let version = cell.table.shared.load::<Reads>(pass, 0);
+        if version % 2 == 0 && version < u64::MAX - 1 {
+            let shared = &cell.table.shared;
+            let odd = version + 1;
+            if shared.compare_exchange_with::<Locks>(pass, 0, version, odd, &words) == version {
+                return odd;
+            }
+        }
+        backoff.snooze();
+    }
+    unreachable!()
+}
+
+/// Stores those of the words that differ from what is stored, and gives the cell up.
+fn publish<M: Outcome<[u64; 8], View>>(cell: &Cell, pass: &mut Seen, version: u64, words: [u64; 8])
+    requires cell { pass.old.table_id ≡ cell.now.table.shared.table_id }
+    requires taken { (old : _) × (pass.old.me.0.stage ≡ Writing version old words 0) × TurnsAt Kept pass.old.id (cell_view pass.old) old words M.then }
+    requires small { version + 1 < 2 ^ 64 }
+    ensures same { IsSamePass pass.old pass.new }
+    ensures view { (old : _) × M.then (cell_view pass.old) old words (cell_view pass.new) }
+{
+    let shared = &cell.table.shared;
+    for i in 0..WORDS {
+        if shared.load::<Compares>(pass, i + 1) != words[i] {
+            shared.store::<Puts>(pass, i + 1, words[i]);
+        }
+    }
+    shared.store::<Publishes<M>>(pass, 0, version + 1);
+}
+
+/// Stores words in place of those that are stored.
+pub fn store_words<M: Outcome<[u64; 8], View>, R: Wait>(
     rt: &R,
     cell: &Cell,
     pass: &mut Seen,
     words: [u64; 8],
-) -> [u64; 8]
+)
     requires cell { pass.old.table_id ≡ cell.now.table.shared.table_id }
     requires turns { Turns Kept pass.old.id (cell_view pass.old) (λ _. words) M.then }
     ensures same { IsSamePass pass.old pass.new }
-    ensures view { M.then (cell_view pass.old) result words (cell_view pass.new) }
+    ensures view { (old : _) × M.then (cell_view pass.old) old words (cell_view pass.new) }
 {
-    cell.swap_as::<M, R>(rt, pass, words)
+    let version = take(rt, cell, pass, words);
+    publish::<M>(cell, pass, version, words);
 }
 
 /// Splits what a pass knows: some of it goes to a new one.
@@ -42,7 +128,7 @@ pub fn split<M: Split<View>>(cell: &Cell, pass: &mut Seen) -> Seen
     ensures view { cell_view pass.new ≡ M.left (cell_view pass.old) }
     ensures given { (result.table_id ≡ pass.old.table_id) × (cell_view result ≡ M.right (cell_view pass.old)) × (result.me.1 ≡ []) }
 {
-    cell.split_pass::<M>(pass)
+    cell.table.shared.split_seat::<Cut<M>>(pass)
 }
 
 /// Joins to a pass what another one knows.
@@ -53,5 +139,5 @@ pub fn join<M: Join<View>>(cell: &Cell, pass: &mut Seen, other: Seen)
     ensures same { IsSamePass pass.old pass.new }
     ensures view { cell_view pass.new ≡ M.both (cell_view pass.old) (cell_view other) }
 {
-    cell.join_pass::<M>(pass, other);
+    cell.table.shared.join_seat::<Glue<M>>(pass, other);
 }

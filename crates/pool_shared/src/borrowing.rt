@@ -16,6 +16,7 @@ ghost use Rattle.pool_shared.specs.Borrows.{removes, asks, readies, lent, after_
 use crate::faults::{BorrowFault, PoolFault};
 use crate::lent::Lent;
 use crate::pool::SharedPool;
+use crate::spinning::{lock, wait};
 use pool_core::StepFault;
 use pool_desk::{Clock, Desk, Factory};
 use pool_history::{Caller, Room};
@@ -60,12 +61,17 @@ impl<T: Drop, E: Drop, F: Factory<T, E> + Drop, C: Clock + Drop, B: Room> Shared
         desk: MutexGuard<'a, Desk<T, E, F, B>>,
         began: u64,
     ) -> MutexGuard<'a, Desk<T, E, F, B>> {
-        if self.settings.max_wait_millis < 0 {
-            self.changed
-                .wait_while(rt, desk, |desk| desk.would_wait(began))
-        } else {
-            self.changed.wait(rt, desk)
+        if self.settings.max_wait_millis >= 0 {
+            return self.changed.wait(rt, desk);
         }
+        let mut desk = desk;
+        for _ in rt.forever() {
+            if !desk.would_wait(began) {
+                return desk;
+            }
+            desk = wait(rt, &self.changed, desk);
+        }
+        unreachable!()
     }
 
     // Asks for an object, and waits while there is none.
@@ -84,7 +90,7 @@ impl<T: Drop, E: Drop, F: Factory<T, E> + Drop, C: Clock + Drop, B: Room> Shared
         ensures refused { IfErr result (λ f. IsWhy B.settings (inputs.Borrow began) None f me.new) }
     {
         let input = Input::Borrow { began };
-        let mut desk = self.desk.lock(rt);
+        let mut desk = lock(rt, &self.desk);
         for _ in rt.forever() {
             match desk.step(rt, &self.cell, &self.clock, me, input, None) {
                 Ok((answer, out)) => match answer {

@@ -13,6 +13,7 @@ mod maintaining;
 mod pool;
 mod reclaiming;
 mod returning;
+mod spinning;
 
 pub use evicting::EvictRun;
 pub use faults::{

@@ -159,8 +159,8 @@ fn takes_all(
     answers_again(rt, core, stored);
 }
 
-// What a core of its own counts that takes the same steps.
-fn plays_again(
+/// What a core of its own counts that takes the same steps.
+pub fn plays_again(
     rt: &impl Abort,
     alloc: Global,
     settings: Settings,

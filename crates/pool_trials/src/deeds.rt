@@ -54,6 +54,8 @@ pub enum Deed {
     Watch(u32),
     /// Cuts the journal so many times.
     Cut(u32),
+    /// Cuts the journal if less room than this is left.
+    CutBelow(u64),
 }
 
 /// A word for what a call came to, and its number: an object's id, how many objects, or what the factory failed for; 0 where there is none.
@@ -243,6 +245,23 @@ pub fn cut<B: Room, R: Wait>(
     me: &mut Caller<B>,
 ) -> Option<Segment> {
     pool.cut(rt, alloc, me).ok()
+}
+
+/// Cuts the journal if less room than this is left, and keeps the segment. The number is how many entries it has.
+pub fn cuts_below<B: Room, R: Wait + Abort>(
+    rt: &R,
+    alloc: Global,
+    pool: &Pool<B>,
+    me: &mut Caller<B>,
+    segments: &mut Vec<Segment>,
+    least: u64,
+) -> Reply {
+    let Some(segment) = pool.cut_below(rt, alloc, me, least).expect(rt, "memory") else {
+        return ("room", 0);
+    };
+    let number = segment.entries.as_slice().len() as u64;
+    segments.push(segment).expect(rt, "memory");
+    ("cut", number)
 }
 
 /// How many entries a copy of the journal has.

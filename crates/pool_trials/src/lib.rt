@@ -26,6 +26,8 @@ mod life;
 #[cfg(test)]
 mod limits;
 #[cfg(test)]
+mod low;
+#[cfg(test)]
 mod openings;
 #[cfg(test)]
 mod solo;

@@ -174,6 +174,19 @@ impl<B: Room> Life<B> {
         }
     }
 
+    // Cuts the journal below more room than any has, so that a cut is due. One that is refused changes nothing that is counted.
+    fn cut_below<R: Wait>(&mut self, rt: &R, alloc: Global, pool: &Pool<B>) -> Told {
+        let before = pool.counts(rt, &mut self.me);
+        match pool.cut_below(rt, alloc, &mut self.me, u64::MAX) {
+            Ok(Some(segment)) => {
+                self.segment = Some(segment);
+                Told::Done
+            }
+            Err(_) if pool.counts(rt, &mut self.me) == before => Told::WantsMemory,
+            _ => Told::Wrong,
+        }
+    }
+
     // Makes a call once.
     fn ask<R: Wait>(&mut self, rt: &R, alloc: Global, pool: &Pool<B>, part: Part) -> Told {
         let me = &mut self.me;
@@ -194,6 +207,7 @@ impl<B: Room> Life<B> {
                 Err(_) => Told::WantsMemory,
             },
             Part::Cut => self.cut(rt, alloc, pool),
+            Part::CutBelow => self.cut_below(rt, alloc, pool),
             _ => Told::Wrong,
         }
     }

@@ -34,7 +34,7 @@ use things::{Hands, Thing, Things};
 const TRIES: u32 = 3;
 
 /// The calls, each in the midst of a life.
-const CALLS: [Part; 13] = [
+const CALLS: [Part; 14] = [
     Part::Borrow,
     Part::GiveBack,
     Part::Invalidate,
@@ -48,6 +48,7 @@ const CALLS: [Part; 13] = [
     Part::Close,
     Part::JournalCopy,
     Part::Cut,
+    Part::CutBelow,
 ];
 
 /// For how many entries more there is memory or room, at most.
@@ -107,7 +108,7 @@ fn prepare<B: Room, R: Wait>(
         Part::Borrow | Part::Reclaim | Part::Maintain | Part::Touch | Part::JournalCopy => {
             life.call(rt, alloc, pool, settings, Part::Borrow, notes)?;
         }
-        Part::Cut => {
+        Part::Cut | Part::CutBelow => {
             life.call(rt, alloc, pool, settings, Part::Fill, notes)?;
             life.call(rt, alloc, pool, settings, Part::Borrow, notes)?;
         }

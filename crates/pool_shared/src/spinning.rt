@@ -1,0 +1,41 @@
+// How a thread spends a while awake before it sleeps. No contract speaks of it, and no proof rests on it.
+use crossbeam_utils::Backoff;
+use std::sync::{Condvar, Mutex, MutexGuard, Wait};
+
+/// How often a thread tries the lock, or looks for a notification, before it sleeps.
+const TRIES: u32 = 16;
+
+/// Takes the lock. A thread tries it several times, with growing pauses, before it waits in the lock.
+pub(crate) fn lock<'a, T, R: Wait>(rt: &R, mutex: &'a Mutex<T>) -> MutexGuard<'a, T> {
+    let backoff = Backoff::new();
+    for _ in 0..TRIES {
+        if let Some(guard) = mutex.try_lock() {
+            return guard;
+        }
+        backoff.spin();
+    }
+    mutex.lock(rt)
+}
+
+/// Waits for a notification, and may return without one. A thread looks for it several times, with growing pauses, before it sleeps.
+pub(crate) fn wait<'a, T, R: Wait>(
+    rt: &R,
+    changed: &Condvar,
+    guard: MutexGuard<'a, T>,
+) -> MutexGuard<'a, T> {
+    let before = changed.notifications();
+    let mutex = MutexGuard::unlock(guard);
+    let backoff = Backoff::new();
+    for _ in 0..TRIES {
+        if changed.notifications() != before {
+            break;
+        }
+        backoff.spin();
+    }
+    let guard = lock(rt, mutex);
+    if changed.notifications() == before {
+        changed.wait(rt, guard)
+    } else {
+        guard
+    }
+}

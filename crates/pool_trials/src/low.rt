@@ -1,0 +1,148 @@
+// Journals that are cut where little room is left. The room is the limit less what is stored and what is owed: one entry to close the
+// pool, four for an object that is lent, two for one that is idle.
+ghost use Rattle.std.specs.Prelude.{◌≡◌};
+
+use crate::clocks::TestClock;
+use crate::cutting::plays_again;
+use crate::deeds::{Deed, Reply, Row, cuts_below, does, expect_equal, expects};
+use crate::items::{Failing, Item, Items, Record, Waiting};
+use crate::openings::{NUMBER, Pool, finished, open, settings_of, site};
+use pool_core::Core;
+use pool_journal::Segment;
+use pool_settings::Settings;
+use pool_shared::{Caller, Lent, Room, Site};
+use std::alloc::Global;
+use std::marker::Brand;
+use std::process::Abort;
+use std::sync::Wait;
+
+// The room is 6, 0, by a cut 2, 1, still 1 with an object that takes two entries to come back and owes two less, by a cut 4, 0, and by a cut 2.
+const SMALL: [Row; 17] = [
+    (Deed::CutBelow(6), "room", 0),
+    (Deed::Borrow, "lent", 0),
+    (Deed::CutBelow(0), "room", 0),
+    (Deed::Touch, "full", 0),
+    (Deed::CutBelow(1), "cut", 2),
+    (Deed::CutBelow(2), "room", 0),
+    (Deed::Touch, "noted", 0),
+    (Deed::CutBelow(1), "room", 0),
+    (Deed::GiveBack, "parked", 0),
+    (Deed::CutBelow(1), "room", 0),
+    (Deed::CutBelow(2), "cut", 3),
+    (Deed::CutBelow(4), "room", 0),
+    (Deed::Borrow, "lent", 0),
+    (Deed::CutBelow(u64::MAX), "cut", 2),
+    (Deed::CutBelow(u64::MAX), "cut", 0),
+    (Deed::GiveBack, "parked", 0),
+    (Deed::CutBelow(2), "room", 0),
+];
+
+fn small() -> &'static [Row] {
+    &SMALL
+}
+
+// The room is 4294967295, and then 4294967289.
+const GREATEST: [Row; 4] = [
+    (Deed::CutBelow(4_294_967_295), "room", 0),
+    (Deed::Borrow, "lent", 0),
+    (Deed::CutBelow(4_294_967_289), "room", 0),
+    (Deed::CutBelow(4_294_967_290), "cut", 2),
+];
+
+fn greatest() -> &'static [Row] {
+    &GREATEST
+}
+
+/// Many are kept.
+const MANY: &str = "minIdle = 20000
+maxIdle = -1
+maxTotal = -1
+";
+
+// Of a million entries two for each of 20,000 objects are stored, and one that says that they are enough; two for each are owed, and one.
+const STOCK: [Row; 3] = [
+    (Deed::Fill, "count", 20_000),
+    (Deed::CutBelow(919_998), "room", 0),
+    (Deed::CutBelow(919_999), "cut", 40_001),
+];
+
+fn stock() -> &'static [Row] {
+    &STOCK
+}
+
+// Does what a row says, or cuts.
+fn comes_to<B: Room, R: Wait + Abort>(
+    rt: &R,
+    alloc: Global,
+    pool: &Pool<B>,
+    me: &mut Caller<B>,
+    held: &mut Option<Lent<Item>>,
+    segments: &mut Vec<Segment>,
+    deed: Deed,
+) -> Reply {
+    match deed {
+        Deed::CutBelow(least) => cuts_below(rt, alloc, pool, me, segments, least),
+        _ => does(rt, pool, me, held, deed),
+    }
+}
+
+// Goes through rows, and gives what was cut.
+fn goes_through_cuts<B: Room, R: Wait + Abort>(
+    rt: &R,
+    alloc: Global,
+    pool: &Pool<B>,
+    me: &mut Caller<B>,
+    rows: &[Row],
+) -> Vec<Segment> {
+    let mut segments = Vec::new(alloc);
+    let mut held = None;
+    for &(deed, word, number) in rows {
+        let told = comes_to(rt, alloc, pool, me, &mut held, &mut segments, deed);
+        expects(rt, deed, told, (word, number));
+    }
+    segments
+}
+
+// What one caller cut and left.
+fn lives<B: Room, R: Wait + Abort>(
+    rt: &R,
+    alloc: Global,
+    site: Site,
+    settings: Settings,
+    items: Items,
+    rows: &[Row],
+) -> (Core<Item>, Vec<Segment>)
+    requires { (site ≡ B.table) × (settings ≡ B.settings) × (1 ≡ B.callers) }
+{
+    let clock = TestClock::Still;
+    let (pool, mut callers) = open::<B, R>(rt, alloc, site, settings, NUMBER, 1, items, clock);
+    let me = callers.last_mut().expect(rt, "a caller");
+    let segments = goes_through_cuts(rt, alloc, &pool, me, rows);
+    (finished(rt, pool, callers), segments)
+}
+
+// Goes through rows under the settings of a text. What was cut and what is left are one history: a new core that takes its steps counts the same.
+fn tries<R: Wait + Abort>(rt: &R, alloc: Global, settings: &str, rows: &[Row]) {
+    let site = site(rt, alloc);
+    let settings = settings_of(rt, alloc, settings);
+    let record = Record::new(rt, alloc, 8);
+    let items = Items {
+        record: &record,
+        failing: Failing::Never,
+        waiting: Waiting::Nowhere,
+    };
+    let (core, segments) = lives::<Brand, R>(rt, alloc, site, settings, items, rows);
+    let counts = plays_again(rt, alloc, settings, &segments, core.journal());
+    expect_equal(rt, core.counts(), counts);
+}
+
+#[test]
+fn a_journal_is_cut_where_little_room_is_left(rt: HostRuntime) {
+    for (settings, rows) in [
+        ("journalLimit = 7", small()),
+        ("journalLimit = 4294967296", greatest()),
+        (MANY, stock()),
+    ] {
+        tries(&rt, rt.alloc(), settings, rows);
+    }
+}
