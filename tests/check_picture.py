@@ -1,12 +1,18 @@
 #!/usr/bin/env python3
-"""Draws journals, and holds each picture against what the journal says by a plain reading of it.
+"""Draws journals, and compares each picture with a plain reading of the journal (tests/picture_model.py).
 
 check_picture.py PROGRAM CASES..  The last line is 'N passed, M failed'.
 
-A picture is well-formed XML. Its bars, by their titles, are the phases of the objects, each with who brought the object there, from
-when and until when; its waits are those of the borrowers; each bar stands where its moments are. A file that is no journal is told.
+- A picture is well-formed XML. That of a short journal has a bar for each phase of each object and for each wait, with its caller and times,
+  and each bar is where its times are. That of a long one (over 10,000 entries) has the least and greatest levels and the marks of each bucket,
+  areas and bars of the right heights, the quantiles within the error that it states, the longest loans, and the objects held at the end.
+- The journals are those of the folders CASES, journals of up to 100,000 entries as a pool makes them, journals of random entries and times, and
+  all of them again in segments, in one stream or in several files.
+- Damaged and missing files, segments that do not continue one another, other arguments, failed reads and writes and each failed allocation
+  must end with the right status and message, and with no picture.
 """
 
+import os
 import pathlib
 import re
 import subprocess
@@ -14,86 +20,167 @@ import sys
 import tempfile
 import xml.etree.ElementTree as xml
 
-NAMED = {"take": "Readying", "test": "Testing", "destroyidle": "Destroying", "reclaimed": "Gone"}
-OF_INPUT = {"lent": "Lent", "check": "Returning", "parked": "Idle", "kept": "Idle", "destroy": "Destroying", "freed": "Gone"}
-BAR = re.compile(r"object (\d+): (\w+), by caller (\d+), (\d+) to (\d+) ms")
-WAIT = re.compile(r"caller (\d+) waits, (\d+) to (\d+) ms")
-LEFT, WIDTH = 110, 1180
-MOST = 10_000
-FAULTS = [
-    ([], 2, "journal_picture: wrong arguments\n"),
-    (["/nowhere"], 3, "journal_picture: cannot read the journal\n"),
-    (["a", "b"], 2, "journal_picture: wrong arguments\n"),
+import picture_model
+from play_damaged import SETTINGS, Chance, journal_by_chance
+from pool_model import cut_at, settings_of
+from preloading import preloaded
+
+TOP = pathlib.Path(__file__).resolve().parent.parent
+SVG = "{http://www.w3.org/2000/svg}"
+LEFT, WIDTH, MOST = 110, 1180, 10_000
+CHART_LEFT, CHART_WIDTH = 110, 1000
+AREAS = {"All": ("lent", "idle", "reserved"), "LentOrIdle": ("lent", "idle"), "Lent": ("lent",)}
+HINT = re.compile(
+    r"(\d+) to (\d+) ms: lent (\d+) to (\d+), idle (\d+) to (\d+), reserved (\d+) to (\d+), waiting (\d+) to (\d+); "
+    r"refused (\d+), no object (\d+), evicted (\d+), reclaimed (\d+), failed tests (\d+)"
+)
+TOTALS = dict(zip(("Refused", "Without", "Evicted", "Reclaimed", "Failed"), picture_model.KINDS))
+WRONG = "journal_picture: wrong arguments; try journal_picture --help\n"
+ARGUMENTS = [
+    ([], 2, WRONG),
+    (["-x"], 2, WRONG),
+    (["a", "--draw"], 2, WRONG),
+    (["/nowhere"], 3, "journal_picture: /nowhere: cannot open the journal\n"),
+    (["/"], 3, "journal_picture: /: read failed\n"),
 ]
+SEGMENT = "the segment does not begin where the one before it ends"
 
 
-def moved(words):
-    """The object that an entry moves, and its phase after it."""
-    equals = words.index("=")
-    asked, (answer, *told) = words[2:equals], words[equals + 1 :]
-    if answer == "make":
-        return told[0], "Readying" if asked[0] == "borrow" else "Adding"
-    if answer in NAMED:
-        return told[0], NAMED[answer]
-    return (asked[1], OF_INPUT[answer]) if answer in OF_INPUT else None
+def run(program, arguments, text=None, **more):
+    return subprocess.run([program, *arguments], input=text, capture_output=True, timeout=100, **more)
 
 
-def expected(lines):
-    """The bars and the waits of a journal."""
-    bars, waits, now, here, waiting = [], [], 0, {}, {}
-    for line in lines:
-        words = line.split(" ")
-        caller, now = words[0], max(now, int(words[1]))
-        if move := moved(words):
-            if move[0] in here:
-                bars.append((*here.pop(move[0]), now))
-            if move[1] != "Gone":
-                here[move[0]] = (move[0], move[1], caller, now)
-        if words[2] == "borrow":
-            if words[-1] == "wait":
-                waiting.setdefault(caller, now)
-            elif caller in waiting:
-                waits.append((caller, waiting.pop(caller), now))
-    bars += [(*bar, now) for bar in here.values()]
-    waits += [(caller, since, now) for caller, since in waiting.items()]
-    return sorted((i, p, c, str(f), str(t)) for i, p, c, f, t in bars), sorted((c, str(f), str(t)) for c, f, t in waits)
+def hints(picture, start):
+    return sorted(title.text for title in picture.iter(f"{SVG}title") if title.text.startswith(start))
 
 
 def misplaced(picture, first, last):
-    """The titles of bars that don't stand where their moments are."""
+    """The hints of bars that are not where their times are."""
     span = max(last - first, 1)
-    for rectangle in picture.iter("{http://www.w3.org/2000/svg}rect"):
-        title = rectangle.find("{http://www.w3.org/2000/svg}title")
+    for rectangle in picture.iter(f"{SVG}rect"):
+        title = rectangle.find(f"{SVG}title")
         if title is not None:
-            begin, end = (int(moment) for moment in re.search(r"(\d+) to (\d+) ms", title.text).groups())
-            place, until = (LEFT + (moment - first) * WIDTH // span for moment in (begin, end))
+            begin, end = (int(time) for time in re.search(r"(\d+) to (\d+) ms", title.text).groups())
+            place, until = (LEFT + (time - first) * WIDTH // span for time in (begin, end))
             if (int(rectangle.get("x")), int(rectangle.get("width"))) != (place, max(until - place, 1)):
-                yield title.text
+                yield f"misplaced: {title.text}"
 
 
-def differences(program, journal):
-    done = subprocess.run([program, journal], capture_output=True, text=True)
+def lane_differences(picture, text, journal):
+    """What the picture of a short journal shows otherwise."""
+    bars, waits = picture_model.lanes(journal)
+    times = picture_model.times(journal.entries) or [0]
+    objects = len({bar.split(":")[0] for bar in bars})
+    if objects <= 300 and hints(picture, "object") != bars:
+        yield "other bars"
+    if objects > 300 and "300 of " not in text:
+        yield "lanes are left out without a word"
+    if hints(picture, "caller") != waits:
+        yield "other waits"
+    if f">{len(journal.entries)} entries from position {journal.position}, " not in text:
+        yield "another heading"
+    yield from misplaced(picture, times[0], times[-1])
+
+
+def edge_of(number, count):
+    return CHART_LEFT + number * CHART_WIDTH // count
+
+
+def path_of(heights, top, height, highest):
+    """The steps of an area's upper edge."""
+    steps = (f"V{top + height - level * height // highest}H{edge_of(number + 1, len(heights))}" for number, level in enumerate(heights))
+    return f"M{CHART_LEFT} {top + height}" + "".join(steps)
+
+
+def area_differences(picture, buckets):
+    """The areas and the line that are drawn otherwise."""
+    paths = {path.get("id"): path.get("d") for path in picture.iter(f"{SVG}path") if path.get("id")}
+    sums = {name: [[sum(level[key] for key in keys) for level in levels] for _, levels, _ in buckets] for name, keys in AREAS.items()}
+    highest = max(1, max(map(max, sums["All"])))
+    for name, levels in sums.items():
+        for extent, pick in (("greatest", max), ("least", min)):
+            if paths.get(f"{name}-{extent}") != path_of(list(map(pick, levels)), 112, 240, highest) + "V352Z":
+                yield f"another area {name}-{extent}"
+    waiting = [max(level["waiting"] for level in levels) for _, levels, _ in buckets]
+    if paths.get("waiting") != path_of(waiting, 392, 100, max(1, *waiting)):
+        yield "another line of borrowers that wait"
+
+
+def hint_of(bucket, width):
+    """The numbers of a bucket, as its hint has them."""
+    begin, levels, marks = bucket
+    spans = [(min(level[key] for level in levels), max(level[key] for level in levels)) for key in ("lent", "idle", "reserved", "waiting")]
+    return tuple(map(str, (begin, min(begin + width - 1, 2**64 - 1), *(number for span in spans for number in span), *marks.values())))
+
+
+def bucket_differences(picture, expected):
+    """The buckets whose levels or marks differ."""
+    buckets, width = expected.buckets(), expected.width()
+    found = [title.text for title in picture.iter(f"{SVG}title") if " ms: lent " in title.text]
+    if len(found) != len(buckets):
+        yield f"{len(found)} buckets, expected {len(buckets)}"
+    for text, bucket in zip(found, buckets):
+        if HINT.fullmatch(text).groups() != hint_of(bucket, width):
+            yield f"bucket {text}, expected {hint_of(bucket, width)}"
+    totals = {text.get("id"): text.text for text in picture.iter(f"{SVG}text") if text.get("id")}
+    for row, kind in TOTALS.items():
+        if totals.get(f"total-{row}") != str(sum(marks[kind] for *_, marks in buckets)):
+            yield f"{row}: another total"
+    bars = sum(count > 0 for *_, marks in buckets for count in marks.values())
+    drawn = sum(rectangle.get("fill") in ("#c02020", "#c06000", "#406080", "#8030a0", "#a08000") for rectangle in picture.iter(f"{SVG}rect"))
+    if bars != drawn:
+        yield f"{drawn} marks, expected {bars}"
+    yield from area_differences(picture, buckets)
+
+
+def rows(picture, name):
+    """The rows of a table: the texts in each."""
+    return [tuple(text.text for text in group) for group in picture.iter(f"{SVG}g") if group.get("class") == name]
+
+
+def duration_differences(picture, expected):
+    """The numbers of the distributions that differ, or are beyond the error that the picture states."""
+    found = {name: (int(waits), int(loans)) for name, waits, loans in rows(picture, "durations")}
+    for column, durations in enumerate((expected.waits, [loan[0] for loan in expected.loans])):
+        if found["number"][column] != len(durations) or found["longest"][column] != max(durations, default=0):
+            yield f"number or longest of {found}, expected {len(durations)} and {max(durations, default=0)}"
+        for percent in picture_model.PERCENTS:
+            exact, shown = picture_model.quantile(durations, percent), found[f"p{percent}"][column]
+            if not exact <= shown <= exact + exact // 64 or (exact < 128 and exact != shown):
+                yield f"p{percent}: {shown}, exactly it is {exact}"
+
+
+def overview_differences(picture, text, journal):
+    """What an overview shows otherwise."""
+    expected = picture_model.Overview(journal)
+    yield from bucket_differences(picture, expected)
+    yield from duration_differences(picture, expected)
+    if rows(picture, "loan") != expected.longest():
+        yield f"longest loans: {rows(picture, 'loan')}, expected {expected.longest()}"
+    held = list(expected.held())
+    if rows(picture, "held") != held[:30]:
+        yield f"held: {rows(picture, 'held')}, expected {held[:30]}"
+    more = [title.text.split("\n")[:-1] for title in picture.iter(f"{SVG}title") if title.text.startswith("object ")]
+    if [len(lines) for lines in more] != ([len(held) - 30] if len(held) > 30 else []):
+        yield "the other objects that are held are named otherwise"
+    said = f": {len(journal.entries)} entries from position {journal.position}, times {expected.times[0]} to {expected.times[-1]} ms<"
+    if said not in text or f" {expected.waiting} borrowers still wait at the end." not in text:
+        yield "another heading, or other borrowers that wait at the end"
+
+
+def differences(program, *files):
+    """What the picture of the journal in these files shows otherwise."""
+    done = run(program, files)
     if done.returncode or done.stderr:
         return [f"status {done.returncode}, {done.stderr!r}"]
-    lines = journal.read_text().splitlines()[:MOST]
-    picture = xml.fromstring(done.stdout)
-    bars, waits = expected(lines)
-    moments = [int(line.split(" ")[1]) for line in lines] or [0]
-    found = []
-    objects = len({i for i, *_ in bars})
-    if objects <= 300 and sorted(BAR.findall(done.stdout)) != bars:
-        found.append("other bars")
-    if objects > 300 and "300 of " not in done.stdout:
-        found.append("lanes are left out without a word")
-    if sorted(WAIT.findall(done.stdout)) != waits:
-        found.append("other waits")
-    if len(journal.read_text().splitlines()) > MOST and f"the first {MOST} entries" not in done.stdout:
-        found.append("entries are left out without a word")
-    return found + [f"misplaced: {title}" for title in misplaced(picture, moments[0], max(moments))]
+    text = done.stdout.decode()
+    journal = picture_model.read("".join(pathlib.Path(file).read_text() for file in files))
+    kind = overview_differences if len(journal.entries) > MOST else lane_differences
+    return list(kind(xml.fromstring(text), text, journal))
 
 
 def long_journal(count):
-    """A journal of so many entries of four callers that share three objects; it need not be one that a pool made."""
+    """A journal with this number of entries of four callers that share three objects; it need not be one that a pool made."""
     for number in range(0, count, 4):
         caller, at, i = number // 4 % 4, 3 * number, number // 4 % 3
         yield f"{caller} {at} borrow {at} = " + ("make" if number < 12 else "take") + f" {i}"
@@ -102,26 +189,196 @@ def long_journal(count):
         yield f"{caller} {at + 10} park {i} good = parked"
 
 
+def random_phrase(chance, phrases, ids):
+    """An input or an answer, with random words in it."""
+    words = {"ID": str(chance.below(ids)), "OUTCOME": chance.one_of(["good", "good", "makefail", "createfail", "testfail", "passivatefail"])}
+    return " ".join(words.get(word, word) for word in chance.one_of(phrases).split(" "))
+
+
+def random_journal(seed, count):
+    """Entries of which each is one at random, with times that leap and go back."""
+    chance, at = Chance(seed), Chance(seed).below(10**6)
+    inputs = ["borrow 7"] * 6 + ["ready ID OUTCOME"] * 3 + ["return ID", "park ID OUTCOME", "invalidate ID", "use ID", "add", "evictnext"]
+    inputs += ["tested ID OUTCOME", "destroyed ID", "added ID OUTCOME", "reclaim maintain", "reclaimnext", "close", "clear", "fill"]
+    answers = ["wait", "lent", "lent", "make ID", "take ID", "check", "parked", "kept", "destroy", "freed", "test ID", "destroyidle ID"]
+    answers += ["reclaimed ID", "exhausted", "timeout", "refused closed", "noted", "count 3", "nothing", "gone", "keptidle ID"]
+    for _ in range(count):
+        leap = chance.one_of([0, 0, 1, 5, 40, 1000 if seed % 2 else 10**6 if chance.below(50) == 0 else 3])
+        at = max(0, at + leap - chance.one_of([0, 0, 0, 7]))
+        ids = 60 if seed % 3 else 9
+        yield f"{chance.below(12)} {at} {random_phrase(chance, inputs, ids)} = {random_phrase(chance, answers, ids)}"
+
+
+def with_lines(path, lines):
+    path.write_text("".join(line + "\n" for line in lines))
+    return path
+
+
+def made_journals(folder):
+    """Journals that are made for this test."""
+    for count in (0, 4, 100, 10_000, 10_001, 20_000):
+        yield with_lines(folder / f"{count}.journal", list(long_journal(count + 3))[:count])
+    for seed in range(6):
+        yield with_lines(folder / f"random-{seed}.journal", random_journal(seed, (12_000, 300)[seed // 4]))
+    ends = [0, 1, 2**64 - 2, 2**64 - 1]
+    lines = enumerate(random_journal(7, 10_100))
+    yield with_lines(folder / "ends.journal", (f"4294967295 {ends[k * 4 // 10_100]} {line.split(' ', 2)[2]}" for k, line in lines))
+    yield with_lines(folder / "held.journal", (f"{k % 70} {k} ready {k % 70} good = lent" for k in range(11_000)))
+
+
+def pool_journals(folder):
+    """Journals as a pool makes them, each as its segments: files, and all of them in one."""
+    settings = settings_of(SETTINGS)
+    for length, positions in ((400, {1, 100, 101, 399}), (12_000, {5_000, 11_999}), (100_000, {10_000, 33_333, 90_000})):
+        text = journal_by_chance(settings, length)
+        whole = folder / f"pool-{length}"
+        whole.write_bytes(text)
+        files = []
+        for number, segment in enumerate(cut_at(settings, text, positions)):
+            files.append(folder / f"pool-{length}.{number}")
+            files[-1].write_bytes(segment)
+        stream = folder / f"pool-{length}.stream"
+        stream.write_bytes(b"".join(file.read_bytes() for file in files))
+        yield whole, files, stream
+
+
+def segment_differences(program, whole, files, stream):
+    """What is drawn otherwise of segments: all of them give the picture of the whole, also as a stream, and the later ones a picture too."""
+    picture = run(program, [whole]).stdout
+    yield from differences(program, whole)
+    for arguments, text in ((files, None), ([stream], None), (["-"], stream.read_bytes()), (["/dev/stdin"], stream.read_bytes())):
+        done = run(program, arguments, text)
+        if (done.returncode, done.stdout, done.stderr) != (0, picture, b""):
+            yield f"{arguments}: not the picture of the whole, {done.stderr!r}"
+    yield from differences(program, *files[1:])
+    yield from differences(program, files[-1])
+
+
+def broken(folder, files):
+    """Segments that do not continue one another, with the line that reports it."""
+    first, second, third = (str(file) for file in files[:3])
+    head, *others = pathlib.Path(second).read_text().splitlines()
+    words = head.split(" ")
+    position = int(words[2])
+    length = picture_model.read(pathlib.Path(third).read_text()).position
+    yield [second, second], second, f"line 1: {SEGMENT}: position {position}, expected {length}"
+    yield [first, third], third, f"line 1: {SEGMENT}: position {length}, expected {position}"
+    plain = str(with_lines(folder / "plain", ["0 1 add = make 0"]))
+    yield [first, plain], plain, f"line 1: {SEGMENT}: it has no first line of a segment"
+    names = {3: "next id", 6: "destroyed", 7: "evicted", 8: "reclaimed", 9: "number of objects"}
+    for place, name in names.items():
+        changed = [*words]
+        changed[place] = str(int(words[place]) + 1)
+        file = str(with_lines(folder / f"changed-{place}", [" ".join(changed), *others]))
+        yield [first, file], file, f"line 1: {SEGMENT}: {name} {changed[place]}, expected {words[place]}"
+    closed = str(with_lines(folder / "closed", [head.replace("open", "closed"), *others]))
+    yield [first, closed], closed, f"line 1: {SEGMENT}: whether the pool is closed"
+    cursor = [*words]
+    cursor[5] = "77777"
+    moved = str(with_lines(folder / "cursor", [" ".join(cursor), *others]))
+    yield [first, moved], moved, f"line 1: {SEGMENT}: where the last object was examined"
+    id, phase, parked, since, lent, used, age = others[0].split(" ")
+    changed = [id, phase, parked, since, lent, str(int(used) + 1), age], ["9" + id, phase, parked, since, lent, used, age]
+    for number, record in enumerate(changed):
+        file = str(with_lines(folder / f"record-{number}", [head, " ".join(record), *others[1:]]))
+        yield [first, file], file, f"line 2: {SEGMENT}: object {record[0]}"
+    twice = str(with_lines(folder / "twice", [head, others[0], others[0], *others[2:]]))
+    yield [first, twice], twice, f"line 3: {SEGMENT}: object {id}"
+
+
+def damaged(folder):
+    """Damaged files, with the line that reports it."""
+    whole = "0 0 borrow 0 = make 0\n"
+    base = "pool-journal 2 5 1 open none 0 0 0 2\n"
+    texts = {
+        "cut": (whole + "0 1 ready 0 good", "line 2: truncated"),
+        "word": (whole + "0 1 ready 0 good = lost\n", "line 2: not a line"),
+        "number": (whole + "0 01 ready 0 good = lent\n", "line 2: bad number"),
+        "long": (whole + "0" * 300 + "\n", "line 2: line too long"),
+        "empty line": (whole + "\n" + whole, "line 2: not a line"),
+        "head": ("pool-journal 3 5 1 open none 0 0 0 2\n", "line 1: not a line"),
+        "no records": (base + "0 idle 3 16 11 11 old\n", "line 3: truncated"),
+        "an entry for a record": (base + whole, "line 2: not a line"),
+        "far": (whole * 30_000 + "x\n", "line 30001: not a line"),
+    }
+    for name, (text, message) in texts.items():
+        file = folder / name
+        file.write_text(text)
+        yield [str(file)], str(file), message
+
+
+def message_differences(program, cases):
+    """The files that are not refused with their message."""
+    for arguments, path, message in cases:
+        done = run(program, arguments)
+        if (done.returncode, done.stdout, done.stderr.decode()) != (3, b"", f"journal_picture: {path}: {message}\n"):
+            yield f"{arguments}: {done}, expected {message}"
+
+
+def argument_differences(program, folder):
+    """What other arguments, and a write that fails, end with otherwise."""
+    for arguments, status, message in ARGUMENTS:
+        done = run(program, arguments)
+        if (done.returncode, done.stdout, done.stderr.decode()) != (status, b"", message):
+            yield f"{arguments}: {done}"
+    version = re.search(r'^version = "(.*)"$', (TOP / "rust/zuphinka/Cargo.toml").read_text(), re.MULTILINE)[1]
+    starts = dict.fromkeys(["--version", "-V"], f"journal_picture {version}\n") | dict.fromkeys(["--help", "-h"], "journal_picture JOURNAL..")
+    for word, start in starts.items():
+        done = run(program, [word])
+        if (done.returncode, done.stderr) != (0, b"") or not done.stdout.decode().startswith(start):
+            yield f"{word}: {done}"
+    empty = run(program, ["-"], b"")
+    if empty.returncode or ">0 entries from position 0, 0 objects" not in empty.stdout.decode():
+        yield f"empty input: {empty}"
+    named = folder / "a\nb"
+    if run(program, [named]).stderr.decode() != f"journal_picture: {folder}/a\\nb: cannot open the journal\n":
+        yield "a path with a control character is shown otherwise"
+    with open("/dev/full", "wb") as full:
+        done = subprocess.run([program, "/dev/null"], stdout=full, stderr=subprocess.PIPE)
+        if (done.returncode, done.stderr) != (3, b"journal_picture: write failed\n"):
+            yield f"a write that fails: {done}"
+
+
+def refusal_differences(program, journal, folder):
+    """The failed allocations after which the program ends otherwise than with the whole picture or an error."""
+    library, mark = preloaded("refuse", folder), folder / "refused"
+    whole = run(program, [journal]).stdout
+    for number in range(1, 10**6):
+        mark.unlink(missing_ok=True)
+        done = run(program, [journal], env=os.environ | {"LD_PRELOAD": str(library), "REFUSED": str(mark), "REFUSE": str(number)})
+        if not mark.exists():
+            return
+        is_told = done.returncode == 3 and done.stderr.endswith((b"out of memory\n", b"cannot open the journal\n"))
+        refused = is_told and whole.startswith(done.stdout)
+        if not refused and (done.returncode, done.stdout) != (0, whole):
+            yield f"allocation {number} of {journal}: {done.returncode}, {done.stderr}, {len(done.stdout)} bytes"
+
+
+def checks(program, folders, scratch):
+    """Each check by its name, with the differences that it finds."""
+    cases = [path for folder in folders for path in sorted(pathlib.Path(folder).glob("*.journal"))]
+    for journal in [path for path in cases if path.with_suffix(".script").exists()] + list(made_journals(scratch)):
+        yield journal, differences(program, journal)
+    for whole, files, stream in pool_journals(scratch):
+        yield whole, segment_differences(program, whole, files, stream)
+        if len(files) > 4:
+            yield "segments that do not continue one another", message_differences(program, broken(scratch, files[1:]))
+    yield "damaged files", message_differences(program, damaged(scratch))
+    yield "arguments", argument_differences(program, scratch)
+    for journal in ("100.journal", "random-1.journal", "pool-400.2"):
+        yield f"failed allocations, {journal}", refusal_differences(program, scratch / journal, scratch)
+
+
 def main(program, folders):
-    wrong, played = [], 0
+    played, wrong = 0, []
     with tempfile.TemporaryDirectory() as scratch:
-        made = []
-        for count in (0, 4, 100, 10_000, 20_000):
-            made.append(pathlib.Path(scratch) / f"{count}.journal")
-            made[-1].write_text("".join(line + "\n" for line in long_journal(count)))
-        journals = [path for folder in folders for path in sorted(pathlib.Path(folder).glob("*.journal"))]
-        for journal in [path for path in journals if path.with_suffix(".script").exists()] + made:
+        for name, found in checks(program, folders, pathlib.Path(scratch)):
+            found = list(found)
             played += 1
-            wrong += [f"{journal}: {difference}" for difference in differences(program, journal)]
-        cut = pathlib.Path(scratch) / "cut"
-        cut.write_text("0 0 borrow 0 = make 0\n0 1 ready 0 good")
-        for arguments, status, line in FAULTS + [([cut], 3, "journal_picture: line 2: truncated\n")]:
-            played += 1
-            done = subprocess.run([program, *arguments], capture_output=True, text=True)
-            if (done.returncode, done.stdout, done.stderr) != (status, "", line):
-                wrong.append(f"{arguments}: {done}")
+            if found:
+                wrong.append(f"{name}: " + "\n  ".join(found[:5]))
     print(*wrong, sep="\n", end="\n" if wrong else "")
-    print(f"{max(played - len(wrong), 0)} passed, {len(wrong)} failed")
+    print(f"{played - len(wrong)} passed, {len(wrong)} failed")
     return 1 if wrong else 0
 
 

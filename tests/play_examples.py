@@ -1,6 +1,6 @@
 #!/usr/bin/env python3
-"""Plays the examples that docs/settings.md names, looks for the journal lines that it shows, and draws the journals whose pictures
-stand in docs/pictures, each under the name of its settings.
+"""Plays the examples that docs/guide/settings.md names, looks for the journal lines that it shows, and draws the journals whose pictures
+stand in docs/pictures, each under the name of its settings, and the overview there of the journal that tests/sample_journal.py writes.
 
 play_examples.py POOL JOURNAL_PICTURE  Both are programs. The last line is 'N passed, M failed'.
 """
@@ -11,26 +11,27 @@ import subprocess
 import sys
 import tempfile
 
+from sample_journal import Sample
+
 TOP = pathlib.Path(__file__).resolve().parent.parent
+PICTURES = TOP / "docs/pictures"
 
 
 def rows():
     """Settings, script, and the lines to look for, by the table of the page."""
-    for line in (TOP / "docs/settings.md").read_text().splitlines():
+    for line in (TOP / "docs/guide/settings.md").read_text().splitlines():
         named = re.findall(r"`([^`]+)`", line)
         if line.startswith("| `examples/"):
             yield named[0], named[1], [words for words in named[2:] if " = " in words]
 
 
-def is_drawn(picture, settings, journal):
-    """Whether the picture of an example that stands in docs/pictures, if one does, is that of its journal."""
-    stands = TOP / "docs/pictures" / pathlib.Path(settings).with_suffix(".svg").name
-    if not stands.exists():
-        return True
+def is_drawn(picture, name, journal):
+    """Whether the picture of this name that stands in docs/pictures is that of the journal."""
     with tempfile.NamedTemporaryFile("w") as file:
         file.write(journal)
         file.flush()
-        return subprocess.run([picture, file.name], capture_output=True, text=True).stdout == stands.read_text()
+        drawn = subprocess.run([picture, file.name], capture_output=True, text=True).stdout
+    return drawn == (PICTURES / f"{name}.svg").read_text()
 
 
 def main(program, picture):
@@ -39,14 +40,18 @@ def main(program, picture):
     for settings, script, lines in rows():
         played += 1
         named |= {settings, script}
+        name = pathlib.Path(settings).stem
         done = subprocess.run([program, "run", TOP / settings, TOP / script], capture_output=True, text=True)
         found = done.stdout.splitlines()
         if done.returncode or done.stderr or not lines or not set(lines) <= set(found):
             wrong.append(f"{settings} on {script}: wanted {lines}, got {found}, {done.stderr!r}, status {done.returncode}")
-        elif not is_drawn(picture, settings, done.stdout):
+        elif (PICTURES / f"{name}.svg").exists() and not is_drawn(picture, name, done.stdout):
             wrong.append(f"{settings}: docs/pictures has another picture")
+    played += 1
+    if not is_drawn(picture, "overview", Sample().play().decode()):
+        wrong.append("docs/pictures/overview.svg is another picture than that of tests/sample_journal.py")
     unnamed = {f"examples/{path.name}" for path in (TOP / "examples").iterdir()} - named
-    wrong += [f"{name}: docs/settings.md doesn't tell what it shows" for name in sorted(unnamed)]
+    wrong += [f"{name}: docs/guide/settings.md doesn't tell what it shows" for name in sorted(unnamed)]
     print(*wrong, sep="\n", end="\n" if wrong else "")
     print(f"{max(played - len(wrong), 0)} passed, {len(wrong)} failed")
     return 1 if wrong else 0

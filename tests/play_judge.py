@@ -11,8 +11,10 @@ with the lines that were written of the one before it.
   they must be legal exactly where the verdict says so; where it does, what is written of each must be the lines of the next one's base.
 - Three segments are damaged: in each place a byte is changed, dropped or doubled. Joined, they must be legal exactly where those of
   tests/pool_model.py are, and where `POOL check` over all of them says so.
-- The commands of docs/audits.md that judge segments and join them are run on those of FOLDER: they must find them legal where the verdict does.
-- Other arguments, and files that aren't there or give no settings, must have their status and their line.
+- The commands of docs/guide/audits.md that check segments and join them are run on those of FOLDER: they must find them legal where the verdict does.
+  The command for GNU parallel is run here for each segment, and so is the array job for each of its tasks.
+- Other arguments, requests for help or the version, and files that cannot be opened, read or taken, must have the line, which names the file,
+  and the status that crates/judge/specs/Messages.antt says.
 - Segments of FOLDER that another one follows are judged once for each allocation, which is refused then: nothing is written, the status is 3 and
   the line tells of memory, as no other fault; or all is written, where it can do without what was refused.
 
@@ -22,19 +24,19 @@ Prints what differs, and in the end the line 'N passed, M failed'.
 import itertools
 import os
 import pathlib
+import re
 import subprocess
 import sys
 import tempfile
 
+from argument_rules import version
 from play_commands import TOP, blocks, commands
 from play_damaged import Chance
 from play_segments import THREE, damaged, told_by
 from pool_model import settings_of, verdict_of_segments
 from preloading import preloaded
 
-
-# What is told where an allocation was refused: by whom it was asked for.
-WANTING = {b"judge: out of memory\n", b"pool: out of memory\n", b"pool: base: out of memory\n"}
+MEMORY = b"out of memory\n"
 
 
 def run(*command, **variables):
@@ -93,21 +95,36 @@ def of_case(judge, verdict, paths, chance):
     return None
 
 
+def scripts_of_page():
+    """The page's ways to check all segments, each with its join: by processes, by the command for GNU parallel, and by the array job; and that job."""
+    page = TOP / "docs/guide/audits.md"
+    shown = [command for block in blocks(page) for command in commands(block)]
+    made, processes, *join = shown[shown.index("mkdir reached") :]
+    parallel, job = re.findall(r"^```sh\n(.*?)^```$", page.read_text(), flags=re.MULTILINE | re.DOTALL)
+    there = parallel.split("'")[1].replace("{/}", "${segment##*/}").replace("{}", "$segment")
+    task = "SLURM_ARRAY_TASK_ID=$((task += 1)) sh judge.job"
+    by_parallel = [f"for segment in archived/segment-*; do {there}; done"]
+    by_tasks = ["ls archived/segment-* > segments", f"for segment in archived/segment-*; do {task}; done"]
+    return ["\n".join([made, *way, *join]) for way in ([processes], by_parallel, by_tasks)], job
+
+
 def of_page(judge, folder):
-    shown = [command for block in blocks(TOP / "docs/audits.md") for command in commands(block)]
-    script = "\n".join(shown[shown.index("mkdir reached") :])
+    scripts, job = scripts_of_page()
     for verdict in sorted(folder.glob("*.verdict")):
         paths = sorted(folder.glob(f"{verdict.stem}.*.journal"), key=lambda path: int(path.suffixes[0][1:]))
-        yield lambda verdict=verdict, paths=paths: of_commands(judge, script, verdict, [path.read_bytes() for path in paths])
+        for script in scripts:
+            yield lambda verdict=verdict, paths=paths, script=script: of_commands(judge, script, job, verdict, [path.read_bytes() for path in paths])
 
 
-def of_commands(judge, script, verdict, segments):
-    """Judges and joins segments by the page's commands. A first one without a base gets the line of the base before all entries."""
+def of_commands(judge, script, job, verdict, segments):
+    """Checks and joins segments by the page's commands. A first one without a base gets the line of the base before all entries."""
     with tempfile.TemporaryDirectory() as name:
         room = pathlib.Path(name)
         for made in ("archived", "crates/judge/out"):
             (room / made).mkdir(parents=True)
-        (room / "crates/judge/out/judge").symlink_to(pathlib.Path(judge).resolve())
+        for place in ("crates/judge/out/judge", "judge"):
+            (room / place).symlink_to(pathlib.Path(judge).resolve())
+        (room / "judge.job").write_text(job)
         (room / "archived/archive.toml").write_bytes(verdict.with_suffix(".toml").read_bytes())
         for index, text in enumerate(segments):
             bare = index == 0 and not text.startswith(b"pool-journal")
@@ -144,30 +161,63 @@ def of_segments(judge, pool, name, settings, segments, is_legal):
     return None
 
 
+# Files by their names: what `judge FILE segment` prints of those that give no settings, ..
+SETTINGS = {
+    "bad.toml": (b"maxTotal = many\n", "settings: not TOML"),
+    "bytes.toml": (b"\xff", "settings: not TOML"),
+    "long.toml": (b"#".ljust(1_048_577, b"c"), "settings: too long"),
+    "key.toml": (b"maxTotl = 8\n", "settings: unknown key maxTotl"),
+    "type.toml": (b"lifo = 1\n", "settings: wrong type lifo"),
+    "range.toml": (b"minIdle = -1\n", "settings: out of range minIdle"),
+}
+
+# .. and what `judge SETTINGS FILE` prints of those that are no legal segment, with the status.
+SEGMENTS = {
+    "gone": (THREE[0].replace(b"check", b"gone"), "illegal 2", 1),
+    "base": (b"pool-journal 2 0 1 open none 0 0 0 0\n", "base: not a base", 1),
+    "two\nlines": (b"0 1 borrow\n", "line 1: not a line", 3),
+    "number": (THREE[0] + b"0 1 borrow 01 = wait\n", f"line {THREE[0].count(10) + 1}: bad number", 3),
+    "long": (b"a" * 300, "line 1: line too long", 3),
+    "cut": (THREE[0][:-1], f"line {THREE[0].count(10)}: truncated", 3),
+}
+
+WRONG = b"judge: wrong arguments, try judge --help\n"
+
+
+def line(path, told):
+    """The line that names a file and what is wrong with it."""
+    return f"judge: {path}: {told}\n".replace("two\nlines", "two\\nlines").encode()
+
+
 def of_uses(judge, settings):
-    """Uses that are refused, each with its line and its status."""
+    """Uses that end otherwise than with a base, each with its output, its line and its status."""
     with tempfile.TemporaryDirectory() as room:
-        bad = pathlib.Path(room) / "bad.toml"
-        bad.write_text("maxTotal = many\n")
-        segment = pathlib.Path(room) / "segment"
-        segment.write_bytes(THREE[0].replace(b"check", b"gone"))
-        other = pathlib.Path(room) / "other"
-        other.write_bytes(b"pool-journal 2 0 1 open none 0 0 0 0\n")
+        for name, (text, *_) in {**SETTINGS, **SEGMENTS}.items():
+            (pathlib.Path(room) / name).write_bytes(text)
+        small = pathlib.Path(room) / "small.toml"
+        small.write_text("journalLimit = 2\n")
+        lost, good = f"{room}/none", f"{room}/gone"
         uses = [
-            ([], b"judge: wrong arguments\n", 2),
-            ([settings], b"judge: wrong arguments\n", 2),
-            ([settings, segment, segment], b"judge: wrong arguments\n", 2),
-            ([f"{room}/none", segment], b"judge: cannot open the settings\n", 3),
-            ([settings, f"{room}/none"], b"pool: read failed\n", 3),
-            ([settings, segment], b"pool: illegal 2\n", 1),
-            ([settings, other], b"pool: base: not a base\n", 1),
-            ([settings, bad], b"pool: line 1: not a line\n", 3),
+            *(([f"{room}/{name}", good], line(f"{room}/{name}", told), 3) for name, (_, told) in SETTINGS.items()),
+            *(([settings, f"{room}/{name}"], line(f"{room}/{name}", told), status) for name, (_, told, status) in SEGMENTS.items()),
+            *((words, WRONG, 2) for words in ([], [settings], [settings, good, good], ["help"], ["--version", "--help", "-h"])),
+            ([lost, good], f"judge: cannot open {lost}\n".encode(), 3),
+            ([settings, lost], f"judge: cannot open {lost}\n".encode(), 3),
+            (["--help", good], b"judge: cannot open --help\n", 3),
+            ([room, good], line(room, "read failed"), 3),
+            ([settings, room], line(room, "read failed"), 3),
+            ([small, good], line(good, "line 2: journal full"), 3),
         ]
         wrong = [f"{words}: {run(judge, *words)}" for words, told, status in uses if run(judge, *words) != (b"", told, status)]
-        refused = run(judge, bad, segment)
-        if refused[0] or refused[2] != 3 or not refused[1].startswith(b"pool: settings"):
-            wrong.append(f"settings: {refused}")
+    wrong += [f"{word}: {run(judge, word)}" for word in ("--version", "-V") if run(judge, word) != (version().replace(b"pool", b"judge"), b"", 0)]
+    wrong += [f"{word}: {run(judge, word)}" for word in ("--help", "-h") if not is_help(*run(judge, word))]
     return "; ".join(wrong) or None
+
+
+def is_help(output, told, status):
+    """Whether an output is the uses of the program, each in some words."""
+    uses = [line.partition("  ")[0] for line in output.decode().splitlines() if line.startswith("judge ")]
+    return (uses, told, status) == (["judge SETTINGS SEGMENT", "judge --help", "judge --version"], b"", 0)
 
 
 def of_refusals(judge, folder, library, room):
@@ -189,7 +239,7 @@ def of_wanting(command, wanted, library, mark):
         is_whole = (written, told, status) == (wanted, b"", 0)
         if not mark.exists():
             return None if is_whole and number > 1 else f"{command[2]}, no allocation refused: {status}, {told}, {written}"
-        if not is_whole and (written or status != 3 or told not in WANTING):
+        if not is_whole and (written or status != 3 or not told.startswith(b"judge: ") or not told.endswith(MEMORY)):
             return f"{command[2]}, allocation {number}: {status}, {told}, {written}"
         if is_whole and number == 1:
             return f"{command[2]}: it did without its first allocation"

@@ -279,10 +279,20 @@ def play_loads(play):
     play.expect(["load", "defaults.toml", "1", "1000"], load_lines(1, 1000, 0, 1000, 1000, 1, 1, 0, 0, 0, 1, 1000), b"", 0)
     play.expect(["load", "no_objects.toml", "3", "5"], load_lines(3, 5, 15, 0, 0, 0, 0, 0, 0, 0, 0, 0), b"", 0)
     play.expect(["load", "seven_entries.toml", "1", "2"], b"", *fault("journal full"))
+    play_largest_loads(play)
     play.expect(["load", "two_entries.toml", "1023", "1000000"], b"", *fault("journal full"))
     play_many_workers(play, "four_objects.toml", 4, 10)
     play_many_workers(play, "small.toml", 3, 7)
     play_many_workers(play, "defaults.toml", 100, 3)
+
+
+def play_largest_loads(play):
+    """The loads that docs/guide/program.md says the default limit holds, and one round more of the first."""
+    most = 249_999
+    play.expect(["load", "defaults.toml", "1", str(most)], load_lines(1, most, 0, most, most, 1, 1, 0, 0, 0, 1, most), b"", 0)
+    play.expect(["load", "defaults.toml", "1", str(most + 1)], b"", *fault("journal full"))
+    play_many_workers(play, "defaults.toml", 8, 249_995 // 8)
+    play_many_workers(play, "defaults.toml", 9, 199_996 // 9)
 
 
 def play_many_workers(play, settings, workers, rounds):

@@ -1,9 +1,11 @@
 #!/usr/bin/env python3
-"""Has the program judge a journal that comes slowly, and sees that a terminal is told how far it is, and nothing else is.
+"""Sees what the program tells a terminal, and nothing else: how far it is, and hints after the line of an error.
 
     play_terminal.py POOL
 
-POOL is the program. Standard error is a terminal of the test's own, or a pipe; the journal comes from a pipe with a name.
+POOL is the program. Standard error is a terminal of the test's own, or a pipe. It judges a journal that comes slowly, from a pipe with a
+name; and it is used with wrong arguments and with files that have errors. At a terminal the lines of an error must be those that
+crates/pool/specs/Hints.antt says, and to a pipe the first of them.
 
 Prints each case that differs, and in the end the line 'N passed, M failed'.
 """
@@ -29,6 +31,67 @@ WIPED = b"\r\x1b[K"
 NOTHING = re.compile(b"")
 
 TOLD = re.compile(rb"(\rpool: \d+ MB)+" + re.escape(WIPED))
+
+
+LIFE = b"""0 10 borrow 10 = make 0
+0 11 ready 0 good = lent
+0 15 return 0 = check
+0 16 park 0 good = parked
+"""
+
+SEGMENT = b"pool-journal 2 4 1 open none 0 0 0 1\n0 idle 3 16 11 11 old\n0 20 borrow 20 = take 0\n"
+
+FILES = {
+    "defaults.toml": b"",
+    "two.toml": b"journalLimit = 2\n",
+    "bad.toml": b"maxTotal = 1\n\nminIdle =\n",
+    "key.toml": b"maxTotal = 1\nmaxTotl = 8\n",
+    "bytes.toml": b"lifo = true # \xff\n",
+    "script": b"0 0 borrow 0\n",
+    "journal": LIFE,
+    "segment": SEGMENT,
+    "joined": LIFE + SEGMENT,
+    "returns": LIFE.replace(b"\n", b"\r\n"),
+    "two\nlines": b"x\n",
+    "worse": SEGMENT + b"x\n",
+    "long": b"a" * 300,
+    "number": b"0 1 borrow 01 = wait\n",
+    "cut": LIFE[:-1],
+}
+
+USES = "try pool --help"
+SWAPPED = "this is a script or a journal: SETTINGS comes first"
+LIMIT = "a larger journalLimit in the settings makes room"
+
+# Words, and the lines of the error at a terminal. Each but the first is a hint.
+HINTS = [
+    ("play", ["wrong arguments", USES]),
+    ("load defaults.toml x 1", ["wrong arguments", USES]),
+    ("load defaults.toml 0 1", ["wrong arguments", "WORKERS is 1 to 1023, and ROUNDS is 1 to 1000000"]),
+    ("--help", ["wrong arguments"]),
+    ("run -h", ["wrong arguments"]),
+    ("--version", ["wrong arguments"]),
+    ("run missing script", ["cannot open missing"]),
+    ("run script defaults.toml", ["settings: not TOML", "in script, line 1", SWAPPED]),
+    ("check journal defaults.toml", ["settings: not TOML", "in journal, line 1", SWAPPED]),
+    ("check segment defaults.toml", ["settings: not TOML", "in segment, line 1", SWAPPED]),
+    ("run bad.toml script", ["settings: not TOML", "in bad.toml, line 3"]),
+    ("run key.toml script", ["settings: unknown key maxTotl", "in key.toml"]),
+    ("load bytes.toml 1 1", ["settings: not TOML", "in bytes.toml", "settings are UTF-8"]),
+    ("check folder journal", ["read failed", "in folder"]),
+    ("run defaults.toml journal", ["line 1: not a line", "in journal", "this line of a journal has an answer: pool check and pool stats take a journal"]),
+    ("check defaults.toml script", ["line 1: not a line", "in script", "this line of a script has no answer: pool run plays a script"]),
+    ("check defaults.toml joined", ["line 5: not a line", "in joined", "a segment begins here: pool check takes each segment as a file of its own"]),
+    ("stats returns", ["line 1: not a line", "in returns", "this line ends with a carriage return and a line feed, and not with a line feed alone"]),
+    ("stats two\nlines", ["line 1: not a line", "in two\\nlines"]),
+    ("check defaults.toml long", ["line 1: line too long", "in long", "a line has at most 256 bytes"]),
+    ("stats number", ["line 1: bad number", "in number", "a number has no leading zero, and a caller is at most 4294967295"]),
+    ("check defaults.toml cut", ["line 4: truncated", "in cut", "the last line has no line feed"]),
+    ("check defaults.toml journal worse", ["line 4: not a line", "in worse"]),
+    ("stats folder", ["read failed", "in folder"]),
+    ("run two.toml script", ["line 1: journal full", "in script", LIMIT]),
+    ("load two.toml 1 1", ["journal full", LIMIT]),
+]
 
 
 def feed(path, pieces, last):
@@ -68,6 +131,28 @@ def judge(pool, folder, pieces, last, at_terminal):
     return output, told, run.returncode
 
 
+def used(pool, folder, words, at_terminal):
+    """What the program writes to standard error if it is used with these words."""
+    ours, theirs = pty.openpty() if at_terminal else os.pipe()
+    run = subprocess.Popen([pool, *words.split(" ")], cwd=folder, stdin=subprocess.DEVNULL, stdout=subprocess.DEVNULL, stderr=theirs)
+    os.close(theirs)
+    told = read_all(ours)
+    os.close(ours)
+    run.wait(60)
+    return told
+
+
+def hint_cases(pool, folder):
+    """Each use with an error, what it must tell a terminal or a pipe, and what it tells."""
+    for name, contents in FILES.items():
+        (folder / name).write_bytes(contents)
+    (folder / "folder").mkdir()
+    for words, (first, *hints) in HINTS:
+        lines = [f"pool: {first}", *(f"  {hint}" for hint in hints)]
+        yield f"{words}, at a terminal", used(pool, folder, words, True), "".join(f"{line}\r\n" for line in lines).encode()
+        yield f"{words}, to a pipe", used(pool, folder, words, False), f"{lines[0]}\n".encode()
+
+
 def is_right(got, wanted):
     """Whether what was written and the status are as wanted: to standard error what tells how far it is, and then a fault."""
     output, told, status = got
@@ -80,7 +165,7 @@ def main(pool):
     pool = str(pathlib.Path(pool).resolve())
     wrong = ENTRY.replace(b"refused notlent", b"gone")
     legal, illegal = b"legal %d\n" % (3 * PIECE), b"illegal %d refused notlent\n" % (3 * PIECE)
-    fault = b"pool: line %d: not a line\r\n" % (3 * PIECE + 1)
+    fault = b"pool: line %d: not a line\r\n  in journal\r\n" % (3 * PIECE + 1)
     with tempfile.TemporaryDirectory() as made:
         folder = pathlib.Path(made)
         cases = [
@@ -90,9 +175,12 @@ def main(pool):
             ("to a pipe", judge(pool, folder, 2, b"", False), (b"legal %d\n" % (2 * PIECE), NOTHING, b"", 0)),
             ("quick", judge(pool, folder, 1, b"", True), (b"legal %d\n" % PIECE, NOTHING, b"", 0)),
         ]
+    with tempfile.TemporaryDirectory() as made:
+        hints = list(hint_cases(pool, pathlib.Path(made)))
     wrong_ones = [f"{name}: {got}" for name, got, wanted in cases if not is_right(got, wanted)]
+    wrong_ones += [f"{name}: {got}, and should be {wanted}" for name, got, wanted in hints if got != wanted]
     print(*wrong_ones, sep="\n", end="\n" if wrong_ones else "")
-    print(f"{len(cases) - len(wrong_ones)} passed, {len(wrong_ones)} failed")
+    print(f"{len(cases) + len(hints) - len(wrong_ones)} passed, {len(wrong_ones)} failed")
     return 1 if wrong_ones else 0
 
 

@@ -15,9 +15,9 @@ enum Line {
 impl Line {
     fn count_in(self, sample: &Sample) -> u64 {
         match self {
-            Line::Idle => sample.idle,
-            Line::Lent => sample.lent,
-            Line::Reserved => sample.reserved,
+            Line::Idle => sample.counts.idle,
+            Line::Lent => sample.counts.lent,
+            Line::Reserved => sample.counts.reserved,
         }
     }
 
@@ -61,9 +61,9 @@ fn highest_of(samples: &[Sample]) -> u64 {
     let mut highest = 1;
     for sample in samples {
         highest = highest
-            .max(sample.idle)
-            .max(sample.lent)
-            .max(sample.reserved);
+            .max(sample.counts.idle)
+            .max(sample.counts.lent)
+            .max(sample.counts.reserved);
     }
     highest
 }

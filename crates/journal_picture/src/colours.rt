@@ -18,10 +18,13 @@ impl fmt::Display for Fill {
     }
 }
 
-/// The colour of a bar. Callers whose numbers are near have hues that are far apart.
-pub(crate) fn fill_of(phase: Phase, caller: u32) -> Fill {
+/// The colour of a bar. Callers whose numbers are near have hues that are far apart. Where the caller is not known, a loan is grey.
+pub(crate) fn fill_of(phase: Phase, caller: Option<u32>) -> Fill {
     match phase {
-        Phase::Lent => Fill::Hue(caller % 360 * 137 % 360, 65, 70),
+        Phase::Lent => match caller {
+            Some(caller) => Fill::Hue(caller % 360 * 137 % 360, 65, 70),
+            None => Fill::Grey(80),
+        },
         Phase::Idle => Fill::Hue(215, 45, 90),
         Phase::Testing => Fill::Hue(215, 45, 70),
         Phase::Readying => Fill::Hue(48, 75, 85),

@@ -43,8 +43,9 @@ fn draw_head<W: Write>(out: &mut W, history: &History, layout: &Layout) -> io::R
     writeln!(out, "<rect width=\"100%\" height=\"100%\" fill=\"white\"/>")?;
     writeln!(
         out,
-        "<text x=\"10\" y=\"22\" font-size=\"15\">{} entries, {} objects, moments {} to {} ms</text>",
+        "<text x=\"10\" y=\"22\" font-size=\"15\">{} entries from position {}, {} objects, times {} to {} ms</text>",
         history.entries,
+        history.position,
         history.objects.len(),
         history.first,
         history.last
@@ -55,9 +56,6 @@ fn draw_head<W: Write>(out: &mut W, history: &History, layout: &Layout) -> io::R
 /// What has no place in the picture.
 fn draw_omissions<W: Write>(out: &mut W, history: &History, layout: &Layout) -> io::Result<()> {
     write!(out, "<text x=\"10\" y=\"40\" fill=\"#a00000\">")?;
-    if history.told < history.entries {
-        write!(out, "drawn are the first {} entries. ", history.told)?;
-    }
     if layout.objects < history.objects.len() {
         write!(
             out,
@@ -84,7 +82,7 @@ fn draw_legend<W: Write>(out: &mut W) -> io::Result<()> {
         writeln!(
             out,
             "<rect x=\"{x}\" y=\"52\" width=\"14\" height=\"{BAR}\" fill=\"{}\" stroke=\"#808080\"/><text x=\"{}\" y=\"63\">{phase:?}</text>",
-            fill_of(phase, 0),
+            fill_of(phase, Some(0)),
             x.saturating_add(20)
         )?;
         x = x.saturating_add(100);
@@ -95,7 +93,7 @@ fn draw_legend<W: Write>(out: &mut W) -> io::Result<()> {
     )
 }
 
-/// The moments, with a line down from each.
+/// The times, with a line down from each.
 fn draw_axis<W: Write>(out: &mut W, layout: &Layout, scale: &Scale) -> io::Result<()> {
     for number in 0..12 {
         let Some(at) = scale.tick(number) else {
@@ -111,7 +109,7 @@ fn draw_axis<W: Write>(out: &mut W, layout: &Layout, scale: &Scale) -> io::Resul
     }
     writeln!(
         out,
-        "<text x=\"{LEFT}\" y=\"{}\">moments, in milliseconds</text>",
+        "<text x=\"{LEFT}\" y=\"{}\">time, in milliseconds</text>",
         layout.axis.saturating_add(32)
     )
 }
@@ -146,7 +144,7 @@ fn draw_waits<W: Write>(
             scale.place_of(wait.from),
             lane_top(layout.waits_top, number),
             scale.width_of(wait.from, wait.until),
-            fill_of(Phase::Lent, wait.caller),
+            fill_of(Phase::Lent, Some(wait.caller)),
             wait.caller,
             wait.from,
             wait.until
@@ -191,26 +189,27 @@ fn draw_bars<W: Write>(
 fn draw_bar<W: Write>(out: &mut W, bar: &Bar, top: u64, scale: &Scale) -> io::Result<()> {
     let x = scale.place_of(bar.from);
     let width = scale.width_of(bar.from, bar.until);
-    writeln!(
+    write!(
         out,
-        "<rect x=\"{x}\" y=\"{top}\" width=\"{width}\" height=\"{BAR}\" fill=\"{}\"><title>object {}: {:?}, by caller {}, {} to {} ms</title></rect>",
+        "<rect x=\"{x}\" y=\"{top}\" width=\"{width}\" height=\"{BAR}\" fill=\"{}\"><title>object {}: {:?}, ",
         fill_of(bar.phase, bar.caller),
         bar.object,
-        bar.phase,
-        bar.caller,
-        bar.from,
-        bar.until
+        bar.phase
     )?;
-    if bar.phase == Phase::Lent && has_room(width, bar.caller) {
-        writeln!(
-            out,
-            "<text x=\"{}\" y=\"{}\">{}</text>",
-            x.saturating_add(3),
-            top.saturating_add(11),
-            bar.caller
-        )?;
+    match bar.caller {
+        Some(caller) => write!(out, "by caller {caller}")?,
+        None => write!(out, "since before the first entry")?,
     }
-    Ok(())
+    writeln!(out, ", {} to {} ms</title></rect>", bar.from, bar.until)?;
+    match bar.caller {
+        Some(caller) if bar.phase == Phase::Lent && has_room(width, caller) => writeln!(
+            out,
+            "<text x=\"{}\" y=\"{}\">{caller}</text>",
+            x.saturating_add(3),
+            top.saturating_add(11)
+        ),
+        _ => Ok(()),
+    }
 }
 
 /// Whether a number of a caller can be read in a bar so wide.

@@ -1,44 +1,49 @@
+use crate::joint::Break;
 use pool_journal::LineFault;
+use pool_settings::Escaped;
 use std::alloc::AllocError;
-use std::io;
+use std::fmt::Formatter;
 use std::io::ErrorKind;
+use std::{fmt, io};
 use thiserror::Error;
 
 const WRONG_ARGUMENTS: u8 = 2;
 
 const FAULT: u8 = 3;
 
-/// Why no picture was drawn.
+/// Why a file was not read.
 #[derive(Clone, Copy, Debug, Error)]
-pub(crate) enum Fault {
-    #[error("wrong arguments")]
-    WrongArguments,
-    /// The journal can't be opened or read.
-    #[error("cannot read the journal")]
+pub(crate) enum Cause {
+    #[error("cannot open the journal")]
+    NotOpened,
+    #[error("read failed")]
     NotRead,
-    /// The line of this number, from 1, is no line of a journal.
+    /// The line with this number, from 1, is none of a journal.
     #[error("line {0}: {1}")]
     Line(u64, LineFault),
-    #[error("write failed")]
-    NotWritten,
+    /// The segment whose first line, or whose object, is at this line does not continue the one before it.
+    #[error("line {0}: the segment does not begin where the one before it ends: {1}")]
+    Segment(u64, Break),
     #[error("out of memory")]
     OutOfMemory,
 }
 
-impl Fault {
-    /// Why the arguments weren't read: those that aren't text name no file.
-    pub(crate) fn of_arguments(cause: &io::Error) -> Fault {
+/// Why no picture was drawn.
+#[derive(Clone, Copy, Debug)]
+pub(crate) enum Fault<'a> {
+    WrongArguments,
+    /// The file at this path was not read.
+    Journal(&'a str, Cause),
+    NotWritten,
+    OutOfMemory,
+}
+
+impl<'a> Fault<'a> {
+    /// Why the arguments were not read: those that are not text name no file.
+    pub(crate) fn of_arguments(cause: &io::Error) -> Fault<'a> {
         match cause.kind() {
             ErrorKind::OutOfMemory => Fault::OutOfMemory,
             _ => Fault::WrongArguments,
-        }
-    }
-
-    /// Why the journal wasn't read.
-    pub(crate) fn of_file(cause: &io::Error) -> Fault {
-        match cause.kind() {
-            ErrorKind::OutOfMemory => Fault::OutOfMemory,
-            _ => Fault::NotRead,
         }
     }
 
@@ -51,8 +56,27 @@ impl Fault {
     }
 }
 
-impl From<AllocError> for Fault {
-    fn from(_: AllocError) -> Fault {
+impl fmt::Display for Fault<'_> {
+    fn fmt<W: fmt::Write>(&self, f: &mut Formatter<W>) -> fmt::Result {
+        match self {
+            Fault::WrongArguments => f.write_str("wrong arguments; try journal_picture --help"),
+            Fault::Journal(path, cause) => write!(f, "{}: {cause}", Escaped::new(path)),
+            Fault::NotWritten => f.write_str("write failed"),
+            Fault::OutOfMemory => f.write_str("out of memory"),
+        }
+    }
+}
+
+impl std::error::Error for Fault<'_> {}
+
+impl<'a> From<AllocError> for Fault<'a> {
+    fn from(_: AllocError) -> Fault<'a> {
         Fault::OutOfMemory
+    }
+}
+
+impl From<AllocError> for Cause {
+    fn from(_: AllocError) -> Cause {
+        Cause::OutOfMemory
     }
 }

@@ -1,48 +1,131 @@
-//! Draws a journal: `journal_picture JOURNAL > picture.svg`.
+//! Draws journals: `journal_picture JOURNAL.. > picture.svg`.
 //!
-//! The picture has a lane for each object, with a bar for each phase that it was in, lent ones in the colour of
-//! their caller; the waits of borrowers above, and the counts of objects below. It judges nothing, and draws any
-//! entries. The status is 0, 2 for any other arguments, and 3 at a fault, which is told in one line on standard
-//! error.
+//! Up to 10,000 entries the picture has a lane for each object, with a bar for each phase that it was in, lent ones in the
+//! colour of their caller; the waits of borrowers above, and the counts of objects below. A longer journal gets an overview:
+//! the counts over time in at most 1,000 buckets, the distributions of waits and loans, the longest loans, and the objects
+//! that are held at the end. It is read once, and memory is taken for its objects and for the buckets.
+//!
+//! A journal may stand in one file or in several, as segments, of which each must begin where the one before it ends. It is not
+//! checked otherwise: any entries are drawn. The status is 0, 2 for wrong arguments, and 3 at an error, which is reported in one
+//! line on standard error.
 #![tactic(auto)]
 
+mod areas;
+mod arguments;
+mod buckets;
 mod charting;
 mod colours;
+mod counts;
+mod distribution;
 mod drawing;
 mod fault;
+mod help;
 mod history;
+mod incoming;
+mod joint;
+mod journal;
 mod layout;
+mod loans;
+mod mark_rows;
+mod marks;
 mod moves;
+mod overview;
+mod overview_drawing;
+mod panel;
 mod reading;
 mod scale;
+mod state;
 mod telling;
+mod time_axis;
 
+use arguments::{Task, task_of};
 use drawing::draw;
-use fault::Fault;
-use reading::read_history;
+use fault::{Cause, Fault};
+use help::{USES, VERSION};
+use journal::{Journal, Parts};
+use overview_drawing::draw_overview;
+use reading::read_file;
+use std::env;
+use std::fs::File;
 use std::io::{self, BufWriter, Write};
 use std::process::ExitCode;
-use std::{env, fs};
 
 fn main(rt: HostRuntime) -> ExitCode {
-    match picture(&rt) {
-        Ok(()) => ExitCode::SUCCESS,
-        Err(fault) => {
-            let _ = eprintln!(rt; "journal_picture: {fault}");
-            ExitCode::from(fault.status())
-        }
+    match arguments_of(&rt) {
+        Ok(words) => match perform(&rt, &words) {
+            Ok(()) => ExitCode::SUCCESS,
+            Err(fault) => refuse(&rt, &fault),
+        },
+        Err(fault) => refuse(&rt, &fault),
     }
 }
 
-fn picture(rt: &HostRuntime) -> Result<(), Fault> {
-    let words = env::args(rt).map_err(|cause| Fault::of_arguments(&cause))?;
-    let words: Vec<String> = words.collect(rt.alloc())?;
-    let [_, journal] = words.as_slice() else {
-        return Err(Fault::WrongArguments);
+/// Reports an error on standard error.
+fn refuse(rt: &HostRuntime, fault: &Fault<'_>) -> ExitCode {
+    let _ = eprintln!(rt; "journal_picture: {fault}");
+    ExitCode::from(fault.status())
+}
+
+/// The program's name and the words after it.
+fn arguments_of<'a>(rt: &HostRuntime) -> Result<Vec<String>, Fault<'a>> {
+    match env::args(rt) {
+        Ok(words) => Ok(words.collect(rt.alloc())?),
+        Err(cause) => Err(Fault::of_arguments(&cause)),
+    }
+}
+
+fn perform<'a>(rt: &HostRuntime, words: &'a [String]) -> Result<(), Fault<'a>> {
+    match task_of(words) {
+        Some(Task::Help) => write_text(rt, USES),
+        Some(Task::Version) => write_text(rt, VERSION),
+        Some(Task::Draw(paths)) => picture(rt, paths),
+        None => Err(Fault::WrongArguments),
+    }
+}
+
+fn write_text<'a>(rt: &HostRuntime, text: &str) -> Result<(), Fault<'a>> {
+    let mut out = rt.stdout();
+    match out.write_all(text.as_bytes()) {
+        Ok(()) => Ok(()),
+        Err(_) => Err(Fault::NotWritten),
+    }
+}
+
+/// Draws the journal in the files at these paths.
+fn picture<'a>(rt: &HostRuntime, paths: &'a [String]) -> Result<(), Fault<'a>> {
+    let mut journal = Journal::new(rt.alloc());
+    for path in paths {
+        let path = path.as_str();
+        if let Err(cause) = read_path(rt, &mut journal, path) {
+            return Err(Fault::Journal(path, cause));
+        }
+    }
+    let parts = journal.into_parts(rt.alloc())?;
+    let mut out = match BufWriter::new(rt.alloc(), io::writer(rt)) {
+        Ok(out) => out,
+        Err(_) => return Err(Fault::OutOfMemory),
     };
-    let text = fs::read(rt, journal.as_str()).map_err(|cause| Fault::of_file(&cause))?;
-    let history = read_history(rt.alloc(), &text)?;
-    let mut out = BufWriter::new(rt.alloc(), io::writer(rt)).map_err(|_| Fault::OutOfMemory)?;
-    draw(&mut out, &history).map_err(|_| Fault::NotWritten)?;
-    out.flush().map_err(|_| Fault::NotWritten)
+    match write_picture(&mut out, &parts) {
+        Ok(()) => Ok(()),
+        Err(_) => Err(Fault::NotWritten),
+    }
+}
+
+fn write_picture<W: Write>(out: &mut W, parts: &Parts) -> io::Result<()> {
+    match parts {
+        Parts::Lanes(history) => draw(out, history)?,
+        Parts::Overview(overview, held) => draw_overview(out, overview, held)?,
+    }
+    out.flush()
+}
+
+/// Reads the file at a path, or standard input if the path is `-`.
+fn read_path(rt: &HostRuntime, journal: &mut Journal, path: &str) -> Result<(), Cause> {
+    if path == "-" {
+        return read_file(rt.alloc(), journal, rt.stdin());
+    }
+    match File::open(rt, path) {
+        Ok(file) => read_file(rt.alloc(), journal, file),
+        Err(_) => Err(Cause::NotOpened),
+    }
 }

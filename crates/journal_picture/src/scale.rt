@@ -15,9 +15,14 @@ pub(crate) struct Scale {
 impl Scale {
     /// The time of a history, from `left` on and `width` wide.
     pub(crate) fn of(history: &History, left: u64, width: u64) -> Scale {
+        Scale::over(history.first, history.last, left, width)
+    }
+
+    /// The time from `first` to `last`, from `left` on and `width` wide.
+    pub(crate) fn over(first: u64, last: u64, left: u64, width: u64) -> Scale {
         Scale {
-            first: history.first,
-            span: history.last.saturating_sub(history.first).max(1),
+            first,
+            span: last.saturating_sub(first).max(1),
             left,
             width,
         }
@@ -39,24 +44,9 @@ impl Scale {
             .max(1)
     }
 
-    /// How far the ticks of the axis are apart: 1, 2 or 5 times a power of ten.
-    fn step(&self) -> u64 {
-        let mut unit: u64 = 1;
-        for _ in 0..20 {
-            for factor in [1, 2, 5] {
-                let step = unit.saturating_mul(factor);
-                if self.span / step.max(1) <= MOST_TICKS {
-                    return step.max(1);
-                }
-            }
-            unit = unit.saturating_mul(10);
-        }
-        u64::MAX
-    }
-
     /// The moment of the tick of a number, from 0, if it is on the axis.
     pub(crate) fn tick(&self, number: u64) -> Option<u64> {
-        let step = self.step();
+        let step = step_over(self.span);
         let before = self.first.checked_rem(step).unwrap_or(0);
         let begin = if before == 0 {
             self.first
@@ -67,4 +57,19 @@ impl Scale {
         let last = self.first.saturating_add(self.span);
         if at <= last { Some(at) } else { None }
     }
+}
+
+/// How far the ticks of an axis of this length are apart: 1, 2 or 5 times a power of ten.
+pub(crate) fn step_over(span: u64) -> u64 {
+    let mut unit: u64 = 1;
+    for _ in 0..20 {
+        for factor in [1, 2, 5] {
+            let step = unit.saturating_mul(factor).max(1);
+            if span / step <= MOST_TICKS {
+                return step;
+            }
+        }
+        unit = unit.saturating_mul(10);
+    }
+    u64::MAX
 }

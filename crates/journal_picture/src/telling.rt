@@ -1,6 +1,7 @@
+use crate::counts::Counts;
 use crate::history::{Bar, History, Sample, Waiting};
 use crate::moves::moved;
-use pool_journal::{Answer, Entry, Input, Phase};
+use pool_journal::{Answer, Entry, Input, Phase, Record};
 use std::alloc::{AllocError, Global};
 use std::collections::HashMap;
 
@@ -22,7 +23,7 @@ impl Teller {
         Teller {
             history: History {
                 entries: 0,
-                told: 0,
+                position: 0,
                 first: 0,
                 last: 0,
                 bars: Vec::new(alloc),
@@ -31,15 +32,18 @@ impl Teller {
                 objects: Vec::new(alloc),
                 waiters: Vec::new(alloc),
             },
-            now: Sample::none(),
+            now: Sample {
+                at: 0,
+                counts: Counts::none(),
+            },
             bars: HashMap::new(alloc),
             waits: HashMap::new(alloc),
         }
     }
 
-    /// Counts an entry that isn't drawn.
-    pub(crate) fn pass_over(&mut self) {
-        self.history.entries = self.history.entries.saturating_add(1);
+    /// Takes in an object that is present before the first entry.
+    pub(crate) fn put(&mut self, record: &Record) -> Result<(), AllocError> {
+        self.move_object(record.id, record.phase, None)
     }
 
     /// Takes in the next entry.
@@ -50,9 +54,8 @@ impl Teller {
         self.now.at = self.now.at.max(entry.at);
         self.history.last = self.now.at;
         self.history.entries = self.history.entries.saturating_add(1);
-        self.history.told = self.history.entries;
         if let Some((object, phase)) = moved(entry) {
-            self.move_object(object, phase, entry.caller)?;
+            self.move_object(object, phase, Some(entry.caller))?;
         }
         match entry.input {
             Input::Borrow { began: _ } => self.note_wait(entry.caller, entry.answer),
@@ -61,7 +64,12 @@ impl Teller {
     }
 
     /// An object comes to a phase.
-    fn move_object(&mut self, object: u64, phase: Phase, caller: u32) -> Result<(), AllocError> {
+    fn move_object(
+        &mut self,
+        object: u64,
+        phase: Phase,
+        caller: Option<u32>,
+    ) -> Result<(), AllocError> {
         let at = self.now.at;
         match self.bars.remove(&object) {
             Some(place) => self.end_bar(place),
@@ -77,7 +85,7 @@ impl Teller {
                 until: u64::MAX,
             })?;
         }
-        self.now.add(phase);
+        self.now.counts.add(phase);
         self.history.samples.push(self.now)?;
         Ok(())
     }
@@ -85,7 +93,7 @@ impl Teller {
     fn end_bar(&mut self, place: usize) {
         if let Some(bar) = self.history.bars.get_mut(place) {
             bar.until = self.now.at;
-            self.now.remove(bar.phase);
+            self.now.counts.remove(bar.phase);
         }
     }
 
@@ -115,11 +123,14 @@ impl Teller {
         Ok(())
     }
 
-    /// What was taken in. What goes on at the end is drawn up to it.
-    pub(crate) fn finish(self) -> History {
+    /// What was taken in, from a position on. What was there before the first entry is drawn from that on, and what goes on at
+    /// the end is drawn up to it.
+    pub(crate) fn finish(self, position: u64) -> History {
         let mut history = self.history;
+        history.position = position;
         for bar in history.bars.iter_mut() {
-            bar.until = bar.until.min(history.last);
+            bar.from = bar.from.max(history.first);
+            bar.until = bar.until.min(history.last).max(bar.from);
         }
         for wait in history.waits.iter_mut() {
             wait.until = wait.until.min(history.last);

@@ -1,7 +1,13 @@
+ghost use Rattle.std.specs.Prelude.{◌≡◌, Some};
+ghost use Rattle.std.specs.Fmt.{WritesOnOk};
+ghost use Rattle.judge.specs.Messages as Spec;
+
 use pool_core::BaseFault;
-use pool_engines::{FileFault, SegmentFault};
+use pool_engines::{EngineFault, FileFault, SegmentFault};
+use pool_journal::LineFault;
+use pool_settings::Escaped;
 use std::alloc::AllocError;
-use std::fmt::Formatter;
+use std::fmt::{Formatter, Write};
 use std::io::ErrorKind;
 use std::{fmt, io};
 
@@ -11,67 +17,123 @@ const WRONG_ARGUMENTS: u8 = 2;
 
 const FAULT: u8 = 3;
 
-/// Why no base was written.
+/// Why the program printed no base. A path is that of the file with the error.
 #[derive(Debug, Drop)]
-pub(crate) enum Fault {
+pub(crate) enum Fault<'a> {
     WrongArguments,
-    /// The settings can't be opened.
-    Unopened,
-    Settings(FileFault),
-    Segment(SegmentFault),
+    /// No file at this path can be opened.
+    Unopened(&'a str),
+    Settings(&'a str, FileFault),
+    Segment(&'a str, SegmentFault),
     NotWritten,
     OutOfMemory,
 }
 
-impl Fault {
-    /// Why the arguments weren't read: those that aren't text name no file.
-    pub(crate) fn of_arguments(cause: &io::Error) -> Fault {
+impl<'a> Fault<'a> {
+    /// Returns the error for arguments that were not read: those that are not text name no file.
+    pub(crate) fn of_arguments(cause: &io::Error) -> Fault<'a> {
         match cause.kind() {
             ErrorKind::OutOfMemory => Fault::OutOfMemory,
             _ => Fault::WrongArguments,
         }
     }
 
-    /// The status that the program ends with.
-    pub(crate) fn status(&self) -> u8 {
+    /// Returns the status that the program ends with.
+    pub(crate) fn status(&self) -> u8
+        ensures { result ≡ Spec.status_of self.now }
+    {
         match self {
             Fault::WrongArguments => WRONG_ARGUMENTS,
-            Fault::Segment(SegmentFault::Illegal(_)) => ILLEGAL,
-            Fault::Segment(SegmentFault::Base(BaseFault::NotABase)) => ILLEGAL,
+            Fault::Segment(_, SegmentFault::Illegal(_)) => ILLEGAL,
+            Fault::Segment(_, SegmentFault::Base(BaseFault::NotABase)) => ILLEGAL,
             _ => FAULT,
         }
     }
 }
 
-impl fmt::Display for Fault {
-    fn fmt<W: fmt::Write>(&self, f: &mut Formatter<W>) -> fmt::Result {
+/// The line without its line feed.
+impl fmt::Display for Fault<'_> {
+    ghost output = { λ fault. Some (Spec.text_of fault) };
+
+    fn fmt<W: Write>(&self, f: &mut Formatter<W>) -> fmt::Result {
         match self {
-            Fault::WrongArguments => f.write_str("judge: wrong arguments"),
-            Fault::Unopened => f.write_str("judge: cannot open the settings"),
-            Fault::Settings(fault) => write!(f, "{fault}"),
-            Fault::Segment(fault) => write!(f, "{fault}"),
+            Fault::WrongArguments => f.write_str("judge: wrong arguments, try judge --help"),
+            Fault::Unopened(path) => write!(f, "judge: cannot open {}", Escaped::new(path)),
+            Fault::Settings(path, fault) => {
+                write!(f, "judge: {}: ", Escaped::new(path))?;
+                write_settings_fault(f, fault)
+            }
+            Fault::Segment(path, fault) => {
+                write!(f, "judge: {}: ", Escaped::new(path))?;
+                write_segment_fault(f, fault)
+            }
             Fault::NotWritten => f.write_str("judge: write failed"),
             Fault::OutOfMemory => f.write_str("judge: out of memory"),
         }
     }
 }
 
-impl std::error::Error for Fault {}
+impl std::error::Error for Fault<'_> {}
 
-impl From<FileFault> for Fault {
-    fn from(fault: FileFault) -> Fault {
-        Fault::Settings(fault)
-    }
-}
-
-impl From<SegmentFault> for Fault {
-    fn from(fault: SegmentFault) -> Fault {
-        Fault::Segment(fault)
-    }
-}
-
-impl From<AllocError> for Fault {
-    fn from(_: AllocError) -> Fault {
+impl<'a> From<AllocError> for Fault<'a> {
+    fn from(_: AllocError) -> Fault<'a> {
         Fault::OutOfMemory
+    }
+}
+
+fn write_settings_fault<W: Write>(f: &mut Formatter<W>, fault: &FileFault) -> fmt::Result
+    ensures { WritesOnOk W.write_str_gives f.old result (Spec.settings_text fault.now) f.new }
+{
+    match fault {
+        FileFault::Read => f.write_str("read failed"),
+        FileFault::OutOfMemory => f.write_str("out of memory"),
+        FileFault::TooLong => f.write_str("settings: too long"),
+        FileFault::NotUtf8 => f.write_str("settings: not TOML"),
+        FileFault::Text(fault) => write!(f, "{fault}"),
+    }
+}
+
+fn write_segment_fault<W: Write>(f: &mut Formatter<W>, fault: &SegmentFault) -> fmt::Result
+    ensures { WritesOnOk W.write_str_gives f.old result (Spec.segment_text fault.now) f.new }
+{
+    match fault {
+        SegmentFault::Base(fault) => write!(f, "base: {}", base_text(fault)),
+        SegmentFault::Illegal(position) => write!(f, "illegal {position}"),
+        SegmentFault::Engine(fault) => write_engine_fault(f, fault),
+    }
+}
+
+fn base_text(fault: &BaseFault) -> &'static str
+    ensures { result.now ≡ Spec.base_text fault.now }
+{
+    match fault {
+        BaseFault::NotABase => "not a base",
+        BaseFault::WrongValues => "wrong values",
+        BaseFault::NoRoom => "no room",
+        BaseFault::OutOfMemory => "out of memory",
+    }
+}
+
+fn write_engine_fault<W: Write>(f: &mut Formatter<W>, fault: &EngineFault) -> fmt::Result
+    ensures { WritesOnOk W.write_str_gives f.old result (Spec.engine_text fault.now) f.new }
+{
+    match fault {
+        EngineFault::Line(number, fault) => write!(f, "line {number}: {}", line_text(fault)),
+        EngineFault::Full(number) => write!(f, "line {number}: journal full"),
+        EngineFault::OutOfMemory => f.write_str("out of memory"),
+        EngineFault::Read => f.write_str("read failed"),
+        EngineFault::Write => f.write_str("write failed"),
+    }
+}
+
+fn line_text(fault: &LineFault) -> &'static str
+    ensures { result.now ≡ Spec.line_text fault.now }
+{
+    match fault {
+        LineFault::LineTooLong => "line too long",
+        LineFault::NotALine => "not a line",
+        LineFault::BadNumber => "bad number",
+        LineFault::Truncated => "truncated",
+        LineFault::OutOfMemory => "out of memory",
     }
 }

@@ -1,20 +1,23 @@
-//! Judges one segment of a journal by itself: `judge SETTINGS SEGMENT > REACHED`.
+//! Checks one segment of a journal independently: `judge SETTINGS SEGMENT > REACHED`.
 //!
-//! The pool goes on from the base with which the segment begins, and each entry must have the answer that is due. The lines of
-//! the base that the segment reaches are written: those with which the next segment must begin. So the segments of a journal are
-//! judged in any order and on any machines. All of them are one legal journal where each is legal by itself, the first begins at
-//! the base before all entries, and each begins with what the one before it reaches.
+//! The pool goes on from the base with which the segment begins, and each entry must have the expected answer. The program
+//! prints the base after the segment: the lines with which the next segment must begin. So the segments of a journal are
+//! checked in any order and on any machines. They are one legal journal if each is legal, the first begins at the base before
+//! all entries, and each other one begins with what was printed of the one before it.
 //!
-//! The status is 0, 1 for a segment that isn't legal, 2 for any other arguments, and 3 at a fault. What is wrong is told in one
-//! line on standard error.
+//! The status is 0, 1 for a segment that is not legal, 2 for any other arguments, and 3 for an error. One line on standard
+//! error names the file and the error. `--help` or `--version`, as the only argument, prints the uses or the version.
 #![tactic(auto)]
 
 mod fault;
+mod help;
 mod segment;
 
 use fault::Fault;
-use pool_engines::{judge_segment, read_settings};
+use help::{USES, VERSION, asks_for_help, asks_for_version};
+use pool_engines::{EngineFault, SegmentFault, judge_segment, read_settings};
 use pool_journal::print_base;
+use pool_settings::Settings;
 use segment::OneSegment;
 use std::env;
 use std::fs::File;
@@ -22,31 +25,74 @@ use std::io::Write;
 use std::process::ExitCode;
 
 fn main(rt: HostRuntime) -> ExitCode {
-    match judge(&rt) {
-        Ok(()) => ExitCode::SUCCESS,
-        Err(fault) => {
-            let _ = eprintln!(rt; "{fault}");
-            ExitCode::from(fault.status())
-        }
+    match arguments_of(&rt) {
+        Ok(arguments) => match perform(&rt, &arguments) {
+            Ok(()) => ExitCode::SUCCESS,
+            Err(fault) => tell(&rt, &fault),
+        },
+        Err(fault) => tell(&rt, &fault),
     }
 }
 
-fn judge(rt: &HostRuntime) -> Result<(), Fault> {
+/// Returns the name of the program and the words after it.
+fn arguments_of<'a>(rt: &HostRuntime) -> Result<Vec<String>, Fault<'a>> {
     let words = env::args(rt).map_err(|cause| Fault::of_arguments(&cause))?;
-    let words: Vec<String> = words.collect(rt.alloc())?;
-    let [_, settings, segment] = words.as_slice() else {
-        return Err(Fault::WrongArguments);
-    };
-    let mut file = File::open(rt, settings.as_str()).map_err(|_| Fault::Unopened)?;
-    let settings = read_settings(rt.alloc(), &mut file)?;
-    let segment = OneSegment {
-        rt,
-        path: segment.as_str(),
-    };
+    Ok(words.collect(rt.alloc())?)
+}
+
+/// Does what the arguments ask for.
+fn perform<'a>(rt: &HostRuntime, arguments: &'a [String]) -> Result<(), Fault<'a>> {
+    match arguments {
+        [_, word] if asks_for_help(word) => write(rt, USES.as_bytes()),
+        [_, word] if asks_for_version(word) => write(rt, VERSION.as_bytes()),
+        [_, settings, segment] => judge(rt, settings.as_str(), segment.as_str()),
+        _ => Err(Fault::WrongArguments),
+    }
+}
+
+/// Checks the segment in a file, and prints the base after it.
+fn judge<'a>(rt: &HostRuntime, settings: &'a str, segment: &'a str) -> Result<(), Fault<'a>> {
+    let settings = settings_in(rt, settings)?;
+    match reached_by(rt, settings, segment) {
+        Ok(text) => write(rt, &text),
+        Err(fault) => Err(fault_of(rt, segment, fault)),
+    }
+}
+
+fn settings_in<'a>(rt: &HostRuntime, path: &'a str) -> Result<Settings, Fault<'a>> {
+    let mut file = File::open(rt, path).map_err(|_| Fault::Unopened(path))?;
+    read_settings(rt.alloc(), &mut file).map_err(|fault| Fault::Settings(path, fault))
+}
+
+/// Returns the lines of the base after the segment in the file at this path.
+fn reached_by(rt: &HostRuntime, settings: Settings, path: &str) -> Result<Vec<u8>, SegmentFault> {
+    let segment = OneSegment { rt, path };
     let judged = judge_segment(rt.alloc(), settings, &segment, 0)?;
     let mut text = Vec::new(rt.alloc());
-    print_base(&judged.reached, &mut text)?;
+    match print_base(&judged.reached, &mut text) {
+        Ok(()) => Ok(text),
+        Err(_) => Err(SegmentFault::Engine(EngineFault::OutOfMemory)),
+    }
+}
+
+/// Returns the error for a segment. A read also fails if its file cannot be opened.
+fn fault_of<'a>(rt: &HostRuntime, path: &'a str, fault: SegmentFault) -> Fault<'a> {
+    match fault {
+        SegmentFault::Engine(EngineFault::Read) if File::open(rt, path).is_err() => {
+            Fault::Unopened(path)
+        }
+        _ => Fault::Segment(path, fault),
+    }
+}
+
+fn write<'a>(rt: &HostRuntime, text: &[u8]) -> Result<(), Fault<'a>> {
     let mut out = rt.stdout();
-    out.write_all(&text).map_err(|_| Fault::NotWritten)?;
+    out.write_all(text).map_err(|_| Fault::NotWritten)?;
     out.flush().map_err(|_| Fault::NotWritten)
+}
+
+/// Prints the error on standard error. If that fails too, the status alone reports it.
+fn tell(rt: &HostRuntime, fault: &Fault<'_>) -> ExitCode {
+    let _ = eprintln!(rt; "{fault}");
+    ExitCode::from(fault.status())
 }

@@ -33,8 +33,10 @@ file_line (files.Text fault) = after (codes "pool: ") (read_texts.text_of (read.
 
 pub fault_line : (fault : Fault) → IfSome (text_of fault) IsOnOneLine
 fault_line faults.WrongArguments = refl
+fault_line faults.Asked = refl
+fault_line faults.WrongNumbers = refl
 fault_line (faults.Unopened path) = after (codes "pool: cannot open ") (escaped path.now) refl (told_on_one_line path.now)
 fault_line faults.OutOfMemory = refl
-fault_line (faults.Settings fault) = file_line fault
-fault_line (faults.Engine _) = tt
+fault_line (faults.Settings _ fault) = file_line fault
+fault_line (faults.Engine _ _) = tt
 fault_line (faults.Load _) = tt

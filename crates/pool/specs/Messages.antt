@@ -3,17 +3,21 @@ use Rattle.std.specs.Prelude.{ℕ, List, ◌++◌, codes, Option, None, Some}
 use Rattle.pool_settings.specs.Escaped.{escaped}
 use Rattle.pool_engines.specs.Messages.{file_text}
 use Rattle.pool.specs.declared.fault.Fault.{Fault}
-use Rattle.pool.specs.declared.fault.Fault.TheVariants.{WrongArguments, Unopened, OutOfMemory, Settings, Engine, Load}
+use Rattle.pool.specs.declared.fault.Fault.TheVariants.{WrongArguments, Asked, WrongNumbers, Unopened, OutOfMemory, Settings, Engine, Load}
 
 -- The line without its line feed. Those of engines and loads hold no key and no path, and are not said here.
 abbrev pub text_of : Fault → Option (List ℕ)
 text_of WrongArguments = Some (codes "pool: wrong arguments")
+text_of Asked = Some (codes "pool: wrong arguments")
+text_of WrongNumbers = Some (codes "pool: wrong arguments")
 text_of (Unopened path) = Some (codes "pool: cannot open " ++ escaped path.now)
 text_of OutOfMemory = Some (codes "pool: out of memory")
-text_of (Settings fault) = Some (file_text fault)
-text_of (Engine _) = None
+text_of (Settings _ fault) = Some (file_text fault)
+text_of (Engine _ _) = None
 text_of (Load _) = None
 
 abbrev pub status_of : Fault → ℕ
 status_of WrongArguments = 2
+status_of Asked = 2
+status_of WrongNumbers = 2
 status_of _ = 3

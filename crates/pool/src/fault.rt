@@ -1,8 +1,10 @@
-ghost use Rattle.std.specs.Prelude.{◌≡◌, ◌∷◌, [], ◌++◌, IfSome, OnOk};
+ghost use Rattle.std.specs.Prelude.{◌≡◌, ◌∷◌, ◌++◌, IfSome, OnOk};
 ghost use Rattle.std.specs.Io.KnownBytes.{Appends};
 ghost use Rattle.pool_settings.specs.Escaped.{IsOnOneLine};
 ghost use Rattle.pool.specs.Messages.{status_of, text_of};
+ghost use Rattle.pool.specs.Hints.{shown};
 
+use crate::hint::Hint;
 use pool_load::{EngineFault, FileFault, LoadFault};
 use pool_settings::Escaped;
 use std::alloc::AllocError;
@@ -19,11 +21,17 @@ const FAULT: u8 = 3;
 pub(crate) enum Fault<'a> {
     /// The arguments ask for nothing that the program does.
     WrongArguments,
+    /// The arguments ask for help or for the version, which was printed.
+    Asked,
+    /// The numbers of a load are out of their ranges.
+    WrongNumbers,
     /// There is no file at this path that may be read, or no memory to open it.
     Unopened(&'a str),
     OutOfMemory,
-    Settings(FileFault),
-    Engine(EngineFault),
+    /// The file at this path gives no settings.
+    Settings(&'a str, FileFault),
+    /// A journal or a script wasn't handled to its end. The path is that of its file, if it is known which one it is.
+    Engine(Option<&'a str>, EngineFault),
     Load(LoadFault),
 }
 
@@ -41,18 +49,18 @@ impl<'a> Fault<'a> {
         ensures { result ≡ status_of self.now }
     {
         match self {
-            Fault::WrongArguments => WRONG_ARGUMENTS,
+            Fault::WrongArguments | Fault::Asked | Fault::WrongNumbers => WRONG_ARGUMENTS,
             _ => FAULT,
         }
     }
 
-    /// Writes the line that says the fault. A key or a path in it is told without control characters.
-    pub(crate) fn tell<W: Write>(&self, writer: &mut W) -> io::Result<()>
+    /// Writes the line that says the fault, and the hint after it. A key or a path in the line is told without control characters.
+    pub(crate) fn tell<W: Write>(&self, hint: &Hint<'_>, writer: &mut W) -> io::Result<()>
         ensures line { OnOk result (IfSome (text_of self.now)
-            (λ text. Appends (W.contents writer.old) (W.contents writer.new) (text ++ 10 ∷ []))) }
+            (λ text. Appends (W.contents writer.old) (W.contents writer.new) (text ++ 10 ∷ shown hint.now))) }
         ensures one_line { IfSome (text_of self.now) IsOnOneLine }
     {
-        writeln!(writer, "{self}")
+        write!(writer, "{self}\n{hint}")
     }
 }
 
@@ -62,11 +70,13 @@ impl fmt::Display for Fault<'_> {
 
     fn fmt<W: fmt::Write>(&self, f: &mut Formatter<W>) -> fmt::Result {
         match self {
-            Fault::WrongArguments => f.write_str("pool: wrong arguments"),
+            Fault::WrongArguments | Fault::Asked | Fault::WrongNumbers => {
+                f.write_str("pool: wrong arguments")
+            }
             Fault::Unopened(path) => write!(f, "pool: cannot open {}", Escaped::new(path)),
             Fault::OutOfMemory => f.write_str("pool: out of memory"),
-            Fault::Settings(fault) => write!(f, "{fault}"),
-            Fault::Engine(fault) => write!(f, "{fault}"),
+            Fault::Settings(_, fault) => write!(f, "{fault}"),
+            Fault::Engine(_, fault) => write!(f, "{fault}"),
             Fault::Load(fault) => write!(f, "{fault}"),
         }
     }
@@ -74,23 +84,11 @@ impl fmt::Display for Fault<'_> {
 
 impl std::error::Error for Fault<'_> {}
 
-impl<'a> From<FileFault> for Fault<'a> {
-    fn from(fault: FileFault) -> Fault<'a> {
-        Fault::Settings(fault)
-    }
-}
-
-impl<'a> From<EngineFault> for Fault<'a> {
-    fn from(fault: EngineFault) -> Fault<'a> {
-        Fault::Engine(fault)
-    }
-}
-
 /// Numbers out of their ranges are wrong arguments.
 impl<'a> From<LoadFault> for Fault<'a> {
     fn from(fault: LoadFault) -> Fault<'a> {
         match fault {
-            LoadFault::WorkerCount | LoadFault::RoundCount => Fault::WrongArguments,
+            LoadFault::WorkerCount | LoadFault::RoundCount => Fault::WrongNumbers,
             _ => Fault::Load(fault),
         }
     }

@@ -4,8 +4,8 @@ ghost use Rattle.std.specs.Prelude.{map, None};
 use crate::progress::{Progress, Watched};
 use pool_load::Segments;
 use std::fs::File;
-use std::io;
 use std::io::ErrorKind;
+use std::{fs, io};
 
 /// The files at these paths, each of which is opened when it is read, and as often as it is.
 #[derive(Drop)]
@@ -47,5 +47,13 @@ impl<'a> Files<'a, '_, '_> {
             }
         }
         None
+    }
+}
+
+/// Whether there is a regular file at this path.
+pub(crate) fn is_regular(rt: &HostRuntime, path: &str) -> bool {
+    match fs::metadata(rt, path) {
+        Ok(metadata) => metadata.is_file(),
+        Err(_) => false,
     }
 }

@@ -5,18 +5,23 @@
 //! file, `check SETTINGS JOURNAL..` judges a journal in one file or more, `stats JOURNAL` tells its statistics, and `load SETTINGS
 //! WORKERS ROUNDS` lets workers borrow and give back. It writes to standard output. The status is 0 where all
 //! went well, 1 for a journal that isn't legal, 2 for any other arguments, and 3 at a fault; what is wrong is
-//! told in one line on standard error. If the other arguments ask for help or for the version, the uses or the version are
-//! written too.
+//! told in one line on standard error, which further lines follow at a terminal: where it is, and what to do. If the other
+//! arguments ask for help or for the version, the uses or the version are written too.
 #![tactic(auto)]
 
 mod fault;
 mod files;
+mod found;
 mod help;
+mod hint;
+mod line_kind;
 mod progress;
 
 use fault::Fault;
-use files::Files;
+use files::{Files, is_regular};
+use found::{NOTHING, first_faulty, look};
 use help::{USES, VERSION, asks_for_help, asks_for_version};
+use hint::Hint;
 use pool_arguments::{Task, task_of};
 use pool_load::{
     EngineFault, Gate, check, check_side_by_side, load, read_settings, run, stats, write_report,
@@ -24,11 +29,11 @@ use pool_load::{
 use pool_settings::Settings;
 use progress::{Progress, Watched, Wiped};
 use std::fs::File;
-use std::io::Write;
+use std::io::{IsTerminal, Write};
 use std::process::ExitCode;
 use std::sync::Wait;
 use std::thread::Threads;
-use std::{env, fs, thread};
+use std::{env, thread};
 
 const ILLEGAL: u8 = 1;
 
@@ -83,17 +88,22 @@ fn perform<'a, R: Threads + Wait + Sync>(
 /// Returns the fault of wrong arguments. If they ask for help or for the version, writes the uses or the version first, and
 /// ignores a failed write.
 fn refuse<'a>(rt: &HostRuntime, arguments: &[String]) -> Fault<'a> {
-    if asks_for_help(arguments) {
-        let _ = rt.stdout().write_all(USES.as_bytes());
+    let answer = if asks_for_help(arguments) {
+        USES
     } else if asks_for_version(arguments) {
-        let _ = rt.stdout().write_all(VERSION.as_bytes());
-    }
-    Fault::WrongArguments
+        VERSION
+    } else {
+        return Fault::WrongArguments;
+    };
+    let _ = rt.stdout().write_all(answer.as_bytes());
+    Fault::Asked
 }
 
 fn run_input<'a>(rt: &HostRuntime) -> Result<ExitCode, Fault<'a>> {
     let settings = Settings::default();
-    run(rt.alloc(), settings, &mut rt.stdin(), &mut rt.stdout())?;
+    run(rt.alloc(), settings, &mut rt.stdin(), &mut rt.stdout()).map_err(|fault| Fault::Engine(
+        None, fault,
+    ))?;
     Ok(ExitCode::SUCCESS)
 }
 
@@ -103,8 +113,11 @@ fn run_script<'a>(
     script: &'a str,
 ) -> Result<ExitCode, Fault<'a>> {
     let settings = settings_in(rt, settings)?;
-    let mut script = open(rt, script)?;
-    run(rt.alloc(), settings, &mut script, &mut rt.stdout())?;
+    let mut file = open(rt, script)?;
+    run(rt.alloc(), settings, &mut file, &mut rt.stdout()).map_err(|fault| Fault::Engine(
+        Some(script),
+        fault,
+    ))?;
     Ok(ExitCode::SUCCESS)
 }
 
@@ -141,14 +154,6 @@ fn width<R: Threads>(threads: &R, rt: &HostRuntime, paths: &[&str]) -> Option<us
     Some(processors.saturating_mul(FILES_PER_PROCESSOR))
 }
 
-/// Whether there is a regular file at this path.
-fn is_regular(rt: &HostRuntime, path: &str) -> bool {
-    match fs::metadata(rt, path) {
-        Ok(metadata) => metadata.is_file(),
-        Err(_) => false,
-    }
-}
-
 /// Judges files side by side, as many at a time as `width` says.
 fn check_files<'a, R: Threads + Sync>(
     rt: &HostRuntime,
@@ -177,7 +182,7 @@ fn check_files<'a, R: Threads + Sync>(
             return Err(Fault::Unopened(lost));
         }
     }
-    Ok(judged?)
+    judged.map_err(|fault| Fault::Engine(first_faulty(rt, paths, &fault), fault))
 }
 
 /// Judges files one after the other.
@@ -200,7 +205,7 @@ fn check_in_turn<'a>(
     if let Some(lost) = files.iter().find(|file| file.is_lost) {
         return Err(Fault::Unopened(lost.path));
     }
-    Ok(judged?)
+    judged.map_err(|fault| Fault::Engine(first_faulty(rt, paths, &fault), fault))
 }
 
 /// Opens the file at this path, and puts it behind the others. Where there are many, it is closed, and opened again once it
@@ -228,8 +233,11 @@ fn watch<'a, 'p, 'r>(
 }
 
 fn tell_statistics<'a>(rt: &HostRuntime, journal: &'a str) -> Result<ExitCode, Fault<'a>> {
-    let mut journal = open(rt, journal)?;
-    stats(rt.alloc(), &mut journal, &mut rt.stdout())?;
+    let mut file = open(rt, journal)?;
+    stats(rt.alloc(), &mut file, &mut rt.stdout()).map_err(|fault| Fault::Engine(
+        Some(journal),
+        fault,
+    ))?;
     Ok(ExitCode::SUCCESS)
 }
 
@@ -256,13 +264,14 @@ fn load_pool<'a, R: Threads + Wait + Sync>(
         report.refused,
         &report.stats,
         &mut rt.stdout(),
-    )?;
+    )
+    .map_err(|fault| Fault::Engine(None, fault))?;
     Ok(ExitCode::SUCCESS)
 }
 
 fn settings_in<'a>(rt: &HostRuntime, path: &'a str) -> Result<Settings, Fault<'a>> {
     let mut file = open(rt, path)?;
-    Ok(read_settings(rt.alloc(), &mut file)?)
+    read_settings(rt.alloc(), &mut file).map_err(|fault| Fault::Settings(path, fault))
 }
 
 fn open<'a>(rt: &HostRuntime, path: &'a str) -> Result<File, Fault<'a>> {
@@ -272,8 +281,15 @@ fn open<'a>(rt: &HostRuntime, path: &'a str) -> Result<File, Fault<'a>> {
     }
 }
 
-/// Says the fault on standard error. Where that fails too, the status alone tells of it.
+/// Says the fault on standard error, with a hint if that is a terminal. Where that fails too, the status alone tells of it.
 fn tell(rt: &HostRuntime, fault: &Fault<'_>) -> ExitCode {
-    let _ = fault.tell(&mut rt.stderr());
+    let is_terminal = rt.stderr().is_terminal();
+    let found = if is_terminal {
+        look(rt, fault)
+    } else {
+        NOTHING
+    };
+    let hint = Hint::of(fault, found, is_terminal);
+    let _ = fault.tell(&hint, &mut rt.stderr());
     ExitCode::from(fault.status())
 }

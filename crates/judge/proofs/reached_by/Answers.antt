@@ -1,5 +1,5 @@
 use Rattle.pool_journal.proofs.Reached.{reach_is_sound}
-use Rattle.judge.proofs.judge.Goals as goal
+use Rattle.judge.proofs.reached_by.Goals as goal
 
 -- the base is what entries lead to, so that its records are those of objects that are present
 pub print_base-requires : goal.print_base-requires

@@ -1,0 +1,203 @@
+//! The charts of the overview.
+
+use crate::buckets::{Bucket, Span};
+use crate::overview_drawing::{
+    LEFT, OBJECTS_HEIGHT, OBJECTS_TOP, WAITING_HEIGHT, WAITING_TOP, WIDTH, bucket_left,
+};
+use crate::scale::step_over;
+use std::io;
+use std::io::Write;
+
+/// An upper edge that is drawn over the buckets.
+#[derive(Clone, Copy, Debug)]
+enum Edge {
+    All,
+    LentOrIdle,
+    Lent,
+    Waiting,
+}
+
+/// The edges of the stacked areas, from the uppermost down: each is drawn over the one before.
+const STACK: [Edge; 3] = [Edge::All, Edge::LentOrIdle, Edge::Lent];
+
+impl Edge {
+    fn span_in(self, bucket: &Bucket) -> Span {
+        match self {
+            Edge::All => bucket.levels.all,
+            Edge::LentOrIdle => bucket.levels.lent_or_idle,
+            Edge::Lent => bucket.levels.lent,
+            Edge::Waiting => bucket.levels.waiting,
+        }
+    }
+
+    /// The colours of what is below the least and the greatest.
+    fn colours(self) -> (&'static str, &'static str) {
+        match self {
+            Edge::All => ("#e0a030", "#f5dfb4"),
+            Edge::LentOrIdle => ("#6f9bd8", "#cbdcf2"),
+            Edge::Lent => ("#2f9050", "#b4dcc0"),
+            Edge::Waiting => ("#d8d0e8", "#ece6f6"),
+        }
+    }
+
+    /// What the colour stands for.
+    fn name(self) -> &'static str {
+        match self {
+            Edge::All => "reserved: being made, readied, returned or destroyed",
+            Edge::LentOrIdle => "idle",
+            Edge::Lent => "lent",
+            Edge::Waiting => "borrowers that wait",
+        }
+    }
+}
+
+/// Where a chart stands, and the number at its top.
+#[derive(Clone, Copy, Debug)]
+struct Frame {
+    top: u64,
+    height: u64,
+    highest: u64,
+}
+
+impl Frame {
+    fn bottom(&self) -> u64 {
+        self.top.saturating_add(self.height)
+    }
+
+    /// Where a number stands.
+    fn y_of(&self, number: u64) -> u64 {
+        let across = u128::from(number.min(self.highest)) * u128::from(self.height);
+        let share = across.checked_div(u128::from(self.highest)).unwrap_or(0);
+        self.bottom()
+            .saturating_sub(u64::try_from(share).unwrap_or(self.height))
+    }
+}
+
+/// The objects lent, idle and reserved, stacked.
+pub(crate) fn draw_areas<W: Write>(out: &mut W, buckets: &[Bucket]) -> io::Result<()> {
+    let frame = Frame {
+        top: OBJECTS_TOP,
+        height: OBJECTS_HEIGHT,
+        highest: highest_of(buckets, Edge::All),
+    };
+    for edge in STACK {
+        draw_edge(out, buckets, &frame, edge)?;
+    }
+    draw_numbers(out, &frame)?;
+    draw_legend(out)
+}
+
+/// The borrowers that wait, with a line at the greatest number in each bucket.
+pub(crate) fn draw_waiting<W: Write>(out: &mut W, buckets: &[Bucket]) -> io::Result<()> {
+    let frame = Frame {
+        top: WAITING_TOP,
+        height: WAITING_HEIGHT,
+        highest: highest_of(buckets, Edge::Waiting),
+    };
+    draw_edge(out, buckets, &frame, Edge::Waiting)?;
+    write!(
+        out,
+        "<path id=\"waiting\" fill=\"none\" stroke=\"#6a3fa0\" d=\"M{LEFT} {}",
+        frame.bottom()
+    )?;
+    draw_steps(out, buckets, &frame, Edge::Waiting, true)?;
+    writeln!(out, "\"/>")?;
+    draw_numbers(out, &frame)?;
+    writeln!(
+        out,
+        "<text x=\"{LEFT}\" y=\"{}\" font-weight=\"bold\">{}: the line is the greatest number in each bucket</text>",
+        WAITING_TOP - 10,
+        Edge::Waiting.name()
+    )
+}
+
+/// The greatest number below an edge, and at least 1.
+fn highest_of(buckets: &[Bucket], edge: Edge) -> u64 {
+    let mut highest = 1;
+    for bucket in buckets {
+        highest = highest.max(edge.span_in(bucket).greatest);
+    }
+    highest
+}
+
+/// The areas up to the greatest and up to the least number of each bucket.
+fn draw_edge<W: Write>(
+    out: &mut W,
+    buckets: &[Bucket],
+    frame: &Frame,
+    edge: Edge,
+) -> io::Result<()> {
+    let (full, light) = edge.colours();
+    for (is_greatest, colour, extent) in [(true, light, "greatest"), (false, full, "least")] {
+        write!(
+            out,
+            "<path id=\"{edge:?}-{extent}\" fill=\"{colour}\" d=\"M{LEFT} {}",
+            frame.bottom()
+        )?;
+        draw_steps(out, buckets, frame, edge, is_greatest)?;
+        writeln!(out, "V{}Z\"/>", frame.bottom())?;
+    }
+    Ok(())
+}
+
+/// A step for each bucket, as high as its number.
+fn draw_steps<W: Write>(
+    out: &mut W,
+    buckets: &[Bucket],
+    frame: &Frame,
+    edge: Edge,
+    is_greatest: bool,
+) -> io::Result<()> {
+    for (number, bucket) in buckets.iter().enumerate() {
+        let span = edge.span_in(bucket);
+        let level = if is_greatest {
+            span.greatest
+        } else {
+            span.least
+        };
+        let right = bucket_left(number.saturating_add(1), buckets.len());
+        write!(out, "V{}H{right}", frame.y_of(level))?;
+    }
+    Ok(())
+}
+
+/// The numbers at the left of a chart, with a line across at each.
+fn draw_numbers<W: Write>(out: &mut W, frame: &Frame) -> io::Result<()> {
+    let most = frame.height / 24;
+    let step = step_over(frame.highest).max(frame.highest.checked_div(most).unwrap_or(1));
+    for number in 0..11u64 {
+        let level = step.saturating_mul(number);
+        if level > frame.highest {
+            return Ok(());
+        }
+        let y = frame.y_of(level);
+        writeln!(
+            out,
+            "<path d=\"M{LEFT} {y}h{WIDTH}\" stroke=\"#000000\" stroke-opacity=\"0.12\"/><text x=\"{}\" y=\"{}\" text-anchor=\"end\">{level}</text>",
+            LEFT - 6,
+            y.saturating_add(4)
+        )?;
+    }
+    Ok(())
+}
+
+/// What the colours of the areas mean.
+fn draw_legend<W: Write>(out: &mut W) -> io::Result<()> {
+    writeln!(
+        out,
+        "<text x=\"{LEFT}\" y=\"86\" font-weight=\"bold\">objects, stacked</text>"
+    )?;
+    let mut x = LEFT + 120;
+    for edge in [Edge::Lent, Edge::LentOrIdle, Edge::All] {
+        let (full, light) = edge.colours();
+        writeln!(
+            out,
+            "<rect x=\"{x}\" y=\"76\" width=\"14\" height=\"12\" fill=\"{full}\"/><rect x=\"{}\" y=\"76\" width=\"14\" height=\"12\" fill=\"{light}\"/><text x=\"{}\" y=\"86\">{}</text>",
+            x.saturating_add(14),
+            x.saturating_add(34),
+            edge.name()
+        )?;
+        x = x.saturating_add(90);
+    }
+    Ok(())
+}

@@ -1,0 +1,74 @@
+//! The times below the charts of the overview.
+
+use crate::overview::Overview;
+use crate::overview_drawing::{BOTTOM, LEFT, OBJECTS_TOP, WIDTH};
+use crate::scale::{Scale, step_over};
+use std::io;
+use std::io::Write;
+
+/// A unit of time, with its length in milliseconds and its name.
+#[derive(Clone, Copy, Debug)]
+struct Unit {
+    length: u64,
+    name: &'static str,
+}
+
+/// The units, the longest first.
+const UNITS: [(u64, &str); 5] = [
+    (86_400_000, "days"),
+    (3_600_000, "hours"),
+    (60_000, "minutes"),
+    (1_000, "seconds"),
+    (1, "milliseconds"),
+];
+
+/// The longest unit of which a stretch of time has ten.
+fn unit_for(span: u64) -> Unit {
+    for (length, name) in UNITS {
+        if span / 10 >= length {
+            return Unit { length, name };
+        }
+    }
+    Unit {
+        length: 1,
+        name: "milliseconds",
+    }
+}
+
+/// The times since the first entry, with a line up from each.
+pub(crate) fn draw_times<W: Write>(out: &mut W, overview: &Overview) -> io::Result<()> {
+    let buckets = &overview.buckets;
+    let span = buckets
+        .width()
+        .saturating_mul(buckets.as_slice().len() as u64);
+    let last = buckets.first().saturating_add(span);
+    let scale = Scale::over(buckets.first(), last, LEFT, WIDTH);
+    let unit = unit_for(span);
+    let count = span.checked_div(unit.length).unwrap_or(0);
+    let step = step_over(count);
+    for number in 0..11u64 {
+        let elapsed = step.saturating_mul(number);
+        if elapsed <= count {
+            let at = buckets
+                .first()
+                .saturating_add(elapsed.saturating_mul(unit.length));
+            draw_time(out, scale.place_of(at), elapsed)?;
+        }
+    }
+    writeln!(
+        out,
+        "<text x=\"{LEFT}\" y=\"{}\">{} since the first entry, which is at {} ms</text>",
+        BOTTOM + 38,
+        unit.name,
+        overview.first
+    )
+}
+
+fn draw_time<W: Write>(out: &mut W, x: u64, elapsed: u64) -> io::Result<()> {
+    writeln!(
+        out,
+        "<path d=\"M{x} {OBJECTS_TOP}V{}\" stroke=\"#000000\" stroke-opacity=\"0.12\"/><text x=\"{x}\" y=\"{}\" text-anchor=\"middle\">{elapsed}</text>",
+        BOTTOM + 4,
+        BOTTOM + 18
+    )
+}

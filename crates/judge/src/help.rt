@@ -1,0 +1,31 @@
+//! What the program prints if its argument asks for help or for the version.
+ghost use Rattle.std.specs.Prelude.{◌≡◌, string_bytes};
+ghost use Rattle.judge.specs.Help as Spec;
+
+/// The uses of the program, and an example of the first.
+pub(crate) const USES: &str = "\
+judge SETTINGS SEGMENT  checks one segment of a journal independently, and prints the base with which the next segment must begin
+  judge archived/archive.toml archived/segment-0001 > reached
+judge --help            prints this text
+judge --version         prints the version
+
+The status is 0 if the segment is legal, 1 if it is illegal, 2 for wrong arguments, and 3 for an error of a file, its text, room or memory.
+Standard error has one line for each status but 0. In `illegal N` the entry is counted from 0 over the whole journal.
+";
+
+/// The program's name and version. The number is that of the Rust crate.
+pub(crate) const VERSION: &str = "judge 0.1.0\n";
+
+/// Returns whether a word asks for help if it is the only one.
+pub(crate) fn asks_for_help(word: &String) -> bool
+    ensures { result ≡ Spec.asks_for_help (string_bytes word.now) }
+{
+    word.as_str() == "--help" || word.as_str() == "-h"
+}
+
+/// Returns whether a word asks for the version if it is the only one.
+pub(crate) fn asks_for_version(word: &String) -> bool
+    ensures { result ≡ Spec.asks_for_version (string_bytes word.now) }
+{
+    word.as_str() == "--version" || word.as_str() == "-V"
+}
