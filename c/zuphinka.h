@@ -7,13 +7,15 @@
  *
  * Each step appends one entry to the pool's journal. Its text is that of the program `pool`, and `pool check` checks it. The pool stores the
  * entries in memory, up to the setting journalLimit. A pool that runs longer writes its journal and cuts it in time (`zuphinka_is_low`,
- * `zuphinka_cut`). README.md, "The program", and docs/life.md list the inputs with their answers.
+ * `zuphinka_cut`). docs/guide/program.md lists the inputs with their answers, docs/guide/concepts.md the phases of an object, and
+ * docs/guide/c.md explains both C libraries.
  *
  * `python3 tools/build.py zuphinka` builds the library, and `python3 tools/install.py --prefix FOLDER` installs it with a file for pkg-config:
  *
  *     cc -o server server.c $(PKG_CONFIG_PATH=FOLDER/lib/pkgconfig pkg-config --cflags --libs zuphinka)
  *
- * c/plain_life.c and c/long_life.c are programs to copy from. c/zuphinka_pool.h is a pool for threads over this library.
+ * c/plain_life.c and c/long_life.c are programs of one thread to copy from. c/zuphinka_pool.h is a pool for threads over this library:
+ * c/zuphinka_pool.c is an example of how threads share a core under a lock, and c/shared_life.c a program that uses it.
  *
  * Rules
  *
@@ -52,6 +54,9 @@
  * If the setting maxWaitMillis isn't negative, a borrower sleeps no longer than the rest of that time, and asks again. The pool then answers
  * ZUPHINKA_ANSWER_TIMED_OUT. Make, test and destroy objects without the lock. Destroy an object before you report it
  * (ZUPHINKA_INPUT_DESTROYED): the report frees its place, and another thread may make a new object at once.
+ *
+ * c/zuphinka_pool.c does all of this, and is tested with eight threads under ThreadSanitizer. Copy from it, or use it as it is
+ * (c/zuphinka_pool.h), as c/shared_life.c does.
  */
 #ifndef ZUPHINKA_H
 #define ZUPHINKA_H
@@ -194,7 +199,7 @@ struct zuphinka_counts {
   uint64_t reclaimed; /* abandoned objects that lost their places */
 };
 
-/* Settings, as docs/settings.md explains them. The key of field `max_total` is maxTotal, and so on. */
+/* Settings, as docs/guide/settings.md explains them. The key of field `max_total` is maxTotal, and so on. */
 struct zuphinka_settings {
   uint64_t journal_limit;                  /* the most entries that the journal stores */
   int64_t max_wait_millis;                 /* milliseconds; negative: no limit */
@@ -226,7 +231,7 @@ _Static_assert(sizeof(struct zuphinka_settings) == 72, "zuphinka.h: another layo
 #endif
 
 /*
- * Reads settings from a text: a TOML document of `length` bytes (docs/settings.md). A text of no bytes has all defaults. It needs no pool. A
+ * Reads settings from a text: a TOML document of `length` bytes (docs/guide/settings.md). A text of no bytes has all defaults. It needs no pool. A
  * host that steps a pool honours some of the settings itself: which objects are tested, and whether a borrow first reclaims.
  *
  * Returns ZUPHINKA_STATUS_DONE and stores the settings in `settings`. Errors leave `settings` unchanged:
@@ -241,7 +246,7 @@ uint32_t zuphinka_settings(const char *text, size_t length, struct zuphinka_sett
 
 /*
  * Opens a pool in an empty handle: without objects, with an empty journal, and with settings from a text, a TOML document of `length` bytes
- * (docs/settings.md; of no bytes: all defaults). Sets aside the memory of the entry that closes the pool.
+ * (docs/guide/settings.md; of no bytes: all defaults). Sets aside the memory of the entry that closes the pool.
  *
  * Returns ZUPHINKA_STATUS_DONE. Errors leave the handle unchanged: ZUPHINKA_STATUS_ALREADY_OPEN; ZUPHINKA_STATUS_NOT_TEXT,
  * ZUPHINKA_STATUS_NOT_TOML, ZUPHINKA_STATUS_UNKNOWN_KEY, ZUPHINKA_STATUS_WRONG_TYPE or ZUPHINKA_STATUS_OUT_OF_RANGE, the first error of the
@@ -273,8 +278,12 @@ uint32_t zuphinka_counts(struct zuphinka *pool, struct zuphinka_counts *counts);
 uint32_t zuphinka_steps(struct zuphinka *pool, uint64_t *steps);
 
 /*
- * Stores in `room` the number of entries that the journal can still take, besides the outstanding ones. Returns ZUPHINKA_STATUS_DONE; or
- * ZUPHINKA_STATUS_NOT_OPEN, and `room` is unchanged.
+ * Stores in `room` the number of entries that the journal can still take, besides the outstanding ones. A step needs room for its entry and for
+ * those that become outstanding by it: a borrow that makes an object needs 6, one that takes an idle object 4, ZUPHINKA_INPUT_ADD or
+ * ZUPHINKA_INPUT_FILL that makes an object 4, a test of an idle object 2, a step that changes no object 1, and a completing step none. So
+ * ZUPHINKA_STATUS_JOURNAL_FULL may come while the room is still 5.
+ *
+ * Returns ZUPHINKA_STATUS_DONE; or ZUPHINKA_STATUS_NOT_OPEN, and `room` is unchanged.
  */
 uint32_t zuphinka_room(struct zuphinka *pool, uint64_t *room);
 

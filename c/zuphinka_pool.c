@@ -1,4 +1,4 @@
-/* A pool of objects for threads over the proved core. zuphinka_pool.h explains its calls; docs/life.md has the life of an object. */
+/* A pool of objects for threads over the proved core. zuphinka_pool.h explains its calls; docs/guide/concepts.md has the life of an object. */
 #define _POSIX_C_SOURCE 200809L
 
 #include "zuphinka_pool.h"

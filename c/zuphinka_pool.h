@@ -2,7 +2,7 @@
  * zuphinka_pool.h: a pool of objects for threads, over zuphinka.h.
  *
  * The host writes callbacks that make and destroy objects and, if it wishes, activate, test and passivate them. The pool lends the objects to
- * threads, with the settings of docs/settings.md. The installed archive has it; else compile c/zuphinka_pool.c with the program, with -std=c11
+ * threads, with the settings of docs/guide/settings.md. The installed archive has it; else compile c/zuphinka_pool.c with the program, with -std=c11
  * and -pthread. zuphinka.h has the commands.
  *
  * Each decision is a step of the proved core. The lock, the waits and the journals of this file are not proved: tests/play_c_pool.py tests them.
@@ -25,8 +25,8 @@
  * Each step makes one entry in the pool's journal: a borrow and a return take four. A journal has room for journalLimit entries, and is
  * - dropped (ZUPHINKA_POOL_JOURNAL_OFF): the pool drops entries as it goes and keeps few. It runs out of room only if journalLimit is less than
  *   six entries for each present object and two more;
- * - kept (ZUPHINKA_POOL_JOURNAL_MEMORY): the pool stores all entries. It lends nothing once its journal is full. `zuphinka_pool_is_low` says
- *   when to call `zuphinka_pool_cut`;
+ * - kept (ZUPHINKA_POOL_JOURNAL_MEMORY): the pool stores all entries. It lends nothing once its journal is full: a borrow that makes an object needs
+ *   room for six entries, one that takes an idle object for four. `zuphinka_pool_is_low` says when to call `zuphinka_pool_cut`;
  * - handed out (ZUPHINKA_POOL_JOURNAL_SEGMENTS): the pool cuts its journal in time and passes each segment to `store`. A borrow does this if
  *   less than a quarter of the room is left, and `zuphinka_pool_maintain` if less than half is left.
  * `pool check SETTINGS SEGMENT..` checks the segments of a pool, in their order, as the one journal that they are. Callers in the journal are
@@ -127,7 +127,7 @@ struct zuphinka_pool_maintenance {
 };
 
 /*
- * Opens a pool with settings from a text, a TOML document of `length` bytes (docs/settings.md; of no bytes: all defaults), and stores it in
+ * Opens a pool with settings from a text, a TOML document of `length` bytes (docs/guide/settings.md; of no bytes: all defaults), and stores it in
  * `pool`. It copies `host`, and makes no object yet.
  *
  * Errors, and `pool` is unchanged: ZUPHINKA_POOL_ERROR_NOT_TEXT, _NOT_TOML, _UNKNOWN_KEY, _WRONG_TYPE, _OUT_OF_RANGE, _MISSING_CALLBACK,

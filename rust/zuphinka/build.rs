@@ -1,6 +1,7 @@
-//! Finds what is linked: the C library of the core, `libzuphinka.a`, in the folder that ZUPHINKA_LIB names or else in
-//! `crates/zuphinka/out` of this repository; and the file by which it allocates, the one that ZUPHINKA_HEAP names or else
-//! `c/liblibc_c.a` of the kit whose guide `rt doc` names.
+//! Finds what is linked. A released crate has it in its own folder: `lib/libzuphinka.a`, with what it allocates by. Else it is the
+//! C library of the core, `libzuphinka.a`, in the folder that ZUPHINKA_LIB names or else in `crates/zuphinka/out` of this
+//! repository; and the file by which it allocates, the one that ZUPHINKA_HEAP names or else `c/liblibc_c.a` of the kit whose guide
+//! `rt doc` names.
 
 use std::path::{Path, PathBuf};
 use std::process::Command;
@@ -22,8 +23,13 @@ fn named(variable: &str) -> Option<PathBuf> {
 }
 
 fn link() -> Result<(), String> {
-    let top = Path::new(env!("CARGO_MANIFEST_DIR")).join("../..");
-    let folder = named("ZUPHINKA_LIB").unwrap_or_else(|| top.join("crates/zuphinka/out"));
+    let own = Path::new(env!("CARGO_MANIFEST_DIR"));
+    let released = own.join("lib/libzuphinka.a");
+    let library = named("ZUPHINKA_LIB");
+    if library.is_none() && released.exists() {
+        return take(&released, "zuphinka");
+    }
+    let folder = library.unwrap_or_else(|| own.join("../../crates/zuphinka/out"));
     take(&folder.join("libzuphinka.a"), "zuphinka").map_err(|fault| {
         format!(
             "{fault}. Build it by `python3 tools/build.py zuphinka`, or name its folder in ZUPHINKA_LIB."

@@ -1,6 +1,6 @@
 //! Times of steps, in milliseconds.
 
-use std::panic::{catch_unwind, AssertUnwindSafe};
+use crate::panics::unless_it_panics;
 use std::time::Instant;
 
 /// A clock of the user's.
@@ -22,7 +22,7 @@ impl Clock {
                 let passed = start.elapsed();
                 Some(passed.as_secs() * 1_000 + u64::from(passed.subsec_millis()))
             }
-            Clock::Given(clock) => catch_unwind(AssertUnwindSafe(clock)).ok(),
+            Clock::Given(clock) => unless_it_panics(clock),
         }
     }
 }

@@ -3,10 +3,6 @@
 use crate::error::Contradiction;
 use crate::settings::Settings;
 
-/// The least limit of a journal in which an object can be lent and the pool closed: one entry that makes the object, five that may be
-/// needed until it is destroyed, and one for the close.
-const LEAST_LIMIT: i64 = 7;
-
 /// Which settings were set by the builder's own methods. Only these are held against others.
 #[derive(Clone, Copy, Debug, Default)]
 pub(crate) struct Chosen {
@@ -53,7 +49,9 @@ impl Chosen {
             ),
             (self.abandoned && !reclaims, Contradiction::NeverReclaimed),
             (
-                self.journal_limit && keeps_journal && settings.journal_limit < LEAST_LIMIT,
+                self.journal_limit
+                    && keeps_journal
+                    && settings.journal_limit.unsigned_abs() < settings.least_limit(),
                 Contradiction::JournalTooSmall,
             ),
         ];

@@ -3,22 +3,10 @@
 #[path = "../tests/common/mod.rs"]
 mod common;
 
-use crate::{Manager, Pool, Pooled};
+use crate::{Pool, Pooled};
+use common::managers::Numbers;
 use common::{assert_segments_legal, journal_of};
 use std::thread;
-
-struct Numbers<const HOOKS: bool>;
-
-impl<const HOOKS: bool> Manager for Numbers<HOOKS> {
-    type Object = u64;
-    type Error = ();
-    const ACTIVATES: bool = HOOKS;
-    const PASSIVATES: bool = HOOKS;
-
-    fn make(&self, id: u64) -> Result<u64, ()> {
-        Ok(id)
-    }
-}
 
 /// Borrows and returns, holds two objects now and then, and destroys one in a hundred.
 fn work<const HOOKS: bool>(pool: &Pool<Numbers<HOOKS>>, rounds: u64) {

@@ -1,36 +1,36 @@
 use crate::step::StepFault;
 use std::{error, fmt, io};
 
-/// Why a call of a pool didn't do what it was asked for. `E` is the manager's error.
+/// Why a call of a pool failed. `E` is the manager's error.
 ///
-/// What is left after each stands at the calls; none leaves an object without an owner, or a place taken for nothing.
+/// Each call says what it leaves. None leaves an object without an owner, or a place taken for nothing.
 #[derive(Clone, Copy, Debug, PartialEq, Eq, Hash)]
 #[non_exhaustive]
 pub enum Error<E> {
-    /// All objects are lent, no place is free, and the call or the settings say not to wait.
+    /// No object is idle, no place is free, and the call or the settings say not to wait.
     Exhausted,
-    /// All objects were lent, and no place was free, for as long as the call or the settings say.
+    /// No object was idle, and no place was free, for as long as the call or the settings allow.
     TimedOut,
     /// The pool is closed.
     Closed,
-    /// The journal has no room for the entry and all that would be owed after it, within `journalLimit`.
+    /// The journal has less [room](crate::Pool::room) than the call needs, until it is cut.
     JournalFull,
-    /// There was no memory for the entry or for the object's place.
+    /// An allocation failed: for the entry, the object's place, or the caller's turn among those that wait.
     OutOfMemory,
-    /// The manager made no object, for this.
+    /// The manager did not make an object, and returned this.
     Make(E),
-    /// The manager didn't activate a new object, for this.
+    /// The manager did not activate a new object, and returned this.
     Activate(E),
-    /// The manager didn't passivate a new object, for this.
+    /// The manager did not passivate a new object, and returned this.
     Passivate(E),
-    /// A new object didn't pass the test of `testOnCreate`.
+    /// A new object did not pass the test of `testOnCreate`.
     CreateTest,
-    /// A new object didn't pass the test of `testOnBorrow`.
+    /// A new object did not pass the test of `testOnBorrow`.
     BorrowTest,
 }
 
 impl<E> Error<E> {
-    /// The manager's own error, where it is one.
+    /// Returns the manager's own error, if it is one.
     pub fn into_manager_error(self) -> Option<E> {
         match self {
             Error::Make(error) | Error::Activate(error) | Error::Passivate(error) => Some(error),
@@ -48,7 +48,7 @@ impl<E> From<StepFault> for Error<E> {
     }
 }
 
-/// Says what happened. The manager's own error is the source.
+/// Writes what happened. The manager's own error is the source.
 impl<E> fmt::Display for Error<E> {
     fn fmt(&self, f: &mut fmt::Formatter<'_>) -> fmt::Result {
         match self {
@@ -77,27 +77,27 @@ impl<E: error::Error + 'static> error::Error for Error<E> {
     }
 }
 
-/// Why there is no pool.
+/// Why no pool was opened.
 #[derive(Clone, Debug, PartialEq, Eq)]
 #[non_exhaustive]
 pub enum OpenError {
-    /// The settings can't be taken.
+    /// The settings are invalid.
     Settings(SettingsError),
     /// Two settings of the builder contradict each other.
     Contradiction(Contradiction),
-    /// There was no memory.
+    /// An allocation failed.
     OutOfMemory,
-    /// The maintenance thread could not be started, for this.
+    /// The maintenance thread could not be started: an error of this kind.
     Thread(io::ErrorKind),
 }
 
 /// Which settings of a builder contradict each other.
 ///
-/// Only what the builder's own methods set is an error: a text of settings is taken as the program takes it.
+/// Only settings from the builder's own methods are checked. A text of settings is read as the program reads it.
 #[derive(Clone, Copy, Debug, PartialEq, Eq, Hash)]
 #[non_exhaustive]
 pub enum Contradiction {
-    /// `max_total` is 0, and a borrow waits without limit: each would wait for ever.
+    /// `max_total` is 0, and a borrow waits without limit: it would wait for ever.
     NothingToWaitFor,
     /// `min_idle` is more than `max_total` allows.
     MinIdleAboveMaxTotal,
@@ -107,7 +107,7 @@ pub enum Contradiction {
     WaitWithoutBlocking,
     /// `abandoned` is set, and neither `on_borrow` nor `on_maintenance` is: no object is ever reclaimed.
     NeverReclaimed,
-    /// The journal has less room than one borrow, its return and the close of the pool take: no object would ever be lent.
+    /// The journal's limit is less than one borrow and the close of the pool need: no object would ever be lent.
     JournalTooSmall,
 }
 
@@ -132,22 +132,22 @@ impl fmt::Display for Contradiction {
 
 impl error::Error for Contradiction {}
 
-/// Why settings can't be taken. A key is named as in a settings file, one of the table `abandoned` as `abandoned.<key>`.
+/// Why settings are invalid. A key is named as in a settings file, one of the table `abandoned` as `abandoned.<key>`.
 #[derive(Clone, Debug, PartialEq, Eq)]
 #[non_exhaustive]
 pub enum SettingsError {
     /// The text has more than 1,048,576 bytes.
     TooLong,
-    /// The text is no TOML document. The lines before this one are, by themselves; lines count from 1. Of a text of more than 1,000 lines
-    /// or 65,536 bytes the fault may stand further behind.
+    /// The text is not TOML. The lines before this one are; lines count from 1. If the text has more than 1,000 lines or 65,536 bytes, the
+    /// error may be further down.
     NotToml(u64),
-    /// There is no such setting.
+    /// No setting has this key.
     UnknownKey(String),
-    /// The value of this key is neither a number nor `true` or `false`, or not the one that it takes.
+    /// The value of this key has another type than the setting.
     WrongType(String),
     /// The number of this key is out of its range.
     OutOfRange(String),
-    /// There was no memory to read them.
+    /// An allocation failed while they were read.
     OutOfMemory,
 }
 
@@ -160,7 +160,7 @@ impl From<SettingsError> for OpenError {
     }
 }
 
-/// Says all that is wrong: it has no source.
+/// Writes the whole cause: it has no source.
 impl fmt::Display for OpenError {
     fn fmt(&self, f: &mut fmt::Formatter<'_>) -> fmt::Result {
         match self {

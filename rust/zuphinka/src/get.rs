@@ -3,9 +3,10 @@
 use crate::callers::caller_number;
 use crate::error::Error;
 use crate::in_progress::{InProgress, Work};
+use crate::lending::Prepared;
 use crate::manager::Manager;
 use crate::pooled::Pooled;
-use crate::shared::{Acquired, Item, Shared};
+use crate::shared::{Acquired, Acquisition, Item, Shared};
 use crate::step::{Outcome, When};
 use crate::waiters::Ticket;
 use std::fmt;
@@ -42,9 +43,6 @@ struct Call {
     began: u64,
 }
 
-/// An object that is lent, or none if an idle object failed and was destroyed.
-type Prepared<M> = Result<Option<(u64, Item<M>)>, Error<<M as Manager>::Error>>;
-
 type Preparation<M> = Pin<Box<dyn Future<Output = Prepared<M>> + Send>>;
 
 impl<M: Manager> Get<M> {
@@ -75,11 +73,7 @@ impl<M: Manager> Get<M> {
     }
 
     /// Looks for an object, and waits if there is none.
-    fn look(
-        &mut self,
-        call: Call,
-        context: &Context<'_>,
-    ) -> Poll<Result<Acquired<Item<M>>, Error<M::Error>>> {
+    fn look(&mut self, call: Call, context: &Context<'_>) -> Poll<Acquisition<M>> {
         let Call { caller, began } = call;
         self.pool
             .poll_acquire(caller, began, &mut self.ticket, context.waker())

@@ -6,7 +6,8 @@ use crate::segments::Segments;
 use crate::shared::Shared;
 use crate::step::StepFault;
 use std::io::{self, Write};
-use std::sync::{Arc, PoisonError};
+use std::sync::{MutexGuard, PoisonError};
+use std::thread;
 
 /// What becomes of the entries of a pool's journal, for [`Builder::journal`](crate::Builder::journal).
 ///
@@ -14,15 +15,21 @@ use std::sync::{Arc, PoisonError};
 #[derive(Debug, Default)]
 #[non_exhaustive]
 pub enum Journal {
-    /// The entries are dropped, a thousand or more at a time. The pool never stops lending for its journal, and its memory stays flat. The
-    /// setting `journalLimit` has no effect: the pool sets it to 2^32, its greatest value. This is the default.
+    /// The entries are dropped, a thousand or more at a time, and sooner if the journal cannot get more memory. The pool never stops lending
+    /// for its journal, and its memory stays flat. The setting `journalLimit` has no effect: the pool sets it to 2^32, its greatest value. This
+    /// is the default.
     #[default]
     Off,
-    /// The entries are kept in memory, at most this many, from 7 to 2^32; with `None`, as many as the setting `journalLimit` says. A pool whose
-    /// journal is full lends nothing more ([`Error::JournalFull`](crate::Error::JournalFull)), until it is [cut](crate::Pool::cut).
+    /// The entries are kept in memory, at most this many, from 7 to 2^32; with `None`, as many as the setting `journalLimit` says. With
+    /// [`Abandoned::on_borrow`](crate::Abandoned::on_borrow) the least number is 8. A pool whose journal has too little
+    /// [room](crate::Pool::room) lends nothing more ([`Error::JournalFull`](crate::Error::JournalFull)), until it is [cut](crate::Pool::cut).
     Memory(Option<u64>),
     /// The entries are handed to a sink as segments, each when about half of the room in memory is used up, and the rest by
     /// [`Pool::flush_journal`](crate::Pool::flush_journal) and when the last handle and the last lent object are gone.
+    ///
+    /// The call that uses up the half stores the segment before it returns, without the lock: a borrow, a poll of
+    /// [`Pool::get_async`](crate::Pool::get_async), or a return. Other calls continue meanwhile. If they use up the rest, those that need room
+    /// wait for the segment.
     Segments(Segments),
 }
 
@@ -53,6 +60,18 @@ pub(crate) fn copy_lines(
         }
     }
     Ok(to)
+}
+
+/// The right to drain the journal, of one thread at a time.
+struct Drain<'a, M: Manager> {
+    pool: &'a Shared<M>,
+    _one_at_a_time: MutexGuard<'a, ()>,
+}
+
+impl<M: Manager> Drop for Drain<'_, M> {
+    fn drop(&mut self) {
+        self.pool.lock().journal.drainer = None;
+    }
 }
 
 impl<M: Manager> Shared<M> {
@@ -139,7 +158,7 @@ impl<M: Manager> Shared<M> {
 
     /// Writes the entries that no drain has written and no cut has taken. Returns their number.
     pub fn drain_journal(&self, out: &mut dyn Write) -> io::Result<u64> {
-        let _one_at_a_time = self.draining.lock().unwrap_or_else(PoisonError::into_inner);
+        let _drain = self.begin_drain()?;
         let end = self.lock().journal.end();
         let (mut text, mut written) = (Vec::new(), 0);
         loop {
@@ -154,6 +173,20 @@ impl<M: Manager> Shared<M> {
         }
     }
 
+    /// Takes the right to drain the journal, and waits for the thread that has it. Fails if it is this one.
+    fn begin_drain(&self) -> io::Result<Drain<'_, M>> {
+        let this = Some(thread::current().id());
+        if self.lock().journal.drainer == this {
+            return Err(io::Error::other("a journal is drained while it is drained"));
+        }
+        let one_at_a_time = self.draining.lock().unwrap_or_else(PoisonError::into_inner);
+        self.lock().journal.drainer = this;
+        Ok(Drain {
+            pool: self,
+            _one_at_a_time: one_at_a_time,
+        })
+    }
+
     /// Copies entries that were not drained, some hundred, up to a position. Returns the positions between which they are.
     fn copy_undrained(&self, end: u64, text: &mut Vec<u8>) -> io::Result<(u64, u64)> {
         let mut state = self.lock();
@@ -164,6 +197,3 @@ impl<M: Manager> Shared<M> {
         Ok((from, to))
     }
 }
-
-/// The text of a journal that a cut took, shared by the threads that read and write it.
-pub(crate) type Cut = Arc<crate::stored_journal::CutSegment>;

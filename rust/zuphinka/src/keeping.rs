@@ -5,10 +5,9 @@ use crate::error::Error;
 use crate::failure::Failure;
 use crate::in_progress::{InProgress, Work};
 use crate::manager::Manager;
+use crate::panics::{caught, Panic};
 use crate::shared::{unexpected, Shared};
 use crate::step::{Answer, Cause, Input, Outcome, When};
-use std::any::Any;
-use std::panic::{catch_unwind, resume_unwind, AssertUnwindSafe};
 use std::thread;
 
 /// What became of an addition.
@@ -223,8 +222,9 @@ impl<M: Manager> Shared<M> {
             match self.run_section(caller, Input::ClearNext, None) {
                 Ok((Answer::DestroyIdle(id), Some(object))) => {
                     let object = InProgress::destroying(self, caller, id, object);
-                    let destroyed = catch_unwind(AssertUnwindSafe(|| object.destroy()));
-                    swept.panic = swept.panic.or(destroyed.err());
+                    if let Err(panic) = caught(|| object.destroy()) {
+                        swept.note(panic);
+                    }
                     swept.destroyed += 1;
                 }
                 Ok((Answer::Nothing, _)) => break,
@@ -273,16 +273,25 @@ struct Swept<E> {
     /// Why it ended early.
     error: Option<Error<E>>,
     /// The first panic of the manager.
-    panic: Option<Box<dyn Any + Send>>,
+    panic: Option<Panic>,
 }
 
 impl<E> Swept<E> {
+    fn note(&mut self, panic: Panic) {
+        match self.panic {
+            None => self.panic = Some(panic),
+            Some(_) => panic.ignore(),
+        }
+    }
+
     /// Returns the number of destroyed objects, and an error. A panic of the manager continues, unless this thread panics already.
     fn end(self) -> (u64, Option<Error<E>>) {
         match self.panic {
-            Some(panic) if !thread::panicking() => resume_unwind(panic),
-            _ => (self.destroyed, self.error),
+            Some(panic) if !thread::panicking() => panic.resume(),
+            Some(panic) => panic.ignore(),
+            None => {}
         }
+        (self.destroyed, self.error)
     }
 }
 
@@ -295,7 +304,7 @@ impl<M: Manager> Drop for Shared<M> {
         drop(state);
         let closed = match is_done {
             true => Ok(0),
-            false => catch_unwind(AssertUnwindSafe(|| self.close())),
+            false => caught(|| self.close()),
         };
         self.write_rest();
         let maintainer = self.maintainer().take();
@@ -303,8 +312,9 @@ impl<M: Manager> Drop for Shared<M> {
             maintainer.join();
         }
         match closed {
-            Err(panic) if !thread::panicking() => resume_unwind(panic),
-            _ => {}
+            Err(panic) if !thread::panicking() => panic.resume(),
+            Err(panic) => panic.ignore(),
+            Ok(_) => {}
         }
     }
 }

@@ -33,6 +33,9 @@ pub enum Touched {
     Gone,
 }
 
+/// An object that is ready for its holder, or none if an idle object failed and was destroyed.
+pub(crate) type Prepared<M> = Result<Option<(u64, Item<M>)>, Error<<M as Manager>::Error>>;
+
 impl<M: Manager> Shared<M> {
     /// Lends an object: an idle one, or a new one if a place is free.
     pub fn borrow(self: &Arc<Self>, limit: WaitLimit) -> Result<Pooled<M>, Error<M::Error>> {
@@ -53,11 +56,7 @@ impl<M: Manager> Shared<M> {
 
     /// Makes an object ready for its holder, if it is not. Returns none if it was idle and failed: then it was destroyed.
     #[inline]
-    pub fn prepare(
-        &self,
-        caller: u32,
-        acquired: Acquired<Item<M>>,
-    ) -> Result<Option<(u64, Item<M>)>, Error<M::Error>> {
+    pub fn prepare(&self, caller: u32, acquired: Acquired<Item<M>>) -> Prepared<M> {
         let (id, object) = match acquired {
             Acquired::Lent(id, object) => (id, Some(object)),
             Acquired::Taken(id, object) => (id, self.ready_taken(caller, id, object)),

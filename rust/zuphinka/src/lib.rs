@@ -39,8 +39,13 @@
 //! # Ok::<(), Box<dyn std::error::Error>>(())
 //! ```
 //!
+//! A borrow that finds nothing waits. Threads and tasks wait in one order, that of arrival, and are woken in it, one for each object or place.
+//! But a borrow that finds an idle object takes it at once, even if others wait: this costs no sleep. One that finds its object taken keeps
+//! its turn and waits again.
+//!
 //! A pool lends for ever: by default it drops the entries of its journal, a thousand or more at a time. [`Builder::journal`] keeps them in memory
-//! ([`Journal::Memory`]), or stores them in segments ([`Journal::Segments`]), which `pool check` checks as one journal.
+//! ([`Journal::Memory`]), or stores them in segments ([`Journal::Segments`]), which `pool check` checks as one journal. The call that finds
+//! a segment due stores it, also a borrow, a poll or a return; if the journal is full, calls wait for the thread that stores one.
 //!
 //! Build the C library first, by `python3 tools/build.py zuphinka`; `build.rs` says where else it may lie.
 #![warn(missing_docs)]
@@ -65,6 +70,7 @@ mod locked;
 mod locked_pool;
 mod maintenance;
 mod manager;
+mod panics;
 mod pool;
 mod pooled;
 mod proved_core;

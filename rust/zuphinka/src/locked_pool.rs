@@ -6,6 +6,7 @@ use crate::proved_core::Core;
 use crate::step::{Answer, Input, Outcome, StepFault};
 use crate::stored_journal::{Care, Mode, StoredJournal};
 use crate::waiters::{Waiters, Wake};
+use std::collections::TryReserveError;
 
 /// The core with the values of its idle objects.
 pub(crate) struct LockedPool<T> {
@@ -59,47 +60,75 @@ impl<T> LockedPool<T> {
         }
     }
 
-    /// Takes one step of the core. The value is returned, unless its object keeps it.
-    ///
-    /// If an object may be made, a place for its value is reserved before, so that it can be kept later.
-    #[inline]
+    /// Takes one step of the core. The value is returned, unless its object keeps it. If there is no memory, the caller may
+    /// free some and try again.
     pub fn step(
         &mut self,
         stamp: Stamp,
         input: Input,
         value: Option<T>,
     ) -> Result<(Answer, Option<T>), FailedStep<T>> {
-        if matches!(input, Input::Borrow { .. } | Input::Add | Input::Fill) {
-            self.idle
-                .reserve(self.present + 1)
-                .map_err(|_| (StepFault::OutOfMemory, None))?;
+        self.step_inline(stamp, input, value)
+    }
+
+    /// Takes one step, in code that is made for its input where this is known.
+    ///
+    /// A place is reserved before for the value of an object that may be made, so that it can be kept later.
+    #[inline(always)]
+    fn step_inline(
+        &mut self,
+        stamp: Stamp,
+        input: Input,
+        value: Option<T>,
+    ) -> Result<(Answer, Option<T>), FailedStep<T>> {
+        if self.reserve_place(input).is_err() {
+            return Err((StepFault::OutOfMemory, None));
         }
         self.last_time = self.last_time.max(stamp.time);
         let token = value.map(|value| self.idle.put(value));
-        let taken = self.core.step(stamp.caller, self.last_time, input, token);
-        match taken {
-            Ok((answer, out)) => {
-                self.note(input, answer);
-                if self.journal.count() {
-                    self.care_for_journal();
-                }
-                Ok((answer, out.map(|token| self.idle.take(token))))
-            }
+        match self.core.step(stamp.caller, self.last_time, input, token) {
+            Ok((answer, out)) => Ok(self.note(input, answer, out)),
             Err(fault) => Err((fault, token.map(|token| self.idle.take(token)))),
         }
     }
 
-    #[inline]
-    fn note(&mut self, input: Input, answer: Answer) {
+    /// Reserves a place for the value of an object that may be made.
+    #[inline(always)]
+    fn reserve_place(&mut self, input: Input) -> Result<(), TryReserveError> {
+        match input {
+            // An idle object is taken first.
+            Input::Borrow { .. } if self.idle.len() > 0 => Ok(()),
+            Input::Borrow { .. } | Input::Add | Input::Fill => self.idle.reserve(self.present + 1),
+            _ => Ok(()),
+        }
+    }
+
+    /// Drops the stored entries if they are not kept. Returns whether some were dropped, so that a step may be tried again.
+    #[cold]
+    pub fn free_memory(&mut self) -> bool {
+        let first = self.journal.first;
+        if self.journal.may_drop() {
+            self.drop_entries();
+        }
+        self.journal.first != first
+    }
+
+    /// Notes a step. Returns its answer, and the value that comes with it.
+    #[inline(always)]
+    fn note(&mut self, input: Input, answer: Answer, out: Option<u64>) -> (Answer, Option<T>) {
         match (answer, input) {
             (Answer::Make(_), _) => self.present += 1,
             (Answer::Freed | Answer::Reclaimed(_), _) => self.present -= 1,
             (Answer::Count(_), Input::Close) => self.is_closed = true,
             _ => {}
         }
+        if self.journal.count() {
+            self.care_for_journal();
+        }
+        (answer, out.map(|token| self.idle.take(token)))
     }
 
-    /// Does what is to be done about the journal once so many entries are stored.
+    /// Does what is to be done about the journal now that this many entries are stored.
     #[cold]
     fn care_for_journal(&mut self) {
         let room = self.core.room();
@@ -140,20 +169,16 @@ impl<T> LockedPool<T> {
     }
 
     /// Takes a step that never fails, since room and memory are set aside for it.
-    #[inline]
-    pub fn complete(
-        &mut self,
-        stamp: Stamp,
-        input: Input,
-        value: Option<T>,
-    ) -> (Answer, Option<T>) {
-        match self.step(stamp, input, value) {
+    #[inline(always)]
+    fn complete(&mut self, stamp: Stamp, input: Input, value: Option<T>) -> (Answer, Option<T>) {
+        match self.step_inline(stamp, input, value) {
             Ok(answered) => answered,
             Err((fault, _)) => unreachable!("{input:?} failed: {fault:?}"),
         }
     }
 
-    /// Borrows an object. If nothing is to be done with an idle one before, it is lent in a second step.
+    /// Borrows an object. If nothing is to be done with an idle one before, it is lent in a second step. If there is no memory, the caller may
+    /// free some and try again.
     #[inline]
     pub fn borrow(
         &mut self,
@@ -161,7 +186,7 @@ impl<T> LockedPool<T> {
         began: u64,
         lends_at_once: bool,
     ) -> Result<Borrowed<T>, StepFault> {
-        let borrowed = self.step(stamp, Input::Borrow { began }, None);
+        let borrowed = self.step_inline(stamp, Input::Borrow { began }, None);
         match borrowed.map_err(|(fault, _)| fault)? {
             (Answer::Take(id), Some(value)) if lends_at_once => {
                 let outcome = Outcome::Good;
@@ -182,7 +207,7 @@ impl<T> LockedPool<T> {
         value: T,
         parks_at_once: bool,
     ) -> TakenBack<T> {
-        match self.step(stamp, Input::GiveBack { id }, None) {
+        match self.step_inline(stamp, Input::GiveBack { id }, None) {
             Ok((Answer::Check, _)) if parks_at_once => {
                 let outcome = Outcome::Good;
                 match self.complete(stamp, Input::Park { id, outcome }, Some(value)) {

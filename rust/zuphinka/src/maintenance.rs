@@ -3,9 +3,9 @@
 use crate::error::Error;
 use crate::failure::Failure;
 use crate::manager::Manager;
+use crate::panics::{drop_quietly, unless_it_panics};
 use crate::shared::Shared;
 use std::io;
-use std::panic::{catch_unwind, AssertUnwindSafe};
 use std::sync::{Arc, Condvar, Mutex, PoisonError, Weak};
 use std::thread::{self, JoinHandle};
 use std::time::{Duration, Instant};
@@ -85,19 +85,19 @@ fn maintain<M: Manager>(pool: &Weak<Shared<M>>) -> bool {
     let Some(pool) = pool.upgrade() else {
         return false;
     };
-    let is_open = match catch_unwind(AssertUnwindSafe(|| pool.maintain())) {
-        Ok(Ok(_)) => true,
-        Ok(Err(Error::Closed)) => false,
-        Ok(Err(error)) => {
+    let is_open = match unless_it_panics(|| pool.maintain()) {
+        Some(Ok(_)) => true,
+        Some(Err(Error::Closed)) => false,
+        Some(Err(error)) => {
             pool.report(Failure::Maintenance(error));
             true
         }
-        Err(_) => {
+        None => {
             pool.report(Failure::MaintenancePanicked);
             true
         }
     };
     // This may be the last handle, and then the manager's panic is not for this thread.
-    let _ = catch_unwind(AssertUnwindSafe(|| drop(pool)));
+    drop_quietly(pool);
     is_open
 }

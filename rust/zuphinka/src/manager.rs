@@ -2,7 +2,8 @@ use std::future::Future;
 
 /// Makes, activates, validates, passivates and destroys the objects of a pool.
 ///
-/// The pool calls it without its lock, in the thread whose call needs it, so calls may take long and run in parallel. If one panics, its object is destroyed, its place is freed, and the panic continues.
+/// The pool calls it without its lock, in the thread whose call needs it, so calls may take long and run in parallel. If one panics, its object
+/// is destroyed, its place is freed, and the panic continues.
 ///
 /// ```
 /// use std::net::{SocketAddr, TcpStream};

@@ -51,6 +51,12 @@ impl<M: Manager> Pool<M> {
     /// Lends an object: an idle one, or a new one if a place is free. If there is neither, it waits or fails, as the settings say
     /// (`blockWhenExhausted`, `maxWaitMillis`).
     ///
+    /// A borrow that finds an idle object or a free place takes it, even if others wait. Those that wait are woken in the order of arrival, one
+    /// for each object or place. One that finds it taken keeps its turn and waits again.
+    ///
+    /// With [`Journal::Segments`](crate::Journal::Segments) this call may store a segment. If the journal is full, it waits for the
+    /// thread that stores one, up to `maxWaitMillis` more.
+    ///
     /// An idle object that is not activated, or does not pass the test of `testOnBorrow`, is destroyed, and the borrow continues.
     ///
     /// ```
@@ -80,7 +86,8 @@ impl<M: Manager> Pool<M> {
         self.shared.borrow(WaitLimit::AsSet)
     }
 
-    /// Lends an object without waiting for one: an idle one, or a new one if a place is free.
+    /// Lends an object without waiting for one: an idle one, or a new one if a place is free. It waits for no other thread that stores a
+    /// segment of the journal, but may store one itself.
     ///
     /// # Errors
     ///
@@ -109,8 +116,11 @@ impl<M: Manager> Pool<M> {
     /// share the pool, and those that wait are woken in the order of arrival.
     ///
     /// A poll looks once, in one critical section. If there is nothing to lend, it registers the task's waker there. If it finds nothing again,
-    /// it makes no entry. It awaits an [`AsyncManager`](crate::AsyncManager), and calls any other manager itself. With
-    /// [`Journal::Segments`](crate::Journal::Segments) it may store a segment, as all calls do.
+    /// it makes no entry. It awaits an [`AsyncManager`](crate::AsyncManager), and calls any other manager itself.
+    ///
+    /// With [`Journal::Segments`](crate::Journal::Segments) a poll may store a segment. If the journal is full, the poll blocks its thread until
+    /// the thread that stores a segment is done, up to `maxWaitMillis`. Returns do the former. Set a limit with enough room for the time that your
+    /// sink takes, so that this does not happen.
     ///
     /// The future has no timer. `maxWaitMillis` ends a wait at the first poll after that time. Only an object, a place, or the close of the pool
     /// wakes the task. Let your runtime bound the wait, as `tokio::time::timeout` does: you may drop the future at any time.
@@ -210,15 +220,31 @@ impl<M: Manager> Pool<M> {
     }
 
     /// Returns how many entries the journal can still take in memory, besides those that are set aside for completing steps and for the close
-    /// of the pool. With [`Journal::Memory`](crate::Journal::Memory) nothing more is lent at 0, until the journal is
-    /// [cut](Pool::cut).
+    /// of the pool. It takes the lock.
+    ///
+    /// A call that needs more room fails with [`Error::JournalFull`], until the journal is cut:
+    ///
+    /// | Call | Room that it needs |
+    /// |---|---|
+    /// | a borrow that makes an object | 6 |
+    /// | a borrow that takes an idle object | 4 |
+    /// | a borrow that finds neither an object nor a place, or a closed pool | 1 |
+    /// | [`add`](Pool::add) | 4; 1 if no place is free |
+    /// | [`fill`](Pool::fill) | 4 for each object, and 1 |
+    /// | [`evict`](Pool::evict) | 1; then 2 for each object that is tested, 1 for each other one that it keeps |
+    /// | [`reclaim`](Pool::reclaim), [`clear`](Pool::clear), [`touch`](Pooled::touch) | 1 |
+    /// | the return, invalidation or detachment of a lent object, and the first [`close`](Pool::close) | 0 |
+    ///
+    /// With [`Abandoned::on_borrow`](crate::Abandoned::on_borrow) each borrow needs 1 more. A borrow that makes an object, tests included, sets
+    /// 6 aside: its own entry, and the five that may be needed until the object is destroyed. A borrow of an idle object and its return use 4 up.
     pub fn room(&self) -> u64 {
         self.shared.lock().core.room()
     }
 
-    /// Returns whether it is time to cut the journal: less than a quarter of its limit is left, or too little for one borrow. With
+    /// Returns whether it is time to cut the journal: its [`room`](Pool::room) is less than a quarter of its limit, or too little for a borrow
+    /// that makes an object. With [`Journal::Memory`](crate::Journal::Memory) call [`cut`](Pool::cut) then. With
     /// [`Journal::Segments`](crate::Journal::Segments) it means that the sink fails or is too slow. With
-    /// [`Journal::Off`](crate::Journal::Off) it is false.
+    /// [`Journal::Off`](crate::Journal::Off) it is false. It takes the lock.
     pub fn is_low(&self) -> bool {
         self.shared.is_low()
     }
@@ -246,7 +272,8 @@ impl<M: Manager> Pool<M> {
     /// # Errors
     ///
     /// Those of the writer. The next drain continues with the lines that this one wanted to write last, some hundred; those may have been
-    /// written already, or in part. The same holds if the writer panics.
+    /// written already, or in part. The same holds if the writer panics. There is no memory for the lines. Another error if `out` drains the
+    /// journal itself.
     pub fn drain_journal(&self, mut out: impl Write) -> io::Result<u64> {
         self.shared.drain_journal(&mut out)
     }

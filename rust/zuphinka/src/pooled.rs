@@ -1,10 +1,10 @@
 use crate::error::Error;
 use crate::lending::{Returned, Touched};
 use crate::manager::Manager;
+use crate::panics::unless_it_panics;
 use crate::shared::{Item, Shared};
 use std::fmt;
 use std::ops::{Deref, DerefMut};
-use std::panic::{catch_unwind, AssertUnwindSafe};
 use std::sync::Arc;
 use std::thread;
 
@@ -92,10 +92,10 @@ impl<M: Manager> Drop for Pooled<M> {
             return;
         }
         // A panic of the manager ends here, since a second one would end the process.
-        let _ = catch_unwind(AssertUnwindSafe(|| match self.was_panicking {
+        unless_it_panics(|| match self.was_panicking {
             true => self.pool.give_back(self.id, object),
             false => self.pool.invalidate(self.id, object),
-        }));
+        });
     }
 }
 

@@ -1,35 +1,36 @@
-//! The proved core, over its C library. All code that is `unsafe` stands here.
+//! The proved core, over its C library. All code that is `unsafe` is here.
 
 use crate::step::{Answer, Cause, Counts, Input, Outcome, StepFault, When};
 use crate::sys;
 use std::ffi::c_char;
 
-/// A function of the library that tells a line.
-type Teller = unsafe extern "C" fn(*mut sys::Handle, u64, *mut c_char, usize, *mut u64) -> u32;
+/// A function of the library that returns a line.
+type LineFunction =
+    unsafe extern "C" fn(*mut sys::Handle, u64, *mut c_char, usize, *mut u64) -> u32;
 
-/// A core. It is its handle's only owner, and each call has it by itself, since it takes `&mut self`: these are the rules of
-/// `zuphinka.h`. Tokens are numbers to it, and are never followed.
+/// A core. It alone owns its handle, and one call of it runs at a time, since each takes `&mut self`: these are the rules of `zuphinka.h`.
+/// Tokens are numbers here, and are never dereferenced.
 pub(crate) struct Core {
     handle: sys::Handle,
 }
 
-// SAFETY: the library has no state but what the handle leads to, and wants one call of a handle at a time, from any thread.
+// SAFETY: the library has no state except that of the handle, whose calls may come from any thread, one at a time.
 unsafe impl Send for Core {}
 
 /// Why no core was opened.
 #[derive(Clone, Copy, Debug, PartialEq, Eq)]
 pub(crate) enum OpenFault {
     OutOfMemory,
-    /// The settings aren't taken; the status says why.
+    /// The settings are invalid: a status of the library.
     Settings(u32),
 }
 
-/// The settings that a text says; else the status of its first fault, with the name of the key that is at fault, if one is.
+/// Returns the settings of a text. If it is invalid, returns the status of its first error, with the name of the key if it has one.
 pub(crate) fn settings_of(text: &str) -> Result<sys::Settings, (u32, String)> {
     let mut key = vec![0u8; 128];
     loop {
         let (mut settings, mut size) = (sys::Settings::default(), 0);
-        // SAFETY: text and buffer have so many bytes, and all are apart.
+        // SAFETY: text and buffer have these sizes, and no two overlap.
         let status = unsafe {
             let (bytes, start) = (text.as_ptr().cast(), key.as_mut_ptr().cast());
             sys::zuphinka_settings(
@@ -53,10 +54,10 @@ pub(crate) fn settings_of(text: &str) -> Result<sys::Settings, (u32, String)> {
 }
 
 impl Core {
-    /// A core with an empty journal, and these settings in TOML.
+    /// Opens a core with an empty journal, and with settings in TOML.
     pub fn open(settings: &str) -> Result<Core, OpenFault> {
         let mut handle = sys::Handle::EMPTY;
-        // SAFETY: the handle is empty, and the text has so many bytes.
+        // SAFETY: the handle is empty, and the text has this size.
         let status =
             unsafe { sys::zuphinka_open(&mut handle, settings.as_ptr().cast(), settings.len()) };
         match status {
@@ -66,9 +67,9 @@ impl Core {
         }
     }
 
-    /// One step, and its entry. The token that is handed in, with the inputs that carry one, comes out again unless its
-    /// object keeps it.
-    #[inline]
+    /// Takes one step, and appends its entry. Returns the answer, and a token: that of an idle object that is taken, or the one that was passed
+    /// in, unless the core stores it.
+    #[inline(always)]
     pub fn step(
         &mut self,
         caller: u32,
@@ -81,7 +82,7 @@ impl Core {
         request.at = at;
         request.object = token.unwrap_or(0) as usize;
         let mut reply = sys::Reply::default();
-        // SAFETY: the handle is this core's, and the three are apart.
+        // SAFETY: the handle is this core's, and no two of the three overlap.
         match unsafe { sys::zuphinka_step(&mut self.handle, &request, &mut reply) } {
             sys::STATUS_DONE => Ok((
                 answer_of(&reply),
@@ -89,7 +90,7 @@ impl Core {
             )),
             sys::STATUS_JOURNAL_FULL => Err(StepFault::JournalFull),
             sys::STATUS_OUT_OF_MEMORY => Err(StepFault::OutOfMemory),
-            status => unreachable!("a step came to status {status}"),
+            status => unreachable!("a step has status {status}"),
         }
     }
 
@@ -110,7 +111,7 @@ impl Core {
         }
     }
 
-    /// How many entries the journal has, since it was cut last.
+    /// Returns the number of entries since the last cut.
     pub fn steps(&mut self) -> u64 {
         let mut steps = 0;
         // SAFETY: the handle is this core's.
@@ -119,7 +120,7 @@ impl Core {
         steps
     }
 
-    /// How many entries more fit into the journal, beside those that are owed.
+    /// Returns how many entries the journal can still take, besides the outstanding ones.
     pub fn room(&mut self) -> u64 {
         let mut room = 0;
         // SAFETY: the handle is this core's.
@@ -128,36 +129,36 @@ impl Core {
         room
     }
 
-    /// Appends the line of the entry at a position, from 0, with its line feed: whether there is one.
+    /// Appends the line of the entry at a position, from 0, with its line feed. Returns whether there is one.
     ///
     /// # Errors
     ///
-    /// There was no memory, and the text is as it was.
+    /// An allocation failed. The text is unchanged.
     pub fn line(&mut self, position: u64, text: &mut Vec<u8>) -> Result<bool, StepFault> {
-        self.tell(sys::zuphinka_line, position, text)
+        self.append(sys::zuphinka_line, position, text)
     }
 
-    /// Appends a line of the base that the entries go on from, with its line feed: whether there is one. At 0 it is the one that a segment
-    /// begins with, and then there is one for each object.
+    /// Appends a line of the base that the entries continue, with its line feed. Returns whether there is one. At 0 is the line with which a
+    /// segment begins, and after it one line for each object.
     ///
     /// # Errors
     ///
-    /// There was no memory, and the text is as it was.
+    /// An allocation failed. The text is unchanged.
     pub fn base_line(&mut self, position: u64, text: &mut Vec<u8>) -> Result<bool, StepFault> {
-        self.tell(sys::zuphinka_base, position, text)
+        self.append(sys::zuphinka_base, position, text)
     }
 
-    fn tell(
+    fn append(
         &mut self,
-        teller: Teller,
+        function: LineFunction,
         position: u64,
         text: &mut Vec<u8>,
     ) -> Result<bool, StepFault> {
         let (mut line, mut size) = ([0u8; sys::LONGEST_LINE], 0);
-        // SAFETY: the handle is this core's, the buffer has so many bytes, and all are apart.
+        // SAFETY: the handle is this core's, the buffer has this size, and no two overlap.
         let status = unsafe {
             let start = line.as_mut_ptr().cast();
-            teller(&mut self.handle, position, start, line.len(), &mut size)
+            function(&mut self.handle, position, start, line.len(), &mut size)
         };
         match status {
             sys::STATUS_DONE => {
@@ -168,21 +169,21 @@ impl Core {
             }
             sys::STATUS_NO_ENTRY => Ok(false),
             sys::STATUS_OUT_OF_MEMORY => Err(StepFault::OutOfMemory),
-            status => unreachable!("a line came to status {status}"),
+            status => unreachable!("a line has status {status}"),
         }
     }
 
-    /// Cuts the journal: its entries are dropped, and it goes on from the base that they came to.
+    /// Cuts the journal: drops its entries, and continues from the state after them, its new base.
     ///
     /// # Errors
     ///
-    /// There was no memory, and nothing has changed.
+    /// An allocation failed. The core is unchanged.
     pub fn cut(&mut self) -> Result<(), StepFault> {
         // SAFETY: the handle is this core's.
         match unsafe { sys::zuphinka_cut(&mut self.handle) } {
             sys::STATUS_DONE => Ok(()),
             sys::STATUS_OUT_OF_MEMORY => Err(StepFault::OutOfMemory),
-            status => unreachable!("a cut came to status {status}"),
+            status => unreachable!("a cut has status {status}"),
         }
     }
 }
@@ -194,7 +195,7 @@ impl Drop for Core {
     }
 }
 
-/// What an input asks for, by the library's codes.
+/// Returns the request for an input, in the library's codes.
 #[inline]
 fn request_of(input: Input) -> sys::Request {
     let plain = |input, number| (input, number, 0);

@@ -85,7 +85,8 @@ impl Segments {
         Ok(Segments::new(SegmentFolder::create(path)?))
     }
 
-    /// Sets how many entries may be stored in memory, from 7 to 2^32. A segment is cut when about half of them are. Without it the limit is
+    /// Sets how many entries may be stored in memory, from 7 to 2^32 (from 8 with
+    /// [`Abandoned::on_borrow`](crate::Abandoned::on_borrow)). A segment is cut when about half of them are. Without it the limit is
     /// the setting `journalLimit`.
     pub fn limit(mut self, entries: u64) -> Segments {
         self.limit = Some(entries);
@@ -122,6 +123,8 @@ const SETTINGS: &str = "settings.toml";
 #[derive(Debug)]
 pub struct SegmentFolder {
     path: PathBuf,
+    /// Whether it is known that the folder has no other pool's segments.
+    is_own: bool,
     has_settings: bool,
 }
 
@@ -130,21 +133,15 @@ impl SegmentFolder {
     ///
     /// # Errors
     ///
-    /// An error of the file system. [`io::ErrorKind::AlreadyExists`] if the folder has segments or settings: they are another pool's.
+    /// An error of the file system. [`io::ErrorKind::AlreadyExists`] if the folder has segments or settings: they are another pool's. If another
+    /// pool stores its first segment there later, this sink's first `store` fails with the same.
     pub fn create(path: impl AsRef<Path>) -> io::Result<SegmentFolder> {
         let path = path.as_ref().to_owned();
-        fs::create_dir_all(&path)?;
-        sync_folder(path.parent().unwrap_or(&path))?;
-        for entry in fs::read_dir(&path)? {
-            let name = entry?.file_name();
-            let name = name.to_string_lossy();
-            if name.starts_with("segment-") || name == SETTINGS {
-                let message = format!("{} has a journal already", path.display());
-                return Err(io::Error::new(io::ErrorKind::AlreadyExists, message));
-            }
-        }
+        create_folder(&path)?;
+        check_is_free(&path)?;
         Ok(SegmentFolder {
             path,
+            is_own: false,
             has_settings: false,
         })
     }
@@ -160,6 +157,31 @@ impl SegmentFolder {
     }
 }
 
+/// Creates a folder, and those above it, if they do not exist. Waits until their names are stored.
+fn create_folder(path: &Path) -> io::Result<()> {
+    let above = path.parent().unwrap_or(path);
+    if !above.as_os_str().is_empty() && !above.is_dir() {
+        create_folder(above)?;
+    }
+    match fs::create_dir(path) {
+        Err(error) if !path.is_dir() => Err(error),
+        _ => sync_folder(above),
+    }
+}
+
+/// Fails if a folder has segments or settings.
+fn check_is_free(path: &Path) -> io::Result<()> {
+    for entry in fs::read_dir(path)? {
+        let name = entry?.file_name();
+        let name = name.to_string_lossy();
+        if name.starts_with("segment-") || name == SETTINGS {
+            let message = format!("{} has a journal already", path.display());
+            return Err(io::Error::new(io::ErrorKind::AlreadyExists, message));
+        }
+    }
+    Ok(())
+}
+
 /// Waits until the names in a folder are stored. No name is that of the current folder.
 fn sync_folder(path: &Path) -> io::Result<()> {
     let path = match path.as_os_str().is_empty() {
@@ -171,6 +193,10 @@ fn sync_folder(path: &Path) -> io::Result<()> {
 
 impl SegmentSink for SegmentFolder {
     fn store(&mut self, segment: &Segment<'_>) -> io::Result<()> {
+        if !self.is_own {
+            check_is_free(&self.path)?;
+            self.is_own = true;
+        }
         if !self.has_settings {
             self.write(SETTINGS, segment.settings.as_bytes())?;
             self.has_settings = true;

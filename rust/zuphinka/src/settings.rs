@@ -1,4 +1,4 @@
-//! The settings of a pool, as a settings file has them.
+//! The settings of a pool, with the keys of a settings file.
 
 use crate::error::SettingsError;
 use crate::proved_core::settings_of;
@@ -6,14 +6,14 @@ use crate::sys;
 use std::fmt;
 use std::time::Duration;
 
-/// The greatest text that is taken, in bytes.
+/// The size of the longest text that is read, in bytes.
 const LONGEST: usize = 1 << 20;
 
-/// How much of a text that is no TOML is looked at for the line: so many lines, and bytes.
+/// How many lines and bytes of a text that is not TOML are searched for the line of the error.
 const MOST_LINES: usize = 1_000;
 const MOST_BYTES: usize = 1 << 16;
 
-/// The properties, each with the meaning that `docs/settings.md` tells.
+/// The settings. `docs/guide/settings.md` explains each.
 #[derive(Clone, Debug, PartialEq, Eq)]
 pub(crate) struct Settings {
     pub block_when_exhausted: bool,
@@ -33,7 +33,7 @@ pub(crate) struct Settings {
     pub abandoned: Option<Abandoned>,
 }
 
-/// When lent objects are taken for abandoned, for [`Builder::abandoned`](crate::Builder::abandoned).
+/// When lent objects count as abandoned, for [`Builder::abandoned`](crate::Builder::abandoned).
 ///
 /// ```
 /// # use std::time::Duration;
@@ -43,12 +43,12 @@ pub(crate) struct Settings {
 /// ```
 #[derive(Clone, Copy, Debug, PartialEq, Eq)]
 pub struct Abandoned {
-    /// Whether each borrow first reclaims abandoned objects, where the pool runs low (`removeAbandonedOnBorrow`, false).
+    /// Whether each borrow first reclaims abandoned objects, if few objects and places are left (`removeAbandonedOnBorrow`, false).
     pub on_borrow: bool,
     /// Whether maintenance reclaims abandoned objects (`removeAbandonedOnMaintenance`, false).
     pub on_maintenance: bool,
-    /// For how long an object is lent and not used before it counts as abandoned, up to 2^53 milliseconds, rounded up to whole
-    /// ones (`removeAbandonedTimeoutMillis`, 5 minutes).
+    /// How long an object is lent and not used before it counts as abandoned, up to 2^53 milliseconds. It is rounded up to whole milliseconds
+    /// (`removeAbandonedTimeoutMillis`, 5 minutes).
     pub timeout: Duration,
 }
 
@@ -84,13 +84,13 @@ impl Default for Settings {
     }
 }
 
-/// A time in milliseconds, rounded up. One that is too long stays so.
+/// Returns a time in milliseconds, rounded up. One that is out of range stays out of range.
 pub(crate) fn millis(time: Duration) -> i64 {
     let millis = time.as_nanos().div_ceil(1_000_000);
     i64::try_from(millis).unwrap_or(i64::MAX)
 }
 
-/// The line behind those that are TOML by themselves.
+/// Returns the number of the first line that makes a text invalid: the text before it is TOML.
 fn line_of_fault(text: &str) -> u64 {
     let ends = text.match_indices('\n').map(|(at, _)| at).enumerate();
     let looked_at = ends
@@ -132,7 +132,7 @@ impl From<sys::Settings> for Settings {
 }
 
 impl Settings {
-    /// The settings of a TOML text, as the core reads them, where each key that is left out has its default.
+    /// Returns the settings of a TOML text, as the core reads them. A key that the text leaves out has its default.
     pub fn from_toml(text: &str) -> Result<Settings, SettingsError> {
         if text.len() > LONGEST {
             return Err(SettingsError::TooLong);
@@ -151,7 +151,7 @@ impl Settings {
             })
     }
 
-    /// Returns whether a text, which can be taken, names `maxWaitMillis`: then the key cannot be given once more in front of it.
+    /// Returns whether a valid text names `maxWaitMillis`: with the key once more before it, it is not TOML.
     pub fn names_max_wait(text: &str) -> Result<bool, SettingsError> {
         let text = text.strip_prefix('\u{feff}').unwrap_or(text);
         match settings_of(&["maxWaitMillis = 0\n", text].concat()) {
@@ -161,13 +161,24 @@ impl Settings {
         }
     }
 
-    /// Whether a borrow begins with the removal of abandoned objects.
+    /// Returns whether a borrow first reclaims abandoned objects.
     pub fn removes_on_borrow(&self) -> bool {
         self.abandoned.is_some_and(|abandoned| abandoned.on_borrow)
     }
+
+    /// Returns the journal room that is enough for any borrow: one entry that makes an object, five that may be needed until this is destroyed,
+    /// and one more if the borrow first reclaims.
+    pub fn least_room(&self) -> u64 {
+        6 + u64::from(self.removes_on_borrow())
+    }
+
+    /// Returns the least limit of a journal in which one object can be lent and the pool closed.
+    pub fn least_limit(&self) -> u64 {
+        self.least_room() + 1
+    }
 }
 
-/// As a settings file that has each key, and the table `abandoned` where it is set.
+/// Writes a settings file with each key, and with the table `abandoned` if it is set.
 impl fmt::Display for Settings {
     fn fmt(&self, f: &mut fmt::Formatter<'_>) -> fmt::Result {
         writeln!(f, "blockWhenExhausted = {}", self.block_when_exhausted)?;

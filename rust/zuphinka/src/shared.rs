@@ -8,10 +8,10 @@ use crate::locked::{Guard, Locked};
 use crate::locked_pool::{Borrowed, LockedPool, TakenBack};
 use crate::maintenance::Maintainer;
 use crate::manager::Manager;
+use crate::panics::unless_it_panics;
 use crate::settings::Settings;
 use crate::step::{Answer, Cause, Input, StepFault};
 use crate::writing::Outlet;
-use std::panic::{catch_unwind, AssertUnwindSafe};
 use std::sync::{Condvar, Mutex, MutexGuard, PoisonError};
 use std::thread;
 use std::time::{Duration, Instant};
@@ -77,6 +77,9 @@ pub(crate) enum Acquired<T> {
     New(u64),
 }
 
+/// The result of a borrow before the manager is called.
+pub(crate) type Acquisition<M> = Result<Acquired<Item<M>>, Error<<M as Manager>::Error>>;
+
 /// Which waiters a step wakes.
 pub(crate) enum Wakes {
     None,
@@ -127,7 +130,7 @@ impl<M: Manager> Shared<M> {
     /// Reports a failure that no call returns. A panic of the receiver is ignored.
     pub fn report(&self, failure: Failure<M::Error>) {
         if let Some(on_error) = &self.policy.on_error {
-            let _ = catch_unwind(AssertUnwindSafe(|| on_error(failure)));
+            unless_it_panics(|| on_error(failure));
         }
     }
 
@@ -155,7 +158,7 @@ impl<M: Manager> Shared<M> {
     /// Destroys an object. If this thread panics already, a panic of the manager ends here, since a second one would end the process.
     pub fn destroy(&self, object: M::Object) {
         if thread::panicking() {
-            let _ = catch_unwind(AssertUnwindSafe(|| self.manager.destroy(object)));
+            unless_it_panics(|| self.manager.destroy(object));
         } else {
             self.manager.destroy(object);
         }
@@ -196,16 +199,19 @@ impl<M: Manager> Shared<M> {
         &self,
         caller: u32,
         input: Input,
-        value: Option<Item<M>>,
+        mut value: Option<Item<M>>,
     ) -> Result<Stepped<M>, Error<M::Error>> {
         let time = self.now();
         let mut state = self.lock();
-        match state.step(Stamp { caller, time }, input, value) {
-            Ok((answer, out)) => {
-                self.leave(state, Wakes::of(input, answer));
-                Ok((answer, out))
+        loop {
+            match state.step(Stamp { caller, time }, input, value.take()) {
+                Ok((answer, out)) => {
+                    self.leave(state, Wakes::of(input, answer));
+                    return Ok((answer, out));
+                }
+                Err((StepFault::OutOfMemory, out)) if state.free_memory() => value = out,
+                Err((fault, _)) => return Err(error_of(&state, input, fault)),
             }
-            Err((fault, _)) => Err(error_of(&state, input, fault)),
         }
     }
 
@@ -270,7 +276,7 @@ impl<M: Manager> Shared<M> {
         began: u64,
         mut time: u64,
         limit: WaitLimit,
-    ) -> Result<Acquired<Item<M>>, Error<M::Error>> {
+    ) -> Acquisition<M> {
         loop {
             match self.try_to_acquire(caller, began, time, limit) {
                 Err(Error::JournalFull) if self.make_room(limit) => time = self.now(),
@@ -285,7 +291,7 @@ impl<M: Manager> Shared<M> {
         began: u64,
         mut time: u64,
         limit: WaitLimit,
-    ) -> Result<Acquired<Item<M>>, Error<M::Error>> {
+    ) -> Acquisition<M> {
         let lends_at_once = self.lends_at_once();
         let input = Input::Borrow { began };
         let mut has_slept = false;
@@ -297,6 +303,7 @@ impl<M: Manager> Shared<M> {
                     self.leave(state, Wakes::None);
                     return acquired(input, borrowed);
                 }
+                Err(StepFault::OutOfMemory) if state.free_memory() => continue,
                 Err(fault) => {
                     let error = error_of(&state, input, fault);
                     // Another may be able to take what this thread was woken for.

@@ -1,6 +1,6 @@
-//! What a step of the core is asked and what it answers. `docs/definitions.md` has what each means.
+//! The inputs and the answers of a step of the core. `docs/proof/definitions.md` defines each.
 
-/// What a section asks of the core.
+/// What a critical section asks of the core.
 #[derive(Clone, Copy, Debug, PartialEq, Eq)]
 pub(crate) enum Input {
     Borrow { began: u64 },
@@ -23,7 +23,7 @@ pub(crate) enum Input {
     Close,
 }
 
-/// What the manager's work on an object came to.
+/// The outcome of the manager's work on an object.
 #[derive(Clone, Copy, Debug, PartialEq, Eq)]
 pub(crate) enum Outcome {
     Good,
@@ -34,14 +34,14 @@ pub(crate) enum Outcome {
     PassivateFailed,
 }
 
-/// When abandoned objects are removed.
+/// When abandoned objects are reclaimed.
 #[derive(Clone, Copy, Debug, PartialEq, Eq)]
 pub(crate) enum When {
     Borrow,
     Maintain,
 }
 
-/// What the core answers.
+/// The answer of the core.
 #[derive(Clone, Copy, Debug, PartialEq, Eq)]
 pub(crate) enum Answer {
     Take(u64),
@@ -68,7 +68,7 @@ pub(crate) enum Answer {
     Refused(Cause),
 }
 
-/// Why nothing was done.
+/// Why the core did nothing.
 #[derive(Clone, Copy, Debug, PartialEq, Eq)]
 pub(crate) enum Cause {
     Closed,
@@ -77,30 +77,30 @@ pub(crate) enum Cause {
     BadOutcome,
 }
 
-/// Why there is no answer. Nothing has changed then, and there is no entry.
+/// Why a step failed. It made no entry, and the core is unchanged.
 #[derive(Clone, Copy, Debug, PartialEq, Eq)]
 pub(crate) enum StepFault {
     JournalFull,
     OutOfMemory,
 }
 
-/// How many entries there were since the pool was opened, and of how many objects they tell.
+/// Numbers of entries and objects.
 #[derive(Clone, Copy, Debug, Default, PartialEq, Eq, Hash)]
 #[non_exhaustive]
 pub struct Counts {
-    /// The entries, those that were cut off included.
+    /// The entries since the pool was opened, including those that were cut off or dropped.
     pub steps: u64,
-    /// The objects that lie idle, or are under an idle test.
+    /// The idle objects, including those under an idle test.
     pub idle: u64,
-    /// Those with a holder.
+    /// The lent objects.
     pub lent: u64,
-    /// Those that are being made or readied, given back or destroyed.
+    /// The present objects that are neither idle nor lent: they are being made, activated, returned or destroyed.
     pub reserved: u64,
-    /// The objects that were to be made, also those whose making failed.
+    /// The objects that the pool asked to make, including those that could not be made.
     pub created: u64,
-    /// Those whose places were given up after they were destroyed or couldn't be made.
+    /// The objects that were destroyed or detached, or could not be made.
     pub destroyed: u64,
-    /// The idle objects that an eviction run destroyed, for their time or for a failed test.
+    /// The idle objects that an eviction run destroyed, for their idle time or a failed test.
     pub evicted: u64,
     /// The abandoned objects that lost their places.
     pub reclaimed: u64,

@@ -1,6 +1,5 @@
 //! The state of a pool's journal that the pool's lock protects.
 
-use std::sync::Arc;
 use std::thread::{self, ThreadId};
 
 /// The least number of entries after which a journal that is not kept is dropped. They take 56,000 bytes, which an allocator reuses without
@@ -74,8 +73,11 @@ pub(crate) struct StoredJournal {
     is_due: bool,
     /// The position up to which entries were drained.
     pub drained: u64,
-    pub unwritten: Option<Arc<CutSegment>>,
+    /// The segment that is cut off and not written, unless a thread is at it.
+    pub unwritten: Option<CutSegment>,
     pub writer: Writer,
+    /// The thread that drains the journal.
+    pub drainer: Option<ThreadId>,
     /// The segments that were dropped, if a test keeps them.
     #[cfg(test)]
     pub dropped: Option<Vec<Vec<u8>>>,
@@ -93,6 +95,7 @@ impl StoredJournal {
             drained: 0,
             unwritten: None,
             writer: Writer::None,
+            drainer: None,
             #[cfg(test)]
             dropped: None,
         };
@@ -116,14 +119,19 @@ impl StoredJournal {
         self.len >= self.look_at
     }
 
+    /// Returns whether stored entries may be dropped: they are not kept, and no thread copies them.
+    pub fn may_drop(&self) -> bool {
+        let is_copied = matches!(self.writer, Writer::Copying(_));
+        self.mode == Mode::Off && self.len > 0 && !is_copied
+    }
+
     /// Returns what is to be done, where there is room for `room` entries more and `present` objects are present.
     #[cold]
     pub fn look(&mut self, room: u64, present: usize) -> Care {
         match self.mode {
             Mode::Off => {
                 let enough = LEAST_DROPPED.max(ENTRIES_PER_OBJECT.saturating_mul(present as u64));
-                let is_copied = matches!(self.writer, Writer::Copying(_));
-                if self.len < enough || is_copied {
+                if self.len < enough || !self.may_drop() {
                     self.look_at = enough.max(self.len + LEAST_DROPPED / 2);
                     return Care::Nothing;
                 }

@@ -4,18 +4,15 @@ use crate::clock::Stamp;
 use crate::error::Error;
 use crate::locked_pool::Borrowed;
 use crate::manager::Manager;
-use crate::shared::{acquired, error_of, Acquired, Held, Item, Shared, WaitLimit, Wakes};
-use crate::step::{Answer, Input};
+use crate::panics::{drop_quietly, unless_it_panics};
+use crate::shared::{acquired, error_of, Acquisition, Held, Shared, WaitLimit, Wakes};
+use crate::step::{Answer, Input, StepFault};
 use crate::waiters::{Ticket, Wake, WakeAll};
-use std::mem;
-use std::panic::{catch_unwind, AssertUnwindSafe};
 use std::task::{Poll, Waker};
 
 /// Wakes a task. Returns whether its waker did not panic.
 fn wake_task(waker: Waker) -> bool {
-    let woken = catch_unwind(AssertUnwindSafe(|| waker.wake()));
-    // A drop of what it panicked with may panic too.
-    woken.map_err(mem::forget).is_ok()
+    unless_it_panics(|| waker.wake()).is_some()
 }
 
 impl<M: Manager> Shared<M> {
@@ -27,7 +24,7 @@ impl<M: Manager> Shared<M> {
         began: u64,
         ticket: &mut Option<Ticket>,
         waker: &Waker,
-    ) -> Poll<Result<Acquired<Item<M>>, Error<M::Error>>> {
+    ) -> Poll<Acquisition<M>> {
         loop {
             let time = self.now();
             match self.look(Stamp { caller, time }, began, ticket, waker.clone()) {
@@ -46,19 +43,25 @@ impl<M: Manager> Shared<M> {
         began: u64,
         ticket: &mut Option<Ticket>,
         waker: Waker,
-    ) -> Poll<Result<Acquired<Item<M>>, Error<M::Error>>> {
+    ) -> Poll<Acquisition<M>> {
         let is_over = self.is_over(began, stamp.time);
         let mut state = self.lock();
         if ticket.is_some() && !is_over && state.has_nothing(self.settings.max_total) {
             return self.wait(state, ticket, waker);
         }
         let input = Input::Borrow { began };
-        let acquired = match state.borrow(stamp, began, self.lends_at_once()) {
+        let mut borrowed = state.borrow(stamp, began, self.lends_at_once());
+        if matches!(borrowed, Err(StepFault::OutOfMemory)) && state.free_memory() {
+            borrowed = state.borrow(stamp, began, self.lends_at_once());
+        }
+        let acquired = match borrowed {
             Ok(Borrowed::Without(Answer::Wait)) => return self.wait(state, ticket, waker),
             Ok(borrowed) => acquired(input, borrowed),
             Err(fault) => Err(error_of(&state, input, fault)),
         };
         self.end_wait(state, ticket.take(), acquired.is_ok());
+        // The object has no guard yet.
+        drop_quietly(waker);
         Poll::Ready(acquired)
     }
 
@@ -79,9 +82,13 @@ impl<M: Manager> Shared<M> {
         let before = state.waiters.wait(own, waker);
         self.leave(state, Wakes::None);
         match before {
-            Ok(_) => Poll::Pending,
-            Err(_) => {
+            Ok(before) => {
+                drop_quietly(before);
+                Poll::Pending
+            }
+            Err(waker) => {
                 *ticket = None;
+                drop_quietly(waker);
                 Poll::Ready(Err(Error::OutOfMemory))
             }
         }
@@ -90,11 +97,13 @@ impl<M: Manager> Shared<M> {
     /// A task that may have waited waits no longer. If it was woken and has nothing, another may be able to take what it was woken for.
     fn end_wait(&self, mut state: Held<'_, M>, ticket: Option<Ticket>, has_object: bool) {
         let left = ticket.map(|ticket| state.waiters.leave(ticket));
-        let wakes = match left {
-            Some((true, _)) if !has_object => Wakes::One,
-            _ => Wakes::None,
+        let (was_woken, waker) = left.unwrap_or_default();
+        let wakes = match was_woken && !has_object {
+            true => Wakes::One,
+            false => Wakes::None,
         };
         self.leave(state, wakes);
+        drop_quietly(waker);
     }
 
     /// A task that waits, or was woken, is gone. A wake that was on its way to it is handed on.

@@ -1,15 +1,15 @@
 //! Cuts of the journal, and the segments that are handed to a sink.
 
 use crate::failure::Failure;
-use crate::journal::{copy_lines, out_of_memory, Cut};
+use crate::journal::{copy_lines, out_of_memory};
 use crate::manager::Manager;
+use crate::panics::unless_it_panics;
 use crate::proved_core::Core;
 use crate::segments::{Segment, SegmentSink, Segments, SinkFailure};
 use crate::shared::{Held, Shared, WaitLimit};
 use crate::stored_journal::{CutSegment, Mode, Writer};
 use std::io::{self, Write};
-use std::panic::{catch_unwind, AssertUnwindSafe};
-use std::sync::{Arc, Mutex, PoisonError};
+use std::sync::{Mutex, PoisonError};
 use std::thread;
 use std::time::{Duration, Instant};
 
@@ -39,18 +39,24 @@ impl Outlet {
             settings,
         };
         let mut sink = self.sink.lock().unwrap_or_else(PoisonError::into_inner);
-        catch_unwind(AssertUnwindSafe(|| sink.store(&segment)))
-            .unwrap_or_else(|_| Err(io::Error::new(io::ErrorKind::Other, "the sink panicked")))
+        unless_it_panics(|| sink.store(&segment))
+            .unwrap_or_else(|| Err(io::Error::other("the sink panicked")))
     }
 }
 
-/// The right to cut the journal, of one thread at a time.
-struct Turn<'a, M: Manager>(&'a Shared<M>);
+/// The right to cut the journal, of one thread at a time, and the segment that is unwritten. This goes back to the journal in the end.
+struct Turn<'a, M: Manager> {
+    pool: &'a Shared<M>,
+    unwritten: Option<CutSegment>,
+}
 
 impl<M: Manager> Drop for Turn<'_, M> {
     fn drop(&mut self) {
-        self.0.lock().journal.writer = Writer::None;
-        self.0.written.notify_all();
+        let mut state = self.pool.lock();
+        state.journal.writer = Writer::None;
+        state.journal.unwritten = self.unwritten.take();
+        drop(state);
+        self.pool.written.notify_all();
     }
 }
 
@@ -72,11 +78,14 @@ impl<M: Manager> Shared<M> {
             state = self.wait_for_writer(state, left);
         }
         state.journal.writer = Writer::Copying(thread::current().id());
-        Some(Turn(self))
+        Some(Turn {
+            pool: self,
+            unwritten: state.journal.unwritten.take(),
+        })
     }
 
     /// Copies and cuts the journal. The segment is kept as unwritten.
-    fn cut_off(&self, turn: &Turn<'_, M>) -> io::Result<Cut> {
+    fn cut_off(&self, turn: &mut Turn<'_, M>) -> io::Result<()> {
         let mut text = self.base_text()?;
         let mut copied = 0;
         for _ in 0..ROUNDS {
@@ -87,7 +96,7 @@ impl<M: Manager> Shared<M> {
 
     /// Writes and cuts the journal. The segment is kept as unwritten. Returns how many of its bytes are written: if that fails, nothing is
     /// cut.
-    fn write_and_cut(&self, turn: &Turn<'_, M>, out: &mut dyn Write) -> io::Result<(Cut, usize)> {
+    fn write_and_cut(&self, turn: &mut Turn<'_, M>, out: &mut dyn Write) -> io::Result<usize> {
         let mut text = self.base_text()?;
         let (mut copied, mut written) = (0, 0);
         for _ in 0..ROUNDS {
@@ -96,8 +105,8 @@ impl<M: Manager> Shared<M> {
             written = text.len();
         }
         out.flush()?;
-        let segment = self.cut_after(turn, copied, text)?;
-        Ok((segment, written))
+        self.cut_after(turn, copied, text)?;
+        Ok(written)
     }
 
     /// Returns the lines of the base, while no other thread may cut the journal.
@@ -110,8 +119,8 @@ impl<M: Manager> Shared<M> {
     }
 
     /// Copies the entries that are not copied yet, and cuts the journal. The segment is kept as unwritten.
-    fn cut_after(&self, turn: &Turn<'_, M>, copied: u64, mut text: Vec<u8>) -> io::Result<Cut> {
-        let mut state = turn.0.lock();
+    fn cut_after(&self, turn: &mut Turn<'_, M>, copied: u64, mut text: Vec<u8>) -> io::Result<()> {
+        let mut state = self.lock();
         let (position, entries) = (state.journal.first, state.journal.len);
         debug_assert_eq!(state.core.steps(), entries);
         copy_lines(&mut state.core, Core::line, copied, entries, &mut text)?;
@@ -119,13 +128,12 @@ impl<M: Manager> Shared<M> {
         let room = state.core.room();
         state.journal.cut(room);
         state.journal.writer = Writer::Writing(thread::current().id());
-        let segment = Arc::new(CutSegment {
+        turn.unwritten = Some(CutSegment {
             position,
             entries,
             text,
         });
-        state.journal.unwritten = Some(Arc::clone(&segment));
-        Ok(segment)
+        Ok(())
     }
 
     /// Writes a segment, and cuts the journal after it. Returns the number of its entries.
@@ -138,18 +146,18 @@ impl<M: Manager> Shared<M> {
             let message = "the segments of this pool are handed to its sink";
             return Err(io::Error::new(io::ErrorKind::Unsupported, message));
         }
-        let turn = self.take_turn(state, None).ok_or_else(|| {
-            io::Error::new(io::ErrorKind::Other, "a journal is cut while it is cut")
-        })?;
-        let unwritten = self.lock().journal.unwritten.clone();
-        let (segment, written) = match unwritten {
-            Some(segment) => (segment, 0),
-            None => self.write_and_cut(&turn, out)?,
+        let mut turn = self
+            .take_turn(state, None)
+            .ok_or_else(|| io::Error::other("a journal is cut while it is cut"))?;
+        let written = match turn.unwritten {
+            Some(_) => 0,
+            None => self.write_and_cut(&mut turn, out)?,
         };
-        out.write_all(&segment.text[written..])?;
-        out.flush()?;
-        self.lock().journal.unwritten = None;
-        Ok(segment.entries)
+        if let Some(segment) = &turn.unwritten {
+            out.write_all(&segment.text[written..])?;
+            out.flush()?;
+        }
+        Ok(turn.unwritten.take().map_or(0, |segment| segment.entries))
     }
 
     /// Hands the entries that are in memory to the sink. Returns their number, or 0 without a sink.
@@ -158,13 +166,10 @@ impl<M: Manager> Shared<M> {
         let Some(outlet) = &self.outlet else {
             return Ok(0);
         };
-        let turn = self.take_turn(state, None).ok_or_else(|| {
-            io::Error::new(
-                io::ErrorKind::Other,
-                "a journal is written while it is written",
-            )
-        })?;
-        self.write_out(&turn, outlet)
+        let mut turn = self
+            .take_turn(state, None)
+            .ok_or_else(|| io::Error::other("a journal is written while it is written"))?;
+        self.write_out(&mut turn, outlet)
     }
 
     /// Hands the rest of the journal to the sink.
@@ -172,7 +177,7 @@ impl<M: Manager> Shared<M> {
         let state = self.lock();
         if let Some(outlet) = &self.outlet {
             if let Some(turn) = self.take_turn(state, None) {
-                self.write_and_report(&turn, outlet);
+                self.write_and_report(turn, outlet);
             }
         }
     }
@@ -188,7 +193,7 @@ impl<M: Manager> Shared<M> {
             return;
         }
         if let Some(turn) = self.take_turn(state, None) {
-            self.write_and_report(&turn, outlet);
+            self.write_and_report(turn, outlet);
         }
     }
 
@@ -204,18 +209,18 @@ impl<M: Manager> Shared<M> {
         let Some(turn) = self.take_turn(state, self.end_of_wait(limit)) else {
             return false;
         };
-        if !self.has_room() {
-            self.write_and_report(&turn, outlet);
+        match self.has_room() {
+            true => drop(turn),
+            false => self.write_and_report(turn, outlet),
         }
-        drop(turn);
         let first = self.lock().journal.first;
         first != before || self.has_room()
     }
 
-    /// Returns whether there is room for any step.
+    /// Returns whether there is room for any call.
     fn has_room(&self) -> bool {
         let room = self.lock().core.room();
-        room >= LEAST_ROOM
+        room >= self.settings.least_room()
     }
 
     /// Returns until when a call waits for a thread that writes a segment.
@@ -230,14 +235,17 @@ impl<M: Manager> Shared<M> {
         }
     }
 
-    fn write_and_report(&self, turn: &Turn<'_, M>, outlet: &Outlet) {
-        if let Err(error) = self.write_out(turn, outlet) {
+    /// Writes a segment, and reports that this failed once others may cut the journal.
+    fn write_and_report(&self, mut turn: Turn<'_, M>, outlet: &Outlet) {
+        let written = self.write_out(&mut turn, outlet);
+        drop(turn);
+        if let Err(error) = written {
             self.report(Failure::Sink(error));
         }
     }
 
     /// Hands to the sink what is unwritten, and then the stored entries. Returns their number.
-    fn write_out(&self, turn: &Turn<'_, M>, outlet: &Outlet) -> io::Result<u64> {
+    fn write_out(&self, turn: &mut Turn<'_, M>, outlet: &Outlet) -> io::Result<u64> {
         let written = self.try_to_write_out(turn, outlet);
         if written.is_err() {
             let mut state = self.lock();
@@ -247,26 +255,27 @@ impl<M: Manager> Shared<M> {
         written
     }
 
-    fn try_to_write_out(&self, turn: &Turn<'_, M>, outlet: &Outlet) -> io::Result<u64> {
-        let unwritten = self.lock().journal.unwritten.clone();
-        let mut written = 0;
-        if let Some(segment) = unwritten {
-            written += self.hand_over(outlet, &segment)?;
-        }
+    fn try_to_write_out(&self, turn: &mut Turn<'_, M>, outlet: &Outlet) -> io::Result<u64> {
+        let mut written = self.hand_over(turn, outlet)?;
         if self.lock().journal.len > 0 {
-            let segment = self.cut_off(turn)?;
-            written += self.hand_over(outlet, &segment)?;
+            self.cut_off(turn)?;
+            written += self.hand_over(turn, outlet)?;
         }
         Ok(written)
     }
 
-    /// Hands a segment to the sink. If that fails, it stays unwritten or is dropped. Returns the number of its entries.
-    fn hand_over(&self, outlet: &Outlet, segment: &Cut) -> io::Result<u64> {
+    /// Hands the unwritten segment to the sink, if there is one. If that fails, it stays unwritten or is dropped. Returns the number of its
+    /// entries.
+    fn hand_over(&self, turn: &mut Turn<'_, M>, outlet: &Outlet) -> io::Result<u64> {
+        let Some(segment) = &turn.unwritten else {
+            return Ok(0);
+        };
+        let entries = segment.entries;
         let stored = outlet.store(segment, &self.settings_text);
         if stored.is_ok() || outlet.on_failure == SinkFailure::Drop {
-            self.lock().journal.unwritten = None;
+            turn.unwritten = None;
         }
-        stored.map(|()| segment.entries)
+        stored.map(|()| entries)
     }
 
     /// Returns whether little room is left in the journal.
@@ -276,11 +285,8 @@ impl<M: Manager> Shared<M> {
             Mode::Off => false,
             Mode::Memory | Mode::Segments => {
                 let limit = self.settings.journal_limit.unsigned_abs();
-                state.core.room() < (limit / 4).max(LEAST_ROOM)
+                state.core.room() < (limit / 4).max(self.settings.least_room())
             }
         }
     }
 }
-
-/// The room that a borrow takes that makes an object.
-const LEAST_ROOM: u64 = 6;

@@ -1,10 +1,14 @@
 //! Managers, clocks and holders that panic, pools that are closed meanwhile, and settings that contradict each other.
 
 mod common;
+#[path = "common/hooks.rs"]
+#[macro_use]
+mod hooks;
 
-use common::{assert_legal, entries_of, journal_of};
+use common::managers::{kept, take_out};
+use common::{assert_legal, panic_quietly, panics, times_of, wait_for_waits};
 use std::convert::Infallible;
-use std::panic::{self, AssertUnwindSafe};
+use std::panic;
 use std::sync::atomic::{AtomicBool, AtomicU64, Ordering};
 use std::sync::{mpsc, Arc, Mutex};
 use std::thread;
@@ -13,23 +17,6 @@ use zuphinka::{
     Abandoned, Addition, Builder, Contradiction, Error, Journal, Manager, OpenError, Pool, Pooled,
     Returned, WeakPool,
 };
-
-/// Makes two tests of each function: over a manager with hooks and over one without.
-macro_rules! with_and_without_hooks {
-    ($($name:ident)*) => {
-        $(mod $name {
-            #[test]
-            fn with_hooks() {
-                super::$name::<true>()
-            }
-
-            #[test]
-            fn without_hooks() {
-                super::$name::<false>()
-            }
-        })*
-    };
-}
 
 with_and_without_hooks! {
     an_object_ends_before_its_place_is_free
@@ -66,12 +53,8 @@ impl<const HOOKS: bool> Board<HOOKS> {
     }
 
     fn call(&self, name: &'static str) {
-        let mut panicking = self.panicking.lock().unwrap();
-        let place = panicking.iter().position(|one| *one == name);
-        let panics = place.map(|place| panicking.remove(place)).is_some();
-        drop(panicking);
-        if panics {
-            panic::resume_unwind(Box::new(name));
+        if take_out(&self.panicking, name) {
+            panic_quietly();
         }
     }
 
@@ -134,14 +117,10 @@ fn pool_with<const HOOKS: bool>(
     change: impl FnOnce(Builder<Troubled<HOOKS>>) -> Builder<Troubled<HOOKS>>,
 ) -> Opened<HOOKS> {
     let board = Arc::new(Board::default());
-    let builder = change(Pool::builder().journal(Journal::Memory(None)));
+    let builder = change(kept());
     let pool = builder.build(Troubled(Arc::clone(&board))).unwrap();
     *board.pool.lock().unwrap() = Some(pool.downgrade());
     (pool, board)
-}
-
-fn panics<R>(call: impl FnOnce() -> R) -> bool {
-    panic::catch_unwind(AssertUnwindSafe(call)).is_err()
 }
 
 fn an_object_ends_before_its_place_is_free<const HOOKS: bool>() {
@@ -233,16 +212,9 @@ fn the_last_handle_destroys_all_though_a_destruction_panics<const HOOKS: bool>()
     board.panic("destroy");
     assert!(panics(move || {
         let _pool = pool;
-        panic::resume_unwind(Box::new("the owner panics"));
+        panic_quietly();
     }));
     assert_eq!(board.ended.lock().unwrap().len(), 4);
-}
-
-/// The times in a journal.
-fn times_of<const HOOKS: bool>(pool: &Pool<Troubled<HOOKS>>) -> Vec<u64> {
-    let journal = journal_of(pool);
-    let time = |line: &str| line.split(' ').nth(1).unwrap().parse().unwrap();
-    entries_of(&journal).map(time).collect()
 }
 
 /// A clock that panics while it is told to.
@@ -250,7 +222,7 @@ fn breaking_clock(time: u64) -> (impl Fn() -> u64 + Send + Sync, Arc<AtomicBool>
     let is_broken = Arc::new(AtomicBool::new(false));
     let told = Arc::clone(&is_broken);
     let clock = move || match told.load(Ordering::SeqCst) {
-        true => panic::resume_unwind(Box::new("the clock panics")),
+        true => panic_quietly(),
         false => time,
     };
     (clock, is_broken)
@@ -287,11 +259,7 @@ fn a_wake_is_not_lost_by_a_clock_that_panics<const HOOKS: bool>() {
     let lent = thread::scope(|scope| {
         let borrow = || pool.get().map(|object| object.id);
         let waiters = [scope.spawn(borrow), scope.spawn(borrow)];
-        let waits = |journal: &str| journal.lines().filter(|it| it.ends_with("wait")).count();
-        while waits(&journal_of(&pool)) < 2 {
-            thread::yield_now();
-        }
-        thread::sleep(Duration::from_millis(20));
+        wait_for_waits(&pool, 2);
         is_broken.store(true, Ordering::SeqCst);
         drop(held);
         waiters.map(|waiter| waiter.join().unwrap())
@@ -324,7 +292,7 @@ fn a_destruction_may_panic_while_its_holder_panics<const HOOKS: bool>() {
     board.panic("destroy");
     assert!(panics(move || {
         let _held = held;
-        panic::resume_unwind(Box::new("the holder panics"));
+        panic_quietly();
     }));
     assert!(board.panicking.lock().unwrap().is_empty());
     assert_eq!(board.ended.lock().unwrap().len(), 1);
@@ -360,7 +328,7 @@ fn what_a_cleanup_borrows_is_returned<const HOOKS: bool>() {
     let id = AtomicU64::new(u64::MAX);
     assert!(panics(|| {
         let _cleanup = Cleanup(&pool, &id);
-        panic::resume_unwind(Box::new("the owner panics"));
+        panic_quietly();
     }));
     assert_eq!(id.load(Ordering::SeqCst), 0);
     assert_eq!(pool.counts().idle, 1);
@@ -368,7 +336,7 @@ fn what_a_cleanup_borrows_is_returned<const HOOKS: bool>() {
         board.panic("passivate");
         assert!(panics(|| {
             let _cleanup = Cleanup(&pool, &id);
-            panic::resume_unwind(Box::new("the owner panics"));
+            panic_quietly();
         }));
         assert_eq!(pool.counts().destroyed, 1);
     }
@@ -392,8 +360,7 @@ fn a_borrow_that_makes_its_object_gets_it_from_a_closed_pool<const HOOKS: bool>(
     }
     let (called, is_called) = mpsc::channel();
     let (go_on, may_go_on) = mpsc::channel();
-    let builder = Pool::builder().journal(Journal::Memory(None));
-    let pool = builder
+    let pool = kept()
         .build(Slow::<HOOKS>(Mutex::new((called, may_go_on))))
         .unwrap();
     let returned = thread::scope(|scope| {
@@ -421,6 +388,12 @@ fn a_weak_handle_does_not_keep_a_pool_open<const HOOKS: bool>() {
     assert!(weak.upgrade().is_none());
 }
 
+const ON_BORROW: Abandoned = Abandoned {
+    on_borrow: true,
+    on_maintenance: false,
+    timeout: Duration::from_secs(300),
+};
+
 #[test]
 fn contradictions_open_nothing() {
     type Change = fn(Builder<Troubled<true>>) -> Builder<Troubled<true>>;
@@ -432,7 +405,7 @@ fn contradictions_open_nothing() {
             Err(error) => panic!("{error}"),
         }
     };
-    let cases: [(Change, Contradiction); 7] = [
+    let cases: [(Change, Contradiction); 8] = [
         (
             |it| it.max_total(0).max_wait(None),
             Contradiction::NothingToWaitFor,
@@ -461,17 +434,22 @@ fn contradictions_open_nothing() {
             |it| it.journal(Journal::Memory(Some(6))),
             Contradiction::JournalTooSmall,
         ),
+        (
+            |it| it.journal(Journal::Memory(Some(7))).abandoned(ON_BORROW),
+            Contradiction::JournalTooSmall,
+        ),
     ];
     for (change, contradiction) in cases {
         assert_eq!(found(change), Some(contradiction));
     }
-    let lawful: [Change; 6] = [
+    let lawful: [Change; 7] = [
         |it| it.max_total(0).max_wait(Duration::from_secs(1)),
         |it| it.max_total(0).block_when_exhausted(false),
         |it| it.max_total(None).max_idle(None).min_idle(100),
         |it| it.block_when_exhausted(false),
         |it| it.journal_limit(6),
         |it| it.journal(Journal::Memory(Some(7))),
+        |it| it.journal(Journal::Memory(Some(8))).abandoned(ON_BORROW),
     ];
     for change in lawful {
         assert_eq!(found(change), None);
@@ -486,10 +464,15 @@ fn contradictions_open_nothing() {
 }
 
 fn one_loan_fits_into_the_smallest_journal<const HOOKS: bool>() {
-    let small = |builder: Builder<Troubled<HOOKS>>| builder.journal(Journal::Memory(Some(7)));
-    let (pool, _) = pool_with::<HOOKS>(small);
-    assert_eq!(Pooled::give_back(pool.get().unwrap()), Returned::Parked);
-    assert_eq!(pool.close(), 1);
-    assert_eq!(pool.counts().steps, 7);
-    assert_legal(&pool);
+    for (limit, abandoned) in [(7, None), (8, Some(ON_BORROW))] {
+        let small = |builder: Builder<Troubled<HOOKS>>| {
+            let builder = builder.journal(Journal::Memory(Some(limit)));
+            builder.abandoned(abandoned)
+        };
+        let (pool, _) = pool_with::<HOOKS>(small);
+        assert_eq!(Pooled::give_back(pool.get().unwrap()), Returned::Parked);
+        assert_eq!(pool.close(), 1);
+        assert_eq!(pool.counts().steps, limit);
+        assert_legal(&pool);
+    }
 }

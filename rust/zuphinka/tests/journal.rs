@@ -1,53 +1,25 @@
 //! What becomes of the journal of a pool: it is dropped, kept in memory, or handed to a sink.
 
 mod common;
+#[path = "common/hooks.rs"]
+#[macro_use]
+mod hooks;
 
+use common::managers::{kept, pair, Numbers};
 use common::{
-    assert_segments_legal, cut_off, entries_of, journal_of, judge_segments, new_folder, texts_of,
-    MemorySink, Stored,
+    assert_segments_legal, cut_off, entries_of, journal_of, judge_segments, new_folder,
+    panic_quietly, panics, texts_of, MemorySink, Stored,
 };
 use std::io::{self, Write};
-use std::panic::{self, AssertUnwindSafe};
 use std::path::Path;
 use std::sync::atomic::{AtomicBool, AtomicU64, Ordering};
 use std::sync::{mpsc, Arc, Mutex};
-use std::time::Duration;
-use std::{fs, thread};
+use std::time::{Duration, Instant};
+use std::{fs, mem, thread};
 use zuphinka::{
-    Builder, Error, Journal, Manager, OpenError, Pool, Pooled, Segment, SegmentFolder, SegmentSink,
+    Builder, Error, Journal, OpenError, Pool, Pooled, Segment, SegmentFolder, SegmentSink,
     Segments, SettingsError, SinkFailure,
 };
-
-/// Makes numbers, with or without hooks.
-struct Numbers<const HOOKS: bool>;
-
-impl<const HOOKS: bool> Manager for Numbers<HOOKS> {
-    type Object = u64;
-    type Error = ();
-    const ACTIVATES: bool = HOOKS;
-    const PASSIVATES: bool = HOOKS;
-
-    fn make(&self, id: u64) -> Result<u64, ()> {
-        Ok(id)
-    }
-}
-
-/// Makes two tests of each function: over a manager with hooks and over one without.
-macro_rules! with_and_without_hooks {
-    ($($name:ident)*) => {
-        $(mod $name {
-            #[test]
-            fn with_hooks() {
-                super::$name::<true>()
-            }
-
-            #[test]
-            fn without_hooks() {
-                super::$name::<false>()
-            }
-        })*
-    };
-}
 
 with_and_without_hooks! {
     a_sink_may_panic_and_call_its_pool
@@ -55,6 +27,9 @@ with_and_without_hooks! {
     a_folder_that_fails_is_written_later
     the_last_handle_hands_over_the_rest
     a_drain_whose_writer_panics_is_continued
+    a_writer_that_drains_what_is_drained_is_refused
+    two_pools_in_one_folder_overwrite_nothing
+    a_receiver_of_failures_may_wait_for_a_borrow
     a_cut_whose_writer_panics_loses_nothing
     a_cut_that_fails_at_its_end_keeps_the_segment
     the_limit_of_a_text_matters_where_entries_are_kept
@@ -67,10 +42,6 @@ with_and_without_hooks! {
     a_sink_that_fails_leaves_a_gap_if_that_is_set
     others_continue_while_a_segment_is_written
     others_continue_while_a_cut_is_written
-}
-
-fn pair<const HOOKS: bool>(pool: &Pool<Numbers<HOOKS>>) {
-    drop(pool.get().unwrap());
 }
 
 fn a_journal_that_is_not_kept_is_never_full<const HOOKS: bool>() {
@@ -313,24 +284,32 @@ fn others_continue_while_a_cut_is_written<const HOOKS: bool>() {
 
 fn a_sink_may_panic_and_call_its_pool<const HOOKS: bool>() {
     /// Borrows from the pool whose segments it stores, panics at its first call, and cuts in vain.
-    struct Greedy<const HOOKS: bool>(Arc<Mutex<Option<Pool<Numbers<HOOKS>>>>>, Stored);
+    struct Greedy<const HOOKS: bool> {
+        pool: Arc<Mutex<Option<Pool<Numbers<HOOKS>>>>>,
+        stored: Stored,
+        has_panicked: bool,
+    }
     impl<const HOOKS: bool> SegmentSink for Greedy<HOOKS> {
         fn store(&mut self, segment: &Segment<'_>) -> io::Result<()> {
-            let pool = self.0.lock().unwrap().clone();
+            let pool = self.pool.lock().unwrap().clone();
             if let Some(pool) = pool {
                 pair(&pool);
                 assert!(pool.flush_journal().is_err());
             }
-            if self.1.lock().unwrap().is_empty() && segment.position > 0 {
-                panic::resume_unwind(Box::new(()));
+            if !mem::replace(&mut self.has_panicked, true) {
+                panic_quietly();
             }
             let text = String::from_utf8(segment.text.to_vec()).unwrap();
-            self.1.lock().unwrap().push((segment.position, text));
+            self.stored.lock().unwrap().push((segment.position, text));
             Ok(())
         }
     }
     let (whose, stored) = (Arc::new(Mutex::new(None)), Stored::default());
-    let sink = Greedy::<HOOKS>(Arc::clone(&whose), Arc::clone(&stored));
+    let sink = Greedy::<HOOKS> {
+        pool: Arc::clone(&whose),
+        stored: Arc::clone(&stored),
+        has_panicked: false,
+    };
     let segments = Segments::new(sink).limit(200);
     let pool = Pool::builder().journal(Journal::Segments(segments));
     let pool = pool.build(Numbers::<HOOKS>).unwrap();
@@ -429,7 +408,7 @@ struct Panicking(Vec<u8>);
 impl Write for Panicking {
     fn write(&mut self, bytes: &[u8]) -> io::Result<usize> {
         if self.0.len() > 10_000 {
-            panic::resume_unwind(Box::new(()));
+            panic_quietly();
         }
         self.0.extend_from_slice(bytes);
         Ok(bytes.len())
@@ -441,11 +420,10 @@ impl Write for Panicking {
 }
 
 fn a_drain_whose_writer_panics_is_continued<const HOOKS: bool>() {
-    let builder = Pool::builder().journal(Journal::Memory(None));
-    let pool = builder.build(Numbers::<HOOKS>).unwrap();
+    let pool = kept().build(Numbers::<HOOKS>).unwrap();
     (0..500).for_each(|_| pair(&pool));
     let mut out = Panicking(Vec::new());
-    assert!(panic::catch_unwind(AssertUnwindSafe(|| pool.drain_journal(&mut out))).is_err());
+    assert!(panics(|| pool.drain_journal(&mut out)));
     let mut drained = out.0;
     let before = drained.len();
     assert!(before > 10_000);
@@ -454,12 +432,87 @@ fn a_drain_whose_writer_panics_is_continued<const HOOKS: bool>() {
     assert_eq!(String::from_utf8(drained).unwrap(), journal_of(&pool));
 }
 
-fn a_cut_whose_writer_panics_loses_nothing<const HOOKS: bool>() {
-    let builder = Pool::builder().journal(Journal::Memory(None));
+/// A writer that drains the journal itself.
+struct Drains<'a, const HOOKS: bool>(&'a Pool<Numbers<HOOKS>>);
+
+impl<const HOOKS: bool> Write for Drains<'_, HOOKS> {
+    fn write(&mut self, bytes: &[u8]) -> io::Result<usize> {
+        self.0.drain_journal(io::sink())?;
+        Ok(bytes.len())
+    }
+
+    fn flush(&mut self) -> io::Result<()> {
+        Ok(())
+    }
+}
+
+fn a_writer_that_drains_what_is_drained_is_refused<const HOOKS: bool>() {
+    let pool = kept().build(Numbers::<HOOKS>).unwrap();
+    pair(&pool);
+    assert!(pool.drain_journal(Drains(&pool)).is_err());
+    let mut drained = Vec::new();
+    assert_eq!(pool.drain_journal(&mut drained).unwrap(), 4);
+    assert_eq!(String::from_utf8(drained).unwrap(), journal_of(&pool));
+}
+
+fn two_pools_in_one_folder_overwrite_nothing<const HOOKS: bool>() {
+    let folder = new_folder();
+    let open = || {
+        let segments = Segments::in_folder(&folder).unwrap().limit(200);
+        let builder = Pool::builder().journal(Journal::Segments(segments));
+        builder.build(Numbers::<HOOKS>).unwrap()
+    };
+    let (first, second) = (open(), open());
+    (0..20).for_each(|_| pair(&first));
+    assert_eq!(first.flush_journal().unwrap(), 80);
+    let segment = folder.join("segment-00000000000000000000");
+    let stored = fs::read(&segment).unwrap();
+    pair(&second);
+    let refused = second.flush_journal().unwrap_err();
+    assert_eq!(refused.kind(), io::ErrorKind::AlreadyExists);
+    drop(second);
+    assert_eq!(fs::read(&segment).unwrap(), stored);
+    pair(&first);
+    assert_eq!(first.flush_journal().unwrap(), 4);
+    drop(first);
+    fs::remove_dir_all(folder).unwrap();
+}
+
+fn a_receiver_of_failures_may_wait_for_a_borrow<const HOOKS: bool>() {
+    let (called, is_called) = mpsc::channel();
+    let (answer, answered) = mpsc::channel::<()>();
+    let answered = Mutex::new(answered);
+    let sink = MemorySink {
+        stored: Stored::default(),
+        fails: || true,
+    };
+    let long = Duration::from_secs(60);
+    let builder = Pool::builder()
+        .journal(Journal::Segments(Segments::new(sink).limit(100)))
+        .max_wait(long)
+        .on_error(move |_| {
+            if called.send(()).is_ok() {
+                let _ = answered.lock().unwrap().recv_timeout(long);
+            }
+        });
     let pool = builder.build(Numbers::<HOOKS>).unwrap();
+    thread::scope(|scope| {
+        scope.spawn(|| while pool.get().is_ok() {});
+        is_called.recv().unwrap();
+        // The other thread is in its receiver, and no borrow waits for it.
+        let start = Instant::now();
+        drop(is_called);
+        assert!(pool.flush_journal().is_err());
+        assert!(start.elapsed() < long / 2);
+        drop(answer);
+    });
+}
+
+fn a_cut_whose_writer_panics_loses_nothing<const HOOKS: bool>() {
+    let pool = kept().build(Numbers::<HOOKS>).unwrap();
     (0..500).for_each(|_| pair(&pool));
     let mut out = Panicking(vec![0; 10_001]);
-    assert!(panic::catch_unwind(AssertUnwindSafe(|| pool.cut(&mut out))).is_err());
+    assert!(panics(|| pool.cut(&mut out)));
     pair(&pool);
     let segments = [cut_off(&pool), journal_of(&pool)];
     assert_eq!(entries_of(&segments[0]).count(), 2_004);

@@ -1,34 +1,23 @@
 //! What each call of a pool does, what it asks of the manager, and what it leaves.
 
 mod common;
+#[path = "common/hooks.rs"]
+#[macro_use]
+mod hooks;
 
-use common::{assert_legal, assert_segments_legal, cut_off, entries_of, journal_of};
-use std::panic::{self, AssertUnwindSafe};
+use common::managers::{kept, pool_with, Broken, Maker};
+use common::{
+    assert_legal, assert_segments_legal, cut_off, entries_of, journal_of, panics, steps_of,
+    times_of, wait_for_waits, while_waiting,
+};
 use std::sync::atomic::{AtomicU64, Ordering};
-use std::sync::{mpsc, Arc, Mutex};
+use std::sync::{mpsc, Mutex};
 use std::thread;
 use std::time::{Duration, Instant};
 use zuphinka::{
-    caller_number, Abandoned, Addition, Builder, Error, Journal, Manager, OpenError, Pool, Pooled,
-    Returned, SettingsError, Touched,
+    caller_number, Abandoned, Addition, Builder, Error, OpenError, Pool, Pooled, Returned,
+    SettingsError, Touched,
 };
-
-/// Makes two tests of each function: over a manager whose hooks `activate` and `passivate` are called, and over one without them.
-macro_rules! with_and_without_hooks {
-    ($($name:ident)*) => {
-        $(mod $name {
-            #[test]
-            fn with_hooks() {
-                super::$name::<true>()
-            }
-
-            #[test]
-            fn without_hooks() {
-                super::$name::<false>()
-            }
-        })*
-    };
-}
 
 with_and_without_hooks! {
     a_journal_is_as_the_readme_shows_it
@@ -72,133 +61,6 @@ with_and_without_hooks! {
     errors_say_what_happened
 }
 
-/// A moment that tests set, in milliseconds.
-#[derive(Clone, Default)]
-struct Clock(Arc<AtomicU64>);
-
-impl Clock {
-    fn set(&self, moment: u64) {
-        self.0.store(moment, Ordering::SeqCst);
-    }
-
-    fn told(&self) -> impl Fn() -> u64 {
-        let moment = Arc::clone(&self.0);
-        move || moment.load(Ordering::SeqCst)
-    }
-}
-
-/// Makes widgets, which know their ids. It writes down what it is called for, and fails or panics where it is told to.
-#[derive(Clone, Default)]
-struct Maker<const HOOKS: bool> {
-    calls: Arc<Mutex<Vec<String>>>,
-    failing: Arc<Mutex<Vec<&'static str>>>,
-    panicking: Arc<Mutex<Vec<&'static str>>>,
-    dropped: Arc<Mutex<Vec<u64>>>,
-}
-
-#[derive(Debug)]
-struct Widget {
-    id: u64,
-    dropped: Arc<Mutex<Vec<u64>>>,
-}
-
-impl Drop for Widget {
-    fn drop(&mut self) {
-        self.dropped.lock().unwrap().push(self.id);
-    }
-}
-
-#[derive(Debug, PartialEq)]
-struct Broken(&'static str);
-
-impl std::fmt::Display for Broken {
-    fn fmt(&self, f: &mut std::fmt::Formatter<'_>) -> std::fmt::Result {
-        write!(f, "{} is broken", self.0)
-    }
-}
-
-impl std::error::Error for Broken {}
-
-fn take_out(list: &Mutex<Vec<&'static str>>, name: &str) -> bool {
-    let mut list = list.lock().unwrap();
-    let place = list.iter().position(|one| *one == name);
-    place.map(|place| list.remove(place)).is_some()
-}
-
-impl<const HOOKS: bool> Maker<HOOKS> {
-    /// The next call of this name fails.
-    fn fail(&self, name: &'static str) {
-        self.failing.lock().unwrap().push(name);
-    }
-
-    /// The next call of this name panics.
-    fn panic(&self, name: &'static str) {
-        self.panicking.lock().unwrap().push(name);
-    }
-
-    fn done(&self, name: &'static str, id: u64) -> Result<(), Broken> {
-        self.calls.lock().unwrap().push(format!("{name} {id}"));
-        if take_out(&self.panicking, name) {
-            panic!("{name} panics");
-        }
-        match take_out(&self.failing, name) {
-            true => Err(Broken(name)),
-            false => Ok(()),
-        }
-    }
-
-    /// The calls since it was asked last.
-    fn calls(&self) -> Vec<String> {
-        std::mem::take(&mut *self.calls.lock().unwrap())
-    }
-
-    /// The widgets that were dropped since it was asked last.
-    fn dropped(&self) -> Vec<u64> {
-        std::mem::take(&mut *self.dropped.lock().unwrap())
-    }
-}
-
-impl<const HOOKS: bool> Manager for Maker<HOOKS> {
-    type Object = Widget;
-    type Error = Broken;
-    const ACTIVATES: bool = HOOKS;
-    const PASSIVATES: bool = HOOKS;
-
-    fn make(&self, id: u64) -> Result<Widget, Broken> {
-        self.done("make", id)?;
-        Ok(Widget {
-            id,
-            dropped: Arc::clone(&self.dropped),
-        })
-    }
-
-    fn activate(&self, widget: &mut Widget) -> Result<(), Broken> {
-        self.done("activate", widget.id)
-    }
-
-    fn validate(&self, widget: &mut Widget) -> bool {
-        self.done("validate", widget.id).is_ok()
-    }
-
-    fn passivate(&self, widget: &mut Widget) -> Result<(), Broken> {
-        self.done("passivate", widget.id)
-    }
-
-    fn destroy(&self, widget: Widget) {
-        self.done("destroy", widget.id).unwrap();
-    }
-}
-
-/// A pool with a clock that stands still, and its manager.
-fn pool_with<const HOOKS: bool>(
-    change: impl FnOnce(Builder<Maker<HOOKS>>) -> Builder<Maker<HOOKS>>,
-) -> (Pool<Maker<HOOKS>>, Maker<HOOKS>, Clock) {
-    let (maker, clock) = (Maker::<HOOKS>::default(), Clock::default());
-    let kept = Pool::builder().journal(Journal::Memory(None));
-    let builder = change(kept.clock(clock.told()));
-    (builder.build(maker.clone()).unwrap(), maker, clock)
-}
-
 fn all_tests<const HOOKS: bool>(builder: Builder<Maker<HOOKS>>) -> Builder<Maker<HOOKS>> {
     builder
         .test_on_create(true)
@@ -212,15 +74,6 @@ fn of_hooks<const HOOKS: bool>(calls: &[&'static str]) -> Vec<&'static str> {
     let is_of_hook = |call: &str| call.contains("activate") || call.contains("passivate");
     let calls = calls.iter().copied();
     calls.filter(|call| HOOKS || !is_of_hook(call)).collect()
-}
-
-/// The journal without callers, moments and what is the same in each line.
-fn steps_of<const HOOKS: bool>(pool: &Pool<Maker<HOOKS>>) -> Vec<String> {
-    let journal = journal_of(pool);
-    journal
-        .lines()
-        .map(|line| line.splitn(3, ' ').nth(2).unwrap().to_owned())
-        .collect()
 }
 
 /// The steps that tell of a failure.
@@ -250,8 +103,7 @@ fn a_journal_is_as_the_readme_shows_it<const HOOKS: bool>() {
 
 fn moments_are_milliseconds_since_the_pool_was_opened<const HOOKS: bool>() {
     let before = Instant::now();
-    let kept = Pool::builder().journal(Journal::Memory(None));
-    let pool = kept.build(Maker::<HOOKS>::default()).unwrap();
+    let pool = kept().build(Maker::<HOOKS>::default()).unwrap();
     let opened = Instant::now();
     thread::sleep(Duration::from_millis(20));
     let least = opened.elapsed().as_millis();
@@ -266,18 +118,10 @@ fn moments_are_milliseconds_since_the_pool_was_opened<const HOOKS: bool>() {
     }
 }
 
-/// The times in a journal.
-fn times_of<const HOOKS: bool>(pool: &Pool<Maker<HOOKS>>) -> Vec<u64> {
-    let journal = journal_of(pool);
-    let time = |line: &str| line.split(' ').nth(1).unwrap().parse().unwrap();
-    journal.lines().map(time).collect()
-}
-
 fn the_clock_is_read_where_time_may_pass<const HOOKS: bool>() {
     let reads = AtomicU64::new(0);
     let clock = move || reads.fetch_add(1, Ordering::SeqCst);
-    let pool = Pool::builder()
-        .journal(Journal::Memory(None))
+    let pool = kept()
         .clock(clock)
         .build(Maker::<HOOKS>::default())
         .unwrap();
@@ -394,12 +238,7 @@ fn an_exhausted_pool_refuses<const HOOKS: bool>() {
 fn a_wait_is_as_long_as_the_settings_say<const HOOKS: bool>() {
     let maker = Maker::<HOOKS>::default();
     let short = Duration::from_millis(40);
-    let pool = Pool::builder()
-        .journal(Journal::Memory(None))
-        .max_total(1)
-        .max_wait(short)
-        .build(maker)
-        .unwrap();
+    let pool = kept().max_total(1).max_wait(short).build(maker).unwrap();
     let _held = pool.get().unwrap();
     let start = Instant::now();
     assert_eq!(pool.get().unwrap_err(), Error::TimedOut);
@@ -419,28 +258,6 @@ fn a_wait_is_as_long_as_the_settings_say<const HOOKS: bool>() {
         ["make 0", "lent", "wait", "timeout", "wait", "timeout"]
     );
     assert_legal(&pool);
-}
-
-/// Leaves a thread that has made its entry the time to fall asleep.
-fn fall_asleep() {
-    thread::sleep(Duration::from_millis(30));
-}
-
-/// Lets a thread wait in a call, and then does something: what the call came to.
-fn while_waiting<R: Send, const HOOKS: bool>(
-    pool: &Pool<Maker<HOOKS>>,
-    call: impl FnOnce() -> R + Send,
-    act: impl FnOnce(),
-) -> R {
-    thread::scope(|scope| {
-        let waiting = scope.spawn(call);
-        while !journal_of(pool).ends_with("wait\n") {
-            thread::yield_now();
-        }
-        fall_asleep();
-        act();
-        waiting.join().unwrap()
-    })
 }
 
 fn a_waiter_is_woken_by_what_it_waits_for<const HOOKS: bool>() {
@@ -859,10 +676,6 @@ fn an_object_goes_back_from_any_thread<const HOOKS: bool>() {
     assert_legal(&pool);
 }
 
-fn panics<R>(call: impl FnOnce() -> R) -> bool {
-    panic::catch_unwind(AssertUnwindSafe(call)).is_err()
-}
-
 fn what_a_panicking_thread_holds_is_destroyed<const HOOKS: bool>() {
     let (pool, maker, _) = pool_with::<HOOKS>(|builder| builder);
     let widget = pool.get().unwrap();
@@ -958,16 +771,7 @@ fn while_two_wait<const HOOKS: bool>(
     thread::scope(|scope| {
         let wait = || scope.spawn(|| pool.get().map(|widget| widget.id));
         let waiting = [wait(), wait()];
-        let waits = |journal: String| {
-            journal
-                .lines()
-                .filter(|line| line.ends_with("wait"))
-                .count()
-        };
-        while waits(journal_of(pool)) < 2 {
-            thread::yield_now();
-        }
-        fall_asleep();
+        wait_for_waits(pool, 2);
         act();
         waiting.map(|waiter| waiter.join().unwrap())
     })
@@ -1073,7 +877,7 @@ fn a_pool_whose_journal_is_cut_lends_on<const HOOKS: bool>() {
     assert!(segments[22].starts_with("pool-journal 2 "));
     assert!(segments[22].contains(" closed "), "{}", segments[22]);
     assert_segments_legal(&pool, &segments);
-    assert_eq!(*maker.dropped.lock().unwrap(), [0]);
+    assert_eq!(maker.dropped(), [0]);
 }
 
 fn a_cut_that_fails_loses_nothing<const HOOKS: bool>() {

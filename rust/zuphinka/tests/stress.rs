@@ -6,9 +6,14 @@
 
 mod common;
 
-use common::{cut_off, entries_of, journal_of, judge_segments, texts_of, MemorySink, Stored};
+use common::chance::{
+    assert_dropped_once, close_empty, hush_random_panics, panic_at_random, Dice, Drops, Failed,
+    Thing,
+};
+use common::{
+    caught, cut_off, entries_of, journal_of, judge_segments, texts_of, MemorySink, Stored,
+};
 use std::collections::HashSet;
-use std::panic::{self, AssertUnwindSafe};
 use std::sync::atomic::{AtomicU64, Ordering};
 use std::sync::{Arc, Mutex};
 use std::thread;
@@ -19,41 +24,8 @@ const SEEDS: u64 = 20;
 const THREADS: u64 = 4;
 const CALLS: u32 = 2_000;
 
-/// One call of the manager in so many fails.
-const FAILS_OF: u64 = 12;
-/// One in so many panics, where it may.
-const PANICS_OF: u64 = 40;
 /// Before one in so many the thread lets others run.
 const YIELDS_OF: u64 = 50;
-
-/// Numbers that look like chance, and are the same in each run.
-struct Dice(u64);
-
-impl Dice {
-    /// A number below `sides`.
-    fn roll(&mut self, sides: u64) -> u64 {
-        self.0 = self
-            .0
-            .wrapping_mul(6_364_136_223_846_793_005)
-            .wrapping_add(1_442_695_040_888_963_407);
-        (self.0 >> 33) % sides
-    }
-}
-
-/// How often each object was dropped, by the order in which they were made.
-type Drops = Mutex<Vec<u32>>;
-
-struct Thing {
-    number: usize,
-    drops: Arc<Drops>,
-    is_awake: bool,
-}
-
-impl Drop for Thing {
-    fn drop(&mut self) {
-        self.drops.lock().unwrap()[self.number] += 1;
-    }
-}
 
 /// A manager whose calls fail by chance, each by its number.
 struct Fickle<const HOOKS: bool> {
@@ -63,30 +35,15 @@ struct Fickle<const HOOKS: bool> {
     panics: bool,
 }
 
-#[derive(Debug)]
-struct Failed;
-
 impl<const HOOKS: bool> Fickle<HOOKS> {
-    /// Whether a call fails.
-    fn fails(&self) -> bool {
+    /// Fails or panics now and then.
+    fn call(&self) -> Result<(), Failed> {
         let call = self.calls.fetch_add(1, Ordering::Relaxed);
         let mut dice = Dice(self.seed.wrapping_add(call));
         if dice.roll(YIELDS_OF) == 0 {
             thread::yield_now();
         }
-        let fails = dice.roll(FAILS_OF) == 0;
-        if self.panics && dice.roll(PANICS_OF) == 0 {
-            panic!("by chance");
-        }
-        fails
-    }
-
-    fn done(&self) -> Result<(), Failed> {
-        if self.fails() {
-            Err(Failed)
-        } else {
-            Ok(())
-        }
+        dice.fail(self.panics)
     }
 }
 
@@ -97,37 +54,31 @@ impl<const HOOKS: bool> Manager for Fickle<HOOKS> {
     const PASSIVATES: bool = HOOKS;
 
     fn make(&self, _id: u64) -> Result<Thing, Failed> {
-        self.done()?;
-        let mut drops = self.drops.lock().unwrap();
-        drops.push(0);
-        Ok(Thing {
-            number: drops.len() - 1,
-            drops: Arc::clone(&self.drops),
-            is_awake: false,
-        })
+        self.call()?;
+        Ok(Thing::new(&self.drops))
     }
 
     fn activate(&self, thing: &mut Thing) -> Result<(), Failed> {
-        self.done()?;
-        assert!(!thing.is_awake, "what is kept is passive");
-        thing.is_awake = true;
+        self.call()?;
+        assert!(!thing.is_active, "what is kept is passive");
+        thing.is_active = true;
         Ok(())
     }
 
     fn validate(&self, _thing: &mut Thing) -> bool {
-        !self.fails()
+        self.call().is_ok()
     }
 
     fn passivate(&self, thing: &mut Thing) -> Result<(), Failed> {
-        self.done()?;
-        thing.is_awake = false;
+        self.call()?;
+        thing.is_active = false;
         Ok(())
     }
 
     fn destroy(&self, thing: Thing) {
         drop(thing);
         if self.panics {
-            self.fails();
+            let _ = self.call();
         }
     }
 }
@@ -328,11 +279,6 @@ struct Player<'a, const HOOKS: bool> {
     marks: Vec<Mark>,
 }
 
-/// What a call came to, or nothing where the manager panicked in it.
-fn caught<R>(call: impl FnOnce() -> R) -> Option<R> {
-    panic::catch_unwind(AssertUnwindSafe(call)).ok()
-}
-
 impl<'a, const HOOKS: bool> Player<'a, HOOKS> {
     fn new(table: &'a Table<HOOKS>, seed: u64) -> Player<'a, HOOKS> {
         Player {
@@ -365,7 +311,7 @@ impl<'a, const HOOKS: bool> Player<'a, HOOKS> {
         });
         match lent {
             Some(Ok(object)) => {
-                assert_eq!(object.is_awake, HOOKS, "what is lent is active");
+                assert_eq!(object.is_active, HOOKS, "what is lent is active");
                 self.marks.push(Mark::Lent(Pooled::id(&object)));
                 self.held.push(object);
             }
@@ -384,8 +330,7 @@ impl<'a, const HOOKS: bool> Player<'a, HOOKS> {
 
     /// One of the objects that it holds, by chance.
     fn pick(&mut self) -> Option<Pooled<Fickle<HOOKS>>> {
-        let count = self.held.len() as u64;
-        (count > 0).then(|| self.held.swap_remove(self.dice.roll(count) as usize))
+        self.dice.pick(&mut self.held)
     }
 
     fn give_back(&mut self, object: Pooled<Fickle<HOOKS>>) {
@@ -408,7 +353,7 @@ impl<'a, const HOOKS: bool> Player<'a, HOOKS> {
             self.marks.push(Mark::Invalidates(Pooled::id(&object)));
             caught(move || {
                 let _held = object;
-                panic!("by chance");
+                panic_at_random();
             });
         } else {
             self.give_back(object);
@@ -567,18 +512,6 @@ fn play_all<const HOOKS: bool>(table: &Table<HOOKS>, seed: u64) -> Played {
     })
 }
 
-/// Closes a pool, and sees that no object is left in it.
-fn close_empty<const HOOKS: bool>(pool: &Pool<Fickle<HOOKS>>, seed: u64) {
-    while caught(|| pool.close()).is_none() || pool.counts().idle > 0 {
-        caught(|| pool.clear());
-    }
-    let counts = pool.counts();
-    let left = (counts.idle, counts.lent, counts.reserved);
-    assert_eq!(left, (0, 0, 0), "seed {seed}");
-    let ended = counts.destroyed + counts.reclaimed;
-    assert_eq!(counts.created, ended, "seed {seed}");
-}
-
 /// Sees that the segments are one legal journal with all entries, in which stands what each thread did.
 fn check_segments<const HOOKS: bool>(
     pool: &Pool<Fickle<HOOKS>>,
@@ -651,12 +584,7 @@ fn play<const HOOKS: bool>(seed: u64) -> (usize, String) {
     }
 
     drop(pool);
-    let drops = drops.lock().unwrap();
-    assert!(
-        drops.iter().all(|times| *times == 1),
-        "seed {seed}: {drops:?}"
-    );
-    (drops.len(), journal)
+    (assert_dropped_once(&drops, seed), journal)
 }
 
 /// Each answer that comes in these pools.
@@ -686,12 +614,7 @@ const ANSWERS: [&str; 21] = [
 
 #[test]
 fn objects_are_dropped_once_and_journals_are_legal() {
-    let told = panic::take_hook();
-    panic::set_hook(Box::new(move |panicked| {
-        if panicked.payload().downcast_ref::<&str>() != Some(&"by chance") {
-            told(panicked);
-        }
-    }));
+    hush_random_panics();
     let (mut objects, mut journals) = (0, String::new());
     for seed in 1..=SEEDS {
         for (more, journal) in [play::<true>(seed), play::<false>(seed)] {

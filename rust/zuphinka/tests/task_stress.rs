@@ -1,14 +1,16 @@
 //! Four threads poll, drop and exchange borrows at random, over a manager that is awaited, fails and panics at random, with 16 seeds.
 //!
-//! No object has two holders, each object is dropped once, no wake is lost, no object is left anywhere, and the program `pool` finds the
-//! journal legal: it has each loan under the number of the thread that polled first.
+//! No object has two holders, each object is dropped once, no wake is lost, and no object is left anywhere. The journal has each loan under
+//! the number of the thread that polled first. Unless it is dropped meanwhile, it has all loans, and the program `pool` finds it legal.
 
 mod common;
 
+use common::chance::{
+    assert_dropped_once, close_empty, hush_random_panics, Dice, Drops, Failed, Thing,
+};
 use common::tasks::{poll, yield_now, Bell};
-use common::{assert_segments_legal, entries_of, journal_of, texts_of, MemorySink, Stored};
-use std::panic::{self, AssertUnwindSafe};
-use std::sync::atomic::{AtomicBool, AtomicU64, Ordering};
+use common::{assert_segments_legal, caught, entries_of, journal_of, texts_of, MemorySink, Stored};
+use std::sync::atomic::{AtomicU64, Ordering};
 use std::sync::{Arc, Mutex};
 use std::task::Poll;
 use std::thread;
@@ -21,50 +23,10 @@ const SEEDS: u64 = 16;
 const THREADS: u64 = 4;
 const CALLS: u32 = 1_500;
 
-/// One call of the manager in this number fails.
-const FAILS_OF: u64 = 12;
-/// One in this number panics, if it may.
-const PANICS_OF: u64 = 40;
 /// A call is awaited this number of times at most.
 const AWAITS: u64 = 3;
 /// The borrows that a thread has at most, and the objects.
 const MOST: usize = 3;
-
-/// Numbers that look random, and are the same in each run.
-struct Dice(u64);
-
-impl Dice {
-    /// Returns a number below `sides`.
-    fn roll(&mut self, sides: u64) -> u64 {
-        self.0 = self
-            .0
-            .wrapping_mul(6_364_136_223_846_793_005)
-            .wrapping_add(1_442_695_040_888_963_407);
-        (self.0 >> 33) % sides
-    }
-
-    /// Takes one of some values out.
-    fn pick<T>(&mut self, values: &mut Vec<T>) -> Option<T> {
-        let count = values.len() as u64;
-        (count > 0).then(|| values.swap_remove(self.roll(count) as usize))
-    }
-}
-
-/// How often each object was dropped, in the order in which they were made.
-type Drops = Mutex<Vec<u32>>;
-
-struct Thing {
-    number: usize,
-    drops: Arc<Drops>,
-    is_active: bool,
-    has_holder: AtomicBool,
-}
-
-impl Drop for Thing {
-    fn drop(&mut self) {
-        self.drops.lock().unwrap()[self.number] += 1;
-    }
-}
 
 /// A manager whose calls are awaited, fail and panic at random.
 struct Fickle<const HOOKS: bool> {
@@ -74,24 +36,10 @@ struct Fickle<const HOOKS: bool> {
     panics: bool,
 }
 
-#[derive(Debug)]
-struct Failed;
-
 impl<const HOOKS: bool> Fickle<HOOKS> {
     fn dice(&self) -> Dice {
         let call = self.calls.fetch_add(1, Ordering::Relaxed);
         Dice(self.seed.wrapping_add(call))
-    }
-
-    fn call(&self, mut dice: Dice) -> Result<(), Failed> {
-        let fails = dice.roll(FAILS_OF) == 0;
-        if self.panics && dice.roll(PANICS_OF) == 0 {
-            panic!("at random");
-        }
-        match fails {
-            true => Err(Failed),
-            false => Ok(()),
-        }
     }
 
     async fn call_async(&self) -> Result<(), Failed> {
@@ -99,7 +47,7 @@ impl<const HOOKS: bool> Fickle<HOOKS> {
         for _ in 0..dice.roll(AWAITS + 1) {
             yield_now().await;
         }
-        self.call(dice)
+        dice.fail(self.panics)
     }
 }
 
@@ -111,14 +59,7 @@ impl<const HOOKS: bool> AsyncManager for Fickle<HOOKS> {
 
     async fn make(&self, _id: u64) -> Result<Thing, Failed> {
         self.call_async().await?;
-        let mut drops = self.drops.lock().unwrap();
-        drops.push(0);
-        Ok(Thing {
-            number: drops.len() - 1,
-            drops: Arc::clone(&self.drops),
-            is_active: false,
-            has_holder: AtomicBool::new(false),
-        })
+        Ok(Thing::new(&self.drops))
     }
 
     async fn activate(&self, thing: &mut Thing) -> Result<(), Failed> {
@@ -133,7 +74,7 @@ impl<const HOOKS: bool> AsyncManager for Fickle<HOOKS> {
     }
 
     fn passivate(&self, thing: &mut Thing) -> Result<(), Failed> {
-        self.call(self.dice())?;
+        self.dice().fail(self.panics)?;
         thing.is_active = false;
         Ok(())
     }
@@ -141,7 +82,7 @@ impl<const HOOKS: bool> AsyncManager for Fickle<HOOKS> {
     fn destroy(&self, thing: Thing) {
         drop(thing);
         if self.panics {
-            let _ = self.call(self.dice());
+            let _ = self.dice().fail(true);
         }
     }
 }
@@ -160,11 +101,6 @@ struct Table<const HOOKS: bool> {
     pool: Pool<Manager<HOOKS>>,
     /// Borrows that one thread hands to another.
     handed: Mutex<Vec<Begun<HOOKS>>>,
-}
-
-/// What a call came to, or nothing if the manager panicked in it.
-fn caught<R>(call: impl FnOnce() -> R) -> Option<R> {
-    panic::catch_unwind(AssertUnwindSafe(call)).ok()
 }
 
 /// A thread that calls at random.
@@ -315,10 +251,11 @@ fn open<const HOOKS: bool>(
         stored: Arc::clone(stored),
         fails: || false,
     };
-    let journal = match seed % 2 {
+    let journal = match seed % 3 {
         0 => Journal::Memory(None),
         // There is room for all entries, so that no call fails for a slow thread that writes.
-        _ => Journal::Segments(Segments::new(sink).limit(100_000)),
+        1 => Journal::Segments(Segments::new(sink).limit(100_000)),
+        _ => Journal::Off,
     };
     let abandoned = Abandoned {
         on_borrow: true,
@@ -329,7 +266,7 @@ fn open<const HOOKS: bool>(
     let builder = Pool::builder()
         .journal(journal)
         .clock(move || moment.fetch_add(1, Ordering::Relaxed))
-        .max_total(1 + (seed % MOST as u64) as u32)
+        .max_total(1 + (seed / 2 % MOST as u64) as u32)
         .min_idle(1)
         .test_on_create(seed % 5 < 2)
         .test_on_borrow(seed % 5 > 0)
@@ -350,16 +287,6 @@ fn loans_of(segments: &[String]) -> Vec<(u32, u64)> {
         .collect();
     loans.sort();
     loans
-}
-
-/// Closes a pool of which nothing is lent.
-fn close<const HOOKS: bool>(pool: &Pool<Manager<HOOKS>>) {
-    while caught(|| pool.close()).is_none() || pool.counts().idle > 0 {
-        caught(|| pool.clear());
-    }
-    let counts = pool.counts();
-    assert_eq!((counts.idle, counts.lent, counts.reserved), (0, 0, 0));
-    assert_eq!(counts.created, counts.destroyed + counts.reclaimed);
 }
 
 /// Lets four threads play, and ends what they left. Returns the loans, in ascending order.
@@ -399,28 +326,27 @@ fn play<const HOOKS: bool>(seed: u64) -> (usize, usize) {
         handed: Mutex::default(),
     };
     let loans = play_all(&table, seed);
-    close(&table.pool);
+    close_empty(&table.pool, seed);
     table.pool.flush_journal().unwrap();
     let mut segments = texts_of(&stored);
     segments.push(journal_of(&table.pool));
-    assert_segments_legal(&table.pool, &segments);
-    assert_eq!(loans_of(&segments), loans, "seed {seed}");
+    match seed % 3 {
+        2 => assert!(loans_of(&segments)
+            .iter()
+            .all(|loan| loans.binary_search(loan).is_ok())),
+        _ => {
+            assert_segments_legal(&table.pool, &segments);
+            assert_eq!(loans_of(&segments), loans, "seed {seed}");
+        }
+    }
 
     drop(table);
-    let drops = drops.lock().unwrap();
-    let are_dropped = drops.iter().all(|times| *times == 1);
-    assert!(are_dropped, "seed {seed}: {drops:?}");
-    (drops.len(), loans.len())
+    (assert_dropped_once(&drops, seed), loans.len())
 }
 
 #[test]
 fn borrows_of_four_threads_lose_nothing() {
-    let report = panic::take_hook();
-    panic::set_hook(Box::new(move |panicked| {
-        if panicked.payload().downcast_ref::<&str>() != Some(&"at random") {
-            report(panicked);
-        }
-    }));
+    hush_random_panics();
     let (mut objects, mut loans) = (0, 0);
     for seed in 1..=SEEDS {
         for played in [play::<true>(seed), play::<false>(seed)] {

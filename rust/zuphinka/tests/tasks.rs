@@ -2,16 +2,16 @@
 
 mod common;
 
+use common::managers::{kept, Broken};
 use common::tasks::{block_on, poll, poll_with, ready, run_all, yield_now, Bell, LONGEST};
-use common::{assert_legal, journal_of};
+use common::{assert_legal, journal_of, panics, steps_of, while_waiting};
 use std::future::{poll_fn, Future};
-use std::panic::{self, AssertUnwindSafe};
 use std::pin::Pin;
 use std::sync::atomic::{AtomicBool, AtomicU64, Ordering};
 use std::sync::{Arc, Mutex};
 use std::task::{Poll, Wake, Waker};
 use std::thread;
-use std::time::{Duration, Instant};
+use std::time::Duration;
 use zuphinka::{
     caller_number, Abandoned, Async, AsyncManager, Builder, Error, Failure, Get, Journal, Manager,
     Pool, Pooled, Returned,
@@ -51,9 +51,6 @@ impl Drop for Widget {
         self.maker.0.lock().unwrap().dropped.push(self.id);
     }
 }
-
-#[derive(Clone, Copy, Debug, PartialEq)]
-struct Broken(&'static str);
 
 impl Maker {
     /// The next call of this name does this.
@@ -177,11 +174,6 @@ impl<const HOOKS: bool> Manager for Plain<HOOKS> {
     }
 }
 
-/// Settings for a pool whose journal is kept.
-fn kept<M: Manager>() -> Builder<M> {
-    Pool::builder().journal(Journal::Memory(None))
-}
-
 /// A pool of one object over a manager that is awaited, with a clock that stands still.
 fn awaited(
     change: impl FnOnce(Builder<Async<Maker>>) -> Builder<Async<Maker>>,
@@ -195,10 +187,6 @@ fn awaited(
 fn plain() -> Pool<Plain<false>> {
     let builder = kept().max_total(1).clock(|| 0);
     builder.build(Plain(Maker::default())).unwrap()
-}
-
-fn panics<R>(call: impl FnOnce() -> R) -> bool {
-    panic::catch_unwind(AssertUnwindSafe(call)).is_err()
 }
 
 /// A future that has begun to wait.
@@ -223,35 +211,6 @@ fn error<M: Manager + 'static>(
         Ok(_) => panic!("an object is lent"),
         Err(error) => error,
     }
-}
-
-/// The steps of a journal, without callers and times.
-fn steps_of<M: Manager>(pool: &Pool<M>) -> Vec<String> {
-    let journal = journal_of(pool);
-    let step = |line: &str| line.splitn(3, ' ').nth(2).unwrap().to_owned();
-    journal.lines().map(step).collect()
-}
-
-/// Lets a thread wait in a call, does something, and then returns what the call came to. The thread is woken: its time is not over.
-fn while_waiting<M: Manager, R: Send>(
-    pool: &Pool<M>,
-    call: impl FnOnce() -> R + Send,
-    act: impl FnOnce(),
-) -> R {
-    let is_wait = |step: &&String| step.ends_with("wait");
-    let waits = || steps_of(pool).iter().filter(is_wait).count();
-    let (before, began) = (waits(), Instant::now());
-    thread::scope(|scope| {
-        let waiting = scope.spawn(call);
-        while waits() == before {
-            thread::yield_now();
-        }
-        thread::sleep(Duration::from_millis(30));
-        act();
-        let came = waiting.join().unwrap();
-        assert!(began.elapsed() < LONGEST, "nobody wakes the thread");
-        came
-    })
 }
 
 fn is_send<T: Send>(_: &T) {}
@@ -549,6 +508,40 @@ fn a_close_wakes_all_though_a_waker_panics() {
         assert_eq!(error(poll(get, &bells[0])), Error::Closed);
     }
     assert_eq!(Pooled::give_back(held), Returned::Destroyed);
+    assert_legal(&pool);
+}
+
+/// A waker whose drop panics.
+struct Explosive;
+
+impl Wake for Explosive {
+    fn wake(self: Arc<Self>) {}
+}
+
+impl Drop for Explosive {
+    fn drop(&mut self) {
+        panic!("the waker is dropped");
+    }
+}
+
+#[test]
+fn a_waker_whose_drop_panics_costs_nothing() {
+    let (pool, bell) = (plain(), Bell::new());
+    let held = pool.get().unwrap();
+    let mut first = waiting(&pool, &bell);
+    let mut second = pool.get_async();
+    let waker = Waker::from(Arc::new(Explosive));
+    assert!(poll_with(&mut second, &waker).is_pending());
+    // The pool has the last one.
+    drop(waker);
+    drop(held);
+    assert_eq!(bell.rings(), 1);
+    // It looks unasked, and its waker is dropped.
+    let object = lent(&mut second, &bell);
+    assert_eq!(object.id, 0);
+    drop(object);
+    drop(lent(&mut first, &bell));
+    assert_eq!(pool.counts().lent, 0);
     assert_legal(&pool);
 }
 

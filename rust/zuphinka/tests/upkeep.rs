@@ -1,34 +1,20 @@
 //! What a pool does of its own: it reports failures, ends objects for their age, and has itself maintained.
 
 mod common;
+#[path = "common/hooks.rs"]
+#[macro_use]
+mod hooks;
 
-use common::{assert_legal, journal_of};
+use common::managers::{pool_with, Broken, Maker};
+use common::{assert_legal, panic_quietly, steps_of};
 use std::io;
-use std::sync::atomic::{AtomicU64, Ordering};
 use std::sync::{mpsc, Arc, Mutex};
 use std::thread;
 use std::time::{Duration, Instant};
 use zuphinka::{
-    Builder, Error, Failure, Journal, Manager, Pool, Pooled, Returned, Segment, SegmentSink,
-    Segments, Touched,
+    Builder, Error, Failure, Journal, Pool, Pooled, Returned, Segment, SegmentSink, Segments,
+    Touched,
 };
-
-/// Makes two tests of each function: over a manager with hooks and over one without.
-macro_rules! with_and_without_hooks {
-    ($($name:ident)*) => {
-        $(mod $name {
-            #[test]
-            fn with_hooks() {
-                super::$name::<true>()
-            }
-
-            #[test]
-            fn without_hooks() {
-                super::$name::<false>()
-            }
-        })*
-    };
-}
 
 with_and_without_hooks! {
     failures_that_no_call_returns_are_reported
@@ -44,83 +30,14 @@ with_and_without_hooks! {
     debug_waits_for_no_lock
 }
 
-/// Makes objects, whose calls fail when they are told to.
-#[derive(Clone, Default)]
-struct Maker<const HOOKS: bool> {
-    failing: Arc<Mutex<Vec<&'static str>>>,
-    calls: Arc<Mutex<Vec<String>>>,
-}
-
-impl<const HOOKS: bool> Maker<HOOKS> {
-    fn fail(&self, name: &'static str) {
-        self.failing.lock().unwrap().push(name);
-    }
-
-    fn call(&self, name: &'static str, id: u64) -> Result<(), String> {
-        self.calls.lock().unwrap().push(format!("{name} {id}"));
-        let mut failing = self.failing.lock().unwrap();
-        match failing.iter().position(|one| *one == name) {
-            Some(place) => Err(failing.remove(place).to_owned()),
-            None => Ok(()),
-        }
-    }
-
-    /// The calls since it was asked last.
-    fn calls(&self) -> Vec<String> {
-        std::mem::take(&mut *self.calls.lock().unwrap())
-    }
-}
-
-impl<const HOOKS: bool> Manager for Maker<HOOKS> {
-    type Object = u64;
-    type Error = String;
-    const ACTIVATES: bool = HOOKS;
-    const PASSIVATES: bool = HOOKS;
-
-    fn make(&self, id: u64) -> Result<u64, String> {
-        self.call("make", id)?;
-        Ok(id)
-    }
-
-    fn activate(&self, id: &mut u64) -> Result<(), String> {
-        self.call("activate", *id)
-    }
-
-    fn validate(&self, id: &mut u64) -> bool {
-        self.call("validate", *id).is_ok()
-    }
-
-    fn passivate(&self, id: &mut u64) -> Result<(), String> {
-        self.call("passivate", *id)
-    }
-
-    fn destroy(&self, id: u64) {
-        self.call("destroy", id).unwrap();
-    }
-}
-
-/// A clock that tests set, in milliseconds.
-type Time = Arc<AtomicU64>;
-
-fn pool_with<const HOOKS: bool>(
-    change: impl FnOnce(Builder<Maker<HOOKS>>) -> Builder<Maker<HOOKS>>,
-) -> (Pool<Maker<HOOKS>>, Maker<HOOKS>, Time) {
-    let (maker, time) = (Maker::default(), Time::default());
-    let told = Arc::clone(&time);
-    let builder = Pool::builder()
-        .journal(Journal::Memory(None))
-        .clock(move || told.load(Ordering::SeqCst));
-    (change(builder).build(maker.clone()).unwrap(), maker, time)
-}
-
 /// The texts of what was reported.
 type Reports = Arc<Mutex<Vec<String>>>;
 
 /// What was reported, and what receives it.
-fn reports() -> (Reports, impl Fn(Failure<String>) + Send + Sync) {
+fn reports() -> (Reports, impl Fn(Failure<Broken>) + Send + Sync) {
     let reports = Arc::new(Mutex::new(Vec::new()));
     let received = Arc::clone(&reports);
-    let on_error = move |failure: Failure<String>| {
+    let on_error = move |failure: Failure<Broken>| {
         let text = match &failure {
             Failure::Activate { error, .. } | Failure::Passivate { error, .. } => {
                 format!("{failure}: {error}")
@@ -135,16 +52,12 @@ fn reports() -> (Reports, impl Fn(Failure<String>) + Send + Sync) {
     (reports, on_error)
 }
 
-fn panic_quietly() {
-    std::panic::resume_unwind(Box::new("it panics"));
-}
-
 /// Has something of the manager fail in a call of a pool with one idle object.
 type Failing<const HOOKS: bool> = fn(&Pool<Maker<HOOKS>>, &dyn Fn());
 
 fn borrow_idle<const HOOKS: bool>(pool: &Pool<Maker<HOOKS>>, fail: &dyn Fn()) {
     fail();
-    assert_eq!(*pool.get().unwrap(), 1);
+    assert_eq!(pool.get().unwrap().id, 1);
 }
 
 fn return_broken<const HOOKS: bool>(pool: &Pool<Maker<HOOKS>>, fail: &dyn Fn()) {
@@ -159,10 +72,10 @@ fn evict_broken<const HOOKS: bool>(pool: &Pool<Maker<HOOKS>>, fail: &dyn Fn()) {
 }
 
 fn failures_that_no_call_returns_are_reported<const HOOKS: bool>() {
-    let activation = "idle object 0 could not be activated: activate";
+    let activation = "idle object 0 could not be activated: activate is broken";
     let (test, passivation) = (
         "object 0 did not pass its test",
-        "object 0 could not be passivated: passivate",
+        "object 0 could not be passivated: passivate is broken",
     );
     let cases: [(Failing<HOOKS>, &'static str, &str); 7] = [
         (borrow_idle, "activate", activation),
@@ -235,56 +148,55 @@ fn failures_of_sinks_are_reported<const HOOKS: bool>() {
 fn a_detached_object_is_its_holders<const HOOKS: bool>() {
     let (pool, maker, _) = pool_with::<HOOKS>(|builder| builder.max_total(1));
     let held = pool.get().unwrap();
-    assert_eq!(Pooled::detach(held), 0);
+    assert_eq!(Pooled::detach(held).id, 0);
     assert_eq!(pool.counts().destroyed, 1);
-    assert_eq!(*pool.try_get().unwrap(), 1);
+    assert_eq!(pool.try_get().unwrap().id, 1);
     assert!(!maker.calls().contains(&"destroy 0".to_owned()));
     assert_legal(&pool);
 }
 
 /// The steps in which an object ended.
 fn ends_of<const HOOKS: bool>(pool: &Pool<Maker<HOOKS>>) -> Vec<String> {
-    let journal = journal_of(pool);
-    let ends = journal.lines().filter(|line| line.ends_with(" = destroy"));
-    ends.map(|line| line.splitn(3, ' ').nth(2).unwrap().to_owned())
-        .collect()
+    let mut steps = steps_of(pool);
+    steps.retain(|step| step.ends_with(" = destroy"));
+    steps
 }
 
 fn an_object_that_is_too_old_ends_at_its_return<const HOOKS: bool>() {
     let lifetime = Duration::from_millis(100);
-    let (pool, maker, time) = pool_with::<HOOKS>(|builder| builder.max_lifetime(lifetime));
-    time.store(5, Ordering::SeqCst);
+    let (pool, maker, clock) = pool_with::<HOOKS>(|builder| builder.max_lifetime(lifetime));
+    clock.set(5);
     let held = pool.get().unwrap();
-    time.store(104, Ordering::SeqCst);
+    clock.set(104);
     assert_eq!(Pooled::give_back(held), Returned::Parked);
     let held = pool.get().unwrap();
-    time.store(105, Ordering::SeqCst);
+    clock.set(105);
     assert_eq!(Pooled::touch(&held).unwrap(), Touched::Noted);
     maker.calls();
     assert_eq!(Pooled::give_back(held), Returned::Destroyed);
     assert_eq!(maker.calls(), ["destroy 0"]);
     assert_eq!(ends_of(&pool), ["park 0 testfail = destroy"]);
-    assert_eq!(*pool.get().unwrap(), 1);
+    assert_eq!(pool.get().unwrap().id, 1);
     assert_legal(&pool);
 }
 
 fn an_object_that_is_too_old_ends_while_it_is_idle<const HOOKS: bool>() {
     let lifetime = Duration::from_millis(100);
-    let (pool, maker, time) =
+    let (pool, maker, clock) =
         pool_with::<HOOKS>(|builder| builder.max_lifetime(lifetime).tests_per_eviction_run(2));
     for id in 0..5 {
-        time.store(10 * id, Ordering::SeqCst);
+        clock.set(10 * id);
         pool.add().unwrap();
     }
     maker.calls();
-    time.store(130, Ordering::SeqCst);
+    clock.set(130);
     let done = pool.maintain().unwrap();
     assert_eq!((done.eviction.destroyed, done.filled), (4, 0));
     assert!(done.eviction.examined >= 5);
     let wanted = ["destroy 0", "destroy 1", "destroy 2", "destroy 3"];
     assert_eq!(maker.calls(), wanted);
     assert_eq!(ends_of(&pool)[0], "tested 0 testfail = destroy");
-    assert_eq!(*pool.get().unwrap(), 4);
+    assert_eq!(pool.get().unwrap().id, 4);
     assert!(pool.settings().contains("testWhileIdle = true\n"));
     assert_legal(&pool);
 }

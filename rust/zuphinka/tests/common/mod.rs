@@ -1,14 +1,18 @@
-//! What the tests share.
-#![allow(dead_code, reason = "each test takes a part of it")]
+//! What the tests share. Each takes a part of it.
+#![allow(dead_code)]
 
+pub mod chance;
+pub mod managers;
 pub mod tasks;
 
 use std::io;
+use std::panic::{self, AssertUnwindSafe};
 use std::path::{Path, PathBuf};
 use std::process::Command;
 use std::sync::atomic::{AtomicU64, Ordering};
 use std::sync::{Arc, Mutex};
-use std::{env, fs};
+use std::time::{Duration, Instant};
+use std::{env, fs, mem, thread};
 use zuphinka::{Manager, Pool, Segment, SegmentSink};
 
 /// The repository.
@@ -142,4 +146,74 @@ pub fn assert_legal<M: Manager>(pool: &Pool<M>) {
         format!("legal {}\n", journal.lines().count()),
         "{journal}"
     );
+}
+
+/// The steps of a journal, without callers and times.
+pub fn steps_of<M: Manager>(pool: &Pool<M>) -> Vec<String> {
+    let journal = journal_of(pool);
+    let step = |line: &str| line.splitn(3, ' ').nth(2).unwrap().to_owned();
+    entries_of(&journal).map(step).collect()
+}
+
+/// The times in a journal.
+pub fn times_of<M: Manager>(pool: &Pool<M>) -> Vec<u64> {
+    let journal = journal_of(pool);
+    let time = |line: &str| line.split(' ').nth(1).unwrap().parse().unwrap();
+    entries_of(&journal).map(time).collect()
+}
+
+/// What a call came to, or nothing if it panicked.
+pub fn caught<R>(call: impl FnOnce() -> R) -> Option<R> {
+    let called = panic::catch_unwind(AssertUnwindSafe(call));
+    called.map_err(mem::forget).ok()
+}
+
+/// What a panic may be with. Its drop panics, too.
+struct Bomb;
+
+impl Drop for Bomb {
+    fn drop(&mut self) {
+        panic!("what a panic was with is dropped");
+    }
+}
+
+/// Panics without a message, with something whose drop panics.
+pub fn panic_quietly() -> ! {
+    panic::resume_unwind(Box::new(Bomb))
+}
+
+/// Whether a call panics.
+pub fn panics<R>(call: impl FnOnce() -> R) -> bool {
+    caught(call).is_none()
+}
+
+/// Waits until the journal has this many waits, and leaves the threads that wait the time to fall asleep.
+pub fn wait_for_waits<M: Manager>(pool: &Pool<M>, waits: usize) {
+    while waits_of(pool) < waits {
+        thread::yield_now();
+    }
+    thread::sleep(Duration::from_millis(30));
+}
+
+/// The number of waits in a journal.
+fn waits_of<M: Manager>(pool: &Pool<M>) -> usize {
+    let steps = steps_of(pool);
+    steps.iter().filter(|step| step.ends_with("wait")).count()
+}
+
+/// Lets a thread wait in a call, does something, and then returns what the call came to. The thread is woken: its time is not over.
+pub fn while_waiting<M: Manager, R: Send>(
+    pool: &Pool<M>,
+    call: impl FnOnce() -> R + Send,
+    act: impl FnOnce(),
+) -> R {
+    let (waits, began) = (waits_of(pool) + 1, Instant::now());
+    thread::scope(|scope| {
+        let waiting = scope.spawn(call);
+        wait_for_waits(pool, waits);
+        act();
+        let came = waiting.join().unwrap();
+        assert!(began.elapsed() < tasks::LONGEST, "nobody wakes the thread");
+        came
+    })
 }
