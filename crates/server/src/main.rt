@@ -2,6 +2,8 @@
 //!
 //! In the course of the day one connection breaks, and one is forgotten by the server that borrowed it. In the evening the
 //! pool is maintained, which takes the forgotten one away, and closed, and its journal is judged.
+//!
+//! README.md, beside this folder, says how to copy the crate under another name.
 #![tactic(auto)]
 
 ghost use Rattle.std.specs.Prelude.{◌≡◌};
