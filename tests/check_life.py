@@ -1,8 +1,8 @@
 #!/usr/bin/env python3
-"""Holds the table of moves in docs/life.md against the journals of the cases, and the picture against the table.
+"""Holds the table of moves in docs/guide/concepts.md against the journals of the cases, and the picture against the table.
 
 check_life.py CASES..  Each move that a journal makes stands in the table, each outcome in the table is met by some move (but those
-that no case has), and docs/life.svg is what docs/draw_life.py draws. The last line is 'N passed, M failed'.
+that no case has), and docs/pictures/life.svg is what docs/pictures/draw_life.py draws. The last line is 'N passed, M failed'.
 """
 
 import pathlib
@@ -10,7 +10,7 @@ import subprocess
 import sys
 
 TOP = pathlib.Path(__file__).resolve().parent.parent
-sys.path.insert(0, str(TOP / "docs"))
+sys.path.insert(0, str(TOP / "docs/pictures"))
 import draw_life  # noqa: E402
 
 # What an answer moves its object to. Those of the first table name the object, those of the second stand for the input's.
@@ -42,7 +42,7 @@ def moves(journal):
 def main():
     table = {
         (before, name, outcome, answer, after)
-        for before, (name, *outcomes), answer, after in draw_life.rows((TOP / "docs/life.md").read_text())
+        for before, (name, *outcomes), answer, after in draw_life.rows((TOP / "docs/guide/concepts.md").read_text())
         for outcome in outcomes or [""]
     }
     journals = [path for folder in sys.argv[1:] for path in sorted(pathlib.Path(folder).glob("*.journal")) if path.with_suffix(".script").exists()]
@@ -51,10 +51,10 @@ def main():
         for move in moves(journal):
             seen.setdefault(move, journal)
     wrong = [f"{path}: {' '.join(move)}: not in the table" for move, path in seen.items() if move not in table]
-    wrong += [f"docs/life.md: {' '.join(move)}: in no journal" for move in sorted(table - set(seen) - NOT_MET)]
+    wrong += [f"docs/guide/concepts.md: {' '.join(move)}: in no journal" for move in sorted(table - set(seen) - NOT_MET)]
     wrong += [f"{' '.join(move)}: is in a journal now" for move in sorted(NOT_MET & set(seen))]
     wrong += [] if journals else ["no journal"]
-    drawn = subprocess.run([sys.executable, TOP / "docs/draw_life.py", "--check"], capture_output=True, text=True)
+    drawn = subprocess.run([sys.executable, TOP / "docs/pictures/draw_life.py", "--check"], capture_output=True, text=True)
     wrong += [drawn.stdout.strip()] if drawn.returncode else []
     print(*wrong, sep="\n", end="\n" if wrong else "")
     print(f"{len(table) + 1 - min(len(wrong), len(table) + 1)} passed, {len(wrong)} failed")

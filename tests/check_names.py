@@ -4,8 +4,8 @@
 check_names.py  The last line is 'N passed, M failed'.
 
 Each file, folder and heading that a page names or links to exists; each single name between backquotes is a word of some source, and a method
-belongs to its type; each definition of a table that says in which file it stands is declared there; and each clause that docs/proved.md
-names is one of its crate.
+belongs to its type; each definition of a table that says in which file it stands is declared there; and each clause that docs/proof/proved.md
+names is one of its crate. Each page of docs/ opens with a sentence that says for whom it is.
 """
 
 import functools
@@ -14,13 +14,14 @@ import re
 import sys
 
 TOP = pathlib.Path(__file__).resolve().parent.parent
-PAGES = [TOP / "README.md", *sorted((TOP / "docs").glob("*.md"))]
+PAGES = [TOP / "README.md", *sorted((TOP / "docs").rglob("*.md"))]
 # Names of other libraries, some by their beginnings; and what a page names because it is not there.
 FOREIGN = re.compile(r"(get|list|log|use|add|prepare|evictor|timeBetween|max)[A-Z]\w*$|\w+ObjectPool$|DestroyMode$|Millis$|IsPartitionPoint-from_clause$")
 ABSENT = {"proofs/Phrases.antt", "src/phrases.rt", "OnNone"}
 PLACEHOLDER = re.compile(r"[A-Z]*NAME|[<*]|X_")
 FILE = re.compile(r"[\w./-]*(?:/|\.(?:antt|rt|py|md|toml|txt|c|rs|svg|script))[\w./-]*$")
 NAME = re.compile(r"[^\W\d]\w*(?:-\w+)*$")
+OPENING = re.compile(r"# .+\n\nThis page is for [^.]+\.\n\n")
 OWNED = re.compile(r"[^\W\d]\w*::\w+$")
 DECLARED = r"^(?:(?:abbrev|unfoldable|record|data|pub|mod) )+%s\b"
 SAID = r"\b(?:ensures|ghost|pub (?:trait|struct|enum|fn)|pub\(crate\) fn) %s\b"
@@ -30,7 +31,7 @@ SAID = r"\b(?:ensures|ghost|pub (?:trait|struct|enum|fn)|pub\(crate\) fn) %s\b"
 def sources():
     """The text of each source, by its path."""
     found = [path for end in ("rt", "antt", "toml") for path in TOP.glob(f"crates/*/**/*.{end}") if "out" not in path.relative_to(TOP).parts]
-    for pattern in ("c/*", "rust/zuphinka/src/*.rs", "rust/zuphinka/examples/*", "tests/*.*", "bench/*", "tools/*", "docs/*.py", "examples/*", "pool", "check", "crates.txt"):
+    for pattern in ("c/*", "rust/zuphinka/src/*.rs", "rust/zuphinka/examples/*", "tests/*.*", "bench/*", "tools/*", "docs/pictures/*.py", "examples/*", "pool", "check", "crates.txt"):
         found += [path for path in TOP.glob(pattern) if path.is_file() and path != pathlib.Path(__file__).resolve()]
     return {path: path.read_text() for path in found}
 
@@ -51,12 +52,13 @@ def is_file(named, crate):
 
 
 def is_owned(owner, name):
-    """Whether a function stands in the file of its type or in the file of tests that has the owner's name, or a type in its crate."""
-    code = {path: text for path, text in sources().items() if path.suffix == ".rt"}
+    """Whether a function stands in the file of its type or in the file of tests that has the owner's name, a type in its crate, or a variant in its enum."""
+    code = {path: text for path, text in sources().items() if path.suffix in (".rt", ".rs")}
     if (TOP / "crates" / owner).exists():
         return any(re.search(rf"\b(?:struct|enum|trait) {name}\b", text) for path, text in code.items() if path.is_relative_to(TOP / "crates" / owner))
     return any(
         (path.stem == owner or re.search(rf"\b(?:impl|trait)\b.*\b{owner}\b", text)) and re.search(rf"\bfn {name}\b", text)
+        or re.search(rf"\benum {owner}\b[^}}]*\b{name}\b", text)
         for path, text in code.items()
     )
 
@@ -93,12 +95,23 @@ def check_mentions(page):
             yield token, fault_of_name(token, crate)
 
 
+@functools.cache
+def headings(page):
+    """The headings of a page, as links name them."""
+    lines = re.findall(r"^#+ .*$", page.read_text(), flags=re.MULTILINE)
+    return {re.sub(r"[^\w -]", "", line.lstrip("# ")).lower().replace(" ", "-") for line in lines}
+
+
 def check_links(page):
-    text = page.read_text()
-    headings = {re.sub(r"[^\w -]", "", line.lstrip("# ")).lower().replace(" ", "-") for line in re.findall(r"^#+ .*$", text, flags=re.MULTILINE)}
-    for target in re.findall(r"\]\(([^)]+)\)", text):
-        there = target[1:] in headings if target.startswith("#") else (page.parent / target).exists()
-        yield target, None if there else "leads nowhere"
+    for target in re.findall(r"\]\(([^)]+)\)", page.read_text()):
+        name, _, heading = target.partition("#")
+        there = page.parent / name if name else page
+        yield target, None if there.exists() and (not heading or heading in headings(there)) else "leads nowhere"
+
+
+def check_opening(page):
+    """A page has a title, and then one sentence that says for whom it is and what they can do after reading it."""
+    yield page.name, None if OPENING.match(page.read_text()) else "doesn't open with one sentence that says for whom it is"
 
 
 def tables(page):
@@ -122,10 +135,10 @@ def check_definitions(page):
     """Each name of a row is declared in a file that the row, or 'the same' of one before it, says."""
     files = []
     for row in tables(page):
-        if "Stands in" in row:
-            names, stands = backquoted(row["Name"]), backquoted(row["Stands in"])
-        elif "Row" in row:
-            names, *stands = backquoted(row["Row"])
+        if "File" in row:
+            names, stands = backquoted(row["Name"]), backquoted(row["File"])
+        elif "Specification" in row:
+            names, *stands = backquoted(row["Specification"])
             names = [names]
         else:
             continue
@@ -150,7 +163,8 @@ def check_clauses(page):
 def main():
     passed, failed = 0, 0
     checks = [(check, page) for page in PAGES for check in (check_mentions, check_links)]
-    checks += [(check_definitions, TOP / "docs/definitions.md"), (check_definitions, TOP / "docs/sharing.md"), (check_clauses, TOP / "docs/proved.md")]
+    checks += [(check_opening, page) for page in PAGES if page != TOP / "README.md"]
+    checks += [(check_definitions, TOP / "docs/proof/definitions.md"), (check_definitions, TOP / "docs/proof/sharing.md"), (check_clauses, TOP / "docs/proof/proved.md")]
     for check, page in checks:
         found = list(check(page))
         for named, fault in found:

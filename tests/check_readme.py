@@ -1,10 +1,11 @@
 #!/usr/bin/env python3
-"""Sees that the code that README.md shows is code that is compiled.
+"""Sees that the code that README.md and docs/guide show is code that is compiled.
 
     check_readme.py README FOLDER..
 
-Each piece of a block of Rust or C in README, up to a line '..' that leaves something out, must stand in one file of a crate's src/, or in a
-file in C or Rust of a folder, as it is, but for how far it is indented. Prints each piece that doesn't, and in the end the line 'N passed, M failed'.
+Each block between fences in README, and in each page of docs/guide beside it, says its language. A block of Rust or C must be one contiguous piece
+of a file in a crate's src/, or of a file in C or Rust of a folder, except for how far it is indented: nothing is left out. A block of sh must be on
+a page whose commands a test of its own runs. README has at most 150 lines. Prints what differs, and in the end the line 'N passed, M failed'.
 """
 
 import pathlib
@@ -12,7 +13,10 @@ import re
 import sys
 import textwrap
 
-BLOCK = re.compile(r"^```(?:rust|c)\n(.*?)^```$", re.MULTILINE | re.DOTALL)
+FENCE = re.compile(r"^```([^\n]*)\n(.*?)^```$", re.MULTILINE | re.DOTALL)
+LONGEST_README = 150
+# Pages whose blocks of sh are run: tests/play_judge.py.
+RUN_ELSEWHERE = {"audits.md"}
 
 
 def plain(text):
@@ -20,27 +24,36 @@ def plain(text):
     return "".join(line.strip() + "\n" for line in text.splitlines() if line.strip())
 
 
-def pieces(readme):
-    for block in BLOCK.findall(readme):
-        for piece in re.split(r"^ *\.\.$", block, flags=re.MULTILINE):
-            if piece.strip():
-                yield textwrap.dedent(piece.strip("\n"))
+def fault_of_block(page, language, block, sources):
+    """Why a block is not as it should be, if it isn't."""
+    if language == "sh":
+        return None if page.name in RUN_ELSEWHERE else "no test runs it"
+    if language not in ("rust", "c"):
+        return f"language {language!r}"
+    return None if any(plain(block) in source for source in sources) else "no file has it"
 
 
 def main(readme, folders):
+    readme = pathlib.Path(readme)
     sources = [plain(file.read_text()) for folder in folders for kind in ("src/*.rt", "*.c", "*.rs") for file in pathlib.Path(folder).glob(kind)]
-    passed, failed = 0, 0
-    for piece in pieces(pathlib.Path(readme).read_text()):
-        if any(plain(piece) in source for source in sources):
-            passed += 1
-        else:
-            failed += 1
-            print(f"no file has this piece of {readme}:\n{piece}\n")
-    if passed + failed == 0:
-        print(f"{readme} shows no code")
-        failed = 1
-    print(f"{passed} passed, {failed} failed")
-    return 1 if failed else 0
+    passed, faults = 0, []
+    for page in [readme, *sorted((readme.parent / "docs/guide").glob("*.md"))]:
+        blocks = FENCE.findall(page.read_text())
+        if page == readme and not blocks:
+            faults.append(f"{readme} shows no code")
+        for language, block in blocks:
+            fault = fault_of_block(page, language, block, sources)
+            passed += not fault
+            if fault:
+                faults.append(f"{page}: {fault}:\n{textwrap.dedent(block)}")
+    lines = len(readme.read_text().splitlines())
+    if lines > LONGEST_README:
+        faults.append(f"{readme} has {lines} lines")
+    else:
+        passed += 1
+    print(*faults, sep="\n", end="\n" if faults else "")
+    print(f"{passed} passed, {len(faults)} failed")
+    return 1 if faults else 0
 
 
 if __name__ == "__main__":

@@ -3,9 +3,9 @@
 
 check_tables.py  The last line is 'N passed, M failed'.
 
-Each setting has the default that the definitions say, in docs/settings.md and in examples/settings.toml; the answers to each input are the
-same in the README and docs/definitions.md; each of them is given in the case that docs/definitions.md names; and docs/trials.md has a row
-for each file of tests of the shared pool.
+Each setting has the default that the definitions say, in docs/guide/settings.md and in examples/settings.toml; the answers to each input are the
+same in docs/guide/program.md and docs/proof/definitions.md; each of them is given in the case that docs/proof/definitions.md names; docs/dev/trials.md
+has a row for each file of tests of the shared pool; and the outstanding entries and the room of docs/guide/operations.md follow from the definitions.
 """
 
 import re
@@ -14,7 +14,7 @@ import tomllib
 
 from check_names import TOP, backquoted, tables
 
-DEFINITIONS = TOP / "docs/definitions.md"
+DEFINITIONS = TOP / "docs/proof/definitions.md"
 
 
 def value_of(term):
@@ -35,8 +35,8 @@ def defined():
 
 
 def told():
-    """The defaults of docs/settings.md."""
-    for row in tables(TOP / "docs/settings.md"):
+    """The defaults of docs/guide/settings.md."""
+    for row in tables(TOP / "docs/guide/settings.md"):
         for key in backquoted(row.get("Key", "")):
             if key != "abandoned":
                 yield key, tomllib.loads(f"x = {row['Default'].strip('`')}")["x"]
@@ -51,7 +51,7 @@ def shown():
 
 def check_settings():
     wanted = defined()
-    for where, found in (("docs/settings.md", dict(told())), ("examples/settings.toml", dict(shown()))):
+    for where, found in (("docs/guide/settings.md", dict(told())), ("examples/settings.toml", dict(shown()))):
         for key in sorted({*wanted, *found}):
             same = key in wanted and key in found and found[key] == wanted[key]
             yield None if same else f"{where}: {key} is {found.get(key)}, the definitions say {wanted.get(key)}"
@@ -67,9 +67,9 @@ def answers_in(page):
 
 
 def check_answers():
-    readme, definitions = answers_in(TOP / "README.md"), answers_in(DEFINITIONS)
-    for name in sorted({*readme, *definitions}):
-        yield None if readme.get(name) == definitions.get(name) else f"README.md: {name}: {readme.get(name)}, docs/definitions.md: {definitions.get(name)}"
+    guide, definitions = answers_in(TOP / "docs/guide/program.md"), answers_in(DEFINITIONS)
+    for name in sorted({*guide, *definitions}):
+        yield None if guide.get(name) == definitions.get(name) else f"docs/guide/program.md: {name}: {guide.get(name)}, docs/proof/definitions.md: {definitions.get(name)}"
 
 
 def check_cases():
@@ -78,19 +78,42 @@ def check_cases():
         for answer, case in re.findall(r"`([a-z ]+)` ([\w/-]+)", row.get("Answers", "")):
             journal = TOP / "tests/cases" / (f"{case}.journal" if "/" in case else f"rows/{case}.journal")
             given = journal.exists() and re.search(rf"^\d+ \d+ {name}\b.* = {answer}\b", journal.read_text(), re.MULTILINE)
-            yield None if given else f"docs/definitions.md: {name}: {case} has no answer {answer}"
+            yield None if given else f"docs/proof/definitions.md: {name}: {case} has no answer {answer}"
 
 
 def check_trials():
-    rows = {name for row in tables(TOP / "docs/trials.md") for name in backquoted(row.get("Tests", ""))}
+    rows = {name for row in tables(TOP / "docs/dev/trials.md") for name in backquoted(row.get("Tests", ""))}
     files = {path.stem for path in (TOP / "crates/pool_trials/src").glob("*.rt") if "#[test]" in path.read_text()}
     for name in sorted(rows | files):
-        yield None if name in rows & files else f"docs/trials.md: {name}: {'no such file' if name in rows else 'no row'}"
+        yield None if name in rows & files else f"docs/dev/trials.md: {name}: {'no such file' if name in rows else 'no row'}"
+
+
+def room_of_steps(weights):
+    """The room that the steps need which docs/guide/operations.md lists: one entry, and what becomes outstanding more than before."""
+    return {
+        "`borrow` that makes an object": 1 + weights["Readying"],
+        "`borrow` that takes an idle object": 1 + weights["Readying"] - weights["Idle"],
+        "`add` or `fill` that makes an object": 1 + weights["Adding"],
+        "`evictnext` that tests an idle object": 1 + weights["Testing"] - weights["Idle"],
+    }
+
+
+def check_room():
+    text = (TOP / "crates/pool_places/specs/Counts.antt").read_text()
+    weights = {phase: int(number) for phase, number in re.findall(r"^weight phases\.(\w+) = ([1-9]\d*)$", text, flags=re.MULTILINE)}
+    rows = list(tables(TOP / "docs/guide/operations.md"))
+    found = {phase: int(row["Outstanding entries"]) for row in rows if "Outstanding entries" in row for phase in re.findall(r"\w+", re.sub(r"\(.*\)", "", row["Phase of the object"]))}
+    for phase in sorted({*weights, *found}):
+        same = weights.get(phase) == found.get(phase)
+        yield None if same else f"docs/guide/operations.md: {phase}: {found.get(phase)}, the definitions say {weights.get(phase)}"
+    needed = {row["Step"]: int(row["Room it needs"]) for row in rows if "Room it needs" in row}
+    for step, number in room_of_steps(weights).items():
+        yield None if needed.get(step) == number else f"docs/guide/operations.md: {step}: {needed.get(step)}, by the definitions {number}"
 
 
 def main():
     passed, wrong = 0, []
-    for check in (check_settings, check_answers, check_cases, check_trials):
+    for check in (check_settings, check_answers, check_cases, check_trials, check_room):
         faults = list(check())
         passed += faults.count(None)
         wrong += [fault for fault in faults if fault] if faults else [f"{check.__name__}: nothing to check"]

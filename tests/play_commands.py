@@ -6,7 +6,8 @@ play_commands.py POOL  The last line is 'N passed, M failed'.
 A block is what a page indents by four spaces, and the man page's section of examples. Each must be of commands, which are run one after the
 other with the repository's examples at hand, or as one where they have a loop; the lines of a journal, which must be legal with the default
 settings, cut into segments or not; the form of a line; or the line of `rt version` of a kit with the logic of this one. The command ./check
-is not run, since it runs this, nor is tools/build.py, since it has built the programs: there must be such a crate. Blocks between fences are
+is not run, since it runs this, nor is tools/build.py, since it has built the programs: there must be such a crate. What ./try does with the program
+without its proofs is done here by the program. Blocks between fences are
 not run: check_readme.py holds those of Rust and C against the sources. Names are for check_names.py. Cargo's commands are left out where no
 cargo runs.
 """
@@ -19,7 +20,7 @@ import sys
 import tempfile
 
 TOP = pathlib.Path(__file__).resolve().parent.parent
-COMMAND = re.compile(r"(\./pool|\./check|pool|crates/\S+|\(cd|mkdir|printf|python3 tools/\S+|cc|\./plain_life|\./long_life|\./shared_life|cargo) ")
+COMMAND = re.compile(r"(\./pool|\./try|\./check|pool|crates/\S+|\(cd|mkdir|printf|python3 tools/\S+|cc|\./plain_life|\./long_life|\./shared_life|cargo) ")
 ENTRY = re.compile(r"\d+ \d+ .* = ")
 BASE = re.compile(r"pool-journal 2 |\d+ (readying|adding|lent|returning|idle|testing|destroying) ")
 FORM = "<caller> <at> <input>"
@@ -67,8 +68,9 @@ class Place:
             return None if (TOP / "crates" / words.split()[2]).is_dir() else "no such crate"
         if words.startswith("cargo") and not self.runs_cargo:
             return None
-        if words.startswith("pool"):
-            words = "./" + words
+        if words.startswith("./try ") and not (TOP / "try").is_file():
+            return "no such script"
+        words = re.sub(r"^(\./try|pool) ", "./pool ", words)
         done = subprocess.run(["bash", "-c", words], cwd=self.folder, capture_output=True, text=True, stdin=subprocess.DEVNULL)
         return f"status {done.returncode}: {done.stderr.strip()}" if done.returncode else None
 
@@ -121,7 +123,7 @@ def kit():
 
 def main(pool):
     passed, failed = 0, 0
-    for page in [TOP / "README.md", *sorted((TOP / "docs").glob("*.md")), TOP / "docs/pool.1"]:
+    for page in [TOP / "README.md", *sorted((TOP / "docs").rglob("*.md")), TOP / "docs/pool.1"]:
         with tempfile.TemporaryDirectory() as folder:
             for shown, fault in Place(folder, pathlib.Path(pool).resolve()).faults_of_page(page):
                 passed += not fault

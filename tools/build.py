@@ -4,14 +4,16 @@ another side by side.
 
     tools/build.py PROGRAM
 
-Says on standard error which crates it is at, how many of them are done, and for how long it has worked. What a build said is shown only
-where it failed, and the status is then 1. What was built before and hasn't changed takes a moment.
+Says on standard error what it is at, how far it is, and how long it has worked and will about take. What a build said is shown only where it
+failed, and the status is then 1. What is built of its sources as they are (tools/sources.py) is passed over, and nothing is said where all is.
 
 Each crate is built in a room of its own, a folder that has it and the libraries below it: `rt` lets nobody else work in the folders of the
-crates that it reads, so that in one place two crates that stand on a third would wait for each other.
+crates that it reads, so that in one place two crates that stand on a third would wait for each other. The crate that the longest chain waits for
+has the processors that it can use, and others what is over. How long a chain is tells tools/proof_seconds.txt.
 """
 
 import fcntl
+import functools
 import os
 import pathlib
 import shutil
@@ -21,49 +23,62 @@ import sys
 import tempfile
 import time
 
-TOP = pathlib.Path(__file__).resolve().parent.parent
+import sources
+from sources import TOP, below, libraries
+
+SECONDS = pathlib.Path(__file__).resolve().parent / "proof_seconds.txt"
+# How many bytes of code and proofs take about a second, for a crate of which no seconds are known.
+BYTES = 400
 # For how long to wait before looking again, and before saying again how long it has been, in seconds.
 PAUSE, REMIND = 0.2, 60
+# The part of a proof that one processor does alone, and that of all processors which are at work on average.
+ALONE, AT_WORK = 1 / 3, 3 / 4
+# By how much nicer the builds are which the longest chain doesn't wait for.
+NICER = 10
+# The memory that each job beside the first may take, in bytes.
+EACH_JOB = 1_500_000_000
 
 
-def declared():
-    """For each crate of the repository its line of crates.txt, up to the colon and behind it."""
-    found = {}
-    for line in (TOP / "crates.txt").read_text().splitlines():
-        head, colon, names = line.partition("#")[0].partition(":")
-        if colon:
-            found[head.split()[0]] = head, names
-    return found
+@functools.cache
+def known_seconds():
+    """The processor seconds that the proofs of each crate took."""
+    lines = (line.partition("#")[0].split() for line in SECONDS.read_text().splitlines())
+    return {words[0]: int(words[1]) for words in lines if words}
 
 
-def libraries():
-    """For each crate of the repository the libraries of the repository that it uses."""
-    crates = declared()
-    return {crate: [name for name in names.split() if name in crates] for crate, (_, names) in crates.items()}
+def seconds(crate):
+    """The processor seconds that the proofs of a crate take: known, or else guessed."""
+    if crate in known_seconds():
+        return known_seconds()[crate]
+    files = (path for ending in ("rt", "antt") for part in sources.PARTS for path in (TOP / "crates" / crate / part).rglob(f"*.{ending}"))
+    return 1 + sum(path.stat().st_size for path in files) // BYTES
 
 
-def is_static(crate):
-    """Whether a crate is a static library."""
-    head, _ = declared()[crate]
-    return "staticlib" in head.split()
-
-
-def size(crate):
-    """The bytes of a crate's code and proofs, by which the time that its proofs take is guessed."""
-    return sum(path.stat().st_size for ending in ("rt", "antt") for path in (TOP / "crates" / crate).rglob(f"*.{ending}"))
-
-
-def longest_ways(uses):
-    """For each crate how much is to be proved, one after the other, from it up to the topmost that stands on it."""
+def longest_ways(crates):
+    """For each of these crates the processor seconds of the longest chain from it up to one on which no other stands."""
     ways = {}
-    for crate in sorted(uses, key=lambda name: -len(below(name, uses))):
-        ways[crate] = size(crate) + max((ways[user] for user in uses if crate in uses[user]), default=0)
+    for crate in sorted(crates, key=lambda name: -len(below(name))):
+        ways[crate] = seconds(crate) + max((ways[user] for user in ways if crate in libraries()[user]), default=0)
     return ways
 
 
-def below(crate, uses):
-    """All that a crate stands on, itself included."""
-    return {crate}.union(*(below(name, uses) for name in uses[crate]))
+def processors():
+    return os.cpu_count() or 1
+
+
+def minutes_for(crates):
+    """About how many minutes it takes to build these crates, where nothing else is to be done."""
+    chain = max(longest_ways(crates).values(), default=0) * (ALONE + (1 - ALONE) / processors())
+    work = sum(map(seconds, crates)) / max(1, AT_WORK * processors())
+    return max(1, round(max(chain, work) / 60))
+
+
+def free_memory():
+    """The memory that isn't taken, in bytes."""
+    for line in pathlib.Path("/proc/meminfo").read_text().splitlines():
+        if line.startswith("MemAvailable:"):
+            return int(line.split()[1]) * 1024
+    return 0
 
 
 def linked(name, room):
@@ -81,7 +96,7 @@ class Room:
         crates = [*libraries, crate]
         for name in crates:
             linked(name, self.top)
-        lines = declared()
+        lines = sources.declared()
         (self.top / "crates.txt").write_text("".join("{}:{}\n".format(*lines[name]) for name in crates))
         os.link(TOP / "HANDLES", self.top / "HANDLES")
         shutil.rmtree(self.own, ignore_errors=True)
@@ -95,75 +110,83 @@ class Room:
         shutil.rmtree(self.top)
 
 
-def held(crates):
-    """Waits until nobody works in these crates' folders, and keeps others out until this ends, as `rt` does."""
-    for crate in sorted(crates):
-        fcntl.flock(os.open(TOP / "crates" / crate, os.O_RDONLY), fcntl.LOCK_EX)
+def held(program):
+    """Waits until nobody works in the folders of a program's crates, and keeps others out until this ends, as `rt` does."""
+    for crate in sorted(below(program)):
+        folder = os.open(TOP / "crates" / crate, os.O_RDONLY)
+        try:
+            fcntl.flock(folder, fcntl.LOCK_EX | fcntl.LOCK_NB)
+        except BlockingIOError:
+            print(f"{program}: waits until another build or check ends, which is at {crate}", file=sys.stderr, flush=True)
+            fcntl.flock(folder, fcntl.LOCK_EX)
 
 
 class Work:
     """What is to be built, what is being built, and since when."""
 
     def __init__(self, program, rooms):
-        uses = libraries()
-        if program not in uses:
-            sys.exit(f"{program}: no crate of this repository")
         self.program = program
         self.rooms = rooms
-        self.is_static = is_static(program)
-        self.built = TOP / "crates" / program / "out" / (f"lib{program}.a" if self.is_static else program)
-        wanted = below(program, uses)
-        held(wanted)
-        self.below = {crate: below(crate, uses) - {crate} for crate in wanted}
-        self.waiting = {crate: set(uses[crate]) for crate in wanted}
-        self.ways = longest_ways({crate: uses[crate] for crate in wanted})
-        self.total = len(self.waiting)
+        wanted = sorted(crate for crate in below(program) if not is_built(crate, program))
+        self.sums = {crate: sources.sum_of_sources(crate) for crate in wanted}
+        self.waiting = {crate: {name for name in libraries()[crate] if name in wanted} for crate in wanted}
+        self.ways = longest_ways(wanted)
+        self.total = len(wanted)
+        self.minutes = minutes_for(wanted)
         self.running = {}
         self.done = set()
         self.began = time.monotonic()
 
+    def announce(self):
+        """Says what is to be done, and how long that takes."""
+        of_all = f"{self.total} of {len(below(self.program))} crates" if self.total < len(below(self.program)) else f"{self.total} crates"
+        about = f"which takes about {self.minutes} min on {processors()} processors with nothing else to do"
+        print(f"{self.program}: proves and builds {of_all} first, {about}", file=sys.stderr, flush=True)
+
     def say(self):
         """Says how far the work is."""
         minutes, seconds = divmod(int(time.monotonic() - self.began), 60)
-        names = ", ".join(sorted(self.running))
-        print(f"{self.program}: {len(self.done)} of {self.total} crates, {minutes}:{seconds:02} min: {names}", file=sys.stderr, flush=True)
+        names = ", ".join(sorted(self.running, key=lambda crate: -self.ways[crate]))
+        so_far = f"{len(self.done)} of {self.total} crates, {minutes}:{seconds:02} of about {self.minutes} min"
+        print(f"{self.program}: {so_far}: {names}", file=sys.stderr, flush=True)
 
-    def words(self, crate, share):
+    def words(self, crate, jobs):
         """The command that builds a crate."""
-        if crate != self.program or self.is_static:
-            return ["rt", "lib", "--jobs", str(share)]
+        if not sources.is_program(crate):
+            return ["rt", "lib", "--jobs", str(jobs)]
         # A program that is given no input ends at once, with a status of its own, so that to run it builds it.
-        self.built.unlink(missing_ok=True)
-        return ["rt", "run"]
+        sources.product(crate).unlink(missing_ok=True)
+        return ["rt", "run", "--jobs", str(jobs)]
 
-    def is_built(self, crate, status):
+    def has_built(self, crate, status):
         """Whether a build that ended with this status did what it should."""
-        is_program = crate == self.program and not self.is_static
-        return self.built.exists() if is_program else status == 0
+        return sources.product(crate).exists() if sources.is_program(crate) else status == 0
+
+    def jobs(self, is_first):
+        """How many jobs a build gets: all processors if the longest chain waits for it, half of them else, as far as there is memory."""
+        most = processors() if is_first else max(1, processors() // 2)
+        return max(1, min(most, 1 + free_memory() // EACH_JOB))
 
     def start(self):
         """Starts what stands on nothing that isn't built, and tells whether there was some of it."""
         ready = sorted((crate for crate, uses in self.waiting.items() if uses <= self.done), key=lambda crate: -self.ways[crate])
-        processors = os.cpu_count() or 1
-        free = max(1, processors - sum(jobs for _, _, _, jobs in self.running.values()))
-        share = max(1, free // max(1, len(ready)))
-        # What the most stands on gets what is over, and one more, since a build has times in which one processor works.
-        most = min(processors, max(1, free - share * (len(ready) - 1)) + 1)
-        for crate, jobs in zip(ready, [most, *[share] * len(ready)]):
+        for crate in ready:
+            is_first = all(self.ways[crate] > self.ways[other] for other in self.running)
             del self.waiting[crate]
             log = tempfile.TemporaryFile("w+")
-            words, room = self.words(crate, jobs), Room(self.rooms, crate, self.below[crate])
-            started = subprocess.Popen(words, cwd=room.own.parent, stdin=subprocess.DEVNULL, stdout=log, stderr=log)
-            self.running[crate] = started, log, room, jobs
+            words, room = self.words(crate, self.jobs(is_first)), Room(self.rooms, crate, below(crate) - {crate})
+            nicer = [] if is_first else ["nice", "-n", str(NICER)]
+            started = subprocess.Popen([*nicer, *words], cwd=room.own.parent, stdin=subprocess.DEVNULL, stdout=log, stderr=log)
+            self.running[crate] = started, log, room
         return bool(ready)
 
     def collect(self):
         """Takes out what has ended, and tells whether something has."""
         ended = [crate for crate, (started, *_) in self.running.items() if started.poll() is not None]
         for crate in ended:
-            started, log, room, _ = self.running.pop(crate)
+            started, log, room = self.running.pop(crate)
             room.leave()
-            if not self.is_built(crate, started.returncode):
+            if not self.has_built(crate, started.returncode):
                 log.seek(0)
                 sys.stderr.write(log.read())
                 sys.exit(f"{self.program}: {crate} can't be built")
@@ -171,16 +194,21 @@ class Work:
         return bool(ended)
 
     def stop(self):
-        """Stops what runs, and keeps what it has proved."""
-        for started, _, room, _ in self.running.values():
+        """Stops what runs, keeps what it has proved, and notes what is built, but for what was edited meanwhile."""
+        for started, _, room in self.running.values():
             started.terminate()
             started.wait()
             room.leave()
         self.running.clear()
+        sources.sum_of_sources.cache_clear()
+        for crate in self.done:
+            if self.sums[crate] == sources.sum_of_sources(crate):
+                sources.note(crate)
 
     def run(self):
         """Builds all of it."""
         said = 0.0
+        self.announce()
         while self.waiting or self.running:
             has_changed = self.collect()
             has_changed = self.start() or has_changed
@@ -190,17 +218,37 @@ class Work:
             time.sleep(PAUSE)
 
 
-def main():
-    if len(sys.argv) != 2:
-        sys.exit(__doc__)
-    signal.signal(signal.SIGTERM, lambda number, _: sys.exit(128 + number))
+def is_built(crate, program):
+    """Whether a crate needs no build: one that others are built over must be such that `rt` doesn't prove it again."""
+    return sources.is_current(crate) and (crate == program or sources.has_stamp(crate))
+
+
+def build(program):
+    """Builds a program or a static library, where it isn't built of its sources as they are."""
+    if not shutil.which("rt"):
+        sys.exit(f"{program}: the Rattle kit's command rt is not on the PATH, and proves and builds it")
+    held(program)
     (TOP / "out").mkdir(exist_ok=True)
     with tempfile.TemporaryDirectory(dir=TOP / "out") as rooms:
-        work = Work(sys.argv[1], rooms)
+        # Another run may have built it meanwhile.
+        if sources.is_current(program):
+            return
+        work = Work(program, rooms)
         try:
             work.run()
         finally:
             work.stop()
+
+
+def main():
+    if len(sys.argv) != 2:
+        sys.exit(__doc__)
+    program = sys.argv[1]
+    if program not in libraries():
+        sys.exit(f"{program}: no crate of this repository")
+    signal.signal(signal.SIGTERM, lambda number, _: sys.exit(128 + number))
+    if not sources.is_current(program):
+        build(program)
 
 
 if __name__ == "__main__":

@@ -22,7 +22,6 @@ Prints each file that it installs. The status is 1 if a file is missing or a com
 import argparse
 import os
 import pathlib
-import re
 import shutil
 import subprocess
 import sys
@@ -61,8 +60,7 @@ def arguments():
 
 
 def version():
-    """The version of the header."""
-    return re.search(r'^#define ZUPHINKA_VERSION "(.*)"$', HEADERS[0].read_text(), flags=re.MULTILINE)[1]
+    return (TOP / "VERSION").read_text().strip()
 
 
 def run(*words, text=None):
@@ -84,6 +82,18 @@ def merge(archive, library, heap):
         shutil.copy(merged, archive)
 
 
+def install(prefix, named, library, heap):
+    """Installs all of it under a prefix, which pkg-config knows by this name, and gives the files."""
+    include, lib, share = prefix / "include", prefix / "lib", prefix / "share/zuphinka"
+    for folder in include, lib / "pkgconfig", share:
+        folder.mkdir(parents=True, exist_ok=True)
+    merge(lib / "libzuphinka.a", library, heap)
+    installed = [shutil.copy(header, include) for header in HEADERS] + [shutil.copy(POOL, share)]
+    description = lib / "pkgconfig/zuphinka.pc"
+    description.write_text(PKG_CONFIG.format(prefix=named, version=version()))
+    return [*installed, lib / "libzuphinka.a", description]
+
+
 def main():
     given = arguments()
     heap = given.heap or heap_of_kit()
@@ -91,14 +101,7 @@ def main():
         if not file.is_file():
             sys.exit(f"{file}: no such file; python3 tools/build.py zuphinka builds the library")
     prefix = given.prefix.resolve()
-    include, lib, share = prefix / "include", prefix / "lib", prefix / "share/zuphinka"
-    for folder in include, lib / "pkgconfig", share:
-        folder.mkdir(parents=True, exist_ok=True)
-    merge(lib / "libzuphinka.a", given.library, heap)
-    installed = [shutil.copy(header, include) for header in HEADERS] + [shutil.copy(POOL, share)]
-    description = lib / "pkgconfig/zuphinka.pc"
-    description.write_text(PKG_CONFIG.format(prefix=prefix, version=version()))
-    print(*installed, lib / "libzuphinka.a", description, sep="\n")
+    print(*install(prefix, prefix, given.library, heap), sep="\n")
 
 
 if __name__ == "__main__":

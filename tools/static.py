@@ -4,14 +4,16 @@ the gate leaves no stamp beside them. The crate itself is proved on the way, as 
 
     tools/static.py CRATE
 
-The status is 1 where the crate isn't proved, or a library that it stands on is missing or older than its sources.
+Where it is built of its sources as they are, nothing is done. The status is 1 where the crate isn't proved, or a library that it stands on isn't
+built of its sources as they are (tools/sources.py).
 """
 
 import pathlib
 import subprocess
 import sys
 
-TOP = pathlib.Path(__file__).resolve().parent.parent
+import sources
+from sources import TOP
 
 
 def kit():
@@ -19,15 +21,11 @@ def kit():
     return pathlib.Path(subprocess.run(["rt", "doc"], check=True, capture_output=True, text=True).stdout.split()[0]).resolve().parent
 
 
-def is_current(crate, rtlib):
-    """Whether a library is there that was made of the sources as they are."""
-    built = pathlib.Path(crate.rlib)
-    return built.is_dir() and all(pathlib.Path(file).stat().st_mtime < built.stat().st_mtime for file in rtlib.files_of(crate.folder))
-
-
 def main():
     if len(sys.argv) != 2:
         sys.exit(__doc__)
+    if sys.argv[1] in sources.libraries() and sources.is_current(sys.argv[1]):
+        return
     top = kit()
     sys.path.insert(0, str(top / "bin"))
     import rtlib
@@ -35,7 +33,7 @@ def main():
     crate = next((crate for crate in rtlib.crates_below(str(TOP)) if crate.name == sys.argv[1]), None)
     if crate is None or not crate.is_static:
         sys.exit(f"{sys.argv[1]}: no static library of this repository")
-    stale = [library.name for library in crate.below() if not is_current(library, rtlib)]
+    stale = [library.name for library in crate.below() if not sources.is_current(library.name)]
     if stale:
         sys.exit(f"{crate.name}: {stale[0]} isn't built of its sources as they are")
     words = [*crate.words(["--jobs", "2"], keeps=False), "--toolchain", f"{top}/toolchain", "--backend", "llvm"]
@@ -44,6 +42,7 @@ def main():
     ran = subprocess.run(command, cwd=crate.folder, stdout=subprocess.PIPE, stderr=subprocess.STDOUT, text=True)
     if ran.returncode:
         sys.exit(ran.stdout)
+    sources.note(crate.name)
     print(f"{crate.name}: {next((line for line in ran.stdout.splitlines() if line.startswith('logic=')), 'built')}")
 
 

@@ -1,0 +1,61 @@
+#!/usr/bin/env python3
+"""Sees that all tell the version that the file VERSION has: the Rust crate and its lock file, the C header, the programs, the man page and the
+change log.
+
+    check_version.py [PROGRAM..]
+
+Each crate whose sources have a constant VERSION is a program that prints it: its name, the version and a line feed. Of the PROGRAMs, paths of
+such programs, that is what `--version` prints. Prints each that differs, and in the end the line 'N passed, M failed'.
+"""
+
+import pathlib
+import re
+import subprocess
+import sys
+import tomllib
+
+TOP = pathlib.Path(__file__).resolve().parent.parent
+PRINTED = re.compile(r'^pub\(crate\) const VERSION: &str = "(.*)\\n";$', re.MULTILINE)
+
+
+def found(pattern, name):
+    """What a pattern finds in a file of the repository."""
+    return re.findall(pattern, (TOP / name).read_text(), flags=re.MULTILINE)
+
+
+def printed():
+    """What the programs print by their sources, by their crates."""
+    lines = ((path, PRINTED.findall(path.read_text())) for path in sorted(TOP.glob("crates/*/src/*.rt")))
+    return {path.parent.parent.name: line for path, has in lines for line in has}
+
+
+def checks(version, programs):
+    """What tells a version: its name, what is wanted of it, and what it tells."""
+    lock = tomllib.loads((TOP / "rust/zuphinka/Cargo.lock").read_text())["package"]
+    yield "the form of VERSION", True, bool(re.fullmatch(r"\d+\.\d+\.\d+", version))
+    yield "Cargo.toml", version, tomllib.loads((TOP / "rust/zuphinka/Cargo.toml").read_text())["package"]["version"]
+    yield "Cargo.lock", [version], [package["version"] for package in lock if package["name"] == "zuphinka"]
+    yield "the text of zuphinka.h", [version], found(r'^#define ZUPHINKA_VERSION "(.*)"$', "c/zuphinka.h")
+    yield "the numbers of zuphinka.h", version.split("."), found(r"^#define ZUPHINKA_VERSION_(?:MAJOR|MINOR|PATCH) (\d+)$", "c/zuphinka.h")
+    yield "the man page", [f"Zuphinka {version}"], found(r'^\.TH POOL 1 "" "(.*)"$', "docs/pool.1")
+    yield "the change log", True, version in found(r"^## \[(.*?)\]", "CHANGELOG.md")
+    yield "a program's source", True, "pool" in printed()
+    for crate, line in printed().items():
+        yield f"the source of {crate}", f"{crate} {version}", line
+    for program in map(pathlib.Path, programs):
+        wanted = f"{program.name} {version}\n" if program.name in printed() else ""
+        yield f"{program} --version", wanted, subprocess.run([program, "--version"], capture_output=True, text=True, stdin=subprocess.DEVNULL).stdout
+
+
+def main(programs):
+    passed = failed = 0
+    for name, wanted, got in checks((TOP / "VERSION").read_text().removesuffix("\n"), programs):
+        passed, failed = passed + (wanted == got), failed + (wanted != got)
+        if wanted != got:
+            print(f"{name}: wanted {wanted!r}, got {got!r}")
+    print(f"{passed} passed, {failed} failed")
+    return 1 if failed else 0
+
+
+if __name__ == "__main__":
+    sys.exit(main(sys.argv[1:]))

@@ -1,0 +1,75 @@
+#!/usr/bin/env python3
+"""Copies the crate `server` under another name by the commands of its README, and looks at the copy.
+
+    play_copy.py
+
+The commands before the one that runs the copy are run in a folder with the crate and crates.txt. The line that they add to crates.txt must be
+the one of `server` with the other name. The copy must have the files of `server` but for its README, and each must be the same once the name
+is put back, so that it is proved as `server` is. The last command must build the copy. Nothing is compiled or proved here.
+
+Prints what is wrong, and in the end the line 'N passed, M failed'.
+"""
+
+import pathlib
+import shutil
+import subprocess
+import sys
+import tempfile
+
+TOP = pathlib.Path(__file__).resolve().parent.parent
+CRATE = "server"
+RUN, BUILD = "(cd crates/{} && rt try)", "python3 tools/build.py {}"
+
+
+def commands():
+    """The commands of the crate's README, and the name of the copy."""
+    lines = [line.strip() for line in (TOP / "crates" / CRATE / "README.md").read_text().splitlines() if line.startswith("    ")]
+    return lines, lines[-1].rpartition(" ")[2]
+
+
+def line_of(crate, room):
+    """The line of a crate in crates.txt, without its name."""
+    found = [line.partition(" ")[2] for line in (room / "crates.txt").read_text().splitlines() if line.startswith(f"{crate} ")]
+    return found[0] if len(found) == 1 else None
+
+
+def files(folder, name):
+    """The files of a crate by their paths, with the name that proofs import given back to `server`."""
+    paths = [path.relative_to(folder) for path in folder.rglob("*") if path.is_file() and path.name != "README.md"]
+    return {path: (folder / path).read_text().replace(f"Rattle.{name}.", f"Rattle.{CRATE}.") for path in paths}
+
+
+def named_by(folder, crate):
+    """The files that import from a crate by its name."""
+    return [path for path in folder.rglob("*.antt") if f"Rattle.{crate}." in path.read_text()]
+
+
+def faults(room, lines, name):
+    """For each thing that must hold of a copy what is wrong, if it is."""
+    kept, copy = room / "crates" / CRATE, room / "crates" / name
+    done = subprocess.run(["bash", "-ec", "\n".join(lines[:-2])], cwd=room, capture_output=True, text=True)
+    yield None if (done.returncode, done.stderr) == (0, "") else f"the commands end with status {done.returncode}, {done.stderr}"
+    if not copy.is_dir():
+        yield f"there is no crate {name}"
+        return
+    yield None if line_of(name, room) == line_of(CRATE, room) is not None else f"crates.txt has {line_of(name, room)} for the copy"
+    yield None if files(copy, name) == files(kept, name) else "the copy has other files"
+    yield None if named_by(kept, CRATE) and not named_by(copy, CRATE) else f"a proof of the copy names {CRATE}: {named_by(copy, CRATE)}"
+    yield None if lines[-2:] == [RUN.format(name), BUILD.format(name)] else f"the last commands are {lines[-2:]}"
+
+
+def main():
+    lines, name = commands()
+    with tempfile.TemporaryDirectory() as made:
+        room = pathlib.Path(made)
+        shutil.copy(TOP / "crates.txt", room)
+        shutil.copytree(TOP / "crates" / CRATE, room / "crates" / CRATE, ignore=shutil.ignore_patterns("out"))
+        found = list(faults(room, lines, name))
+    wrong = [fault for fault in found if fault]
+    print(*wrong, sep="\n", end="\n" if wrong else "")
+    print(f"{len(found) - len(wrong)} passed, {len(wrong)} failed")
+    return 1 if wrong else 0
+
+
+if __name__ == "__main__":
+    sys.exit(main())

@@ -1,0 +1,202 @@
+#!/usr/bin/env python3
+"""Tests of tools/release.py: makes the archive, unpacks it in a folder of its own, and does there what its README says, without the proof toolchain
+on the PATH and without a network for cargo.
+
+    play_release.py CLONE
+
+CLONE is the top of a clone in which the programs and the C library are built. The three commands of the README must build and run the examples in C
+and Rust, whose output is compared, and their journals are checked by the program of the archive. The checksums must be those of the files, and
+notice each file that is changed or missing. Two archives must have the same bytes, and a log of ./check that isn't one of this commit that passed
+must be refused. Where no cargo runs the Rust example is left out, which is printed.
+
+Prints each thing that differs, and in the end the line 'N passed, M failed'.
+"""
+
+import functools
+import hashlib
+import os
+import pathlib
+import re
+import shutil
+import subprocess
+import sys
+import tarfile
+import tempfile
+
+from check_rust import runs_cargo
+from play_library import PLAIN_LIFE, TOP
+
+# The example in Rust: four servers with fifty requests each, of which each tenth breaks its connection.
+ANSWERED = 4 * 50 * 9 // 10
+THREADS, ROUNDS = 4, 500
+# A run that takes longer hangs, in seconds.
+LONGEST = 1200
+PROGRAMS = ("pool", "judge", "journal_picture")
+TAMPERED = ("bin/pool", "lib/libzuphinka.a", "include/zuphinka.h", "rust/zuphinka/lib/libzuphinka.a", "rust/zuphinka/src/lib.rs", "LICENSE")
+
+
+@functools.cache
+def path_without_rt():
+    """The folders of the path, but for those that have the command `rt`."""
+    folders = os.environ["PATH"].split(os.pathsep)
+    return os.pathsep.join(folder for folder in folders if not pathlib.Path(folder, "rt").exists())
+
+
+def run(*words, folder):
+    environment = {name: value for name, value in os.environ.items() if not name.startswith(("ZUPHINKA_", "CARGO_TARGET"))}
+    environment |= {"PATH": path_without_rt(), "CARGO_NET_OFFLINE": "true"}
+    return subprocess.run(words, cwd=folder, env=environment, stdin=subprocess.DEVNULL, capture_output=True, timeout=LONGEST)
+
+
+def shell(line, folder):
+    done = run("bash", "-c", line, folder=folder)
+    return done.stdout, done.stderr, done.returncode
+
+
+def release(clone, folder, *words):
+    command = [sys.executable, TOP / "tools/release.py", "--programs", clone, "--output", folder, *words]
+    return subprocess.run(command, stdin=subprocess.DEVNULL, capture_output=True, text=True, timeout=LONGEST)
+
+
+def git(*words):
+    return subprocess.run(["git", *words], cwd=TOP, capture_output=True, text=True, check=True).stdout.strip()
+
+
+def logs(clone, folder):
+    """The logs of ./check that are refused, and the one that is taken where nothing is changed since the commit."""
+    is_changed = git("status", "--porcelain") != ""
+    commit = git("rev-parse", "HEAD") + "-changed" * is_changed
+    cases = {
+        "": 1,
+        f"check: commit {commit}\n": 1,
+        f"check: commit {commit}\n12 passed, 1 failed\n": 1,
+        f"check: commit {commit}\n12 passed, 0 failed\nmore\n": 1,
+        f"check: commit {'0' * 40}\n12 passed, 0 failed\n": 1,
+        "12 passed, 0 failed\n": 1,
+        f"check: commit {commit}\nelse\n12 passed, 0 failed\n": 1 if is_changed else 0,
+    }
+    for number, (text, wanted) in enumerate(cases.items()):
+        log, there = folder / f"log{number}", folder / f"gate{number}"
+        log.write_text(text)
+        done = release(clone, there, "--gate", log)
+        yield f"the log {text!r}", wanted, done.returncode
+        yield f"an archive by the log {text!r}", not wanted, there.is_dir() and any(there.iterdir())
+        if not wanted:
+            with tarfile.open(done.stdout.strip()) as tar:
+                proved = tar.extractfile(next(name for name in tar.getnames() if name.endswith("/PROVED"))).read().decode()
+            yield "what was passed", True, "# ./check: 12 passed, 0 failed" in proved
+
+
+def entries(archive):
+    """The order, owners and times of what is packed."""
+    with tarfile.open(archive) as tar:
+        found = tar.getmembers()
+    top = archive.name.removesuffix(".tar.gz")
+    yield "the top folder", {top}, {entry.name.split("/")[0] for entry in found}
+    yield "the order", sorted(found, key=lambda entry: pathlib.PurePath(entry.name).parts), sorted(found, key=lambda entry: found.index(entry))
+    yield "the owners", {(0, 0, "root", "root")}, {(entry.uid, entry.gid, entry.uname, entry.gname) for entry in found}
+    yield "the times", {int(git("log", "-1", "--format=%ct"))}, {entry.mtime for entry in found}
+    yield "the modes", {0o755, 0o644}, {entry.mode for entry in found}
+    version = (TOP / "VERSION").read_text().strip()
+    yield "the name", f"zuphinka-{version}-linux-x86_64.tar.gz", archive.name
+
+
+def checksums(top):
+    """That each file has its checksum, and that a file which is changed or missing is noticed."""
+    lines = [line for line in (top / "PROVED").read_text().splitlines() if not line.startswith("#")]
+    files = {path.relative_to(top).as_posix(): path for path in top.rglob("*") if path.is_file() and path.name != "PROVED"}
+    wanted = [f"{hashlib.sha256(path.read_bytes()).hexdigest()}  {name}" for name, path in sorted(files.items())]
+    yield "the checksums", wanted, lines
+    command = "sha256sum --check --strict --quiet PROVED"
+    yield "the README has the command", True, f"    {command}\n" in (top / "README.md").read_text()
+    yield "all is as it was packed", (b"", b"", 0), shell(command, top)
+    for name in TAMPERED:
+        text = files[name].read_bytes()
+        files[name].write_bytes(text[:-2] + bytes([text[-2] ^ 1]) + text[-1:])
+        said, _, status = shell(command, top)
+        yield f"{name}, changed by a bit", (f"{name}: FAILED\n".encode(), 1), (said, status)
+        files[name].write_bytes(text)
+    (top / "LICENSE").rename(top / "LICENCE")
+    yield "a file that is missing", 1, shell(command, top)[2]
+    (top / "LICENCE").rename(top / "LICENSE")
+    yield "all is as it was packed again", (b"", b"", 0), shell(command, top)
+
+
+def is_legal(top, folder):
+    """What the program of the archive says of the segments in a folder, as they have entries."""
+    segments = sorted(folder.glob("segment-*"))
+    count = sum(text.count(b" = ") for text in (file.read_bytes() for file in segments))
+    done = run(top / "bin/pool", "check", folder / "settings.toml", *segments, folder=top)
+    return (f"legal {count}\n".encode(), b"", count > 0), (done.stdout, done.stderr, count > 0)
+
+
+def commands(top):
+    """The three commands of the README, and the check of the journal that the last stored."""
+    blocks = re.findall(r"(?:^    .*\n)+", (top / "README.md").read_text(), flags=re.MULTILINE)
+    compile_c, run_c, run_rust = (line.strip() for line in blocks[0].splitlines())
+    yield "no rt on the PATH", None, shutil.which("rt", path=path_without_rt())
+    yield compile_c, (b"", b"", 0), shell(compile_c, top)
+    yield run_c, (PLAIN_LIFE, b"", 0), shell(run_c, top)
+    if not runs_cargo():
+        print("the Rust example is left out, since no cargo runs here")
+        return
+    said, faults, status = shell(run_rust, top)
+    yield run_rust, (b"", 0), (said, status)
+    yield "what the Rust example tells", True, re.fullmatch(rb"%d requests were answered over \d+ connections\n" % ANSWERED, faults) is not None or faults
+    yield "the journal of the Rust example", *is_legal(top, top / "journal")
+    yield blocks[1].strip(), 0, shell(blocks[1].strip(), top)[2]
+    segment = min((top / "journal").glob("segment-*"))
+    done = run(top / "bin/judge", "journal/settings.toml", segment, folder=top)
+    yield "judge of a segment", (b"", 0, True), (done.stderr, done.returncode, done.stdout != b"")
+
+
+def programs(top):
+    """The programs, and threads that share a pool in C, by the flags of pkg-config."""
+    yield "a script", (PLAIN_LIFE, b"", 0), shell("bin/pool run examples/settings.toml examples/plain-life.script", top)
+    (top / "plain.journal").write_bytes(PLAIN_LIFE)
+    done = run(top / "bin/journal_picture", "plain.journal", folder=top)
+    yield "a picture", (b"", 0, True), (done.stderr, done.returncode, done.stdout.startswith(b"<"))
+    if not shutil.which("pkg-config"):
+        print("shared_life.c is left out, since pkg-config isn't installed")
+        return
+    flags = "$(PKG_CONFIG_PATH=lib/pkgconfig pkg-config --cflags --libs zuphinka)"
+    yield "shared_life.c", (b"", b"", 0), shell(f"cc -Wall -Wextra -Werror -o shared_life examples/shared_life.c {flags}", top)
+    shared = top / "shared"
+    shared.mkdir()
+    (shared / "settings.toml").write_text("journalLimit = 1000\n")
+    yield "shared_life", (b"", b"", 0), shell(f"./shared_life shared/settings.toml shared {THREADS} {ROUNDS}", top)
+    yield "the journal of shared_life", *is_legal(top, shared)
+    pool = run("cc", "-c", "-pthread", "-Iinclude", "-o", "pool.o", "share/zuphinka/zuphinka_pool.c", folder=top)
+    yield "the source of the pool for threads", (b"", 0), (pool.stderr, pool.returncode)
+
+
+def trials(clone, folder):
+    made = [release(clone, folder / name) for name in ("one", "two")]
+    yield "the archive is made", ([0, 0], ["", ""]), ([done.returncode for done in made], [done.stderr for done in made])
+    if any(done.returncode for done in made):
+        return
+    one, two = (pathlib.Path(done.stdout.strip()) for done in made)
+    yield "two archives are the same", True, one.read_bytes() == two.read_bytes()
+    yield from entries(one)
+    yield from logs(clone, folder)
+    with tarfile.open(one) as tar:
+        tar.extractall(folder / "unpacked")
+    top = folder / "unpacked" / one.name.removesuffix(".tar.gz")
+    yield "without a log", True, "# ./check: not passed: " in (top / "PROVED").read_text()
+    for part in checksums, commands, programs:
+        yield from part(top)
+
+
+def main(clone):
+    passed = failed = 0
+    with tempfile.TemporaryDirectory() as name:
+        for what, wanted, got in trials(pathlib.Path(clone).resolve(), pathlib.Path(name).resolve()):
+            passed, failed = passed + (wanted == got), failed + (wanted != got)
+            if wanted != got:
+                print(f"{what}: wanted {wanted!r}, got {got!r}"[:2000])
+    print(f"{passed} passed, {failed} failed")
+    return 1 if failed else 0
+
+
+if __name__ == "__main__":
+    sys.exit(main(*sys.argv[1:]))

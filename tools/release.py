@@ -1,0 +1,167 @@
+#!/usr/bin/env python3
+"""Makes an archive of what users take, which needs no proof toolchain: zuphinka-VERSION-linux-x86_64.tar.gz.
+
+    tools/release.py [--gate FILE] [--output FOLDER] [--programs FOLDER]
+
+The archive has the C library with its headers and its file for pkg-config, the Rust crate with the library in it, the programs pool, judge and
+journal_picture, the man page, examples, the licence, a README, and PROVED. That file has what ./check came to, the commit, the kit's line and a
+checksum of each other file, as `sha256sum --check` reads it.
+
+--gate FILE names the log of ./check, whose commit must be the one that is checked out, without changes, and in whose last line nothing failed;
+without it PROVED says that nothing was passed. --output FOLDER gets the archive, else the folder out/. What isn't built of its sources as they
+are is proved and built first. With --programs FOLDER what a clone there has built is taken as it is, and PROVED says that.
+
+The same commit, programs and compiler give the same bytes. Writes the path of the archive. The status is 1, and no archive is there, if something
+is missing or the log isn't one of a full check that passed.
+"""
+
+import argparse
+import gzip
+import hashlib
+import os
+import pathlib
+import re
+import shutil
+import subprocess
+import sys
+import tarfile
+import tempfile
+
+import install
+import sources
+
+TOP = pathlib.Path(__file__).resolve().parent.parent
+PROGRAMS = ("pool", "judge", "journal_picture")
+LIBRARY = "zuphinka"
+C_EXAMPLES = ("plain_life.c", "long_life.c", "shared_life.c")
+# What the Rust crate is without its tests, which want the repository.
+CRATE = ("Cargo.toml", "Cargo.lock", "build.rs", "README.md", "src", "examples")
+COMMIT = re.compile(r"check: commit (\S+)")
+PASSED = re.compile(r"[1-9]\d* passed, 0 failed")
+PROVED = """# zuphinka {version} for Linux on x86-64
+# ./check: {verdict}
+# commit {commit}, of {time}
+# kit: {kit}
+# The checksums of all other files: sha256sum --check --strict --quiet PROVED
+"""
+
+
+def arguments():
+    words = argparse.ArgumentParser(description="Makes an archive of what users take, which needs no proof toolchain.")
+    words.add_argument("--gate", type=pathlib.Path, help="the log of ./check")
+    words.add_argument("--output", type=pathlib.Path, default=TOP / "out", help="the folder that gets the archive")
+    words.add_argument("--programs", type=pathlib.Path, help="a clone in which all is built")
+    return words.parse_args()
+
+
+def git(*words):
+    """What a command of git writes, without its last line feed."""
+    done = subprocess.run(["git", *words], cwd=TOP, capture_output=True, text=True)
+    if done.returncode:
+        sys.exit(f"git {words[0]}: {done.stderr.strip()}")
+    return done.stdout.strip()
+
+
+def checked_out():
+    """The commit that is checked out, followed by -changed where files here aren't those of it."""
+    return git("rev-parse", "HEAD") + ("-changed" if git("status", "--porcelain") else "")
+
+
+def verdict(gate, commit):
+    """What ./check came to, by its log. Ends where that isn't a full check of this commit that passed."""
+    if gate is None:
+        return "not passed: no log of it was given"
+    lines = gate.read_text(errors="replace").splitlines() or [""]
+    of_commit = next((found[1] for found in map(COMMIT.fullmatch, lines) if found), "none")
+    if not PASSED.fullmatch(lines[-1]):
+        sys.exit(f"{gate}: the last line of ./check that passed is 'N passed, 0 failed', and this is {lines[-1]!r}")
+    if commit.endswith("-changed") or of_commit != commit:
+        sys.exit(f"{gate}: a check of commit {of_commit}, and here is {commit}")
+    return lines[-1]
+
+
+def build():
+    """Proves and builds what isn't built of its sources."""
+    for crate in (*PROGRAMS, LIBRARY):
+        if subprocess.run([sys.executable, TOP / "tools/build.py", crate]).returncode:
+            sys.exit(f"{crate}: not built")
+
+
+def built(crate, top):
+    """What a clone has built of a crate."""
+    file = top / "crates" / crate / "out" / sources.product(crate).name
+    if not file.is_file():
+        sys.exit(f"{file}: no such file")
+    return file
+
+
+def lay_out(stage, programs):
+    """Puts all files in their places, but for PROVED."""
+    shown = "${pcfiledir}/../.."
+    install.install(stage, shown, built(LIBRARY, programs), install.heap_of_kit())
+    crate = stage / "rust/zuphinka"
+    places = {stage / "bin": [built(name, programs) for name in PROGRAMS], stage / "share/man/man1": [TOP / "docs/pool.1"]}
+    places[stage / "examples"] = [*(TOP / "c" / name for name in C_EXAMPLES), *(TOP / "examples").iterdir()]
+    places[stage] = [TOP / "LICENSE", TOP / "CHANGELOG.md"]
+    places[crate / "lib"] = [stage / "lib/libzuphinka.a"]
+    for folder, files in places.items():
+        folder.mkdir(parents=True, exist_ok=True)
+        for file in files:
+            shutil.copy(file, folder)
+    for name in CRATE:
+        whole = TOP / "rust/zuphinka" / name
+        (shutil.copytree if whole.is_dir() else shutil.copy)(whole, crate / name)
+    text = (TOP / "tools/release_readme.md").read_text()
+    (stage / "README.md").write_text(text.replace("VERSION", install.version(), 1))
+
+
+def prove(stage, said, commit):
+    """Writes what was passed, and the checksum of each file."""
+    time = git("log", "-1", "--format=%cI")
+    head = PROVED.format(version=install.version(), verdict=said, commit=commit, time=time, kit=sources.kit())
+    names = sorted(path.relative_to(stage).as_posix() for path in stage.rglob("*") if path.is_file())
+    lines = [f"{hashlib.sha256((stage / name).read_bytes()).hexdigest()}  {name}\n" for name in names]
+    (stage / "PROVED").write_text(head + "".join(lines))
+
+
+def pack(stage, archive):
+    """Packs a folder so that the same files give the same bytes."""
+    time = int(git("log", "-1", "--format=%ct"))
+
+    def plain(entry):
+        entry.uid = entry.gid = 0
+        entry.uname = entry.gname = "root"
+        entry.mtime = time
+        entry.mode = 0o755 if entry.isdir() or entry.mode & 0o100 else 0o644
+        return entry
+
+    part = archive.with_name(archive.name + ".part")
+    with open(part, "wb") as file, gzip.GzipFile("", "wb", 9, file, time) as packed:
+        with tarfile.open(fileobj=packed, mode="w", format=tarfile.GNU_FORMAT) as tar:
+            for path in [stage, *sorted(stage.rglob("*"))]:
+                tar.add(path, path.relative_to(stage.parent), recursive=False, filter=plain)
+    os.replace(part, archive)
+
+
+def main():
+    given = arguments()
+    commit = checked_out()
+    said = verdict(given.gate, commit)
+    if given.programs is None:
+        build()
+    else:
+        said += "; the programs were taken as they were built"
+    name = f"zuphinka-{install.version()}-linux-x86_64"
+    archive = given.output.resolve() / f"{name}.tar.gz"
+    archive.parent.mkdir(parents=True, exist_ok=True)
+    with tempfile.TemporaryDirectory() as folder:
+        stage = pathlib.Path(folder) / name
+        stage.mkdir()
+        lay_out(stage, (given.programs or TOP).resolve())
+        prove(stage, said, commit)
+        pack(stage, archive)
+    print(archive)
+
+
+if __name__ == "__main__":
+    main()

@@ -1,0 +1,153 @@
+#!/usr/bin/env python3
+"""Says by checksums whether what is built of a crate is still that of its sources: the files of src/, specs/ and proofs/ of the crate and of all
+below it, their lines of crates.txt, HANDLES, and the kit by its line of `rt version`. Times, other files and other crates don't count.
+
+    tools/sources.py               writes the kit's line, and the checksum of each crate's sources
+    tools/sources.py --built FILE  notes what `rt ci` has just built of each crate whose checksum is still that in FILE
+
+A note is kept in out/built/, and holds for a copy of the whole folder too. `rt ci` leaves programs, and libraries without a stamp. Those with one
+it puts back as they were before it, so they keep their notes; static libraries it leaves none.
+"""
+
+import functools
+import hashlib
+import pathlib
+import shutil
+import subprocess
+import sys
+
+TOP = pathlib.Path(__file__).resolve().parent.parent
+NOTES = TOP / "out" / "built"
+# The folders of a crate that `rt` reads to prove and to build it.
+PARTS = ("src", "specs", "proofs")
+
+
+@functools.cache
+def declared():
+    """For each crate of the repository its line of crates.txt, up to the colon and behind it."""
+    found = {}
+    for line in (TOP / "crates.txt").read_text().splitlines():
+        head, colon, names = line.partition("#")[0].partition(":")
+        if colon:
+            found[head.split()[0]] = head, names
+    return found
+
+
+@functools.cache
+def libraries():
+    """For each crate of the repository the libraries of the repository that it uses."""
+    crates = declared()
+    return {crate: [name for name in names.split() if name in crates] for crate, (_, names) in crates.items()}
+
+
+def below(crate):
+    """All that a crate stands on, itself included."""
+    return {crate}.union(*(below(name) for name in libraries()[crate]))
+
+
+def is_static(crate):
+    """Whether a crate is a static library."""
+    return "staticlib" in declared()[crate][0].split()
+
+
+def is_program(crate):
+    """Whether a crate is a program."""
+    return (TOP / "crates" / crate / "src" / "main.rt").exists()
+
+
+def product(crate):
+    """What a build of the crate leaves: a program, an archive, or the folder of a library for crates above it."""
+    out = TOP / "crates" / crate / "out"
+    if is_program(crate):
+        return out / crate
+    return out / f"lib{crate}.a" if is_static(crate) else out / "rlib"
+
+
+@functools.cache
+def kit():
+    """The kit's line, or nothing where there is no `rt`."""
+    if not shutil.which("rt"):
+        return None
+    return subprocess.run(["rt", "version"], check=True, capture_output=True, text=True, stdin=subprocess.DEVNULL).stdout.strip()
+
+
+def files_of(folder):
+    """The files in a folder, in an order that is the same everywhere."""
+    return sorted(path for path in folder.rglob("*") if path.is_file())
+
+
+def sum_of_files(files, folder):
+    """A checksum of files, by their names in a folder and their bytes."""
+    found = hashlib.sha256()
+    for path in files:
+        text = path.read_bytes()
+        found.update(f"{path.relative_to(folder)} {len(text)}\n".encode() + text)
+    return found.hexdigest()
+
+
+@functools.cache
+def sum_of_sources(crate):
+    """The checksum of all that a crate is proved and built of, but the kit."""
+    folder = TOP / "crates" / crate
+    own = sum_of_files([path for part in PARTS for path in files_of(folder / part)], folder)
+    line = [*declared()[crate][0].split(), ":", *declared()[crate][1].split()]
+    parts = [own, " ".join(line), (TOP / "HANDLES").read_text(), *map(sum_of_sources, libraries()[crate])]
+    return hashlib.sha256("\n".join(parts).encode()).hexdigest()
+
+
+def has_stamp(crate):
+    """Whether a library is one over which `rt` builds others without proving it again."""
+    return (product(crate) / "stamp").is_file()
+
+
+def sum_of_product(crate):
+    """The checksum of what is built, or nothing where it isn't there. Of a library with a stamp, which is a checksum, that will do."""
+    built = product(crate)
+    if built.is_file():
+        return sum_of_files([built], built.parent)
+    if has_stamp(crate):
+        return sum_of_files([built / "stamp"], built)
+    return sum_of_files(files_of(built), built) if any(built.glob("*/*")) else None
+
+
+def note_of(crate):
+    """What is noted of a crate that is built: the kit's line, and the checksums of its sources and of what is built."""
+    return f"{kit()}\n{sum_of_sources(crate)}\n{sum_of_product(crate)}\n"
+
+
+def note(crate):
+    """Notes that what is built of a crate is that of its sources."""
+    NOTES.mkdir(parents=True, exist_ok=True)
+    (NOTES / crate).write_text(note_of(crate))
+
+
+def is_current(crate):
+    """Whether what is built of a crate is that of its sources as they are. Where there is no kit, whichever built it will do."""
+    file = NOTES / crate
+    if not file.is_file() or sum_of_product(crate) is None:
+        return False
+    noted, wanted = file.read_text().splitlines(), note_of(crate).splitlines()
+    return noted[1:] == wanted[1:] and (kit() is None or noted[0] == wanted[0])
+
+
+def sums():
+    """The kit's line, and a line for each crate."""
+    return [str(kit()), *(f"{crate} {sum_of_sources(crate)}" for crate in declared())]
+
+
+def main():
+    if len(sys.argv) == 1:
+        print(*sums(), sep="\n")
+    elif len(sys.argv) == 3 and sys.argv[1] == "--built":
+        earlier = pathlib.Path(sys.argv[2]).read_text().splitlines()
+        now = sums()
+        for crate, line in zip(declared(), now[1:]):
+            is_of_gate = sum_of_product(crate) and not has_stamp(crate) and not is_static(crate)
+            if earlier[:1] == now[:1] and line in earlier and is_of_gate:
+                note(crate)
+    else:
+        sys.exit(__doc__)
+
+
+if __name__ == "__main__":
+    main()
