@@ -1,5 +1,5 @@
 #!/usr/bin/env python3
-"""Draws docs/life.svg from the table of moves in docs/life.md.
+"""Draws docs/pictures/life.svg from the table of moves in docs/guide/concepts.md.
 
 draw_life.py          writes the picture
 draw_life.py --check  fails where the picture that stands is another one
@@ -11,6 +11,7 @@ import re
 import sys
 
 HERE = pathlib.Path(__file__).resolve().parent
+PAGE = HERE.parent / "guide/concepts.md"
 WIDTH, HEIGHT = 1060, 640
 # The middle of each phase's box, and half its width and height. `Gone` and `Destroying` are bars, so that each phase reaches them
 # by a straight line.
@@ -100,11 +101,11 @@ def picture(text):
 
 
 def main():
-    drawn = picture((HERE / "life.md").read_text())
+    drawn = picture(PAGE.read_text())
     target = HERE / "life.svg"
     if sys.argv[1:] == ["--check"]:
         same = target.read_text() == drawn
-        print("docs/life.svg is as drawn" if same else "docs/life.svg: draw it anew, by docs/draw_life.py")
+        print("docs/pictures/life.svg is as drawn" if same else "docs/pictures/life.svg: draw it anew, by docs/pictures/draw_life.py")
         sys.exit(0 if same else 1)
     target.write_text(drawn)
 
