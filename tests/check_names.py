@@ -3,9 +3,9 @@
 
 check_names.py  The last line is 'N passed, M failed'.
 
-Each file, folder and heading that a page names or links to exists; each single name between backquotes is a word of some source, and a method
-belongs to its type; each definition of a table that says in which file it stands is declared there; and each clause that docs/proof/proved.md
-names is one of its crate. Each page of docs/ opens with a sentence that says for whom it is.
+Each file, folder and heading that a page names or links to exists; each single name between backquotes is a word of some source or the name
+of an edit, and a method belongs to its type; each definition of a table that says in which file it stands is declared there; and each clause that
+docs/proof/proved.md names is one of its crate. Each page of docs/ opens with a sentence that says for whom it is.
 """
 
 import functools
@@ -39,7 +39,8 @@ def sources():
 @functools.cache
 def words():
     text = "\n".join(sources().values())
-    return {*re.findall(r"[^\W\d]\w*", text), *re.findall(r"[^\W\d]\w*(?:-\w+)+", text)}
+    edits = {path.stem for path in TOP.glob("crates/*/must-fail/*.edit")}
+    return {*re.findall(r"[^\W\d]\w*", text), *re.findall(r"[^\W\d]\w*(?:-\w+)+", text), *edits}
 
 
 def is_file(named, crate):
@@ -116,8 +117,12 @@ def check_opening(page):
 
 def tables(page):
     """The rows of each table of a page, by the names of its columns."""
+    yield from rows_in(page.read_text())
+
+
+def rows_in(text):
     columns = None
-    for line in page.read_text().splitlines():
+    for line in text.splitlines():
         cells = [cell.strip() for cell in re.split(r"(?<!\\)\|", line)[1:-1]]
         if not cells:
             columns = None

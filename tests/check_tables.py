@@ -5,16 +5,18 @@ check_tables.py  The last line is 'N passed, M failed'.
 
 Each setting has the default that the definitions say, in docs/guide/settings.md and in examples/settings.toml; the answers to each input are the
 same in docs/guide/program.md and docs/proof/definitions.md; each of them is given in the case that docs/proof/definitions.md names; docs/dev/trials.md
-has a row for each file of tests of the shared pool; and the outstanding entries and the room of docs/guide/operations.md follow from the definitions.
+has a row for each file of tests of the shared pool; the outstanding entries and the room of docs/guide/operations.md follow from the definitions; and
+docs/proof/edits.md has a row for each edit of crates/*/must-fail, in the section of its crate, which names the function that it changes.
 """
 
 import re
 import sys
 import tomllib
 
-from check_names import TOP, backquoted, tables
+from check_names import TOP, backquoted, rows_in, tables
 
 DEFINITIONS = TOP / "docs/proof/definitions.md"
+EDITS = TOP / "docs/proof/edits.md"
 
 
 def value_of(term):
@@ -111,9 +113,54 @@ def check_room():
         yield None if needed.get(step) == number else f"docs/guide/operations.md: {step}: {needed.get(step)}, by the definitions {number}"
 
 
+def edits_in_order():
+    """The edits of all crates by crate and name: the crates in the order of crates.txt, the edits of each by name."""
+    crates = re.findall(r"^(\w+)", (TOP / "crates.txt").read_text(), flags=re.MULTILINE)
+    edits = {(path.parent.parent.name, path.stem): path for path in TOP.glob("crates/*/must-fail/*.edit")}
+    return {edit: edits[edit] for edit in sorted(edits, key=lambda edit: (crates.index(edit[0]), edit[1]))}
+
+
+def listed_edits():
+    """The edits that docs/proof/edits.md lists, by section and name, each with the functions of its row."""
+    for section in re.split(r"^## ", EDITS.read_text(), flags=re.MULTILINE)[1:]:
+        crate = section.partition("\n")[0].strip("`")
+        for row in rows_in(section):
+            if "Edit" in row:
+                yield (crate, backquoted(row["Edit"])[0]), backquoted(row["Function"])
+
+
+def functions_of(path):
+    """The functions in which the lines stand that an edit replaces."""
+    text = path.read_text()
+    source = (path.parent.parent / re.search(r"^file: (.*)$", text, re.MULTILINE)[1]).read_text()
+    return {re.findall(r"\bfn (\w+)", source.partition(old)[0])[-1] for old in re.findall(r"^old: (.*)$", text, re.MULTILINE)}
+
+
+def fault_of_row(path, functions):
+    """Why the functions of an edit's row are wrong: those in which its lines stand, behind the public one that calls them if they are private."""
+    public, *private = [function.split("::")[-1] for function in functions]
+    changed = functions_of(path)
+    if set(private or [public]) != changed:
+        return f"{' '.join(functions)}, it changes {' '.join(sorted(changed))}"
+    code = "\n".join(source.read_text() for source in path.parent.parent.glob("src/*.rt"))
+    return None if re.search(rf"\bfn {public}\b", code) else f"{public} is no function of the crate"
+
+
+def check_edits():
+    edits, rows = edits_in_order(), list(listed_edits())
+    for edit in sorted({*edits, *(edit for edit, _ in rows)}):
+        functions = [named for listed, named in rows if listed == edit]
+        if edit not in edits or len(functions) != 1:
+            fault = f"{len(functions)} rows" if edit in edits else "no such edit"
+        else:
+            fault = fault_of_row(edits[edit], functions[0])
+        yield f"docs/proof/edits.md: {': '.join(edit)}: {fault}" if fault else None
+    yield None if [edit for edit, _ in rows] == list(edits) else "docs/proof/edits.md: not in the order of crates.txt and of names"
+
+
 def main():
     passed, wrong = 0, []
-    for check in (check_settings, check_answers, check_cases, check_trials, check_room):
+    for check in (check_settings, check_answers, check_cases, check_trials, check_room, check_edits):
         faults = list(check())
         passed += faults.count(None)
         wrong += [fault for fault in faults if fault] if faults else [f"{check.__name__}: nothing to check"]
