@@ -29,7 +29,7 @@
  *   - malloc, realloc and free belong to one allocator, aligned as C requires, and stay the same for all calls on a handle.
  * There is no global state. Drop a pool that is no longer used (`zuphinka_drop`): nothing else frees its memory.
  *
- * A call on an empty handle is no error of the host: it returns a status.
+ * A call on an empty handle breaks no rule: it returns a status.
  *
  * Threads that wait
  *
@@ -87,7 +87,7 @@ enum zuphinka_status {
   ZUPHINKA_STATUS_ALREADY_OPEN = 2,     /* the handle has a pool */
   ZUPHINKA_STATUS_OUT_OF_MEMORY = 3,    /* an allocation failed */
   ZUPHINKA_STATUS_JOURNAL_FULL = 4,     /* the journal has no room for the entry and those outstanding after it */
-  ZUPHINKA_STATUS_BAD_REQUEST = 5,      /* `input` is no code of an input, or `outcome`, if the input has one, no code of an outcome */
+  ZUPHINKA_STATUS_BAD_REQUEST = 5,      /* `input` has a wrong code, or `outcome` has one and the input needs an outcome */
   ZUPHINKA_STATUS_NO_ENTRY = 6,         /* the journal has no entry, or the base no line, at the position */
   ZUPHINKA_STATUS_BUFFER_TOO_SMALL = 7, /* the text does not fit into the buffer */
   ZUPHINKA_STATUS_NOT_TEXT = 8,         /* the settings are not UTF-8 */
@@ -150,7 +150,7 @@ enum zuphinka_answer {
   ZUPHINKA_ANSWER_NOTED = 16,        /* the pool noted the use */
   ZUPHINKA_ANSWER_COUNT = 17,        /* the run, reclaim, clear or close is for `number` objects */
   ZUPHINKA_ANSWER_RECLAIMED = 18,    /* abandoned object `number` lost its place, which is free */
-  ZUPHINKA_ANSWER_NOTHING = 19,      /* no object is left to look at, or the pool was closed before */
+  ZUPHINKA_ANSWER_NOTHING = 19,      /* no object is left to examine, or the pool was closed before */
   ZUPHINKA_ANSWER_ENOUGH = 20,       /* enough objects are idle */
   ZUPHINKA_ANSWER_NO_PLACE = 21,     /* no place is free */
   ZUPHINKA_ANSWER_REFUSED = 22       /* nothing was done, for `cause` */
@@ -291,7 +291,7 @@ uint32_t zuphinka_room(struct zuphinka *pool, uint64_t *room);
  * Stores the line of the entry at `position`, counted from 0, in `text`, a buffer of `capacity` bytes, and its size in `size`. The line ends
  * in a line feed, without a null after it. The rest of the buffer is unchanged. ZUPHINKA_LONGEST_LINE bytes are always enough.
  *
- * Returns ZUPHINKA_STATUS_DONE. Errors leave the buffer unchanged, and all but the first leave `size` unchanged:
+ * Returns ZUPHINKA_STATUS_DONE. Errors leave the buffer unchanged, and all except the first leave `size` unchanged:
  *   - ZUPHINKA_STATUS_BUFFER_TOO_SMALL, if the size, which is stored, exceeds `capacity`;
  *   - ZUPHINKA_STATUS_NOT_OPEN; ZUPHINKA_STATUS_NO_ENTRY, if the journal is shorter;
  *   - ZUPHINKA_STATUS_OUT_OF_MEMORY, possibly in place of any other error except ZUPHINKA_STATUS_NOT_OPEN.
@@ -300,8 +300,8 @@ uint32_t zuphinka_room(struct zuphinka *pool, uint64_t *room);
 uint32_t zuphinka_line(struct zuphinka *pool, uint64_t position, char *text, size_t capacity, uint64_t *size);
 
 /*
- * Does the same for a line of the base that the entries follow: the state after all entries before them. At position 0 is the line with which
- * a segment begins, and after it one line for each object that was present. The lines stay the same until the next cut. Returns
+ * Does the same for a line of the journal's base, which is the state after all entries before the stored ones. At position 0 is the line with
+ * which a segment begins, and after it one line for each object that was present. The lines stay the same until the next cut. Returns
  * ZUPHINKA_STATUS_NO_ENTRY if the base has fewer lines.
  */
 uint32_t zuphinka_base(struct zuphinka *pool, uint64_t position, char *text, size_t capacity, uint64_t *size);
@@ -319,8 +319,8 @@ uint32_t zuphinka_base(struct zuphinka *pool, uint64_t position, char *text, siz
 uint32_t zuphinka_cut(struct zuphinka *pool);
 
 /*
- * Ends a pool and frees its memory. The handle is then empty and may be opened again. It does nothing to an empty handle. The pool forgets the
- * tokens that it stores, and their objects stay the host's: close and clear the pool first.
+ * Ends a pool and frees its memory. The handle is then empty and may be opened again. It does nothing to an empty handle. The tokens that the
+ * pool stores are lost, and their objects still belong to the host: close and clear the pool first.
  */
 void zuphinka_drop(struct zuphinka *pool);
 

@@ -2,20 +2,20 @@
  * zuphinka_pool.h: a pool of objects for threads, over zuphinka.h.
  *
  * The host writes callbacks that make and destroy objects and, if it wishes, activate, test and passivate them. The pool lends the objects to
- * threads, with the settings of docs/guide/settings.md. The installed archive has it; else compile c/zuphinka_pool.c with the program, with -std=c11
- * and -pthread. zuphinka.h has the commands.
+ * threads, with the settings of docs/guide/settings.md. The installed archive has it; otherwise compile c/zuphinka_pool.c with the program, with
+ * -std=c11 and -pthread. zuphinka.h has the commands.
  *
  * Each decision is a step of the proved core. The lock, the waits and the journals of this file are not proved: tests/play_c_pool.py tests them.
  * c/shared_life.c is a program to copy from.
  *
  * Rules
  *
- *   - Threads call a pool at any time between `zuphinka_pool_open` and `zuphinka_pool_end`, and at once. No call comes from a signal handler or
- *     from a forked child, and no thread is cancelled in a call.
- *   - Callbacks run in the calling thread, without the pool's lock, and return normally. They may call the pool, except for
- *     `zuphinka_pool_end`; `store` calls nothing of the pool but `zuphinka_pool_counts` and `zuphinka_pool_is_low`. A callback that fails
- *     reports its reason to the host itself, in its context or in a variable of the thread.
- *   - Pointers point to memory of their types. Only those of which it is said may be null.
+ *   - Threads may call a pool at any time between `zuphinka_pool_open` and `zuphinka_pool_end`, also several at once. No call comes from a signal
+ *     handler or from a forked child, and no thread is cancelled in a call.
+ *   - Callbacks run in the calling thread, without the pool's lock, and return normally. They may call the pool, except `zuphinka_pool_end`;
+ *     `store` may only call `zuphinka_pool_counts` and `zuphinka_pool_is_low`. A callback that fails reports its reason to the host itself, in
+ *     its context or in a variable of the thread.
+ *   - Pointers point to memory of their types. A pointer may be null only if its description says so.
  *
  * No more than maxTotal objects exist at once, except for those that were reclaimed from their holders: the pool destroys an object before it
  * frees the object's place. A call that fails leaves no object without an owner and no place taken.
@@ -27,7 +27,7 @@
  *   six entries for each present object and two more;
  * - kept (ZUPHINKA_POOL_JOURNAL_MEMORY): the pool stores all entries. It lends nothing once its journal is full: a borrow that makes an object needs
  *   room for six entries, one that takes an idle object for four. `zuphinka_pool_is_low` says when to call `zuphinka_pool_cut`;
- * - handed out (ZUPHINKA_POOL_JOURNAL_SEGMENTS): the pool cuts its journal in time and passes each segment to `store`. A borrow does this if
+ * - stored in segments (ZUPHINKA_POOL_JOURNAL_SEGMENTS): the pool cuts its journal in time and passes each segment to `store`. A borrow does this if
  *   less than a quarter of the room is left, and `zuphinka_pool_maintain` if less than half is left.
  * `pool check SETTINGS SEGMENT..` checks the segments of a pool, in their order, as the one journal that they are. Callers in the journal are
  * threads, numbered from 0 in the order of their first calls. Times never decrease.
@@ -63,7 +63,7 @@ enum zuphinka_pool_error {
   ZUPHINKA_POOL_ERROR_STORE_FAILED = 14,      /* `store` failed; the pool keeps the segment for the next try */
   ZUPHINKA_POOL_ERROR_OUT_OF_MEMORY = 15,     /* an allocation failed */
   ZUPHINKA_POOL_ERROR_NO_LOCK = 16,           /* the system gave no mutex or condition variable */
-  ZUPHINKA_POOL_ERROR_MISSING_CALLBACK = 17,  /* `make` or `destroy` is null, or `store` where segments are handed out */
+  ZUPHINKA_POOL_ERROR_MISSING_CALLBACK = 17,  /* `make` or `destroy` is null, or `store` if the journal is stored in segments */
   ZUPHINKA_POOL_ERROR_NOT_TEXT = 18,          /* the settings are not UTF-8 */
   ZUPHINKA_POOL_ERROR_NOT_TOML = 19,          /* the settings are not a TOML document */
   ZUPHINKA_POOL_ERROR_UNKNOWN_KEY = 20,       /* the settings have an unknown key; `zuphinka_settings` names the key of these three */
@@ -87,7 +87,7 @@ struct zuphinka_pool_host {
   /* Makes an object ready for its holder: a new one, an idle one that is lent, and one that an eviction run tests. Null: nothing to do. */
   bool (*activate)(void *context, void *object);
 
-  /* Returns whether an object can be used. The pool asks where the settings say so (testOnBorrow and its like). Null: each one can. */
+  /* Returns whether an object can be used. The pool calls it if the settings say so (testOnBorrow and its like). Null: each object can. */
   bool (*validate)(void *context, void *object);
 
   /* Makes an object ready to be idle: one that is returned, added, or tested by an eviction run. Null: nothing to do. */
@@ -99,8 +99,8 @@ struct zuphinka_pool_host {
   /* Returns the time in milliseconds. Null: milliseconds since the pool was opened, by CLOCK_MONOTONIC. */
   uint64_t (*now)(void *context);
 
-  /* Takes a segment, for ZUPHINKA_POOL_JOURNAL_SEGMENTS; else null. If it fails the pool keeps the segment, cuts no further and tries again
-   * later, until its journal is full. A host that gives up a segment returns true. */
+  /* Takes a segment, for ZUPHINKA_POOL_JOURNAL_SEGMENTS; otherwise null. If it fails the pool keeps the segment, cuts no further and tries again
+   * later, until its journal is full. A host that does without a segment returns true. */
   zuphinka_pool_store *store;
 };
 
@@ -146,7 +146,7 @@ enum zuphinka_pool_error zuphinka_pool_open(struct zuphinka_pool **pool, const c
  */
 enum zuphinka_pool_error zuphinka_pool_get(struct zuphinka_pool *pool, struct zuphinka_pool_loan *loan);
 
-/* Does the same without waiting: ZUPHINKA_POOL_ERROR_EXHAUSTED where it would wait. */
+/* Does the same without waiting: ZUPHINKA_POOL_ERROR_EXHAUSTED if it would wait. */
 enum zuphinka_pool_error zuphinka_pool_try_get(struct zuphinka_pool *pool, struct zuphinka_pool_loan *loan);
 
 /*
@@ -161,7 +161,7 @@ enum zuphinka_pool_error zuphinka_pool_get_timed(struct zuphinka_pool *pool, uin
  *
  * Errors: ZUPHINKA_POOL_ERROR_GONE, if the object was reclaimed: it is destroyed, and the loan has ended. ZUPHINKA_POOL_ERROR_NOT_LENT, if the
  * loan ended before: nothing is done. ZUPHINKA_POOL_ERROR_JOURNAL_FULL and _OUT_OF_MEMORY come only if the object isn't lent any more, since it
- * was reclaimed: nothing is done, and the object is its holder's alone, to return it again or to destroy it.
+ * was reclaimed: nothing is done. The object belongs to its holder alone, who may return it again or destroy it.
  */
 enum zuphinka_pool_error zuphinka_pool_give_back(struct zuphinka_pool *pool, struct zuphinka_pool_loan *loan);
 
@@ -171,7 +171,7 @@ enum zuphinka_pool_error zuphinka_pool_invalidate(struct zuphinka_pool *pool, st
 /*
  * Notes that a lent object is used: it counts as abandoned only after removeAbandonedTimeoutMillis without a use.
  *
- * Errors: ZUPHINKA_POOL_ERROR_GONE, if the object was reclaimed: it is its holder's alone, until the holder returns it.
+ * Errors: ZUPHINKA_POOL_ERROR_GONE, if the object was reclaimed: it belongs to its holder alone, until the holder returns it.
  * ZUPHINKA_POOL_ERROR_NOT_LENT, _JOURNAL_FULL, _OUT_OF_MEMORY: nothing is noted.
  */
 enum zuphinka_pool_error zuphinka_pool_touch(struct zuphinka_pool *pool, const struct zuphinka_pool_loan *loan);
@@ -208,8 +208,9 @@ enum zuphinka_pool_error zuphinka_pool_evict(struct zuphinka_pool *pool, struct 
 enum zuphinka_pool_error zuphinka_pool_reclaim(struct zuphinka_pool *pool, uint64_t *reclaimed);
 
 /*
- * Maintains the pool: stores a segment if the journal is handed out and less than half of its room is left, evicts, reclaims and fills. Call it
- * now and then, from one thread. Stores in `done`, unless it is null, what it did, also after an error. It stops at the first error.
+ * Maintains the pool: evicts, reclaims and fills. If the journal is stored in segments and less than half of its room is left, it stores a
+ * segment first. Call it now and then, from one thread. Stores in `done`, unless it is null, what it did, also after an error. It stops at the
+ * first error.
  *
  * Errors: those of the three calls. A segment that can't be stored is tried again later.
  */
@@ -231,14 +232,14 @@ uint64_t zuphinka_pool_close(struct zuphinka_pool *pool);
 /* Returns whether the pool is closed. */
 bool zuphinka_pool_is_closed(struct zuphinka_pool *pool);
 
-/* Stores the counts of one moment in `counts`. */
+/* Stores the counts, all of one time, in `counts`. */
 void zuphinka_pool_counts(struct zuphinka_pool *pool, struct zuphinka_counts *counts);
 
 /* Returns whether to cut the journal: it stores entries, and less than a quarter of journalLimit is left. */
 bool zuphinka_pool_is_low(struct zuphinka_pool *pool);
 
 /*
- * Cuts the journal: passes the entries that are stored to `store`, as one segment after their base, and goes on without them. A segment that
+ * Cuts the journal: passes the entries that are stored to `store`, as one segment after their base, and continues without them. A segment that
  * an earlier cut could not store comes first. Stores in `entries`, unless it is null, how many entries were stored, also after an error.
  * Without entries it does nothing. The text is copied while the pool lends, and `store` runs without the lock. One cut runs at a time.
  *
@@ -254,8 +255,8 @@ uint32_t zuphinka_pool_caller(void);
 const char *zuphinka_pool_error_text(enum zuphinka_pool_error error);
 
 /*
- * Ends a pool that no thread calls any more: closes it, passes the rest of the journal to `store` if it is handed out, and frees the pool.
- * Objects that were reclaimed and not returned are their holders' alone. Null: nothing to do.
+ * Ends a pool that no thread calls any more: closes it, passes the rest of the journal to `store` if the journal is stored in segments, and frees
+ * the pool. Objects that were reclaimed and not returned belong to their holders alone. Null: nothing to do.
  *
  * Errors, and the pool is closed but not ended: ZUPHINKA_POOL_ERROR_IN_USE, if objects are lent; ZUPHINKA_POOL_ERROR_STORE_FAILED,
  * _OUT_OF_MEMORY, of the last segment.
