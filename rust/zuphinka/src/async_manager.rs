@@ -46,7 +46,7 @@ use std::thread::{self, Thread};
 /// # Ok::<(), Box<dyn std::error::Error>>(())
 /// ```
 pub trait AsyncManager: Send + Sync {
-    /// What is lent.
+    /// The objects that are lent.
     type Object: Send;
 
     /// Why an object could not be made, activated or passivated.
@@ -155,7 +155,7 @@ impl<A: AsyncManager> Manager for Async<A> {
     }
 }
 
-/// A thread that sleeps until its future can go on.
+/// A thread that sleeps until its future can continue.
 struct Sleeper {
     thread: Thread,
     is_woken: AtomicBool,

@@ -57,8 +57,8 @@ impl<M: Manager> Builder<M> {
         }
     }
 
-    /// Takes all settings from a text in TOML, as of a settings file. Those that it does not name have their defaults; so the wait has a limit of
-    /// 30 seconds unless the text names `maxWaitMillis`.
+    /// Takes all settings from a text in TOML, like that of a settings file. Settings that it does not name have their defaults. So the wait has a
+    /// limit of 30 seconds unless the text names `maxWaitMillis`.
     ///
     /// ```
     /// # use zuphinka::{Manager, Pool, SettingsError};
@@ -76,7 +76,7 @@ impl<M: Manager> Builder<M> {
     ///
     /// # Errors
     ///
-    /// The text is no TOML, or one of its keys or values is invalid.
+    /// The text is not TOML, or one of its keys or values is invalid.
     pub fn settings(mut self, toml: &str) -> Result<Builder<M>, SettingsError> {
         self.settings = Settings::from_toml(toml)?;
         if !Settings::names_max_wait(toml)? {
@@ -93,7 +93,7 @@ impl<M: Manager> Builder<M> {
         self
     }
 
-    /// Sets the most idle objects, up to 2^31 - 1: one that is returned beyond it is destroyed; `None`: no limit (`maxIdle`, 8).
+    /// Sets the most idle objects, up to 2^31 - 1: an object that is returned when this many are idle is destroyed; `None`: no limit (`maxIdle`, 8).
     pub fn max_idle(mut self, objects: impl Into<Option<u32>>) -> Builder<M> {
         self.settings.max_idle = limit(objects.into());
         self.chosen.max_idle = true;
@@ -195,7 +195,7 @@ impl<M: Manager> Builder<M> {
     /// Sets a clock that returns times in milliseconds, instead of the time since the pool was opened. It may be read under the pool's
     /// lock, and must not call the pool.
     ///
-    /// Times in the journal never fall: a time before that of the last entry counts as that one. If the clock panics, the time of the last
+    /// Times in the journal never decrease: a time before that of the last entry counts as that one. If the clock panics, the time of the last
     /// entry is taken.
     ///
     /// ```
@@ -319,9 +319,9 @@ fn open_core(settings: &Settings) -> Result<Core, OpenError> {
 }
 
 impl<M: Manager + 'static> Builder<M> {
-    /// Has a thread of the pool's own call [`maintain`](Pool::maintain): at once, and then this long after each round, at least one millisecond.
-    /// Its errors go to [`on_error`](Builder::on_error). The thread ends when the pool is closed, once it has done its round, or when the last
-    /// handle and the last lent object are gone.
+    /// Starts a thread of the pool's own that calls [`maintain`](Pool::maintain): at once, and then this long after each round, at least one
+    /// millisecond. Its errors go to [`on_error`](Builder::on_error). The thread ends when the pool is closed, once it has done its round, or when
+    /// the last handle and the last lent object are gone.
     pub fn maintain_every(mut self, time: Duration) -> Builder<M> {
         self.maintenance = Some((Maintainer::start, time));
         self

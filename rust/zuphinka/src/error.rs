@@ -13,9 +13,12 @@ pub enum Error<E> {
     TimedOut,
     /// The pool is closed.
     Closed,
-    /// The journal has less [room](crate::Pool::room) than the call needs, until it is cut.
+    /// The journal has less [room](crate::Pool::room) than the call needs, until it is cut. A borrow that makes an object needs room for 6
+    /// entries, and one that takes an idle object for 4; with [`Abandoned::on_borrow`](crate::Abandoned::on_borrow) each needs 1 more. An
+    /// addition or a fill needs 4 for each object that it makes, an eviction run 2 for each object that it tests. A step that changes no object,
+    /// as the note of a use, needs 1. The return, invalidation or detachment of a lent object and the first close of a pool need none.
     JournalFull,
-    /// An allocation failed: for the entry, the object's place, or the caller's turn among those that wait.
+    /// An allocation failed: for the entry, for the object's place, or for the caller's place among the waiters.
     OutOfMemory,
     /// The manager did not make an object, and returned this.
     Make(E),
@@ -138,8 +141,8 @@ impl error::Error for Contradiction {}
 pub enum SettingsError {
     /// The text has more than 1,048,576 bytes.
     TooLong,
-    /// The text is not TOML. The lines before this one are; lines count from 1. If the text has more than 1,000 lines or 65,536 bytes, the
-    /// error may be further down.
+    /// The text is not TOML. The lines before this one are TOML; lines count from 1. If the text has more than 1,000 lines or 65,536 bytes,
+    /// the error may be further down.
     NotToml(u64),
     /// No setting has this key.
     UnknownKey(String),
@@ -160,7 +163,7 @@ impl From<SettingsError> for OpenError {
     }
 }
 
-/// Writes the whole cause: it has no source.
+/// Writes the whole cause: the error has no source.
 impl fmt::Display for OpenError {
     fn fmt(&self, f: &mut fmt::Formatter<'_>) -> fmt::Result {
         match self {

@@ -1,4 +1,4 @@
-//! Additions, fills, eviction runs, removals, clears and closes, in their critical sections.
+//! Additions, fills, eviction runs, reclaims, clears and closes, in their critical sections.
 
 use crate::callers::caller_number;
 use crate::error::Error;
@@ -38,7 +38,7 @@ pub struct Eviction {
 pub struct Maintenance {
     /// Its eviction run.
     pub eviction: Eviction,
-    /// The number of abandoned objects that it took from their holders.
+    /// The number of abandoned objects that it reclaimed.
     pub reclaimed: u64,
     /// The number of new objects that it added.
     pub filled: u64,
@@ -175,7 +175,7 @@ impl<M: Manager> Shared<M> {
         }
     }
 
-    /// Takes abandoned objects from their holders. Returns their number.
+    /// Reclaims abandoned objects. Returns their number.
     pub fn reclaim(&self, caller: u32, on: When) -> Result<u64, Error<M::Error>> {
         let count = match self.run_section(caller, Input::Reclaim { on }, None)? {
             (Answer::Count(count), _) => count,
@@ -191,7 +191,7 @@ impl<M: Manager> Shared<M> {
         Ok(count)
     }
 
-    /// Runs an eviction, then a removal of abandoned objects, then a fill.
+    /// Runs an eviction, then a reclaim of abandoned objects, then a fill.
     pub fn maintain(&self) -> Result<Maintenance, Error<M::Error>> {
         Ok(Maintenance {
             eviction: self.evict_for_maintenance()?,

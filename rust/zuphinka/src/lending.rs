@@ -29,7 +29,7 @@ pub enum Returned {
 pub enum Touched {
     /// It is noted.
     Noted,
-    /// The object had been reclaimed before. It is its holder's alone.
+    /// The object had been reclaimed before. It belongs to its holder alone.
     Gone,
 }
 

@@ -47,7 +47,7 @@
 //! ([`Journal::Memory`]), or stores them in segments ([`Journal::Segments`]), which `pool check` checks as one journal. The call that finds
 //! a segment due stores it, also a borrow, a poll or a return; if the journal is full, calls wait for the thread that stores one.
 //!
-//! Build the C library first, by `python3 tools/build.py zuphinka`; `build.rs` says where else it may lie.
+//! Build the C library first, by `python3 tools/build.py zuphinka`; `build.rs` says where else it may be.
 #![warn(missing_docs)]
 #![deny(unsafe_op_in_unsafe_fn)]
 

@@ -24,7 +24,7 @@ use std::future::Future;
 /// }
 /// ```
 pub trait Manager: Send + Sync {
-    /// What is lent.
+    /// The objects that are lent.
     type Object: Send;
 
     /// Why an object could not be made, activated or passivated.

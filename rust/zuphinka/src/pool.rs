@@ -91,7 +91,7 @@ impl<M: Manager> Pool<M> {
     ///
     /// # Errors
     ///
-    /// [`Error::Exhausted`] if there is neither. The others are those of [`get`](Pool::get), except [`Error::TimedOut`].
+    /// [`Error::Exhausted`] if there is neither. The other errors are those of [`get`](Pool::get), except [`Error::TimedOut`].
     pub fn try_get(&self) -> Result<Pooled<M>, Error<M::Error>> {
         match self.shared.borrow(WaitLimit::None) {
             // So the core answers where `maxWaitMillis` is 0.
@@ -119,8 +119,8 @@ impl<M: Manager> Pool<M> {
     /// it makes no entry. It awaits an [`AsyncManager`](crate::AsyncManager), and calls any other manager itself.
     ///
     /// With [`Journal::Segments`](crate::Journal::Segments) a poll may store a segment. If the journal is full, the poll blocks its thread until
-    /// the thread that stores a segment is done, up to `maxWaitMillis`. Returns do the former. Set a limit with enough room for the time that your
-    /// sink takes, so that this does not happen.
+    /// the thread that stores a segment is done, up to `maxWaitMillis`. A return may store a segment too. Set a limit with enough room for
+    /// the time that your sink takes, so that this does not happen.
     ///
     /// The future has no timer. `maxWaitMillis` ends a wait at the first poll after that time. Only an object, a place, or the close of the pool
     /// wakes the task. Let your runtime bound the wait, as `tokio::time::timeout` does: you may drop the future at any time.
@@ -198,9 +198,9 @@ impl<M: Manager> Pool<M> {
         self.shared.clear()
     }
 
-    /// Closes the pool, destroys the idle objects, and returns their number. A borrow that waits or begins is refused
-    /// ([`Error::Closed`]). One that is making or activating its object now still gets it. What is returned is destroyed. A second close only
-    /// destroys idle objects that are left. It cannot fail: room and memory for the first are set aside.
+    /// Closes the pool, destroys the idle objects, and returns their number. A borrow that waits or begins fails
+    /// ([`Error::Closed`]). One that is making or activating its object now still gets it. An object that is returned later is destroyed. A second
+    /// close only destroys idle objects that are left. A close cannot fail: room and memory for the first are set aside.
     ///
     /// # Panics
     ///
@@ -271,8 +271,8 @@ impl<M: Manager> Pool<M> {
     ///
     /// # Errors
     ///
-    /// Those of the writer. The next drain continues with the lines that this one wanted to write last, some hundred; those may have been
-    /// written already, or in part. The same holds if the writer panics. There is no memory for the lines. Another error if `out` drains the
+    /// Those of the writer. The next drain begins with the lines that this one tried to write last, some hundred. They may have been written
+    /// already, or in part. The same holds if the writer panics. There is no memory for the lines. Another error if `out` drains the
     /// journal itself.
     pub fn drain_journal(&self, mut out: impl Write) -> io::Result<u64> {
         self.shared.drain_journal(&mut out)
@@ -315,9 +315,9 @@ impl<M: Manager> Pool<M> {
     ///
     /// # Errors
     ///
-    /// Those of the writer, which may have a part of the segment. Nothing is lost: mostly the journal is not cut then. If only the last entries
-    /// were still to be written or flushed, it is cut, and the whole segment is kept in memory: then the next cut writes this segment and no
-    /// other. There is no memory: the journal is unchanged. [`io::ErrorKind::Unsupported`] if the pool hands its segments to a sink.
+    /// Those of the writer, which may have a part of the segment. Nothing is lost. In most cases the journal is then not cut. If only the last
+    /// entries were still to be written or flushed, it is cut, and the whole segment is kept in memory: then the next cut writes this segment
+    /// and no other. There is no memory: the journal is unchanged. [`io::ErrorKind::Unsupported`] if the pool hands its segments to a sink.
     /// Another error if `out` cuts the journal itself.
     pub fn cut(&self, mut out: impl Write) -> io::Result<u64> {
         self.shared.cut(&mut out)

@@ -318,7 +318,7 @@ impl<M: Manager> Shared<M> {
     }
 
     /// Sleeps until there may be an object, the pool was closed, or the wait is over by the settings; and no longer than the limit. A
-    /// thread that is woken for nothing sleeps on, and makes no entry.
+    /// thread that is woken for nothing continues to sleep, and makes no entry.
     fn sleep<'a>(
         &'a self,
         mut state: Held<'a, M>,
@@ -388,7 +388,7 @@ pub(crate) fn error_of<T, E>(state: &LockedPool<T>, input: Input, fault: StepFau
     }
 }
 
-/// Ends the program where an answer of the core does not fit its input.
+/// Ends the program if an answer of the core does not fit its input.
 #[cold]
 pub(crate) fn unexpected(input: Input, answer: Answer) -> ! {
     unreachable!("{input:?} was answered {answer:?}")

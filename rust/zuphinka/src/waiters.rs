@@ -139,7 +139,7 @@ impl Waiters {
         (self.queue.len(), woken)
     }
 
-    /// Returns whether nobody waits that was not woken.
+    /// Returns whether each waiter was woken.
     #[inline]
     pub fn is_empty(&self) -> bool {
         self.queue.is_empty()
