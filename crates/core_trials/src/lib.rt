@@ -1,4 +1,4 @@
-//! Trials of the core: what is answered to steps in turn, under which settings, what comes of a cut, and what is counted.
+//! Tests of the core, of the reference evaluator compared with it, and of the engines.
 #![tactic(auto)]
 
 #[cfg(test)]
@@ -12,6 +12,8 @@ mod counting;
 #[cfg(test)]
 mod cutting;
 #[cfg(test)]
+mod engines;
+#[cfg(test)]
 mod eviction;
 #[cfg(test)]
 mod going_on;
@@ -19,6 +21,8 @@ mod going_on;
 mod judging;
 #[cfg(test)]
 mod lives;
+#[cfg(test)]
+mod plain;
 #[cfg(test)]
 mod playing;
 #[cfg(test)]
