@@ -1,11 +1,10 @@
 // The engines as the tests call them, over readers and writers that pass few bytes at a time, fail, are interrupted, or count.
 mod calls;
 mod counted;
-mod damaged;
-mod files;
+mod failing;
 mod outcomes;
 mod reports;
-mod rows;
+mod scripts;
 mod settings_files;
 mod statistics;
 mod streams;
@@ -44,18 +43,14 @@ pub fn stats<R: Source, W: Sink>(
     pool_engines::stats(alloc, reader, writer)
 }
 
-/// Tells the statistics of a journal of so many objects and entries at most; of 4,294,967,296, where there are to be more.
+/// Tells the statistics of a journal of so many objects and entries at most.
 pub fn stats_of_at_most<R: Source, W: Sink>(
     alloc: Global,
     limit: u64,
     reader: &mut R,
     writer: &mut W,
 ) -> Result<(), EngineFault> {
-    if limit <= 4_294_967_296 {
-        pool_engines::stats_of_at_most(alloc, limit, reader, writer)
-    } else {
-        pool_engines::stats(alloc, reader, writer)
-    }
+    pool_engines::stats_of_at_most(alloc, limit, reader, writer)
 }
 
 /// Reads a settings file.

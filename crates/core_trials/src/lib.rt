@@ -2,19 +2,11 @@
 #![tactic(auto)]
 
 #[cfg(test)]
-mod abandoned;
-#[cfg(test)]
-mod borrowing;
-#[cfg(test)]
-mod closing;
-#[cfg(test)]
-mod counting;
-#[cfg(test)]
 mod cutting;
 #[cfg(test)]
 mod engines;
 #[cfg(test)]
-mod eviction;
+mod full;
 #[cfg(test)]
 mod going_on;
 #[cfg(test)]
@@ -25,8 +17,6 @@ mod lives;
 mod plain;
 #[cfg(test)]
 mod playing;
-#[cfg(test)]
-mod rows;
 #[cfg(test)]
 mod statistics;
 #[cfg(test)]

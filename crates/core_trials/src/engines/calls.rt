@@ -1,10 +1,10 @@
 // How often a reader and a writer are called, and with how many bytes.
 use crate::engines::counted::{Asked, CountedReader, CountedWriter, Handed};
-use crate::engines::{check, read_settings, run, stats};
 use crate::engines::outcomes::{is, is_at};
-use crate::engines::rows::{FAILED_ACTIVATION, PLAIN_LIFE, script_of, with_limit};
+use crate::engines::scripts::{FAILED_ACTIVATION, PLAIN_LIFE, script_of, with_limit};
 use crate::engines::settings_files::says_three;
 use crate::engines::streams::{Endless, Failing, Pieces};
+use crate::engines::{check, read_settings, run, stats};
 use pool_engines::EngineFault;
 use pool_journal::LineFault;
 use pool_settings::Settings;

@@ -1,6 +1,6 @@
-use crate::engines::write_report;
 use crate::engines::outcomes::{is, wrote};
 use crate::engines::streams::{Failing, Stingy};
+use crate::engines::write_report;
 use pool_engines::EngineFault;
 use pool_stats::Statistics;
 use std::cell::Cell;

@@ -1,6 +1,6 @@
-// What settings files answer.
+// What settings files answer. tests/cases/settings has texts that are refused.
+use crate::engines::outcomes::is;
 use crate::engines::read_settings;
-use crate::engines::outcomes::{is, is_at};
 use crate::engines::streams::{Failing, Pieces};
 use pool_engines::{FileFault, Source};
 use pool_settings::Settings;
@@ -42,50 +42,6 @@ fn file_of(rt: &impl Abort, alloc: Global, length: usize) -> Vec<u8> {
     bytes
 }
 
-/// Files, with what is told of them.
-fn judged_files() -> &'static [(&'static str, &'static str)] {
-    &[
-        ("", "read"),
-        ("maxTotal =", "pool: settings: not TOML"),
-        ("maxTotl = 8", "pool: settings: unknown key maxTotl"),
-        ("maxTotal = \"8\"", "pool: settings: wrong type maxTotal"),
-        ("minIdle = -1", "pool: settings: out of range minIdle"),
-        (
-            "maxIdle = true\nlifo = 1\n",
-            "pool: settings: wrong type lifo",
-        ),
-        (
-            "maxTotal = 2147483648",
-            "pool: settings: out of range maxTotal",
-        ),
-        ("maxWaitMillis = 9007199254740992", "read"),
-        (
-            "maxWaitMillis = 9007199254740993",
-            "pool: settings: out of range maxWaitMillis",
-        ),
-        (
-            "journalLimit = 0",
-            "pool: settings: out of range journalLimit",
-        ),
-        (
-            "maxIdle = true\nzzz = 1\n",
-            "pool: settings: wrong type maxIdle",
-        ),
-        (
-            "maxIdle = true\naaa = 1\n",
-            "pool: settings: unknown key aaa",
-        ),
-    ]
-}
-
-#[test]
-fn files_are_judged(rt: HostRuntime) {
-    for &(text, wanted) in judged_files() {
-        let answer = told(&rt, rt.alloc(), &mut text.as_bytes());
-        is_at(&rt, text, answer.as_str(), wanted);
-    }
-}
-
 #[test]
 fn files_say_settings(rt: HostRuntime) {
     let wanted = Settings {
@@ -96,20 +52,6 @@ fn files_say_settings(rt: HostRuntime) {
     let found = read(&rt, rt.alloc(), "maxTotal = -1\nlifo = false\n");
     let none = read(&rt, rt.alloc(), "");
     is(&rt, [none, found], [Settings::default(), wanted]);
-}
-
-#[test]
-fn the_least_number_is_limited(rt: HostRuntime) {
-    let small = read(&rt, rt.alloc(), "minIdle = 5\nmaxIdle = 3\n").effective_min_idle();
-    let unlimited = read(&rt, rt.alloc(), "minIdle = 5\nmaxIdle = -1\n").effective_min_idle();
-    is(&rt, (small, unlimited), (3, 5));
-}
-
-#[test]
-fn the_longest_file_is_read(rt: HostRuntime) {
-    let longest = file_of(&rt, rt.alloc(), MOST);
-    let answer = read_settings(rt.alloc(), &mut longest.as_slice());
-    assert!(rt; says_three(&answer));
 }
 
 #[test]

@@ -1,7 +1,7 @@
-// The statistics of journals, and the faults at which they end.
+// Statistics up to a limit, and over streams that come in pieces or fail. tests/cases has the statistics of journals.
+use crate::engines::outcomes::{is, sums_up, wrote};
+use crate::engines::scripts::PLAIN_LIFE;
 use crate::engines::stats;
-use crate::engines::outcomes::{ANY_LENGTH, is, sums_up, wrote};
-use crate::engines::rows::PLAIN_LIFE;
 use crate::engines::streams::{Failing, Pieces, Stingy};
 use pool_engines::EngineFault;
 use pool_journal::LineFault;
@@ -14,17 +14,6 @@ const OF_PLAIN_LIFE: &str = "borrowed 1\nreturned 1\ncreated 1\ndestroyed 0\nevi
 
 const OF_NOTHING: &str = "borrowed 0\nreturned 0\ncreated 0\ndestroyed 0\nevicted 0\n\
     borrowtestfailed 0\nreclaimed 0\nlongest 0\ntotal 0\n";
-
-const RECLAIMED: &str = "0 0 borrow 0 = make 0\n\
-    0 0 ready 0 good = lent\n\
-    1 99 reclaim maintain = count 0\n\
-    1 99 reclaimnext = nothing\n\
-    1 100 reclaim maintain = count 1\n\
-    1 100 reclaimnext = reclaimed 0\n\
-    0 101 return 0 = gone\n";
-
-const OF_RECLAIMED: &str = "borrowed 1\nreturned 0\ncreated 1\ndestroyed 0\nevicted 0\n\
-    borrowtestfailed 0\nreclaimed 1\nlongest 100\ntotal 100\n";
 
 const CLOSED: &str = "0 0 borrow 0 = make 0\n\
     0 0 ready 0 good = lent\n\
@@ -50,55 +39,9 @@ const SEGMENT: &str = "pool-journal 2 4 1 open none 0 0 0 1\n\
     0 idle 3 0 0 0 old\n\
     0 0 borrow 0 = take 0\n";
 
-// A segment of the plain life, behind no entry.
-const FIRST_SEGMENT: &str = "pool-journal 2 0 0 open none 0 0 0 0\n\
-    0 10 borrow 10 = make 0\n\
-    0 11 ready 0 good = lent\n\
-    0 15 return 0 = check\n\
-    0 16 park 0 good = parked\n";
-
-const NEVER_LENT: &str = "0 5 return 0 = check\n";
-
-const OF_NEVER_LENT: &str = "borrowed 0\nreturned 1\ncreated 0\ndestroyed 0\nevicted 0\n\
-    borrowtestfailed 0\nreclaimed 0\nlongest 0\ntotal 0\n";
-
-const LONGEST_TWICE: &str = "0 0 ready 0 good = lent\n\
-    0 18446744073709551615 return 0 = check\n\
-    0 0 ready 0 good = lent\n\
-    0 18446744073709551615 return 0 = check\n";
-
-const OF_LONGEST_TWICE: &str = "borrowed 2\nreturned 2\ncreated 0\ndestroyed 0\nevicted 0\n\
-    borrowtestfailed 0\nreclaimed 0\nlongest 18446744073709551615\ntotal 18446744073709551615\n";
-
-/// Journals, with what is told of them.
-fn legal_journals() -> &'static [(&'static str, &'static str)] {
-    &[
-        ("", OF_NOTHING),
-        (PLAIN_LIFE, OF_PLAIN_LIFE),
-        (RECLAIMED, OF_RECLAIMED),
-        (CLOSED, OF_CLOSED),
-        (NEVER_LENT, OF_NEVER_LENT),
-        (LONGEST_TWICE, OF_LONGEST_TWICE),
-        (SEGMENT, OF_NOTHING),
-        (FIRST_SEGMENT, OF_PLAIN_LIFE),
-        ("pool-journal 2 4 1 open none 0 0 0 0\n", OF_NOTHING),
-    ]
-}
-
-#[test]
-fn statistics_of_journals(rt: HostRuntime) {
-    for &(journal, told) in legal_journals() {
-        sums_up(&rt, rt.alloc(), ANY_LENGTH, journal, Ok(()), told);
-    }
-}
-
 const NO_NUMBER: &str = "0 10 borrow 10 = make 0\n0 11 ready 00 good = lent\n";
 
 const BAD_NUMBER: EngineFault = EngineFault::Line(2, LineFault::BadNumber);
-
-const NOT_A_LINE: EngineFault = EngineFault::Line(1, LineFault::NotALine);
-
-const TRUNCATED: EngineFault = EngineFault::Line(1, LineFault::Truncated);
 
 /// Journals of at most so many entries, with what their statistics come to, and what is told.
 fn limited_journals() -> &'static [(u64, &'static str, Result<(), EngineFault>, &'static str)] {
@@ -107,78 +50,16 @@ fn limited_journals() -> &'static [(u64, &'static str, Result<(), EngineFault>, 
         (3, PLAIN_LIFE, Err(EngineFault::Full(4)), ""),
         (0, PLAIN_LIFE, Err(EngineFault::Full(1)), ""),
         (0, "", Ok(()), OF_NOTHING),
-        (9, NO_NUMBER, Err(BAD_NUMBER), ""),
         // A line is read before there is found to be no room for it.
         (1, NO_NUMBER, Err(BAD_NUMBER), ""),
-        (9, "0 10 borrow 10\n", Err(NOT_A_LINE), ""),
-        (9, "0 1 close", Err(TRUNCATED), ""),
     ]
 }
 
-// Where a line is no entry, or one too many, nothing is told.
+// Where there is one entry too many, nothing is told.
 #[test]
-fn statistics_end_at_faults(rt: HostRuntime) {
+fn statistics_end_at_their_limit(rt: HostRuntime) {
     for &(limit, journal, ended, told) in limited_journals() {
         sums_up(&rt, rt.alloc(), limit, journal, ended, told);
-    }
-}
-
-/// Journals with a faulty line, its number and its fault.
-fn faulty_bases() -> &'static [(&'static str, u64, LineFault)] {
-    &[
-        ("pool-journal", 1, LineFault::Truncated),
-        ("pool-journal 2 4 1 open", 1, LineFault::Truncated),
-        ("pool-journal 2 4 1 open\n", 1, LineFault::NotALine),
-        ("pool-journal\n", 1, LineFault::NotALine),
-        (
-            "pool-journal 3 4 1 open none 0 0 0 0\n",
-            1,
-            LineFault::NotALine,
-        ),
-        (
-            "pool-journal 2 04 1 open none 0 0 0 0\n",
-            1,
-            LineFault::BadNumber,
-        ),
-        (
-            "pool-journals 2 4 1 open none 0 0 0 0\n",
-            1,
-            LineFault::NotALine,
-        ),
-        (
-            "pool-journal 2 4 1 open none 0 0 0 1\n",
-            2,
-            LineFault::Truncated,
-        ),
-        (
-            "pool-journal 2 4 1 open none 0 0 0 1\n0 idle 03 0 0 0 old\n",
-            2,
-            LineFault::BadNumber,
-        ),
-        (
-            "pool-journal 2 4 1 open none 0 0 0 1\n0 0 borrow 0 = take 0\n",
-            2,
-            LineFault::NotALine,
-        ),
-        (
-            "pool-journal 2 4 1 open none 0 0 0 1\n0 idle 3 0 0 0 old\n0 idle 3 0 0 0 old\n",
-            3,
-            LineFault::NotALine,
-        ),
-        (
-            "0 10 borrow 10 = make 0\npool-journal 2 0 0 open none 0 0 0 0\n",
-            2,
-            LineFault::NotALine,
-        ),
-    ]
-}
-
-// The lines of a base are read as those of entries are, and counted with them.
-#[test]
-fn statistics_end_at_faults_of_a_base(rt: HostRuntime) {
-    for &(journal, number, fault) in faulty_bases() {
-        let ended = Err(EngineFault::Line(number, fault));
-        sums_up(&rt, rt.alloc(), ANY_LENGTH, journal, ended, "");
     }
 }
 

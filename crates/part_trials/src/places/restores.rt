@@ -4,8 +4,8 @@ ghost use Rattle.pool_journal.specs.Queue.{is_idle};
 ghost use Rattle.pool_places.specs.Changes.{IdsBelow, IsFreePosition};
 ghost use Rattle.pool_places.specs.Shelf.{records_in};
 
-use crate::places::calls::{ask_known, ask_overdue, ask_queue};
 use crate::checks::expect_equal;
+use crate::places::calls::{ask_known, ask_overdue, ask_queue};
 use crate::places::numbers::next_number;
 use pool_journal::{Phase, Record};
 use pool_places::{Place, Places};
