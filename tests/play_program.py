@@ -235,7 +235,8 @@ def play_good(play):
     play.expect(["run", "/dev/stdin", "plain.script"], journal, b"", 0, input=b"maxTotal = 1\n")
     play.expect(["run", "small.toml", "/dev/stdin"], journal, b"", 0, input=script)
     # The settings that the file says are those that hold.
-    play.expect(["run", "small.toml", "two_borrows.script"], TWO_BORROWS, b"", 0)
+    for settings in ["small.toml", "longest.toml"]:
+        play.expect(["run", settings, "two_borrows.script"], TWO_BORROWS, b"", 0)
     play.expect(["check", "defaults.toml", "/dev/stdin"], b"illegal 1 make 1\n", b"", 1, input=TWO_BORROWS)
     play.expect(["check", "small.toml", "/dev/stdin"], b"legal 2\n", b"", 0, input=TWO_BORROWS)
 
@@ -378,11 +379,13 @@ SECOND_SEGMENT = b"pool-journal 2 4 1 open none 0 0 0 1\n0 idle 3 0 0 0 old\n0 0
 
 # What is answered to segments, one after the other.
 SEGMENTS = [
+    ([FIRST_SEGMENT], (b"legal 4\n", b"", 0)),
     ([FIRST_SEGMENT, SECOND_SEGMENT], (b"legal 5\n", b"", 0)),
     ([SECOND_SEGMENT], (b"illegal base 0\n", b"", 1)),
     ([b"", FIRST_SEGMENT, SECOND_SEGMENT], (b"legal 5\n", b"", 0)),
     ([b"pool-journal 2 0 0 open none 0 0 0 0\n" + FIRST_SEGMENT, SECOND_SEGMENT], (b"legal 5\n", b"", 0)),
     ([FIRST_SEGMENT, SECOND_SEGMENT.replace(b"none", b"0")], (b"illegal base 1\n", b"", 1)),
+    ([FIRST_SEGMENT, SECOND_SEGMENT.replace(b"idle 3", b"idle 2")], (b"illegal base 1\n", b"", 1)),
     ([FIRST_SEGMENT, SECOND_SEGMENT.replace(b"idle 3", b"idle 4")], (b"illegal base 1\n", b"", 1)),
     ([FIRST_SEGMENT, SECOND_SEGMENT.replace(b"idle 3", b"idle 03")], (b"", b"pool: line 2: bad number\n", 3)),
     ([FIRST_SEGMENT, SECOND_SEGMENT.replace(b"take 0", b"make 1")], (b"illegal 4 take 0\n", b"", 1)),
@@ -392,6 +395,7 @@ SEGMENTS = [
     ([b"pool-journal 2 4 1 open"], (b"", b"pool: line 1: truncated\n", 3)),
     ([b"pool-journal 2 4 1 open\n"], (b"", b"pool: line 1: not a line\n", 3)),
     ([b"pool-journal 3\n"], (b"", b"pool: line 1: not a line\n", 3)),
+    ([b"pool-journal 3 0 0 open none 0 0 0 0\n"], (b"", b"pool: line 1: not a line\n", 3)),
     ([FIRST_SEGMENT, SECOND_SEGMENT + b"x\n"], (b"", b"pool: line 4: not a line\n", 3)),
 ]
 
@@ -402,7 +406,9 @@ def play_segments(play):
         names = [f"segment{index}" for index in range(len(texts))]
         for name, text in zip(names, texts):
             (play.folder / name).write_bytes(text)
-        play.expect(["check", "defaults.toml", *names], *wanted)
+        # A segment has the room of a journal, whatever was cut before it.
+        for settings in ["defaults.toml", "seven_entries.toml"]:
+            play.expect(["check", settings, *names], *wanted)
         play.expect(["check", "--", "defaults.toml", *names], *wanted)
         for at in range(len(names) + 1):
             play.expect(["check", "defaults.toml", *names[:at], "--", *names[at:]], *wanted)

@@ -1,8 +1,7 @@
-// Journals that are cut, and pools that are opened from what they came to.
-use crate::counting::come_to;
+// Journals that are cut, and pools that are opened from what they came to. The cases are cut too, by c/play.c and crates/tally.
 use crate::playing::{
-    FIVE_ADDED, PLAIN_LIFE, base_of, counted, cut, entries, from_base, given, length, opened, play,
-    refuses, settings_of,
+    base_of, come_to, counted, cut, entries, from_base, given, length, opened, play, refuses,
+    settings_of,
 };
 use pool_core::{BaseFault, Core};
 use pool_journal::{Base, Entry, Input};
@@ -64,33 +63,6 @@ fn cuts(rt: &impl Abort, alloc: Global, core: &mut Core<u64>, base: &str, lines:
     assert!(rt; length(core) == 0);
 }
 
-// Cuts the journal, which gives so many entries.
-fn cuts_off(rt: &impl Abort, alloc: Global, core: &mut Core<u64>, stored: usize) {
-    let segment = cut(rt, alloc, core);
-    assert!(rt; segment.entries.as_slice().len() == stored);
-}
-
-// Plays a line, cuts the journal, which gives all that was stored, and plays the next one.
-fn goes_on_behind_a_cut(
-    rt: &impl Abort,
-    alloc: Global,
-    core: &mut Core<u64>,
-    last: &str,
-    next: &str,
-) {
-    play(rt, alloc, core, last);
-    let stored = length(core);
-    cuts_off(rt, alloc, core, stored);
-    play(rt, alloc, core, next);
-}
-
-// Plays lines on a new pool, and one more before a cut and one behind it.
-fn is_cut_between(rt: &impl Abort, alloc: Global, before: &str, last: &str, next: &str) {
-    let mut core = opened(rt, alloc, "");
-    play(rt, alloc, &mut core, before);
-    goes_on_behind_a_cut(rt, alloc, &mut core, last, next);
-}
-
 // A pool from a base that is refused; base and value come back.
 fn is_refused(
     rt: &impl Abort,
@@ -150,35 +122,6 @@ fn cut_behind_an_object_s_way(rt: HostRuntime) {
 fn cut_twice(rt: HostRuntime) {
     let mut core = cut_behind_one_way(&rt, rt.alloc());
     cuts(&rt, rt.alloc(), &mut core, ONE_IDLE, "");
-}
-
-// An eviction run goes on where it was; a closed pool stays closed; an object that was just made is still new; and one that was taken isn't.
-#[test]
-fn cut_between_two_steps(rt: HostRuntime) {
-    for (before, last, next) in [
-        (
-            FIVE_ADDED,
-            "0 1 evictnext = keptidle 0\n",
-            "0 1 evictnext = keptidle 1\n",
-        ),
-        (
-            PLAIN_LIFE,
-            "0 20 close = count 1\n",
-            "0 21 borrow 21 = refused closed\n",
-        ),
-        (
-            "",
-            "0 10 borrow 10 = make 0\n",
-            "0 11 ready 0 makefail = freed\n",
-        ),
-        (
-            PLAIN_LIFE,
-            "0 20 borrow 20 = take 0\n",
-            "0 21 ready 0 makefail = refused badoutcome\n",
-        ),
-    ] {
-        is_cut_between(&rt, rt.alloc(), before, last, next);
-    }
 }
 
 // Each fault in its turn; base and value come back.

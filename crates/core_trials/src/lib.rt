@@ -1,18 +1,12 @@
-//! Trials of the core: what is answered to steps in turn, under which settings, what comes of a cut, and what is counted.
+//! Tests of the core, of the reference evaluator compared with it, and of the engines.
 #![tactic(auto)]
 
 #[cfg(test)]
-mod abandoned;
-#[cfg(test)]
-mod borrowing;
-#[cfg(test)]
-mod closing;
-#[cfg(test)]
-mod counting;
-#[cfg(test)]
 mod cutting;
 #[cfg(test)]
-mod eviction;
+mod engines;
+#[cfg(test)]
+mod full;
 #[cfg(test)]
 mod going_on;
 #[cfg(test)]
@@ -20,9 +14,9 @@ mod judging;
 #[cfg(test)]
 mod lives;
 #[cfg(test)]
-mod playing;
+mod plain;
 #[cfg(test)]
-mod rows;
+mod playing;
 #[cfg(test)]
 mod statistics;
 #[cfg(test)]

@@ -1,14 +1,9 @@
-// What the statistics of journals are, at their end and at each entry.
+// What the statistics of journals are at each entry. tests/cases/stats has those of whole journals.
 use crate::playing::{entries, given};
 use pool_journal::{Answer, Entry, Input, Outcome};
 use pool_stats::{Ended, RunningTally, Statistics};
 use std::alloc::Global;
 use std::process::Abort;
-
-const PLAIN_LIFE: &str = "0 10 borrow 10 = make 0\n\
-    0 11 ready 0 good = lent\n\
-    0 15 return 0 = check\n\
-    0 16 park 0 good = parked\n";
 
 const RECLAIMED: &str = "0 0 borrow 0 = make 0\n\
     0 0 ready 0 good = lent\n\
@@ -17,38 +12,6 @@ const RECLAIMED: &str = "0 0 borrow 0 = make 0\n\
     1 100 reclaim maintain = count 1\n\
     1 100 reclaimnext = reclaimed 0\n\
     0 101 return 0 = gone\n";
-
-const CLOSED: &str = "0 0 borrow 0 = make 0\n\
-    0 0 ready 0 good = lent\n\
-    1 0 borrow 0 = make 1\n\
-    0 1 return 0 = check\n\
-    2 2 close = count 0\n\
-    0 3 park 0 good = destroy\n\
-    0 3 destroyed 0 = freed\n\
-    1 3 ready 1 good = lent\n\
-    2 4 close = nothing\n\
-    2 4 borrow 4 = refused closed\n\
-    2 4 add = refused closed\n\
-    2 4 evict = refused closed\n\
-    2 4 fill = enough\n\
-    1 5 return 1 = check\n\
-    1 5 park 1 good = destroy\n";
-
-// No pool makes these, and they have statistics all the same.
-const NEVER_LENT: &str = "0 5 return 0 = check\n";
-
-const LENT_LATER: &str = "0 9 ready 0 good = lent\n\
-    0 5 invalidate 0 = destroy\n";
-
-const LONGEST_TWICE: &str = "0 0 ready 0 good = lent\n\
-    0 18446744073709551615 return 0 = check\n\
-    0 0 ready 0 good = lent\n\
-    0 18446744073709551615 return 0 = check\n";
-
-const TWO_LENT: &str = "0 0 ready 0 good = lent\n\
-    1 10 ready 1 good = lent\n\
-    0 12 return 0 = check\n\
-    1 13 invalidate 1 = destroy\n";
 
 const DESTROYED: &str = "0 0 borrow 0 = make 0\n\
     0 0 ready 0 testfail = destroy\n\
@@ -104,31 +67,6 @@ fn numbers(all: [u64; 9]) -> Statistics {
 // The statistics of a journal are these.
 fn come_to(rt: &impl Abort, journal: &str, found: Statistics, wanted: Statistics) {
     assert_eq!(rt; found, wanted, "at {journal}");
-}
-
-// Journals, with their statistics.
-fn journals() -> [(&'static str, [u64; 9]); 9] {
-    let most = u64::MAX;
-    [
-        ("", [0, 0, 0, 0, 0, 0, 0, 0, 0]),
-        (PLAIN_LIFE, [1, 1, 1, 0, 0, 0, 0, 4, 4]),
-        (RECLAIMED, [1, 0, 1, 0, 0, 0, 1, 100, 100]),
-        (CLOSED, [2, 2, 2, 1, 0, 0, 0, 2, 3]),
-        (NEVER_LENT, [0, 1, 0, 0, 0, 0, 0, 0, 0]),
-        (LENT_LATER, [1, 0, 0, 0, 0, 0, 0, 0, 0]),
-        (LONGEST_TWICE, [2, 2, 0, 0, 0, 0, 0, most, most]),
-        (TWO_LENT, [2, 1, 0, 0, 0, 0, 0, 12, 15]),
-        (DESTROYED, [0, 0, 2, 2, 2, 1, 0, 0, 0]),
-    ]
-}
-
-#[test]
-fn statistics_of_journals(rt: HostRuntime) {
-    for (text, wanted) in journals() {
-        let entries = entries(&rt, rt.alloc(), text);
-        let found = given(&rt, Statistics::of(rt.alloc(), &entries));
-        come_to(&rt, text, found, numbers(wanted));
-    }
 }
 
 // Tells a tally one entry more.

@@ -1,7 +1,8 @@
 // Pools that keep no entries.
-use crate::counting::come_to;
 use crate::cutting::is_base;
-use crate::playing::{PLAIN_LIFE, TWO_OBJECTS, base_of, entries, given, settings_of, value_of};
+use crate::playing::{
+    PLAIN_LIFE, TWO_OBJECTS, base_of, come_to, entries, given, settings_of, value_of,
+};
 use pool_core::{BaseFault, StepFault, Stepper};
 use pool_journal::{Base, Entry, Input};
 use pool_settings::Settings;

@@ -1,0 +1,11 @@
+//! Tests of the parts below the core: settings as text, the lines of journals and bases, and places with their slots and ids.
+#![tactic(auto)]
+
+#[cfg(test)]
+mod checks;
+#[cfg(test)]
+mod journal;
+#[cfg(test)]
+mod places;
+#[cfg(test)]
+mod settings;

@@ -1,4 +1,0 @@
-use Rattle.place_trials.proofs.places.restore.Goals as goal
-
-pub restore-requires-clause-position : goal.restore-requires-clause-position
-restore-requires-clause-position c queued = c.requires.position queued

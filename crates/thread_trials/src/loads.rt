@@ -1,0 +1,223 @@
+use crate::deeds::expect_equal;
+use crate::openings::settings_of;
+use crate::turns::TURNS;
+use pool_load::{Gate, LoadFault, LoadReport, load};
+use pool_settings::Settings;
+use pool_stats::Statistics;
+use std::alloc::Global;
+use std::process::Abort;
+use std::sync::Wait;
+use std::sync::atomic::{AtomicU64, Ordering};
+use std::thread;
+use std::thread::Threads;
+
+/// Holds nobody back, and counts who passes, and how many do so at once at most.
+#[derive(Drop)]
+struct Counter {
+    passed: AtomicU64,
+    inside: AtomicU64,
+    most: AtomicU64,
+}
+
+impl Counter {
+    fn new() -> Counter {
+        Counter {
+            passed: AtomicU64::new(0),
+            inside: AtomicU64::new(0),
+            most: AtomicU64::new(0),
+        }
+    }
+}
+
+impl Gate for Counter {
+    fn pass(&self, _worker: u32, _round: u64) {
+        let others = self.inside.fetch_add(1, Ordering::SeqCst);
+        self.most
+            .fetch_max(others.saturating_add(1), Ordering::SeqCst);
+        self.passed.fetch_add(1, Ordering::SeqCst);
+        thread::yield_now();
+        self.inside.fetch_sub(1, Ordering::SeqCst);
+    }
+}
+
+/// Holds each worker until all of them are at the gate. Notes whether one waited in vain.
+#[derive(Drop)]
+struct Meeting {
+    workers: u64,
+    arrived: AtomicU64,
+    in_vain: AtomicU64,
+}
+
+impl Gate for Meeting {
+    fn pass(&self, _worker: u32, _round: u64) {
+        self.arrived.fetch_add(1, Ordering::SeqCst);
+        for _ in 0..TURNS {
+            if self.arrived.load(Ordering::SeqCst) >= self.workers {
+                return;
+            }
+            thread::yield_now();
+        }
+        self.in_vain.store(1, Ordering::SeqCst);
+    }
+}
+
+/// Notes the sum of the numbers of all rounds, and of all workers, that pass.
+#[derive(Drop)]
+struct Numbers {
+    workers: AtomicU64,
+    rounds: AtomicU64,
+}
+
+impl Gate for Numbers {
+    fn pass(&self, worker: u32, round: u64) {
+        self.workers.fetch_add(u64::from(worker), Ordering::SeqCst);
+        self.rounds.fetch_add(round, Ordering::SeqCst);
+    }
+}
+
+/// The answer to a load behind a gate that holds nobody back, and how many passed it.
+fn answer<R: Threads + Wait + Abort + Sync>(
+    rt: &R,
+    alloc: Global,
+    text: &str,
+    workers: u32,
+    rounds: u64,
+) -> (Result<LoadReport, LoadFault>, u64) {
+    let gate = Counter::new();
+    let settings = settings_of(rt, alloc, text);
+    let report = load(rt, alloc, settings, workers, rounds, &gate);
+    (report, gate.passed.load(Ordering::SeqCst))
+}
+
+/// The report of a load that isn't refused.
+fn report_of<G: Gate, R: Threads + Wait + Abort + Sync>(
+    rt: &R,
+    alloc: Global,
+    settings: Settings,
+    workers: u32,
+    rounds: u64,
+    gate: &G,
+) -> LoadReport {
+    load(rt, alloc, settings, workers, rounds, gate).expect(rt, "a report")
+}
+
+#[test]
+fn one_round(rt: HostRuntime) {
+    let stats = Statistics {
+        borrowed: 1,
+        returned: 1,
+        created: 1,
+        destroyed: 1,
+        evicted: 0,
+        borrow_test_failed: 0,
+        reclaimed: 0,
+        longest: 1,
+        total: 1,
+    };
+    let passed = (Ok(LoadReport { refused: 0, stats }), 1);
+    let alloc = rt.alloc();
+    expect_equal(&rt, answer(&rt, alloc, "", 1, 1), passed);
+    expect_equal(&rt, answer(&rt, alloc, "journalLimit = 7", 1, 1), passed);
+}
+
+#[test]
+fn no_room(rt: HostRuntime) {
+    let full = Err(LoadFault::JournalFull);
+    let alloc = rt.alloc();
+    expect_equal(&rt, answer(&rt, alloc, "journalLimit = 7", 1, 2), (full, 1));
+    expect_equal(&rt, answer(&rt, alloc, "journalLimit = 6", 1, 1), (full, 0));
+}
+
+#[test]
+fn numbers_out_of_range(rt: HostRuntime) {
+    let workers = (Err(LoadFault::WorkerCount), 0);
+    let rounds = (Err(LoadFault::RoundCount), 0);
+    let alloc = rt.alloc();
+    expect_equal(&rt, answer(&rt, alloc, "", 0, 1), workers);
+    expect_equal(&rt, answer(&rt, alloc, "", 1_024, 1), workers);
+    expect_equal(&rt, answer(&rt, alloc, "", u32::MAX, 0), workers);
+    expect_equal(&rt, answer(&rt, alloc, "", 1, 0), rounds);
+    expect_equal(&rt, answer(&rt, alloc, "", 1_023, 1_000_001), rounds);
+    expect_equal(&rt, answer(&rt, alloc, "", 1, u64::MAX), rounds);
+}
+
+#[test]
+fn four_workers(rt: HostRuntime) {
+    let (report, passed) = answer(&rt, rt.alloc(), "maxTotal = 4", 4, 10);
+    let LoadReport { refused, stats } = report.expect(&rt, "a report");
+    expect_equal(&rt, (refused, passed), (0, 40));
+    expect_equal(&rt, (stats.borrowed, stats.returned), (40, 40));
+    assert!(rt; 1 <= stats.created && stats.created <= 4);
+    expect_equal(&rt, stats.destroyed, stats.created);
+}
+
+#[test]
+fn passes_with_an_object(rt: HostRuntime) {
+    let gate = Counter::new();
+    let settings = settings_of(&rt, rt.alloc(), "maxTotal = 2");
+    let report = report_of(&rt, rt.alloc(), settings, 5, 20, &gate);
+    expect_equal(&rt, (report.refused, report.stats.borrowed), (0, 100));
+    assert!(rt; gate.most.load(Ordering::SeqCst) <= 2);
+}
+
+#[test]
+fn refused_borrows(rt: HostRuntime) {
+    let none = "maxTotal = 0\nblockWhenExhausted = false";
+    let (report, passed) = answer(&rt, rt.alloc(), none, 3, 5);
+    let LoadReport { refused, stats } = report.expect(&rt, none);
+    expect_equal(&rt, (refused, passed), (15, 0));
+    expect_equal(&rt, (stats.borrowed, stats.created), (0, 0));
+    let one = "maxTotal = 1\nblockWhenExhausted = false";
+    let (report, passed) = answer(&rt, rt.alloc(), one, 3, 50);
+    let LoadReport { refused, stats } = report.expect(&rt, one);
+    expect_equal(&rt, (stats.borrowed, stats.returned), (passed, passed));
+    assert!(rt; refused == 150 - passed.min(150));
+}
+
+#[test]
+fn workers_at_once(rt: HostRuntime) {
+    let gate = Meeting {
+        workers: 4,
+        arrived: AtomicU64::new(0),
+        in_vain: AtomicU64::new(0),
+    };
+    let report = report_of(&rt, rt.alloc(), Settings::default(), 4, 1, &gate);
+    expect_equal(&rt, gate.in_vain.load(Ordering::SeqCst), 0);
+    expect_equal(&rt, (report.refused, report.stats.borrowed), (0, 4));
+}
+
+#[test]
+fn counted_from_0(rt: HostRuntime) {
+    let gate = Numbers {
+        workers: AtomicU64::new(0),
+        rounds: AtomicU64::new(0),
+    };
+    let _report = report_of(&rt, rt.alloc(), Settings::default(), 3, 4, &gate);
+    expect_equal(&rt, gate.workers.load(Ordering::SeqCst), 12);
+    expect_equal(&rt, gate.rounds.load(Ordering::SeqCst), 18);
+}
+
+fn has_words(rt: &impl Abort, alloc: Global, fault: LoadFault, words: &str) {
+    let text = format!(in alloc; "{fault}").expect(rt, "memory");
+    expect_equal(rt, text.as_str(), words);
+}
+
+#[test]
+fn words_of_faults(rt: HostRuntime) {
+    let alloc = rt.alloc();
+    has_words(&rt, alloc, LoadFault::JournalFull, "pool: journal full");
+    has_words(&rt, alloc, LoadFault::OutOfMemory, "pool: out of memory");
+    has_words(&rt, alloc, LoadFault::NoThread, "pool: no thread");
+    has_words(
+        &rt,
+        alloc,
+        LoadFault::WorkerCount,
+        "pool: wrong number of workers",
+    );
+    has_words(
+        &rt,
+        alloc,
+        LoadFault::RoundCount,
+        "pool: wrong number of rounds",
+    );
+}
