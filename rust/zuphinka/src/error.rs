@@ -1,3 +1,4 @@
+use crate::escaped::Escaped;
 use crate::step::StepFault;
 use std::{error, fmt, io};
 
@@ -182,9 +183,9 @@ impl fmt::Display for SettingsError {
         match self {
             SettingsError::TooLong => f.write_str("too long"),
             SettingsError::NotToml(line) => write!(f, "not TOML at line {line}"),
-            SettingsError::UnknownKey(key) => write!(f, "unknown key {}", key.escape_debug()),
-            SettingsError::WrongType(key) => write!(f, "wrong type {}", key.escape_debug()),
-            SettingsError::OutOfRange(key) => write!(f, "out of range {}", key.escape_debug()),
+            SettingsError::UnknownKey(key) => write!(f, "unknown key {}", Escaped(key)),
+            SettingsError::WrongType(key) => write!(f, "wrong type {}", Escaped(key)),
+            SettingsError::OutOfRange(key) => write!(f, "out of range {}", Escaped(key)),
             SettingsError::OutOfMemory => f.write_str("out of memory"),
         }
     }

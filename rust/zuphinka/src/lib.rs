@@ -59,6 +59,7 @@ mod contradictions;
 #[cfg(test)]
 mod dropped_segments;
 mod error;
+mod escaped;
 mod failure;
 mod get;
 mod idle_values;
