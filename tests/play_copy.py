@@ -1,15 +1,17 @@
 #!/usr/bin/env python3
-"""Copies the crate `server` under another name by the commands of its README, and looks at the copy.
+"""Copies the crate `server` under another name by the commands of its README, looks at the copy, and proves it.
 
     play_copy.py
 
-The commands before the one that runs the copy are run in a folder with the crate and crates.txt. The line that they add to crates.txt must be
-the one of `server` with the other name. The copy must have the files of `server` but for its README, and each must be the same once the name
-is put back, so that it is proved as `server` is. The last command must build the copy. Nothing is compiled or proved here.
+The commands before the one that runs the copy are run in a folder with the crate, crates.txt and the other crates. The line that they add to
+crates.txt must be the one of `server` with the other name. The copy must have the files of `server` but for its README, and each must be the same
+once the name is put back. The last commands must run and build the copy. The copy must be proved over the libraries that the gate has left, as
+`rt check` would prove it once it had proved those.
 
 Prints what is wrong, and in the end the line 'N passed, M failed'.
 """
 
+import os
 import pathlib
 import shutil
 import subprocess
@@ -17,6 +19,11 @@ import sys
 import tempfile
 
 TOP = pathlib.Path(__file__).resolve().parent.parent
+sys.path.append(str(TOP / "tools"))
+
+import sources
+from static import kit
+
 CRATE = "server"
 RUN, BUILD = "(cd crates/{} && rt try)", "python3 tools/build.py {}"
 
@@ -44,6 +51,23 @@ def named_by(folder, crate):
     return [path for path in folder.rglob("*.antt") if f"Rattle.{crate}." in path.read_text()]
 
 
+def unneeded(folder, names):
+    """What is left out of a folder of the crates: all that was built except libraries."""
+    return [name for name in names if pathlib.Path(folder).name == "out" and name != "rlib"]
+
+
+def unproved(room, name):
+    """Why a copy is not proved, if it isn't."""
+    sys.path.append(str(kit() / "bin"))
+    import rtlib
+
+    copy = next(crate for crate in rtlib.crates_below(str(room)) if crate.name == name)
+    words = [rtlib.RATTLE, "check", *copy.words(["--jobs", "2"], keeps=False)]
+    done = subprocess.run(words, cwd=copy.folder, stdout=subprocess.PIPE, stderr=subprocess.STDOUT, text=True)
+    proved = any(line.startswith("logic=proved ") for line in done.stdout.splitlines())
+    return None if done.returncode == 0 and proved else f"the copy is not proved:\n{done.stdout}"
+
+
 def faults(room, lines, name):
     """For each thing that must hold of a copy what is wrong, if it is."""
     kept, copy = room / "crates" / CRATE, room / "crates" / name
@@ -56,14 +80,19 @@ def faults(room, lines, name):
     yield None if files(copy, name) == files(kept, name) else "the copy has other files"
     yield None if named_by(kept, CRATE) and not named_by(copy, CRATE) else f"a proof of the copy names {CRATE}: {named_by(copy, CRATE)}"
     yield None if lines[-2:] == [RUN.format(name), BUILD.format(name)] else f"the last commands are {lines[-2:]}"
+    stale = [library for library in sources.below(CRATE) - {CRATE} if not sources.is_current(library)]
+    yield f"not built of their sources as they are: {', '.join(sorted(stale))}" if stale else unproved(room, name)
 
 
 def main():
     lines, name = commands()
-    with tempfile.TemporaryDirectory() as made:
+    # The libraries are large: a folder on the same file system needs no second copy of them.
+    (TOP / "out").mkdir(exist_ok=True)
+    with tempfile.TemporaryDirectory(dir=TOP / "out") as made:
         room = pathlib.Path(made)
         shutil.copy(TOP / "crates.txt", room)
-        shutil.copytree(TOP / "crates" / CRATE, room / "crates" / CRATE, ignore=shutil.ignore_patterns("out"))
+        shutil.copy(TOP / "HANDLES", room)
+        shutil.copytree(TOP / "crates", room / "crates", ignore=unneeded, copy_function=os.link)
         found = list(faults(room, lines, name))
     wrong = [fault for fault in found if fault]
     print(*wrong, sep="\n", end="\n" if wrong else "")
