@@ -14,6 +14,8 @@ import subprocess
 import sys
 import tomllib
 
+from playing import play_checks
+
 TOP = pathlib.Path(__file__).resolve().parent.parent
 PRINTED = re.compile(r'^pub\(crate\) const VERSION: &str = "(.*)\\n";$', re.MULTILINE)
 
@@ -48,13 +50,7 @@ def checks(version, programs):
 
 
 def main(programs):
-    passed = failed = 0
-    for name, wanted, got in checks((TOP / "VERSION").read_text().removesuffix("\n"), programs):
-        passed, failed = passed + (wanted == got), failed + (wanted != got)
-        if wanted != got:
-            print(f"{name}: wanted {wanted!r}, got {got!r}")
-    print(f"{passed} passed, {failed} failed")
-    return 1 if failed else 0
+    return play_checks(checks((TOP / "VERSION").read_text().removesuffix("\n"), programs))
 
 
 if __name__ == "__main__":

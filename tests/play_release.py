@@ -25,6 +25,7 @@ import tempfile
 
 from check_rust import runs_cargo
 from play_library import PLAIN_LIFE, TOP
+from playing import play_checks
 
 # The example in Rust: four servers with fifty requests each, of which each tenth breaks its connection.
 ANSWERED = 4 * 50 * 9 // 10
@@ -188,14 +189,8 @@ def trials(clone, folder):
 
 
 def main(clone):
-    passed = failed = 0
     with tempfile.TemporaryDirectory() as name:
-        for what, wanted, got in trials(pathlib.Path(clone).resolve(), pathlib.Path(name).resolve()):
-            passed, failed = passed + (wanted == got), failed + (wanted != got)
-            if wanted != got:
-                print(f"{what}: wanted {wanted!r}, got {got!r}"[:2000])
-    print(f"{passed} passed, {failed} failed")
-    return 1 if failed else 0
+        return play_checks(trials(pathlib.Path(clone).resolve(), pathlib.Path(name).resolve()))
 
 
 if __name__ == "__main__":

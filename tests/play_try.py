@@ -14,6 +14,8 @@ import subprocess
 import sys
 import tempfile
 
+from playing import play_checks
+
 TOP = pathlib.Path(__file__).resolve().parent.parent
 TRY = TOP / "try"
 RT = """#!/bin/sh
@@ -98,17 +100,11 @@ def with_kit(folder):
     yield "the program's standard error", (True, 1), (NOTHING_PROVED in done.stderr, done.stderr.count("\n"))
 
 
-def main():
-    passed = failed = 0
+def checks():
     for part in with_other_rt, without_rt, with_kit:
         with tempfile.TemporaryDirectory() as folder:
-            for name, wanted, got in part(pathlib.Path(folder).resolve()):
-                passed, failed = passed + (wanted == got), failed + (wanted != got)
-                if wanted != got:
-                    print(f"{name}: wanted {wanted!r}, got {got!r}")
-    print(f"{passed} passed, {failed} failed")
-    return 1 if failed else 0
+            yield from part(pathlib.Path(folder).resolve())
 
 
 if __name__ == "__main__":
-    sys.exit(main())
+    sys.exit(play_checks(checks()))

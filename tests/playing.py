@@ -8,6 +8,8 @@ import subprocess
 import tempfile
 
 KINDS = ("output", "standard error", "status")
+# How much of a difference is printed, in characters.
+MOST_PRINTED = 2_000
 
 
 def differing(name, wanted, done):
@@ -29,6 +31,17 @@ def play_folders(folders, cases, differences):
                 print(f"{folder}: no case")
             bad = sum(map(bool, found))
             passed, failed = passed + len(found) - bad, failed + bad + (not found)
+    print(f"{passed} passed, {failed} failed")
+    return 1 if failed else 0
+
+
+def play_checks(checks):
+    """Prints the checks that fail, each a name, what is wanted and what it is; and how many passed and failed. Gives the status to end with."""
+    passed, failed = 0, 0
+    for name, wanted, got in checks:
+        passed, failed = passed + (wanted == got), failed + (wanted != got)
+        if wanted != got:
+            print(f"{name}: wanted {wanted!r}, got {got!r}"[:MOST_PRINTED])
     print(f"{passed} passed, {failed} failed")
     return 1 if failed else 0
 
