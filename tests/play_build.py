@@ -132,14 +132,13 @@ def touch_first(trial):
     """What is built at first, in which order, with how many jobs and how nice."""
     trial.expect_built("at first", ["low", "left", "right", "alone", "pool"])
     calls = [line.split() for line in trial.calls.read_text().splitlines()]
-    most, half, own = os.cpu_count(), max(1, os.cpu_count() // 2), os.nice(0)
+    most, own = os.cpu_count(), os.nice(0)
     trial.expect("the last to be built", "pool run", " ".join(calls[-1][:2]))
     for name, *words in calls:
         if name in ("low", "alone"):
             jobs, nice = int(words[2]), int(words[3]) - own
-            is_first = name == "low"
-            trial.expect(f"{name}: the jobs of {words}", True, 1 <= jobs <= (most if is_first else half))
-            trial.expect(f"{name}: how nice", 0 if is_first else min(10, 19 - own), nice)
+            trial.expect(f"{name}: the jobs of {words}", True, 1 <= jobs <= most)
+            trial.expect(f"{name}: how nice", 0 if name == "low" else min(5, 19 - own), nice)
 
 
 def unchanged(trial):

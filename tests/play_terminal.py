@@ -5,7 +5,7 @@
 
 POOL is the program. Standard error is a terminal of the test's own, or a pipe. It judges a journal that comes slowly, from a pipe with a
 name; and it is used with wrong arguments and with files that have errors. At a terminal the lines of an error must be those that
-crates/pool/specs/Hints.antt says, and to a pipe the first of them.
+crates/pool_tasks/specs/Hints.antt says, and to a pipe the first of them.
 
 Prints each case that differs, and in the end the line 'N passed, M failed'.
 """

@@ -27,7 +27,7 @@ from preloading import preloaded
 CASES = pathlib.Path(__file__).resolve().parent / "cases"
 
 # The file with the uses of the program, one constant.
-HELP = CASES.parent.parent / "crates/pool/src/help.rt"
+HELP = CASES.parent.parent / "crates/pool_tasks/src/help.rt"
 
 EACH = 4
 

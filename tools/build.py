@@ -9,7 +9,7 @@ failed, and the status is then 1. What is built of its sources as they are (tool
 
 Each crate is built in a room of its own, a folder that has it and the libraries below it: `rt` lets nobody else work in the folders of the
 crates that it reads, so that in one place two crates that stand on a third would wait for each other. The crate that the longest chain waits for
-has the processors that it can use, and others what is over. How long a chain is tells tools/proof_seconds.txt.
+has the processors that it can use, the next what is over, and so on. How long a chain is tells tools/proof_seconds.txt.
 """
 
 import fcntl
@@ -33,8 +33,10 @@ BYTES = 400
 PAUSE, REMIND = 0.2, 60
 # The part of a proof that one processor does alone, and that of all processors which are at work on average.
 ALONE, AT_WORK = 1 / 3, 3 / 4
-# By how much nicer the builds are which the longest chain doesn't wait for.
-NICER = 10
+# By how much nicer a build is for each one beside it that a longer chain waits for, and the most that it may be.
+NICER, NICEST = 5, 19
+# How many of the longest chains have all processors. The others have half of them.
+WIDE = 2
 # The memory that each job beside the first may take, in bytes.
 EACH_JOB = 1_500_000_000
 
@@ -162,29 +164,34 @@ class Work:
         """Whether a build that ended with this status did what it should."""
         return sources.product(crate).exists() if sources.is_program(crate) else status == 0
 
-    def jobs(self, is_first):
-        """How many jobs a build gets: all processors if the longest chain waits for it, half of them else, as far as there is memory."""
-        most = processors() if is_first else max(1, processors() // 2)
+    def left(self, crate):
+        """The processor seconds that are left of the longest chain from this crate up, at most: a build takes one in each second at least."""
+        began = self.running[crate][0] if crate in self.running else time.monotonic()
+        return self.ways[crate] - min(seconds(crate), time.monotonic() - began)
+
+    def jobs(self, rank):
+        """How many jobs a build gets beside this number of builds that longer chains wait for, as far as there is memory."""
+        most = processors() if rank < WIDE else max(1, processors() // 2)
         return max(1, min(most, 1 + free_memory() // EACH_JOB))
 
     def start(self):
         """Starts what stands on nothing that isn't built, and tells whether there was some of it."""
         ready = sorted((crate for crate, uses in self.waiting.items() if uses <= self.done), key=lambda crate: -self.ways[crate])
         for crate in ready:
-            is_first = all(self.ways[crate] > self.ways[other] for other in self.running)
+            rank = sum(self.left(other) > self.left(crate) for other in self.running)
             del self.waiting[crate]
             log = tempfile.TemporaryFile("w+")
-            words, room = self.words(crate, self.jobs(is_first)), Room(self.rooms, crate, below(crate) - {crate})
-            nicer = [] if is_first else ["nice", "-n", str(NICER)]
+            words, room = self.words(crate, self.jobs(rank)), Room(self.rooms, crate, below(crate) - {crate})
+            nicer = ["nice", "-n", str(min(NICER * rank, NICEST))]
             started = subprocess.Popen([*nicer, *words], cwd=room.own.parent, stdin=subprocess.DEVNULL, stdout=log, stderr=log)
-            self.running[crate] = started, log, room
+            self.running[crate] = time.monotonic(), started, log, room
         return bool(ready)
 
     def collect(self):
         """Takes out what has ended, and tells whether something has."""
-        ended = [crate for crate, (started, *_) in self.running.items() if started.poll() is not None]
+        ended = [crate for crate, (_, started, *_) in self.running.items() if started.poll() is not None]
         for crate in ended:
-            started, log, room = self.running.pop(crate)
+            _, started, log, room = self.running.pop(crate)
             room.leave()
             if not self.has_built(crate, started.returncode):
                 log.seek(0)
@@ -195,7 +202,7 @@ class Work:
 
     def stop(self):
         """Stops what runs, keeps what it has proved, and notes what is built, but for what was edited meanwhile."""
-        for started, _, room in self.running.values():
+        for _, started, _, room in self.running.values():
             started.terminate()
             started.wait()
             room.leave()

@@ -8,8 +8,8 @@ use Rattle.std.proofs.Math.Nat.{mul-add}
 use Rattle.std.proofs.lemmas.Option.{slice_get-map, slice_get_within, slice_get-get_or, get_or_from_slice_get}
 use Rattle.pool_settings.specs.declared.settings.Settings.{Settings}
 use Rattle.pool_history.specs.Standings.{Standing}
-use Rattle.pool_load.specs.declared.load_fault.LoadFault.{LoadFault}
-use Rattle.pool_load.specs.declared.load_fault.LoadFault.TheVariants as stops
+use Rattle.pool_engines.specs.declared.load_fault.LoadFault.{LoadFault}
+use Rattle.pool_engines.specs.declared.load_fault.LoadFault.TheVariants as stops
 use Rattle.pool_load.specs.Workers.{IsOutcome, Works, AllWorked}
 
 -- an element of a mapped list comes from an element

@@ -19,7 +19,7 @@ use Rattle.pool_shared.specs.Walks.{walked, AllDue}
 use Rattle.pool_shared.specs.Borrows as borrows
 use Rattle.pool_shared.specs.Returns as returns
 use Rattle.pool_shared.specs.Clears as clears
-use Rattle.pool_load.specs.declared.load_fault.LoadFault.{LoadFault}
+use Rattle.pool_engines.specs.declared.load_fault.LoadFault.{LoadFault}
 use Rattle.pool_load.specs.declared.loading.LoadReport.{LoadReport}
 use Rattle.pool_load.specs.Rounds.{IsRefusal, Round, lends, refuses, IsWorked}
 use Rattle.pool_load.specs.Loads.{IsLoad}

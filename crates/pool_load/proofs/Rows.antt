@@ -21,8 +21,8 @@ use Rattle.pool_shared.specs.Walks.{walked}
 use Rattle.pool_shared.specs.Borrows as borrows
 use Rattle.pool_shared.specs.Returns as returns
 use Rattle.pool_core.specs.Legal.{IsLegal}
-use Rattle.pool_load.specs.declared.load_fault.LoadFault.{LoadFault}
-use Rattle.pool_load.specs.declared.load_fault.LoadFault.TheVariants as stops
+use Rattle.pool_engines.specs.declared.load_fault.LoadFault.{LoadFault}
+use Rattle.pool_engines.specs.declared.load_fault.LoadFault.TheVariants as stops
 use Rattle.pool_load.specs.Rounds.{IsRefusal, IsThrough, ReturnDone, Round, lends, refuses, IsWorked, MakesRound, MakesRounds, IsOwn, StopsFor, IsFull, Stops}
 
 module _ (T E : Type 0) (number : ℕ) where

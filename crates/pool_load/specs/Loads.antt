@@ -8,8 +8,8 @@ use Rattle.pool_core.specs.Legal.{IsLegal}
 use Rattle.pool_history.specs.Rule.{own, AllBelow, Begins}
 use Rattle.pool_history.specs.Standings.{Standing, Goes, newcomer_at}
 use Rattle.pool_shared.specs.Clears.{CloseRow}
-use Rattle.pool_load.specs.declared.load_fault.LoadFault.{LoadFault}
-use Rattle.pool_load.specs.declared.load_fault.LoadFault.TheVariants.{WorkerCount, RoundCount}
+use Rattle.pool_engines.specs.declared.load_fault.LoadFault.{LoadFault}
+use Rattle.pool_engines.specs.declared.load_fault.LoadFault.TheVariants.{WorkerCount, RoundCount}
 use Rattle.pool_load.specs.Rounds.{IsWorked}
 use Rattle.pool_load.specs.Workers.{StopsLoad}
 

@@ -14,8 +14,8 @@ use Rattle.pool_shared.specs.declared.faults.BorrowFault.TheVariants as faults
 use Rattle.pool_shared.specs.Walks.{walked, AllDue}
 use Rattle.pool_shared.specs.Borrows as borrows
 use Rattle.pool_shared.specs.Returns as returns
-use Rattle.pool_load.specs.declared.load_fault.LoadFault.{LoadFault}
-use Rattle.pool_load.specs.declared.load_fault.LoadFault.TheVariants.{JournalFull, OutOfMemory}
+use Rattle.pool_engines.specs.declared.load_fault.LoadFault.{LoadFault}
+use Rattle.pool_engines.specs.declared.load_fault.LoadFault.TheVariants.{JournalFull, OutOfMemory}
 
 -- the answers with which a borrow is refused
 abbrev pub IsRefusing : Answer → Type 0

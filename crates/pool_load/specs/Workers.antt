@@ -2,8 +2,8 @@
 use Rattle.std.specs.Prelude.{◌≡◌, ℕ, ◌≤◌, List, length, Some, slice_get, Result, Ok, Err, IfOk}
 use Rattle.pool_settings.specs.declared.settings.Settings.{Settings}
 use Rattle.pool_history.specs.Standings.{Standing}
-use Rattle.pool_load.specs.declared.load_fault.LoadFault.{LoadFault}
-use Rattle.pool_load.specs.declared.load_fault.LoadFault.TheVariants.{JournalFull, OutOfMemory, NoThread}
+use Rattle.pool_engines.specs.declared.load_fault.LoadFault.{LoadFault}
+use Rattle.pool_engines.specs.declared.load_fault.LoadFault.TheVariants.{JournalFull, OutOfMemory, NoThread}
 use Rattle.pool_load.specs.Rounds.{MakesRounds, IsFull, Stops}
 
 -- no more refusals than rounds, or why a caller stopped in them; it was called off where another has no thread

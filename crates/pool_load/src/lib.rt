@@ -4,18 +4,16 @@
 
 mod gate;
 mod ids;
-mod load_fault;
 mod loading;
 mod rounds;
 mod starting;
 mod workers;
 
 pub use gate::Gate;
-pub use load_fault::LoadFault;
 pub use loading::{LoadReport, load};
 pub use pool_engines::{
-    EngineFault, FileFault, Segments, Sink, Source, check, check_side_by_side, flush_past_signals,
-    read_past_signals, read_settings, run, runs_are_determined, stats, write_past_signals,
-    write_report,
+    EngineFault, FileFault, LoadFault, Segments, Sink, Source, check, check_side_by_side,
+    flush_past_signals, read_past_signals, read_settings, run, runs_are_determined, stats,
+    write_past_signals, write_report,
 };
 pub use rounds::work;

@@ -3,7 +3,7 @@ ghost use Rattle.std.specs.Prelude.{◌≡◌, ◌≤◌, IfOk, IfErr};
 ghost use Rattle.pool_load.specs.Rounds.{MakesRound, MakesRounds, IsOwn, StopsFor, Stops};
 
 use crate::gate::Gate;
-use crate::load_fault::LoadFault;
+use pool_engines::LoadFault;
 use pool_shared::{BorrowFault, Caller, Clock, Factory, ReturnFault, Room, SharedPool};
 use std::sync::Wait;
 

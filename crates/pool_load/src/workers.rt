@@ -4,7 +4,7 @@ ghost use Rattle.pool_load.specs.Workers.{Works, AllWorked, IsOutcome, StopsLoad
 
 use crate::gate::Gate;
 use crate::ids::IdPool;
-use crate::load_fault::LoadFault;
+use pool_engines::LoadFault;
 use crate::rounds::work;
 use crate::starting::Start;
 use pool_shared::{Caller, Room};

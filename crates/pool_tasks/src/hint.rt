@@ -1,13 +1,13 @@
 //! Help for a person, on lines after that of an error. It is printed at a terminal only.
 ghost use Rattle.std.specs.Prelude.{◌≡◌, Some, option_map};
 ghost use Rattle.std.specs.Fmt.{WritesOnOk};
-ghost use Rattle.pool.specs.Hints as Spec;
+ghost use Rattle.pool_tasks.specs.Hints as Spec;
 
 use crate::fault::Fault;
 use crate::found::Found;
 use crate::line_kind::LineKind;
+use pool_engines::{EngineFault, FileFault, LoadFault};
 use pool_journal::LineFault;
-use pool_load::{EngineFault, FileFault, LoadFault};
 use pool_settings::{Escaped, SettingsFault};
 use std::fmt;
 use std::fmt::{Formatter, Write};

@@ -10,9 +10,9 @@ use Rattle.pool_settings.proofs.Escapes.{told_on_one_line}
 use Rattle.pool_engines.specs.Messages.{file_text}
 use Rattle.pool_engines.specs.declared.file_fault.FileFault.{FileFault}
 use Rattle.pool_engines.specs.declared.file_fault.FileFault.TheVariants as files
-use Rattle.pool.specs.Messages.{text_of}
-use Rattle.pool.specs.declared.fault.Fault.{Fault}
-use Rattle.pool.specs.declared.fault.Fault.TheVariants as faults
+use Rattle.pool_tasks.specs.Messages.{text_of}
+use Rattle.pool_tasks.specs.declared.fault.Fault.{Fault}
+use Rattle.pool_tasks.specs.declared.fault.Fault.TheVariants as faults
 
 after : (front rest : List ℕ) → list_any is_control front ≡ false → IsOnOneLine rest → IsOnOneLine (front ++ rest)
 after front rest clean told = list_any-append is_control front rest ∙ rw (clean, told) refl

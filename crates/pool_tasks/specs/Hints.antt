@@ -10,13 +10,13 @@ use Rattle.pool_engines.specs.declared.file_fault.FileFault.{FileFault}
 use Rattle.pool_engines.specs.declared.file_fault.FileFault.TheVariants as files
 use Rattle.pool_engines.specs.declared.engine_fault.EngineFault.{EngineFault}
 use Rattle.pool_engines.specs.declared.engine_fault.EngineFault.TheVariants as engines
-use Rattle.pool_load.specs.declared.load_fault.LoadFault.TheVariants as loads
-use Rattle.pool.specs.declared.fault.Fault.{Fault}
-use Rattle.pool.specs.declared.fault.Fault.TheVariants as faults
-use Rattle.pool.specs.declared.found.Found.{Found}
-use Rattle.pool.specs.declared.hint.Hint.{Hint}
-use Rattle.pool.specs.declared.line_kind.LineKind.{LineKind}
-use Rattle.pool.specs.declared.line_kind.LineKind.TheVariants.{Head, Request, Entry, CarriageReturn}
+use Rattle.pool_engines.specs.declared.load_fault.LoadFault.TheVariants as loads
+use Rattle.pool_tasks.specs.declared.fault.Fault.{Fault}
+use Rattle.pool_tasks.specs.declared.fault.Fault.TheVariants as faults
+use Rattle.pool_tasks.specs.declared.found.Found.{Found}
+use Rattle.pool_tasks.specs.declared.hint.Hint.{Hint}
+use Rattle.pool_tasks.specs.declared.line_kind.LineKind.{LineKind}
+use Rattle.pool_tasks.specs.declared.line_kind.LineKind.TheVariants.{Head, Request, Entry, CarriageReturn}
 
 abbrev pub ends_with_return : List ℕ → Bool
 ends_with_return line =

@@ -2,7 +2,7 @@
 ghost use Rattle.std.specs.Prelude.{map, None};
 
 use crate::progress::{Progress, Watched};
-use pool_load::Segments;
+use pool_engines::Segments;
 use std::fs::File;
 use std::io::ErrorKind;
 use std::{fs, io};

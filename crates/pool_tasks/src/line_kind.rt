@@ -1,5 +1,5 @@
 ghost use Rattle.std.specs.Prelude.{◌≡◌};
-ghost use Rattle.pool.specs.Hints as Spec;
+ghost use Rattle.pool_tasks.specs.Hints as Spec;
 
 use pool_journal::{read_entry, read_head, read_input};
 

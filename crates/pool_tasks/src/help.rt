@@ -1,7 +1,7 @@
 //! What the program prints if its arguments ask for help or for the version.
 ghost use Rattle.std.specs.Prelude.{◌≡◌, drop, map, string_bytes};
 ghost use Rattle.std.specs.List.{list_any};
-ghost use Rattle.pool.specs.Help as Spec;
+ghost use Rattle.pool_tasks.specs.Help as Spec;
 
 /// The uses of the program, and an example of each.
 pub(crate) const USES: &str = "\

@@ -2,8 +2,8 @@
 use Rattle.std.specs.Prelude.{ℕ, List, ◌++◌, codes, Option, None, Some}
 use Rattle.pool_settings.specs.Escaped.{escaped}
 use Rattle.pool_engines.specs.Messages.{file_text}
-use Rattle.pool.specs.declared.fault.Fault.{Fault}
-use Rattle.pool.specs.declared.fault.Fault.TheVariants.{WrongArguments, Asked, WrongNumbers, Unopened, OutOfMemory, Settings, Engine, Load}
+use Rattle.pool_tasks.specs.declared.fault.Fault.{Fault}
+use Rattle.pool_tasks.specs.declared.fault.Fault.TheVariants.{WrongArguments, Asked, WrongNumbers, Unopened, OutOfMemory, Settings, Engine, Load}
 
 -- The line without its line feed. Those of engines and loads hold no key and no path, and are not said here.
 abbrev pub text_of : Fault → Option (List ℕ)

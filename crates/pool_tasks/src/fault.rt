@@ -1,11 +1,11 @@
 ghost use Rattle.std.specs.Prelude.{◌≡◌, ◌∷◌, ◌++◌, IfSome, OnOk};
 ghost use Rattle.std.specs.Io.KnownBytes.{Appends};
 ghost use Rattle.pool_settings.specs.Escaped.{IsOnOneLine};
-ghost use Rattle.pool.specs.Messages.{status_of, text_of};
-ghost use Rattle.pool.specs.Hints.{shown};
+ghost use Rattle.pool_tasks.specs.Messages.{status_of, text_of};
+ghost use Rattle.pool_tasks.specs.Hints.{shown};
 
 use crate::hint::Hint;
-use pool_load::{EngineFault, FileFault, LoadFault};
+use pool_engines::{EngineFault, FileFault, LoadFault};
 use pool_settings::Escaped;
 use std::alloc::AllocError;
 use std::fmt::Formatter;
@@ -18,7 +18,7 @@ const FAULT: u8 = 3;
 
 /// Why the program didn't do what it was asked for.
 #[derive(Debug, Drop)]
-pub(crate) enum Fault<'a> {
+pub enum Fault<'a> {
     /// The arguments ask for nothing that the program does.
     WrongArguments,
     /// The arguments ask for help or for the version, which was printed.
@@ -37,7 +37,7 @@ pub(crate) enum Fault<'a> {
 
 impl<'a> Fault<'a> {
     /// Why the arguments weren't read: those that aren't text ask for nothing.
-    pub(crate) fn of_unread(cause: &io::Error) -> Fault<'a> {
+    pub fn of_unread(cause: &io::Error) -> Fault<'a> {
         match cause.kind() {
             ErrorKind::OutOfMemory => Fault::OutOfMemory,
             _ => Fault::WrongArguments,

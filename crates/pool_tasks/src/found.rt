@@ -3,8 +3,8 @@
 use crate::fault::Fault;
 use crate::files::is_regular;
 use crate::line_kind::{LineKind, kind_of};
+use pool_engines::{EngineFault, FileFault, stats};
 use pool_journal::LineFault;
-use pool_load::{EngineFault, FileFault, stats};
 use pool_settings::SettingsFault;
 use std::fs;
 use std::fs::File;

@@ -1,8 +1,8 @@
 use Rattle.std.proofs.Common.{rules, ◌≡◌, map, string_bytes, Bool, List, [], ◌∷◌, refl, ap}
 use Rattle.std.specs.Prelude.{◌||◌}
 use Rattle.std.specs.List.{list_any}
-use Rattle.pool.specs.Help as Spec
-use Rattle.pool.proofs.help.is_help.Goals as goal
+use Rattle.pool_tasks.specs.Help as Spec
+use Rattle.pool_tasks.proofs.help.is_help.Goals as goal
 
 -- a test of what each element becomes
 any_map : {X Y : Type 0} (p : Y → Bool) (f : X → Y) (xs : List X) → list_any (λ x. p (f x)) xs ≡ list_any p (map f xs)
