@@ -1,4 +1,4 @@
--- Journals that break one law each.
+-- Journals that each violate one safety property.
 use Rattle.std.proofs.Common.{List, [], ◌∷◌, ◌++◌, refl, arith}
 use Rattle.std.specs.Prelude.{pos}
 use Rattle.pool_journal.specs.Latest.{latest}
@@ -17,7 +17,7 @@ use Rattle.pool_core.specs.Legal.{entry_of}
 abbrev said : Input → Answer → Entry
 said input answer = entry_of 0 0 input answer
 
--- an object is made where none may be present
+-- an object is made although none may be present
 one_too_many : AtMostMaxTotal (record defaults { max_total = pos 0 }) (said Add (Make 0) ∷ []) → ⊥
 unfolding present drawn phase latest
 one_too_many law = omega (arith, law)
@@ -26,7 +26,7 @@ one_too_many law = omega (arith, law)
 parked_when_closed : ClosedParksNone (said Add (Make 0) ∷ said Close (Count 0) ∷ said (Added 0 Good) Parked ∷ []) → ⊥
 parked_when_closed law = law 1 2 (said Close (Count 0)) (said (Added 0 Good) Parked) (omega arith) refl refl refl 0 refl
 
--- an object is made for the queue, which fails
+-- an object is made for the queue, and making it fails
 abbrev made_in_vain : List Entry
 made_in_vain = said Add (Make 0) ∷ said (Added 0 MakeFailed) Freed ∷ []
 
@@ -35,12 +35,12 @@ made_again : MadeAndGoneOnce (made_in_vain ++ said Add (Make 0) ∷ []) → ⊥
 made_again law =
     law.made_once 0 2 (said Add (Make 0)) (said Add (Make 0)) (omega arith) refl refl 0 refl refl
 
--- an id is given up again
+-- the place of an id is freed again
 gone_again : MadeAndGoneOnce (made_in_vain ++ made_in_vain) → ⊥
 gone_again law =
     law.gone_once 1 3 (said (Added 0 MakeFailed) Freed) (said (Added 0 MakeFailed) Freed) (omega arith) refl refl 0 refl refl
 
--- an object is moved that was given up
+-- an object is moved after its place was freed
 moved_when_gone : MadeAndGoneOnce (made_in_vain ++ said Add (Make 0) ∷ []) → ⊥
 moved_when_gone law =
     law.gone_stays 1 2 (said (Added 0 MakeFailed) Freed) (said Add (Make 0)) (omega arith) refl refl 0 phases.Adding refl refl
@@ -51,7 +51,7 @@ lent_twice law =
     let between = law 0 1 2 (said (Ready 0 Good) Lent) (said (Ready 0 Good) Lent) (omega arith) refl refl refl refl in
     omega (arith, between.1, between.2)
 
--- an id is drawn that is not the next
+-- an id is allocated that is not the next
 id_left_out : NothingLost (said Add (Make 1) ∷ []) → ⊥
 unfolding records present drawn phase parked since lent used is_new latest
 id_left_out law = absurd (cc law)

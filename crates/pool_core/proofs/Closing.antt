@@ -36,7 +36,7 @@ tested_keeps_none : (p : Phase) → keeps_value (tested_reply p outcomes.Good fa
 tested_keeps_none phases.Testing = refl
 tested_keeps_none _ = refl
 
--- a value that is brought back to a closed pool is not kept
+-- a value that is returned to a closed pool is not kept
 carried_is_not_kept : (S : Settings) (rs : List Record) (next : ℕ) (cursor : Option ℕ) (at : ℕ) (input : Input)
     → carries input ≡ true → keeps_value (table S rs next true cursor at input) ≡ false
 carried_is_not_kept S rs next cursor at (Park i outcomes.Good) carried = park_keeps_none (phase_of (record_in rs i))

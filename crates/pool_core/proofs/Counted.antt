@@ -18,7 +18,7 @@ use Rattle.pool_core.specs.LawsFrom.{counts_at}
 use Rattle.pool_core.specs.Stepper.{base_in}
 use Rattle.pool_core.specs.declared.state.State.{State}
 
--- one, where the test holds
+-- one, if the test holds
 abbrev pub one_if : Bool → ℕ
 one_if b = if b then 1 else 0
 
@@ -44,7 +44,7 @@ pub counted_places : {T : Type 0} (ps : List (Place T)) → AllByRecursion (λ r
     → count_by (λ r. is_queued r.phase) (records_in ps) + count_by (λ r. is_lent r.phase) (records_in ps) + count_by (λ r. is_reserved r.phase) (records_in ps) ≡ length ps
 counted_places ps here = counted (records_in ps) here ∙ length-map ps (λ p. p.known)
 
--- what is counted of the objects of a state and of what ended
+-- the counts of the objects of a state and of those that ended
 pub counts_in : {T : Type 0} (s : State T) (steps queued lent reserved : ℕ)
     → queued ≡ count_by (λ r. is_queued r.phase) (records_in s.places.kept) → lent ≡ count_by (λ r. is_lent r.phase) (records_in s.places.kept)
     → reserved ≡ count_by (λ r. is_reserved r.phase) (records_in s.places.kept)

@@ -37,7 +37,7 @@ count_present : (J : List Entry) → length (present J) ≡ count_range (is_ther
 unfolding present
 count_present J = length-filter (λ i. is_present (phase i J)) (range_with_len 0 (drawn J))
 
--- one is present more where the entry makes an object, and one fewer where it gives a place up
+-- one more is present if the entry makes an object, and one fewer if it frees a place
 abbrev GoesOn : List Entry → Entry → Type 0
 GoesOn J e =
     count_range (is_there (J ++ e ∷ [])) 0 (drawn (J ++ e ∷ [])) + one_if (gives_up e.answer)
@@ -71,7 +71,7 @@ brings_goes_on J e b =
     let one = but_one (is_there J) (is_there K) b.i 0 (drawn J) (omega arith) (omega (arith, b.below)) b.was_there others in
     omega (arith, ap (count_range (is_there K) 0) no_more, ap one_if b.leaves, here, one, ap one_if b.no_make)
 
--- the same of the number of present objects
+-- the same for the number of present objects
 present_on : (S : Settings) (J : List Entry) (e : Entry) → IsDue S J e
     → length (present (J ++ e ∷ [])) + one_if (gives_up e.answer) ≡ length (present J) + one_if (is_make_answer e.answer)
 present_on S J e due = omega (arith, count_present J, count_present (J ++ e ∷ []), by_act (acts S J e due))
@@ -88,7 +88,7 @@ full_makes_none true true = refl
 full_makes_none true false = refl
 full_makes_none false is_late = refl
 
--- where an object is made, there was room
+-- if an object is made, there was room
 pub borrow_makes : (shut : Bool) (o : Option ℕ) (room : Bool) (next : ℕ) (full : Answer) → is_make_answer full ≡ false
     → is_make_answer (if shut then answers.Refused causes.Closed else borrow_reply o room next full) ≡ true → room ≡ true
 borrow_makes true o room next full none is = absurd (cc is)
@@ -102,7 +102,7 @@ add_makes a true room next none is = absurd (cc (none, is))
 add_makes a false true next none is = refl
 add_makes a false false next none is = absurd (cc is)
 
--- an object is made only where fewer are present than the limit
+-- an object is made only if fewer are present than the limit
 makes_below : (S : Settings) (J : List Entry) (at : ℕ) (input : Input) (i : ℕ) → IsSome (made_to input i)
     → is_make_answer (reply S J at input) ≡ true → is_below S.max_total (length (present J)) ≡ true
 makes_below S J at (Borrow began) i is made =
@@ -112,7 +112,7 @@ makes_below S J at Add i is made = add_makes (answers.Refused causes.Closed) (cl
 makes_below S J at Fill i is made = add_makes answers.Enough (closed J || has_enough S (records J)) _ (drawn J) refl made
 makes_below S J at _ i is made = absurd (cc is)
 
--- the same of an entry that is due
+-- the same for an expected entry
 due_makes_below : (S : Settings) (J : List Entry) (e : Entry) → IsDue S J e → is_make_answer e.answer ≡ true
     → is_below S.max_total (length (present J)) ≡ true
 due_makes_below S J e due made = by_answer e.answer refl made (finds_due S J e due)
@@ -122,7 +122,7 @@ due_makes_below S J e due made = by_answer e.answer refl made (finds_due S J e d
     by_answer (answers.Make i) is made finds = makes_below S J e.at e.input i finds.1 (ap is_make_answer (sym due.is ∙ is))
     by_answer _ is made finds = absurd (cc made)
 
--- no more are within the limit too, and one more where there is a place
+-- a number that is at most one within the limit is within it too, and so is one more if there is a place
 pub no_more_within : (limit : ℤ) (n m : ℕ) → m ≤ n → IsWithin limit n → IsWithin limit m
 no_more_within (pos limit) n m le is = omega (arith, le, is)
 no_more_within (negsuc _) n m le is = tt
@@ -157,7 +157,7 @@ at_most_max_total S = each_legal S (AtMostMaxTotal S) (empty S.max_total) (stays
     empty (pos limit) = omega (arith, none_present)
     empty (negsuc _) = tt
 
--- each object that was made is present, or its place was given up
+-- each object that was made is present, or its place was freed
 abbrev MadeOrGone : List Entry → Type 0
 MadeOrGone J = drawn J ≡ length (present J) + (count_answers is_freed J + count_answers is_reclaimed J)
 
@@ -172,7 +172,7 @@ stays_made_or_gone S J e due so_far =
     let reclaimed = count_push (λ (x : Entry). is_reclaimed x.answer) J e in
     omega (arith, so_far, drawn-push J e, present_on S J e due, freed_or_reclaimed e.answer, freed, reclaimed)
 
--- the objects that are present are those that are idle, lent or reserved
+-- the present objects are those that are idle, lent or reserved
 pub present_counted : (J : List Entry) → length (present J) ≡ (counts_of J).idle + (counts_of J).lent + (counts_of J).reserved
 present_counted J = sym (length-records J) ∙ sym (counted (records J) (each_present J))
 

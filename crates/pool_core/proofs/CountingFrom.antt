@@ -1,4 +1,4 @@
--- How many objects are present after legal entries behind a base, and how many of them are to be destroyed.
+-- How many objects are present after legal entries that continue a base, and how many of them are to be destroyed.
 use Rattle.std.proofs.Common.{◌≡◌, ◌≢◌, ℕ, suc, ◌+◌, ◌<◌, ◌≤◌, Bool, true, false, cond, List, []}
 use Rattle.std.proofs.Common.{◌∷◌, ◌++◌, length, map, refl, ap, sym, ◌∙◌, subst, arith}
 use Rattle.std.specs.Prelude.{◌||◌, ◌-◌, not, count_by, filter, IsSome}
@@ -38,13 +38,13 @@ use Rattle.pool_core.proofs.LivesFrom.{phase_moved, phase_of_others}
 use Rattle.pool_core.proofs.Ranges.{count_push, count_range, count_last, same_count, one_changed}
 use Rattle.pool_core.proofs.TablesFrom.{length-records_from}
 
--- ---- how a count over the objects that were drawn goes on with an entry that was due
+-- ---- a count over the created objects, after one more expected entry
 
 -- whether an object's phase passes a test
 abbrev pub passes : (Phase → Bool) → Base → List Entry → ℕ → Bool
 passes test b J i = test (phase_from b i J)
 
--- how many of the objects that were drawn pass it
+-- how many of the created objects pass it
 abbrev pub passing : (Phase → Bool) → Base → List Entry → ℕ
 passing test b J = count_range (passes test b J) 0 (drawn_from b J)
 
@@ -87,7 +87,7 @@ begun_is_there : (test : Bool) → one_if test + one_if (not test) ≡ 1
 begun_is_there true = refl
 begun_is_there false = refl
 
--- one is present more where the entry makes an object, and one fewer where it gives a place up
+-- one more is present if the entry makes an object, and one fewer if it frees a place
 pub present_on_from : (S : Settings) (b : Base) (J : List Entry) (e : Entry) → IsDueFrom S b J e
     → length (present_from b (J ++ e ∷ [])) + one_if (gives_up e.answer) ≡ length (present_from b J) + one_if (is_make_answer e.answer)
 present_on_from S b J e due = omega (arith, count_present_from b J, count_present_from b (J ++ e ∷ []), by_act (acts S b J e due))
@@ -98,7 +98,7 @@ present_on_from S b J e due = omega (arith, count_present_from b J, count_presen
     by_act (brings m) =
         omega (arith, brings_passing is_present b J e m, ap one_if m.was_there, ap one_if m.leaves, begun_is_there (is_present m.p), ap one_if m.no_make)
 
--- an object is made only where fewer are present than the limit
+-- an object is made only if fewer are present than the limit
 makes_below_from : (S : Settings) (b : Base) (J : List Entry) (at : ℕ) (input : Input) (i : ℕ) → IsSome (made_to input i)
     → is_make_answer (reply_from S b J at input) ≡ true → is_below S.max_total (length (present_from b J)) ≡ true
 makes_below_from S b J at (Borrow began) i is made =
@@ -108,7 +108,7 @@ makes_below_from S b J at Add i is made = add_makes (answers.Refused causes.Clos
 makes_below_from S b J at Fill i is made = add_makes answers.Enough (closed_from b J || has_enough S (records_from b J)) _ (drawn_from b J) refl made
 makes_below_from S b J at _ i is made = absurd (cc is)
 
--- the same of an entry that is due
+-- the same for an expected entry
 due_makes_below_from : (S : Settings) (b : Base) (J : List Entry) (e : Entry) → IsDueFrom S b J e → is_make_answer e.answer ≡ true
     → is_below S.max_total (length (present_from b J)) ≡ true
 due_makes_below_from S b J e due made = by_answer e.answer refl made (finds_due S b J e due)
@@ -154,7 +154,7 @@ reclaimed_in J = count_by (λ e. is_reclaimed e.answer) J
 abbrev pub evicted_in : List Entry → ℕ
 evicted_in J = count_by (λ e. is_evicting e.answer e.input) J
 
--- each object that was drawn is present, or its place was given up
+-- each created object is present, or its place was freed
 abbrev pub DrawnOrGone : Base → List Entry → Type 0
 DrawnOrGone b J = (b.destroyed + freed_in J) + (b.reclaimed + reclaimed_in J) + length (present_from b J) ≡ drawn_from b J
 
@@ -185,7 +185,7 @@ places_within_from S b J runs legal =
 
 -- ---- the objects that are to be destroyed
 
--- what is counted of the present objects is counted of all that were drawn
+-- a count of the present objects is the count of all created ones
 count_mapped : {A : Type 0} (test : Record → Bool) (f : A → Record) (q : A → Bool) → ((a : A) → q a ≡ false → test (f a) ≡ false) → (xs : List A)
     → count_by test (map f (filter q xs)) ≡ count_by (λ a. test (f a)) xs
 count_mapped test f q only [] = refl
@@ -207,7 +207,7 @@ count_destroying b J =
     count_mapped (λ r. is_destroying r.phase) (record_from b J) (λ i. is_present (phase_from b i J))
     (λ i is. destroying_is_there (phase_from b i J) is) (range_with_len 0 (drawn_from b J))
 
--- each object that was evicted is to be destroyed or was
+-- each evicted object is to be destroyed or was
 abbrev EvictedEnds : Base → List Entry → Type 0
 EvictedEnds b J = b.evicted + evicted_in J ≤ (b.destroyed + freed_in J) + passing is_destroying b J
 

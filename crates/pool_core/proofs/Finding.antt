@@ -1,4 +1,4 @@
--- An answer that is due finds the object of which it speaks in a phase that allows it.
+-- An expected answer finds the object that it concerns in a phase that allows it.
 use Rattle.std.proofs.Common.{◌≡◌, ℕ, Bool, true, false, if◌then◌else◌, List, [], ◌∷◌, length, Option, Some, None, refl, sym, ◌∙◌}
 use Rattle.std.proofs.Common.{subst}
 use Rattle.std.specs.Prelude.{IsSome, IsSomeAnd, ⊤, ◌&&◌, ◌-◌, nat_le, filter, ℤ, pos, negsuc}
@@ -30,7 +30,7 @@ use Rattle.pool_core.specs.Table.{phase_of, new_of, table}
 use Rattle.pool_core.specs.Steps.{comes_from, MovesNamed, Finds}
 use Rattle.pool_core.proofs.Queues.{all_filter, all_rising, first_has, last_has}
 
--- what an answer asks of the object that the input names, in its phase
+-- what an answer requires of the phase of the object that the input names
 abbrev Allowed : Input → Answer → Phase → Type 0
 Allowed input (answers.Take i) p = ⊥
 Allowed input (answers.Test i) p = ⊥
@@ -94,7 +94,7 @@ destroyed_allowed : (i : ℕ) (p : Phase) → Allowed (Destroyed i) (destroyed_r
 destroyed_allowed i phases.Destroying = refl
 destroyed_allowed i _ = tt
 
--- from Absent nothing comes, so what comes from its phase is present
+-- no answer moves an object from Absent, so an object in a phase that it moves is present
 absent_stays : (a : Answer) → comes_from a phases.Absent ≡ false
 absent_stays answers.Lent = refl
 absent_stays answers.Check = refl
@@ -148,7 +148,7 @@ is_lent_true : (p : Phase) (b : Bool) → (is_lent p && b) ≡ true → p ≡ ph
 is_lent_true phases.Lent b is = refl
 is_lent_true _ b is = absurd (cc is)
 
--- where a test says of which phase a record is, each that passes it is found in that phase
+-- if a test determines the phase of a record, each that passes it is found in that phase
 all_in : (rs : List Record) (p : Phase) (test : Record → Bool) → ((r : Record) → test r ≡ true → r.phase ≡ p) → AllFound rs
     → AllByRecursion (IsIn rs p) (filter test rs)
 all_in rs p test told found = along (filter test rs) (all-filter (λ r. record_in rs r.id ≡ Some r) test rs found)
@@ -234,7 +234,7 @@ clear_next_finds : (o : Option Record) (rs : List Record) (next : ℕ) → ((r :
 clear_next_finds (Some r) rs next has = (has r refl, refl)
 clear_next_finds None rs next has = tt
 
--- an answer that is due finds what it speaks of
+-- an expected answer finds what it concerns
 pub finds_of : (S : Settings) (rs : List Record) (next : ℕ) (shut : Bool) (cursor : Option ℕ) (at : ℕ) (input : Input) (a : Answer)
     → AllFound rs → a ≡ table S rs next shut cursor at input → Finds input a rs next
 finds_of S rs next shut cursor at input a found due = subst (λ (a : Answer). Finds input a rs next) (sym due) (by_input input)

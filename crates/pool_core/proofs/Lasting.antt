@@ -1,4 +1,4 @@
--- What lasts in a legal journal: a pool stays closed, and an id is made once, and given up once and for all.
+-- What lasts in a legal journal: a pool stays closed, and an id is made once, and its place freed once and for all.
 use Rattle.std.proofs.Common.{◌≡◌, ◌≢◌, ℕ, ◌+◌, ◌<◌, ◌==◌, Bool, true, false, if◌then◌else◌, List, [], ◌∷◌, ◌++◌, Option, Some}
 use Rattle.std.proofs.Common.{None, refl, ap, sym, ◌∙◌, arith, subst}
 use Rattle.std.specs.Prelude.{◌||◌, unwrap_or, take}
@@ -26,7 +26,7 @@ use Rattle.pool_core.proofs.Fronts.{IsDue, DueKeeps, front_with, due_at, kept_on
 use Rattle.pool_core.proofs.Legality.{legal_reaches}
 use Rattle.pool_core.proofs.Lives.{Acts, still, makes, brings, acts, finds_due, due_in_table, move, phase_moved}
 
--- two moves that are one have one object, and one phase
+-- two equal moves have one object, and one phase
 pub same_object : (i j : ℕ) (p q : Phase) → move i p ≡ move j q → i ≡ j
 same_object i j p q is = ap (λ (m : Option Move). (unwrap_or m (i, p)).0) is
 
@@ -48,7 +48,7 @@ not_made_to_idle Add i j is = absurd (cc (same_phase j i phases.Adding phases.Id
 not_made_to_idle Fill i j is = absurd (cc (same_phase j i phases.Adding phases.Idle is))
 not_made_to_idle _ i j is = absurd (cc is)
 
--- an object that comes to Idle keeps a value
+-- an object that becomes Idle keeps a value
 pub idle_keeps : (a : Answer) (input : Input) (i : ℕ) → moved_by a input ≡ Some (i, phases.Idle) → keeps_value a ≡ true
 idle_keeps answers.Parked input i is = refl
 idle_keeps answers.Kept input i is = refl
@@ -63,7 +63,7 @@ idle_keeps (answers.DestroyIdle j) input i is = absurd (cc (same_phase j i phase
 idle_keeps (answers.Reclaimed j) input i is = absurd (cc (same_phase j i phases.Gone phases.Idle is))
 idle_keeps _ input i is = absurd (cc is)
 
--- in a closed pool no object comes to Idle
+-- in a closed pool no object becomes Idle
 idles_none : (S : Settings) (J : List Entry) (e : Entry) → IsDue S J e → closed J ≡ true → (i : ℕ) → moves e ≢ Some (i, phases.Idle)
 idles_none S J e due shut i to =
     let in_table = due_in_table S J e due in

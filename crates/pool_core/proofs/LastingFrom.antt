@@ -1,4 +1,5 @@
--- What lasts in legal entries behind a base: a pool stays closed, and an id is made once, and given up once and for all.
+-- What lasts in legal entries that continue a base: a pool stays closed, and an id is made once, and its place freed once and for
+-- all.
 use Rattle.std.proofs.Common.{◌≡◌, ◌≢◌, ℕ, ◌+◌, ◌<◌, ◌≤◌, ◌==◌, Bool, true, false, if◌then◌else◌, List, [], ◌∷◌, ◌++◌, Option, Some}
 use Rattle.std.proofs.Common.{None, refl, ap, sym, ◌∙◌, arith, subst}
 use Rattle.std.specs.Prelude.{◌||◌, unwrap_or, take}
@@ -31,7 +32,7 @@ use Rattle.pool_core.proofs.Lasting.{same_object, idle_keeps}
 use Rattle.pool_core.proofs.LegalityFrom.{legal_goes}
 use Rattle.pool_core.proofs.LivesFrom.{Acts, still, makes, brings, acts, finds_due, due_in_table, move, phase_moved}
 
--- in a closed pool no object comes to Idle
+-- in a closed pool no object becomes Idle
 idles_none_from : (S : Settings) (b : Base) (J : List Entry) (e : Entry) → IsDueFrom S b J e → closed_from b J ≡ true → (i : ℕ) → moves e ≢ Some (i, phases.Idle)
 idles_none_from S b J e due shut i to =
     let in_table = due_in_table S b J e due in

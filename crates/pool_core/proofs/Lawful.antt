@@ -1,4 +1,4 @@
--- Every legal journal keeps the laws.
+-- Every legal journal has the safety properties.
 use Rattle.std.proofs.Common.{List}
 use Rattle.pool_journal.specs.declared.entry.Entry.{Entry}
 use Rattle.pool_settings.specs.declared.settings.Settings.{Settings}

@@ -1,4 +1,4 @@
--- Legal entries behind a base that a pool can go on from keep the laws.
+-- Legal entries after a base that a pool can continue from have the safety properties.
 use Rattle.std.proofs.Common.{List}
 use Rattle.pool_journal.specs.declared.base.Base.{Base}
 use Rattle.pool_journal.specs.declared.entry.Entry.{Entry}

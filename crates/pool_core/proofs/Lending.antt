@@ -21,7 +21,7 @@ use Rattle.pool_core.specs.Steps.{Finds, comes_from}
 use Rattle.pool_core.proofs.Fronts.{front_with, due_at}
 use Rattle.pool_core.proofs.Lives.{Leaves, finds_due, move, phase_moved}
 
--- where a test changes from true to false
+-- the index at which a test changes from true to false
 pub record Turns (test : ℕ → Bool) (a b : ℕ) : Type 0 where
   pub m : ℕ
   pub from : a ≤ m
@@ -58,7 +58,7 @@ pub lent_from : (p : Phase) → comes_from answers.Lent p ≡ true → is_lent p
 lent_from phases.Readying is = refl
 lent_from _ is = absurd (cc is)
 
--- the object that is found to be lent isn't lent yet
+-- the object that is about to be lent isn't lent yet
 found_not_lent : (J : List Entry) (j : ℕ) → IsSomeAnd (record_in (records J) j) (Leaves answers.Lent) → is_lent (phase j J) ≡ false
 found_not_lent J j leaves = by_record (record_in (records J) j) refl leaves
   where

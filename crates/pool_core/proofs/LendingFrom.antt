@@ -1,4 +1,4 @@
--- Behind a base too an object is lent again only after it left Lent.
+-- After a base too an object is lent again only after it left Lent.
 use Rattle.std.proofs.Common.{◌≡◌, ℕ, ◌+◌, ◌-◌, Bool, true, false, List, Option, Some, None}
 use Rattle.std.proofs.Common.{ap, sym, ◌∙◌, arith, refl}
 use Rattle.std.specs.Prelude.{◌&&◌, IsSomeAnd, take}
@@ -25,7 +25,7 @@ use Rattle.pool_core.proofs.Lending.{turns, same_id, lends_to, lent_from, lent_i
 use Rattle.pool_core.proofs.Lives.{Leaves}
 use Rattle.pool_core.proofs.LivesFrom.{finds_due, phase_moved}
 
--- the object that is found to be lent isn't lent yet
+-- the object that is about to be lent isn't lent yet
 found_not_lent_from : (b : Base) (J : List Entry) (j : ℕ) → IsSomeAnd (record_in (records_from b J) j) (Leaves answers.Lent) → is_lent (phase_from b j J) ≡ false
 found_not_lent_from b J j leaves = by_record (record_in (records_from b J) j) refl leaves
   where

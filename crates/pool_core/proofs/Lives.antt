@@ -1,4 +1,4 @@
--- What an entry that was due does to the phases of the objects.
+-- What an expected entry does to the phases of the objects.
 use Rattle.std.proofs.Common.{◌≡◌, ◌≢◌, ℕ, ◌<◌, ◌==◌, Bool, true, false, if◌then◌else◌, List, [], ◌∷◌, ◌++◌, Option, Some, None}
 use Rattle.std.proofs.Common.{refl, ap, sym, ◌∙◌, arith, subst}
 use Rattle.std.specs.Prelude.{◌||◌, not, IsSome, IsSomeAnd, unwrap_or}
@@ -31,7 +31,7 @@ use Rattle.pool_core.proofs.Tables.{reply_is}
 abbrev pub move : ℕ → Phase → Option Move
 move i p = Some (i, p)
 
--- the answer gives a place up
+-- the answer frees a place
 abbrev pub gives_up : Answer → Bool
 gives_up a = is_freed a || is_reclaimed a
 
@@ -64,7 +64,7 @@ pub data Acts (J : List Entry) (e : Entry) : Type 0 where
   makes : Makes J e → Acts J e
   brings : Brings J e → Acts J e
 
--- an object that is found was drawn, and is present
+-- an object that is found was created, and is present
 there : (J : List Entry) (i : ℕ) (P : Record → Type 0) → IsSomeAnd (record_in (records J) i) P
     → (i < drawn J) × (is_present (phase i J) ≡ true)
 there J i P is = by_record (record_in (records J) i) refl is
@@ -133,17 +133,17 @@ acts_of J c at input answers.Destroy finds = brings_named J c at input answers.D
 acts_of J c at input answers.Freed finds = brings_named J c at input answers.Freed phases.Gone refl finds refl refl
 acts_of J c at input _ finds = still (record { none = refl; no_make = refl; stays = refl })
 
--- the answer that is due is that of the table
+-- the expected answer is that of the table
 pub due_in_table : (S : Settings) (J : List Entry) (e : Entry) → IsDue S J e
     → e.answer ≡ table S (records J) (drawn J) (closed J) (cursor J) e.at e.input
 due_in_table S J e due = due.is ∙ reply_is S J (records J) (drawn J) (legal_reaches S J due.legal) e.at e.input
 
--- an entry that is due finds what it speaks of
+-- an expected entry finds what it concerns
 pub finds_due : (S : Settings) (J : List Entry) (e : Entry) → IsDue S J e → Finds e.input e.answer (records J) (drawn J)
 finds_due S J e due =
     finds_of S (records J) (drawn J) (closed J) (cursor J) e.at e.input e.answer (each_found J) (due_in_table S J e due)
 
--- an entry that is due moves no object, makes the next one, or moves one that is present
+-- an expected entry moves no object, makes the next one, or moves one that is present
 pub acts : (S : Settings) (J : List Entry) (e : Entry) → IsDue S J e → Acts J e
 acts S J e due = acts_of J e.caller e.at e.input e.answer (finds_due S J e due)
 

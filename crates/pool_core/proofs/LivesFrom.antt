@@ -1,4 +1,4 @@
--- What an entry that was due does to the phases of the objects, from a base.
+-- What an expected entry does to the phases of the objects, from a base.
 use Rattle.std.proofs.Common.{◌≡◌, ◌≢◌, ℕ, ◌<◌, ◌≤◌, ◌==◌, Bool, true, false, if◌then◌else◌, List, [], ◌∷◌, ◌++◌, Option, Some, None}
 use Rattle.std.proofs.Common.{refl, ap, sym, ◌∙◌, arith, subst, inl, inr, ◌⊎◌}
 use mathlib.Core.Bool.{false≢true}
@@ -34,7 +34,7 @@ use Rattle.pool_core.proofs.LegalityFrom.{due_table, legal_goes}
 abbrev pub move : ℕ → Phase → Option Move
 move i p = Some (i, p)
 
--- the answer gives a place up
+-- the answer frees a place
 abbrev pub gives_up : Answer → Bool
 gives_up a = is_freed a || is_reclaimed a
 
@@ -77,7 +77,7 @@ pub data Acts (b : Base) (J : List Entry) (e : Entry) : Type 0 where
   makes : Makes b J e → Acts b J e
   brings : Brings b J e → Acts b J e
 
--- an object that is found was drawn, and is present, in a phase as it is found in
+-- an object that is found was created, and is present, in the phase in which it is found
 record There (b : Base) (J : List Entry) (i : ℕ) (P : Phase → Type 0) : Type 0 where
   below : i < drawn_from b J
   was_there : is_present (phase_from b i J) ≡ true
@@ -92,7 +92,7 @@ there b J i P is = by_record (record_in (records_from b J) i) refl is
         let at = found_from b J i r some in
         record { below = omega (arith, at.below); was_there = at.passes; has = subst (λ (k : Record). P k.phase) at.is is }
 
--- what an answer that moves an object from a phase with P to p does beside
+-- what else an answer does that moves an object from a phase with P to p
 record Moves (e : Entry) (i : ℕ) (p : Phase) (P : Phase → Type 0) : Type 0 where
   to : moves e ≡ Some (i, p)
   no_make : is_make_answer e.answer ≡ false
@@ -311,17 +311,17 @@ acts_of b J c at input answers.Freed finds =
     })
 acts_of b J c at input _ finds = still (record { none = refl; no_make = refl; stays = refl; evicts_none = refl; parks_none = λ i. refl })
 
--- the answer that is due is that of the table
+-- the expected answer is that of the table
 pub due_in_table : (S : Settings) (b : Base) (J : List Entry) (e : Entry) → IsDueFrom S b J e
     → e.answer ≡ table S (records_from b J) (drawn_from b J) (closed_from b J) (cursor_from b J) e.at e.input
 due_in_table S b J e due = due_table S b J e due.sound (legal_goes S b J due.sound due.legal) due.is
 
--- an entry that is due finds what it speaks of
+-- an expected entry finds what it concerns
 pub finds_due : (S : Settings) (b : Base) (J : List Entry) (e : Entry) → IsDueFrom S b J e → Finds e.input e.answer (records_from b J) (drawn_from b J)
 finds_due S b J e due =
     finds_of S (records_from b J) (drawn_from b J) (closed_from b J) (cursor_from b J) e.at e.input e.answer (each_found_from b J) (due_in_table S b J e due)
 
--- an entry that is due moves no object, makes the next one, or moves one that is present
+-- an expected entry moves no object, makes the next one, or moves one that is present
 pub acts : (S : Settings) (b : Base) (J : List Entry) (e : Entry) → IsDueFrom S b J e → Acts b J e
 acts S b J e due = acts_of b J e.caller e.at e.input e.answer (finds_due S b J e due)
 
@@ -341,7 +341,7 @@ phase_of_others b J e i p to j other =
     phase_from-push b j J e ∙ ap (λ (m : Option Move). unwrap_or (phase_told j m) (phase_from b j J)) to
     ∙ ap (λ (t : Bool). unwrap_or (said_if t p) (phase_from b j J)) differs
 
--- so with whether an object is new
+-- the same for whether an object is new
 pub new_stays : (b : Base) (J : List Entry) (e : Entry) → moves e ≡ None → (j : ℕ) → is_new_from b j (J ++ e ∷ []) ≡ is_new_from b j J
 new_stays b J e none j = is_new_from-push b j J e ∙ ap (λ (m : Option Move). unwrap_or (made_told j m (is_make_answer e.answer)) (is_new_from b j J)) none
 

@@ -1,4 +1,4 @@
--- What each change of the records is, as the step that its answer tells.
+-- Each change of the records is the step of its answer.
 use Rattle.std.proofs.Common.{◌≡◌, ℕ, ◌<◌, ◌==◌, Bool, true, false, not, cond, if◌then◌else◌, List, [], ◌∷◌, ◌++◌, map, Some, refl}
 use Rattle.std.proofs.Common.{ap, sym, ◌∙◌, arith}
 use Rattle.std.specs.Prelude.{filter, IsSome}
@@ -21,7 +21,7 @@ use Rattle.pool_core.specs.Legal.{entry_of}
 use Rattle.pool_core.specs.Steps.{AllStay, known_after}
 use Rattle.pool_core.specs.declared.state.Moment.{Moment}
 
--- an entry that draws nothing leaves of the records what stays
+-- an entry that creates no object keeps those of the records that stay
 stepped_old : (k : ℕ) (e : Entry) (next : ℕ) (rs : List Record) → is_make_answer e.answer ≡ false
     → stepped k e next rs ≡ filter stays (map (touched k e) rs)
 stepped_old k e next rs no_make =
@@ -45,7 +45,7 @@ map_same : (rs : List Record) → map (λ (r : Record). r) rs ≡ rs
 map_same [] = refl
 map_same (r ∷ rs) = ap (λ ks. r ∷ ks) (map_same rs)
 
--- an entry that says nothing
+-- an entry without effect
 stepped_silent : (k : ℕ) (e : Entry) (next : ℕ) (rs : List Record) → is_make_answer e.answer ≡ false
     → ((r : Record) → touched k e r ≡ r) → AllStay rs → stepped k e next rs ≡ rs
 stepped_silent k e next rs no_make told all = kept_map k e next (λ r. r) rs no_make told (λ r is. is) all ∙ map_same rs
@@ -67,7 +67,7 @@ stepped_changed k e next i t rs no_make changes stay comes all =
     either true r here = comes r here
     either false r here = here
 
--- an entry by which the object i leaves
+-- an entry that removes the object i
 stepped_without : (k : ℕ) (e : Entry) (next i : ℕ) (rs : List Record) → is_make_answer e.answer ≡ false
     → ((r : Record) → (i == r.id) ≡ true → stays (touched k e r) ≡ false)
     → ((r : Record) → (i == r.id) ≡ false → touched k e r ≡ r) → AllStay rs → without_id i rs ≡ stepped k e next rs
@@ -83,7 +83,7 @@ stepped_without k e next i rs no_make leaves stay all = along rs all ∙ sym (st
     along [] all = refl
     along (r ∷ ks) all = by_test r ks (i == r.id) refl all.0 (along ks all.1)
 
--- an entry that draws the next object
+-- an entry that creates the next object
 stepped_drawn : (k : ℕ) (e : Entry) (next : ℕ) (new : Record) (rs : List Record) → is_make_answer e.answer ≡ true
     → touched k e (blank next) ≡ new → ((r : Record) → r.id < next → touched k e r ≡ r)
     → AllByRecursion (λ r. r.id < next) rs → AllStay rs → rs ++ new ∷ [] ≡ stepped k e next rs
@@ -93,7 +93,7 @@ stepped_drawn k e next new rs makes is stay below all = rw (← is, makes, same 
     same [] below all = refl
     same (r ∷ ks) below all = rw (ap stays (stay r below.0) ∙ all.0, stay r below.0) (ap (λ ls. r ∷ ls) (same ks below.1 all.1))
 
--- the object i changes by the answer
+-- the object i is changed by the answer
 changed : (now : Moment) (next i : ℕ) (input : Input) (rs : List Record) (t : Record → Record) (a : Answer)
     → is_make_answer a ≡ false → ((r : Record) → (i == r.id) ≡ true → touched now.position (entry_of 0 now.at input a) r ≡ t r)
     → ((r : Record) → (i == r.id) ≡ false → touched now.position (entry_of 0 now.at input a) r ≡ r)
@@ -101,7 +101,7 @@ changed : (now : Moment) (next i : ℕ) (input : Input) (rs : List Record) (t : 
 changed now next i input rs t a no_make changes stay comes all =
     stepped_changed now.position (entry_of 0 now.at input a) next i t rs no_make changes stay comes all
 
--- each change of the records is the step that its answer tells
+-- each change of the records is the step of its answer
 pub lent_known : (now : Moment) (next i : ℕ) (input : Input) (rs : List Record) → id_of input ≡ Some i → AllStay rs
     → with_changed i (lent_at now.at) rs ≡ known_after now input answers.Lent next rs
 lent_known now next i input rs named all =
@@ -168,7 +168,7 @@ reclaimed_known now next i input rs all =
     stepped_without now.position (entry_of 0 now.at input (answers.Reclaimed i)) next i rs refl
     (λ r is. rw is refl) (λ r is. rw is refl) all
 
--- where an object is made for an input, it is for a borrow or for the queue
+-- if an object is made for an input, it is for a borrow or for the queue
 abbrev pub made_as : Input → Phase
 made_as input = if is_borrow input then phases.Readying else phases.Adding
 
@@ -188,7 +188,7 @@ made_known now next input rs makes below all =
     (rw (to, here) refl)
     (λ r lt. let differs : (next == r.id) ≡ false = grind (arith, nat_tests) in rw (to, differs) refl) below all
 
--- answers that say nothing of any object
+-- answers without effect on any object
 abbrev pub is_silent : Answer → Bool
 is_silent answers.Wait = true
 is_silent answers.Exhausted = true

@@ -1,4 +1,4 @@
--- What each record has, each one of the queue has, and so has what is picked from it.
+-- A property of each record is one of each in the queue, and of one that is picked from it.
 use Rattle.std.proofs.Common.{◌≡◌, ℕ, ltb, Bool, true, false, cond, if◌then◌else◌, List, [], ◌∷◌, length, Option, Some, None, refl}
 use Rattle.std.proofs.Common.{◌∙◌, arith, subst}
 use Rattle.std.specs.Prelude.{filter, fold, unwrap_or, count_by, ◌+◌}
@@ -10,7 +10,7 @@ use Rattle.pool_journal.specs.declared.record.Record.{Record}
 use Rattle.pool_places.specs.After.{is_after}
 use Rattle.pool_core.specs.Reply.{examined}
 
--- what each element has, each one that passes a test has
+-- a property of each element is one of each that passes a test
 pub all_filter : {A : Type 0} (P : A → Type 0) (p : A → Bool) (xs : List A) → AllByRecursion P xs → AllByRecursion P (filter p xs)
 all_filter P p [] all = tt
 all_filter {A} P p (x ∷ xs) all = by_test (p x) (all_filter P p xs all.1)
@@ -73,7 +73,7 @@ unfolding by_rising
 length-idle_queue rs =
     omega (arith, length-puts (λ r. r.parked) [] (filter (λ r. is_idle r.phase) rs), length-filter (λ r. is_idle r.phase) rs)
 
--- what is examined has what each record has
+-- a property of each record is one of the examined object
 pub examined_has : (P : Record → Type 0) (cursor : Option ℕ) (rs : List Record) → AllByRecursion P rs → (r : Record)
     → examined cursor rs ≡ Some r → P r
 examined_has P cursor rs all r is = by_case (first_of (filter (is_after cursor) (idle_queue rs))) refl is
@@ -85,7 +85,7 @@ examined_has P cursor rs all r is = by_case (first_of (filter (is_after cursor) 
         first_has P (filter (is_after cursor) (idle_queue rs)) r
         (all_filter P (is_after cursor) (idle_queue rs) (all_idle P rs all)) (found ∙ is)
 
--- where each record is found under its id, so is what is examined
+-- if each record is found under its id, so is the examined one
 pub examined_found : (cursor : Option ℕ) (rs : List Record) (i : ℕ) → AllByRecursion (λ r. record_in rs r.id ≡ Some r) rs
     → option_map (λ r. r.id) (examined cursor rs) ≡ Some i → record_in rs i ≡ examined cursor rs
 examined_found cursor rs i all is = by_case (examined cursor rs) refl is

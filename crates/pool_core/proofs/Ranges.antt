@@ -30,7 +30,7 @@ same_count p q a (suc n) same =
     let rest = same_count p q (a + 1) n (λ j above below. same j (omega (arith, above)) (omega (arith, below))) in
     omega (arith, count_first p a n, count_first q a n, ap one_if (same a (omega arith) (omega arith)), rest)
 
--- two tests that agree but at one number
+-- two tests that agree except at one number
 pub one_changed : (p q : ℕ → Bool) (i a n : ℕ) → a ≤ i → i < a + n → ((j : ℕ) → j ≢ i → q j ≡ p j)
     → count_range q a n + one_if (p i) ≡ count_range p a n + one_if (q i)
 one_changed p q i a zero from below same = absurd (omega (arith, from, below))
@@ -51,7 +51,7 @@ one_changed p q i a (suc n) from below same =
         let above : a + 1 ≤ i = omega (arith, e, from) in
         omega (arith, count_first p a n, count_first q a n, at, later above)
 
--- the same, where the first holds there
+-- the same, if the first holds there
 pub but_one : (p q : ℕ → Bool) (i a n : ℕ) → a ≤ i → i < a + n → p i ≡ true → ((j : ℕ) → j ≢ i → q j ≡ p j)
     → count_range q a n + one_if (not (q i)) ≡ count_range p a n
 but_one p q i a n from below here same =

@@ -1,4 +1,4 @@
--- Worked rows: at each row the answer is due that is told there.
+-- Worked examples: each row states an input and its expected answer.
 use Rattle.std.proofs.Common.{◌≡◌, ℕ, true, false, List, [], ◌∷◌, ◌++◌, map, refl}
 use Rattle.std.specs.Prelude.{pos, negsuc}
 use Rattle.pool_journal.specs.Latest.{latest}
@@ -21,19 +21,19 @@ use Rattle.pool_settings.specs.declared.settings.Settings.{Settings}
 use Rattle.pool_core.specs.Legal.{entry_of}
 use Rattle.pool_core.specs.Reply.{reply}
 
--- an input at a moment, and the answer
+-- an input at a time, and the answer
 abbrev Row : Type 0
 Row = ℕ × (Input × Answer)
 
 abbrev row : ℕ → Input → Answer → Row
 row at input answer = (at, (input, answer))
 
--- the answer that is due at each row after those before it
+-- the expected answer of each row after those before it
 abbrev due : Settings → List Entry → List Row → List Answer
 due S J [] = []
 due S J ((at, (input, answer)) ∷ rows) = reply S J at input ∷ due S (J ++ entry_of 0 at input answer ∷ []) rows
 
--- each row tells the answer that is due
+-- each row states the expected answer
 abbrev Plays : Settings → List Row → Type 0
 Plays S rows = due S [] rows ≡ map (λ r. r.1.1) rows
 
@@ -59,7 +59,7 @@ five_added =
 abbrev one_lent : List Row
 one_lent = row 0 (Borrow 0) (Make 0) ∷ row 0 (Ready 0 Good) Lent ∷ []
 
--- abandoned objects are removed after 100 milliseconds, on maintenance, or on maintenance and on a borrow
+-- abandoned objects are removed after 100 milliseconds, by maintenance, or by maintenance and a borrow
 abbrev on_maintenance : Settings
 on_maintenance =
     record defaults { abandoned = true; remove_abandoned_on_maintenance = true; remove_abandoned_timeout_millis = pos 100 }
@@ -81,7 +81,7 @@ first_in_first_out : Plays (record defaults { lifo = false }) (two_objects ++ ro
 unfolding latest phase is_new drawn present records closed cursor parked since lent used by_rising
 first_in_first_out = refl
 
--- with no free place a borrow waits, is refused, or has waited long enough
+-- if no place is free, a borrow waits, fails at once, or has waited long enough
 waiting_without_limit : Plays (record defaults { max_total = pos 1 }) (row 0 (Borrow 0) (Make 0) ∷ row 5 (Borrow 5) Wait ∷ [])
 unfolding latest phase is_new drawn present records closed cursor parked since lent used by_rising
 waiting_without_limit = refl
@@ -101,7 +101,7 @@ refused_after_ten : Plays (record defaults { max_total = pos 1; max_wait_millis 
 unfolding latest phase is_new drawn present records closed cursor parked since lent used by_rising
 refused_after_ten = refl
 
--- a pool of no places, and one without limit
+-- a pool without places, and one without limit
 no_place_at_all : Plays (record defaults { max_total = pos 0 }) (row 0 (Borrow 0) Wait ∷ [])
 unfolding latest phase is_new drawn present records closed cursor parked since lent used by_rising
 no_place_at_all = refl
@@ -113,7 +113,7 @@ places_without_limit : Plays (record defaults { max_total = negsuc 0 })
 unfolding latest phase is_new drawn present records closed cursor parked since lent used by_rising
 places_without_limit = refl
 
--- a place is held until the object was destroyed
+-- a place is held until its object is destroyed
 place_until_destroyed : Plays (record defaults { max_total = pos 1 })
     (row 0 (Borrow 0) (Make 0) ∷ row 1 (Ready 0 ActivateFailed) Destroy ∷ row 1 (Borrow 1) Wait ∷ row 2 (Destroyed 0) Freed
     ∷ row 3 (Borrow 1) (Make 1) ∷ [])
@@ -127,14 +127,14 @@ returned_twice : Plays defaults
 unfolding latest phase is_new drawn present records closed cursor parked since lent used by_rising
 returned_twice = refl
 
--- an object that was taken was not made, and only the one that was taken is made ready
+-- an object that was taken was not made, and only the one that was taken can be made ready
 taken_objects_are_not_made : Plays defaults
     (plain_life ++ row 20 (Borrow 20) (Take 0) ∷ row 20 (Ready 0 MakeFailed) (Refused BadOutcome)
     ∷ row 20 (Ready 1 Good) (Refused NotHeld) ∷ row 20 (Ready 0 Good) Lent ∷ [])
 unfolding latest phase is_new drawn present records closed cursor parked since lent used by_rising
 taken_objects_are_not_made = refl
 
--- an object that can't be made active is destroyed, and the other one is taken
+-- an object that can't be activated is destroyed, and the other one is taken
 failed_activation : Plays defaults
     (two_objects ++ row 4 (Borrow 4) (Take 1) ∷ row 4 (Ready 1 ActivateFailed) Destroy ∷ row 4 (Destroyed 1) Freed
     ∷ row 4 (Borrow 4) (Take 0) ∷ [])
@@ -174,7 +174,7 @@ cleared : Plays defaults
 unfolding latest phase is_new drawn present records closed cursor parked since lent used by_rising
 cleared = refl
 
--- a closed pool makes and parks nothing more; what is lent comes back and is destroyed
+-- a closed pool makes and parks nothing more; a lent object is destroyed after its return
 closed_in_the_middle : Plays defaults
     (row 0 (Borrow 0) (Make 0) ∷ row 0 (Ready 0 Good) Lent ∷ row 0 (Borrow 0) (Make 1) ∷ row 1 (GiveBack 0) Check
     ∷ row 2 Close (Count 0) ∷ row 3 (Park 0 Good) Destroy ∷ row 3 (Destroyed 0) Freed ∷ row 3 (Ready 1 Good) Lent
@@ -189,20 +189,20 @@ closed_under_test : Plays (record defaults { test_while_idle = true })
 unfolding latest phase is_new drawn present records closed cursor parked since lent used by_rising
 closed_under_test = refl
 
--- so is one that was being made for the queue
+-- the same for one that was being made for the queue
 closed_while_adding : Plays defaults
     (row 0 Add (Make 0) ∷ row 1 Close (Count 0) ∷ row 2 (Added 0 Good) Destroy ∷ row 2 (Destroyed 0) Freed ∷ [])
 unfolding latest phase is_new drawn present records closed cursor parked since lent used by_rising
 closed_while_adding = refl
 
--- the queue is filled up to the least number of idle objects, those on their way counted
+-- the queue is filled up to the least number of idle objects, counting those on their way
 filled : Plays (record defaults { min_idle = pos 2 })
     (row 0 Fill (Make 0) ∷ row 0 Fill (Make 1) ∷ row 0 Fill Enough ∷ row 0 (Added 0 Good) Parked
     ∷ row 0 (Added 1 MakeFailed) Freed ∷ row 1 Fill (Make 2) ∷ [])
 unfolding latest phase is_new drawn present records closed cursor parked since lent used by_rising
 filled = refl
 
--- an object that is made for the queue takes a place, and can't fail as one that is lent
+-- an object that is made for the queue takes a place, and can't fail like one that is made to be lent
 added_with_one_place : Plays (record defaults { max_total = pos 1 })
     (row 0 Add (Make 0) ∷ row 0 Add NoPlace ∷ row 0 (Added 0 ActivateFailed) (Refused BadOutcome)
     ∷ row 0 (Added 0 PassivateFailed) Destroy ∷ row 0 (Destroyed 0) Freed ∷ row 0 Evict (Count 0) ∷ row 0 EvictNext Nothing
@@ -232,13 +232,13 @@ evicted_beyond_the_least_number : Plays (record defaults { soft_min_evictable_id
 unfolding latest phase is_new drawn present records closed cursor parked since lent used by_rising
 evicted_beyond_the_least_number = refl
 
--- a moment before the parking is no idle time
+-- a time before the parking counts as no idle time
 parked_in_the_future : Plays (record defaults { min_evictable_idle_millis = pos 1 })
     (plain_life ++ row 5 EvictNext (KeptIdle 0) ∷ [])
 unfolding latest phase is_new drawn present records closed cursor parked since lent used by_rising
 parked_in_the_future = refl
 
--- a run makes so many tests, or a part of the queue, rounded up
+-- a run makes a given number of tests, at most one per object, or a part of the queue, rounded up
 three_tests : Plays defaults (five_added ++ row 1 Evict (Count 3) ∷ [])
 unfolding latest phase is_new drawn present records closed cursor parked since lent used by_rising
 three_tests = refl
@@ -262,21 +262,21 @@ least_part_rounded_up : Plays (record defaults { num_tests_per_eviction_run = ne
 unfolding latest phase is_new drawn present records closed cursor parked since lent used by_rising
 least_part_rounded_up = refl
 
--- a run goes on where the last one stopped, and begins again at the end
+-- a run continues after the object that the last one examined, and starts again at the end
 run_goes_on : Plays defaults
     (five_added ++ row 1 EvictNext (KeptIdle 0) ∷ row 1 EvictNext (KeptIdle 1) ∷ row 1 EvictNext (KeptIdle 2)
     ∷ row 1 EvictNext (KeptIdle 3) ∷ row 1 EvictNext (KeptIdle 4) ∷ row 1 EvictNext (KeptIdle 0) ∷ [])
 unfolding latest phase is_new drawn present records closed cursor parked since lent used by_rising
 run_goes_on = refl
 
--- an object under an idle test is not taken, and keeps its place in the queue
+-- an object under an idle test is not taken, and keeps its position in the queue
 tested_objects_keep_their_place : Plays (record defaults { lifo = false; test_while_idle = true })
     (two_objects ++ row 4 EvictNext (Test 0) ∷ row 5 (Borrow 5) (Take 1) ∷ row 5 Add (Make 2) ∷ row 5 (Added 2 Good) Parked
     ∷ row 6 (Tested 0 Good) Kept ∷ row 7 (Borrow 7) (Take 0) ∷ [])
 unfolding latest phase is_new drawn present records closed cursor parked since lent used by_rising
 tested_objects_keep_their_place = refl
 
--- a lent object that was not used for the timeout is reclaimed on maintenance, and is gone when it comes back
+-- a lent object that was not used for the timeout is reclaimed by maintenance, and is gone when it is returned
 reclaimed : Plays on_maintenance
     (one_lent ++ row 99 (Reclaim times.Maintain) (Count 0) ∷ row 99 ReclaimNext Nothing
     ∷ row 100 (Reclaim times.Maintain) (Count 1) ∷ row 100 ReclaimNext (Reclaimed 0) ∷ row 101 (GiveBack 0) Gone ∷ [])
@@ -306,14 +306,14 @@ closed_before_the_removal : Plays (record on_both { max_total = pos 1 })
 unfolding latest phase is_new drawn present records closed cursor parked since lent used by_rising
 closed_before_the_removal = refl
 
--- the timeout is five minutes, and neither removal takes objects by itself
+-- the default timeout is five minutes, and neither removal is on by default
 reclaimed_by_default : Plays (record defaults { abandoned = true })
     (row 10 (Borrow 10) (Make 0) ∷ row 11 (Ready 0 Good) Lent ∷ row 300010 ReclaimNext Nothing
     ∷ row 300011 (Reclaim times.Maintain) (Count 0) ∷ row 300011 ReclaimNext (Reclaimed 0) ∷ [])
 unfolding latest phase is_new drawn present records closed cursor parked since lent used by_rising
 reclaimed_by_default = refl
 
--- where abandoned objects are not removed, none is
+-- if abandoned objects are not removed, none is
 nothing_abandoned : Plays defaults (one_lent ++ row 500 ReclaimNext Nothing ∷ row 501 (GiveBack 7) (Refused NotLent) ∷ [])
 unfolding latest phase is_new drawn present records closed cursor parked since lent used by_rising
 nothing_abandoned = refl
@@ -325,7 +325,7 @@ gone : Plays (record defaults { abandoned = true })
 unfolding latest phase is_new drawn present records closed cursor parked since lent used by_rising
 gone = refl
 
--- an object goes all its way
+-- an object passes through its whole life
 way_to_the_end : Plays (record defaults { journal_limit = 7 })
     (row 0 (Borrow 0) (Make 0) ∷ row 0 (Ready 0 Good) Lent ∷ row 0 (GiveBack 0) Check ∷ row 0 (Park 0 Good) Parked
     ∷ row 1 Close (Count 1) ∷ row 1 ClearNext (DestroyIdle 0) ∷ row 1 (Destroyed 0) Freed ∷ [])

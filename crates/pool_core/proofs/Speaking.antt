@@ -1,4 +1,4 @@
--- An answer that is due speaks of one object that is present, or of the next one, or of none, and examines only what is present.
+-- An expected answer affects one present object, or the next one, or none, and examines only a present one.
 use Rattle.std.proofs.Common.{◌≡◌, ◌≢◌, ℕ, ◌==◌, Bool, true, false, cond, if◌then◌else◌, List, [], ◌∷◌, length, Option, Some, None}
 use Rattle.std.proofs.Common.{refl, ap, sym, ◌∙◌, arith, subst}
 use Rattle.std.specs.Prelude.{IsSome, is_some, not, ℤ, pos, negsuc, ◌-◌, ⊤}
@@ -67,7 +67,7 @@ forgotten_there S at rs = for_timeout S.remove_abandoned_timeout_millis
     for_timeout (pos timeout) = all_filter (IsThere rs) (is_overdue at timeout) rs (each_there rs)
     for_timeout (negsuc _) = tt
 
--- the object that a borrow takes is there
+-- the object that a borrow takes is present
 pub choice_is_there : (lifo : Bool) (rs : List Record) (i : ℕ) → choice lifo rs ≡ Some i → IsSome (record_in rs i)
 choice_is_there true rs i is = by_last (last_of (idle_queue rs)) refl is
   where
@@ -84,12 +84,12 @@ choice_is_there false rs i is = by_first (first_of (idle_queue rs)) refl is
         let same : r.id ≡ i = cc is in subst (λ (j : ℕ). IsSome (record_in rs j)) same
         (first_has (IsThere rs) (idle_queue rs) r (idle_there rs) found)
 
--- so is the one that is examined next
+-- the same for the one that is examined next
 pub examined_is_there : (cursor : Option ℕ) (rs : List Record) (r : Record) → examined cursor rs ≡ Some r
     → IsSome (record_in rs r.id)
 examined_is_there cursor rs r is = examined_has (λ r. IsSome (record_in rs r.id)) cursor rs (each_there rs) r is
 
--- answers that speak of no object but the input's
+-- answers that affect no object except the input's
 abbrev IsNamed : Answer → Type 0
 IsNamed (answers.Take i) = ⊥
 IsNamed (answers.Make i) = ⊥
@@ -118,7 +118,7 @@ no_make : (a : Answer) → IsNamed a → is_make_answer a ≡ false
 no_make (answers.Make j) is = absurd is
 no_make _ is = refl
 
--- an input that names an object: where it is there, the answer may speak of it, and else says nothing
+-- an input that names an object: if it is present, the answer may affect it, otherwise it has no effect
 by_name : (c at i : ℕ) (input : Input) (rs : List Record) (next : ℕ) (F : Phase → Bool → Answer) → id_of input ≡ Some i
     → ((p : Phase) (new : Bool) → IsNamed (F p new)) → Silent (entry_of c at input (F phases.Absent false))
     → Speaks (entry_of c at input (F (phase_of (record_in rs i)) (new_of (record_in rs i)))) rs next
@@ -178,7 +178,7 @@ destroyed_named : (p : Phase) → IsNamed (destroyed_reply p)
 destroyed_named phases.Destroying = tt
 destroyed_named _ = tt
 
--- an entry that says nothing
+-- an entry without effect
 mute : (c at : ℕ) (input : Input) (cause : Cause) → Silent (entry_of c at input (answers.Refused cause))
 mute c at input cause = record { no_make = refl; all_stay = λ k r. refl }
 
@@ -186,7 +186,7 @@ lent_mute : (c at : ℕ) (input : Input) (b : Bool) (a : Answer) → Silent (ent
 lent_mute c at input true a = record { no_make = refl; all_stay = λ k r. refl }
 lent_mute c at input false a = record { no_make = refl; all_stay = λ k r. refl }
 
--- an object is made for the input, or nothing is said
+-- an object is made for the input, or there is no effect
 drawn_speaks : (c at : ℕ) (input : Input) (p : Phase) (rs : List Record) (next : ℕ) → made_to input next ≡ Some (next, p)
     → is_present p ≡ true → Speaks (entry_of c at input (answers.Make next)) rs next
 drawn_speaks c at input p rs next to here =
@@ -214,7 +214,7 @@ borrow_speaks S c at began rs next waited None false there = by_test S.block_whe
     by_test true false = silent (record { no_make = refl; all_stay = λ k r. refl })
     by_test false t = silent (record { no_make = refl; all_stay = λ k r. refl })
 
--- an answer that speaks of an object of its own
+-- an answer that affects another object than the input's
 of_own : (c at i : ℕ) (input : Input) (a : Answer) (p : Phase) (rs : List Record) (next : ℕ) → IsSome (record_in rs i)
     → moved_by a input ≡ Some (i, p) → is_make_answer a ≡ false → is_parked_answer a ≡ false → is_lent_answer a ≡ false
     → is_noted_answer a ≡ false
@@ -263,7 +263,7 @@ unless : (b : Bool) (c at : ℕ) (input : Input) (x y : Answer) (rs : List Recor
 unless true c at input x y rs next s t = silent s
 unless false c at input x y rs next s t = t
 
--- an answer that is due speaks as it may
+-- an expected answer affects what it may
 pub speaks : (S : Settings) (rs : List Record) (next : ℕ) (shut : Bool) (cursor : Option ℕ) (c at : ℕ) (input : Input)
     → Speaks (entry_of c at input (table S rs next shut cursor at input)) rs next
 speaks S rs next shut cursor c at (Borrow began) =
@@ -315,7 +315,7 @@ speaks S rs next shut cursor c at Close =
     unless shut c at Close answers.Nothing _ rs next (record { no_make = refl; all_stay = λ k r. refl })
     (silent (record { no_make = refl; all_stay = λ k r. refl }))
 
--- what is examined is there
+-- the examined object is present
 examines_one : (S : Settings) (c at q : ℕ) (rs : List Record) (o : Option Record)
     → ((r : Record) → o ≡ Some r → IsSome (record_in rs r.id)) → Examines (entry_of c at EvictNext (evict_next_reply S q at o)) rs
 examines_one S c at q rs None there i is = absurd (cc is)
@@ -343,7 +343,7 @@ none_examined : (a : Answer) (input : Input) (i : ℕ) (rs : List Record) → is
     → IsSome (record_in rs i)
 none_examined a input i rs other is = absurd (cc (sym (examines_none a input other) ∙ is))
 
--- an answer that is due examines what is there
+-- an expected answer examines a present object
 pub examines : (S : Settings) (rs : List Record) (next : ℕ) (shut : Bool) (cursor : Option ℕ) (c at : ℕ) (input : Input)
     → Examines (entry_of c at input (table S rs next shut cursor at input)) rs
 examines S rs next shut cursor c at EvictNext j is =

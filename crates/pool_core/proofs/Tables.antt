@@ -1,4 +1,4 @@
--- The records that a journal comes to give the answers that are due.
+-- The records after a journal determine the expected answers.
 use Rattle.std.proofs.Common.{◌≡◌, ℕ, Bool, true, false, List, length, Option, Some, None, refl, ap, sym, ◌∙◌, inl, inr}
 use Rattle.std.specs.Prelude.{◌⊎◌, not}
 use Rattle.std.proofs.lemmas.Bool.{cases_lt}
@@ -33,7 +33,7 @@ absent_or_gone phases.Idle is = absurd (cc is)
 absent_or_gone phases.Testing is = absurd (cc is)
 absent_or_gone phases.Destroying is = absurd (cc is)
 
--- what is asked of an object of the journal can be asked of its record
+-- a query of an object of the journal is one of its record
 pub asks : {A : Type 0} (J : List Entry) (rs : List Record) (next : ℕ) → Reaches J rs next → (i : ℕ) (F : Phase → Bool → A)
     → ((new : Bool) → F phases.Absent new ≡ F phases.Absent false) → ((new : Bool) → F phases.Gone new ≡ F phases.Absent false)
     → F (phase i J) (is_new i J) ≡ F (phase_of (record_in rs i)) (new_of (record_in rs i))
@@ -58,7 +58,7 @@ pub length-records : (J : List Entry) → length (records J) ≡ length (present
 unfolding records
 length-records J = length-map (present J) (record_of J)
 
--- the same of what is asked of a lent object
+-- the same for a query of a lent object
 lent_is : (S : Settings) (J : List Entry) (rs : List Record) (next : ℕ) → Reaches J rs next → (i : ℕ) (a : Answer)
     → lent_reply S.abandoned (phase i J) a ≡ lent_reply S.abandoned (phase_of (record_in rs i)) a
 lent_is S J rs next reaches i a =
@@ -68,7 +68,7 @@ lent_is S J rs next reaches i a =
     gone true = refl
     gone false = refl
 
--- the table gives the answer that is due
+-- the table gives the expected answer
 pub reply_is : (S : Settings) (J : List Entry) (rs : List Record) (next : ℕ) → Reaches J rs next → (at : ℕ) (input : Input)
     → reply S J at input ≡ table S rs next (closed J) (cursor J) at input
 reply_is S J rs next reaches at (Ready i o) = asks J rs next reaches i (λ p new. ready_reply p new o) (λ new. refl) (λ new. refl)

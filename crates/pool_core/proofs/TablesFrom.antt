@@ -1,4 +1,4 @@
--- The records that entries come to from a base give the answers that are due.
+-- The records after entries that continue a base determine the expected answers.
 use Rattle.std.proofs.Common.{◌≡◌, ℕ, ◌-◌, Bool, true, false, if◌then◌else◌, List, length, Option, Some, None, refl, ap, sym, ◌∙◌, inl, inr}
 use Rattle.std.specs.Prelude.{not, ◌||◌}
 use Rattle.std.proofs.lemmas.Bool.{cases_lt}
@@ -28,7 +28,7 @@ use Rattle.pool_core.specs.ReplyFrom.{reply_from}
 use Rattle.pool_core.specs.Table.{phase_of, new_of, table}
 use Rattle.pool_core.proofs.Tables.{absent_or_gone}
 
--- what is asked of an object of the entries can be asked of its record
+-- a query of an object of the entries is one of its record
 pub asks_from : {A : Type 0} (b : Base) (J : List Entry) (rs : List Record) (next : ℕ) → ReachesFrom b J rs next → (i : ℕ) (F : Phase → Bool → A)
     → ((new : Bool) → F phases.Absent new ≡ F phases.Absent false) → ((new : Bool) → F phases.Gone new ≡ F phases.Absent false)
     → F (phase_from b i J) (is_new_from b i J) ≡ F (phase_of (record_in rs i)) (new_of (record_in rs i))
@@ -53,7 +53,7 @@ pub length-records_from : (b : Base) (J : List Entry) → length (records_from b
 unfolding records_from
 length-records_from b J = length-map (present_from b J) (record_from b J)
 
--- the same of what is asked of a lent object
+-- the same for a query of a lent object
 lent_from_is : (S : Settings) (b : Base) (J : List Entry) (rs : List Record) (next : ℕ) → ReachesFrom b J rs next → (i : ℕ) (a : Answer)
     → lent_reply S.abandoned (phase_from b i J) a ≡ lent_reply S.abandoned (phase_of (record_in rs i)) a
 lent_from_is S b J rs next reaches i a =
@@ -63,7 +63,7 @@ lent_from_is S b J rs next reaches i a =
     gone true = refl
     gone false = refl
 
--- the table gives the answer that is due
+-- the table gives the expected answer
 pub reply_from_is : (S : Settings) (b : Base) (J : List Entry) (rs : List Record) (next : ℕ) → ReachesFrom b J rs next → (at : ℕ) (input : Input)
     → reply_from S b J at input ≡ table S rs next (closed_from b J) (cursor_from b J) at input
 reply_from_is S b J rs next reaches at (Ready i o) = asks_from b J rs next reaches i (λ p new. ready_reply p new o) (λ new. refl) (λ new. refl)
@@ -89,7 +89,7 @@ reply_from_is S b J rs next reaches at Clear = rw (← reaches.shown) refl
 reply_from_is S b J rs next reaches at ClearNext = rw (← reaches.shown) refl
 reply_from_is S b J rs next reaches at Close = rw (← reaches.shown) refl
 
--- the answer that is due after a whole journal is the one from the empty base
+-- the expected answer after a whole journal is the one from the empty base
 pub reply-from-empty : (S : Settings) (J : List Entry) (at : ℕ) (input : Input) → reply S J at input ≡ reply_from S empty_base J at input
 reply-from-empty S J at (Borrow began) = λ t.
     if closed-from-empty J t then answers.Refused causes.Closed

@@ -10,7 +10,7 @@ use Rattle.pool_core.specs.Fits.{FitsFrom, IsTooLongFrom}
 use Rattle.pool_core.specs.Kept.{Hands}
 use Rattle.pool_core.specs.Pool.{Pool}
 
--- the new pool has one entry more, which fits and has the answer that is due
+-- the new pool has one more entry, which fits and has the expected answer
 pub record Answered {T : Type 0} (caller at : ℕ) (input : Input) (handed : Option T) (old new : Pool T) (answer : Answer)
     (out : Option T) : Type 0 where
   pub due : answer ≡ reply_from old.settings old.base old.journal at input
@@ -20,7 +20,7 @@ pub record Answered {T : Type 0} (caller at : ℕ) (input : Input) (handed : Opt
   pub base_stays : new.base ≡ old.base
   pub hands : Hands answer input old.places new.places handed out
 
--- the journal is full exactly where the entry that is due doesn't fit, and what was handed in comes back
+-- the journal is full exactly if the expected entry does not fit, and the value passed in is returned
 abbrev pub Faulted : {T : Type 0} → ℕ → ℕ → Input → Option T → Pool T → StepFault T → Type 0
 Faulted caller at input handed old (JournalFull out) =
     IsTooLongFrom old.settings old.base (old.journal ++ entry_due_from old.settings old.base old.journal caller at input ∷ []) × (out ≡ handed)

@@ -1,4 +1,4 @@
--- What holds of every legal journal.
+-- The safety properties of legal journals.
 use Rattle.std.specs.Prelude.{◌≡◌, ◌≢◌, ℕ, ◌+◌, ◌<◌, ◌≤◌, true, List, take, slice_get, length, Some, ℤ, pos, negsuc, ⊤}
 use Rattle.pool_journal.specs.declared.entry.Entry.{Entry}
 use Rattle.pool_journal.specs.declared.record.Phase.{Phase}
@@ -9,11 +9,11 @@ use Rattle.pool_stats.specs.Counts.{counts_of}
 use Rattle.pool_stats.specs.declared.counts.Counts.{Counts}
 use Rattle.pool_settings.specs.declared.settings.Settings.{Settings}
 
--- P holds of each two entries, the first of which stands before the second
+-- P holds of each two entries, the first of which is before the second
 abbrev pub EachTwo : List Entry → (Entry → Entry → Type 0) → Type 0
 EachTwo J P = (k l : ℕ) (e f : Entry) → k < l → slice_get J k ≡ Some e → slice_get J l ≡ Some f → P e f
 
--- no more than a limit, where a negative one is none
+-- at most a limit; a negative limit is no limit
 abbrev pub IsWithin : ℤ → ℕ → Type 0
 IsWithin (pos limit) n = n ≤ limit
 IsWithin (negsuc _) n = ⊤
@@ -22,11 +22,11 @@ IsWithin (negsuc _) n = ⊤
 abbrev pub AtMostMaxTotal : Settings → List Entry → Type 0
 AtMostMaxTotal S J = IsWithin S.max_total (length (present J))
 
--- after an entry that closes the pool none moves an object to Idle
+-- after an entry that closes the pool, none moves an object to Idle
 abbrev pub ClosedParksNone : List Entry → Type 0
 ClosedParksNone J = EachTwo J (λ e f. is_closing e.answer e.input ≡ true → (i : ℕ) → moves f ≢ Some (i, phases.Idle))
 
--- each id is made at most once and given up at most once, and no entry after that moves it
+-- each id is made at most once and its place freed at most once, and no entry after that moves it
 pub record MadeAndGoneOnce (J : List Entry) : Type 0 where
   pub made_once : EachTwo J (λ e f. (i : ℕ) → e.answer ≡ answers.Make i → f.answer ≢ answers.Make i)
   pub gone_once : EachTwo J (λ e f. (i : ℕ) → moves e ≡ Some (i, phases.Gone) → moves f ≢ Some (i, phases.Gone))
@@ -37,7 +37,7 @@ pub record LeavesLent (J : List Entry) (i m : ℕ) : Type 0 where
   pub lent_before : phase i (take m J) ≡ phases.Lent
   pub not_after : phase i (take (m + 1) J) ≢ phases.Lent
 
--- between two entries that lend i stands one that moves it out of Lent
+-- between two entries that lend i, another one moves it out of Lent
 abbrev pub LentInTurn : List Entry → Type 0
 LentInTurn J =
     (i k l : ℕ) (e f : Entry) → k < l → slice_get J k ≡ Some e → slice_get J l ≡ Some f → lends i e ≡ true → lends i f ≡ true
@@ -51,7 +51,7 @@ AddsUp c = c.created ≡ c.idle + c.lent + c.reserved + c.destroyed + c.reclaime
 abbrev pub NothingLost : List Entry → Type 0
 NothingLost J = AddsUp (counts_of J)
 
--- the laws of the legal journals
+-- the safety properties of the legal journals
 pub record Laws (S : Settings) (J : List Entry) : Type 0 where
   pub at_most_max_total : AtMostMaxTotal S J
   pub closed_parks_none : ClosedParksNone J

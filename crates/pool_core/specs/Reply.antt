@@ -26,27 +26,28 @@ use Rattle.pool_places.specs.Overdue.{overdue}
 use Rattle.pool_settings.specs.EffectiveMinIdle.{effective_min_idle}
 use Rattle.pool_settings.specs.declared.settings.Settings.{Settings}
 
--- fewer than a limit, where a negative one is none
+-- fewer than a limit; a negative limit is no limit
 abbrev pub is_below : ℤ → ℕ → Bool
 is_below (pos limit) n = nat_lt n limit
 is_below (negsuc _) n = true
 
--- as long as a limit, where a negative one is none
+-- as long as a limit; a negative limit is no limit
 abbrev pub has_reached : ℤ → ℕ → Bool
 has_reached (pos limit) t = nat_le limit t
 has_reached (negsuc _) t = false
 
--- longer than a limit, where one that isn't positive is none
+-- longer than a limit; a limit that isn't positive is no limit
 abbrev pub is_past : ℤ → ℕ → Bool
 is_past (pos limit) t = nat_lt 0 limit && nat_lt limit t
 is_past (negsuc _) t = false
 
--- more than a limit less 3; always so where the limit is negative, and none
+-- more than a limit less 3; always, if the limit is negative
 abbrev pub is_nearly_full : ℤ → ℕ → Bool
 is_nearly_full (pos limit) n = nat_lt limit (n + 3)
 is_nearly_full (negsuc _) n = true
 
--- how many tests an eviction run makes on a queue of q: n, but no more than q, and for a negative n that part of q, rounded up
+-- how many tests an eviction run makes on a queue of length q: n, but at most q; for a negative n, q divided by its absolute
+-- value, rounded up
 abbrev pub tests : ℤ → ℕ → ℕ
 tests (pos n) q = min n q
 tests (negsuc n) q = div_ceil q (n + 1)
@@ -55,17 +56,18 @@ tests (negsuc n) q = div_ceil q (n + 1)
 abbrev pub choice : Bool → List Record → Option ℕ
 choice lifo rs = option_map (λ r. r.id) (if lifo then last_of (idle_queue rs) else first_of (idle_queue rs))
 
--- the object that is examined next: the first idle one that was parked after the cursor, else the first idle one
+-- the object that is examined next: the first idle one that was parked after the cursor, otherwise the first idle one
 abbrev pub examined : Option ℕ → List Record → Option Record
 examined cursor rs = option_or (first_of (filter (is_after cursor) (idle_queue rs))) (first_of (idle_queue rs))
 
--- an idle object of a queue of q is evicted: it was idle too long, or so long that those go which needn't be kept
+-- an idle object in a queue of length q is evicted: it was idle longer than the limit, or longer than the soft limit while the
+-- queue exceeds the number to keep
 abbrev pub evicts : Settings → ℕ → ℕ → Record → Bool
 evicts S q at r =
     is_past S.min_evictable_idle_millis (at - r.since)
     || (is_past S.soft_min_evictable_idle_millis (at - r.since) && int_lt (effective_min_idle S) (pos q))
 
--- the lent objects that were not used for the timeout, by rising id; none where it is negative
+-- the lent objects that were not used for the timeout, in ascending order of id; none if the timeout is negative
 abbrev pub forgotten_for : ℤ → ℕ → List Record → List Record
 forgotten_for (pos timeout) at rs = overdue at timeout rs
 forgotten_for (negsuc _) at rs = []
@@ -73,24 +75,24 @@ forgotten_for (negsuc _) at rs = []
 abbrev pub forgotten : Settings → ℕ → List Record → List Record
 forgotten S at rs = forgotten_for S.remove_abandoned_timeout_millis at rs
 
--- fewer than two objects are in the queue, and the others are more than the greatest number of objects less 3
+-- fewer than two objects are in the queue, and the others number more than `max_total` less 3
 abbrev pub is_scarce : Settings → List Record → Bool
 is_scarce S rs = nat_lt (queue_length rs) 2 && is_nearly_full S.max_total (length rs - queue_length rs)
 
--- a removal takes something; one on a borrow only from an open pool, where idle objects and places are scarce
+-- a removal reclaims objects; on a borrow only from an open pool in which idle objects and places are scarce
 abbrev pub reclaims : Settings → Bool → List Record → When → Bool
 reclaims S shut rs times.Maintain = S.abandoned && S.remove_abandoned_on_maintenance
 reclaims S shut rs times.Borrow = S.abandoned && S.remove_abandoned_on_borrow && not shut && is_scarce S rs
 
--- there are as many objects in the queue, or on their way to it, as are to be kept
+-- the objects in the queue, or on their way to it, are at least the number to keep
 abbrev pub has_enough : Settings → List Record → Bool
 has_enough S rs = int_le (effective_min_idle S) (pos (queue_length rs + count_by (λ r. is_adding r.phase) rs))
 
--- the queue of an open pool takes one object more
+-- the queue of an open pool takes one more object
 abbrev pub has_room : Settings → Bool → List Record → Bool
 has_room S shut rs = not shut && is_below S.max_idle (queue_length rs)
 
--- no object can be made: a borrow waits until its time is up, or is refused at once
+-- no object can be made: a borrow waits until its time is up, or fails at once
 abbrev pub full_reply : Settings → ℕ → Answer
 full_reply S waited =
     if S.block_when_exhausted then (if has_reached S.max_wait_millis waited then answers.TimedOut else answers.Wait)
@@ -102,7 +104,7 @@ borrow_reply (Some i) room next full = answers.Take i
 borrow_reply None true next full = answers.Make next
 borrow_reply None false next full = full
 
--- what making an object ready came to; one that was taken from the queue was not made
+-- the outcome of making an object ready; one that was taken from the queue was not made
 abbrev pub readying_reply : Bool → Outcome → Answer
 readying_reply new outcomes.PassivateFailed = answers.Refused causes.BadOutcome
 readying_reply false outcomes.MakeFailed = answers.Refused causes.BadOutcome
@@ -115,14 +117,14 @@ abbrev pub ready_reply : Phase → Bool → Outcome → Answer
 ready_reply phases.Readying new o = readying_reply new o
 ready_reply _ new o = answers.Refused causes.NotHeld
 
--- what is done with a lent object; one that isn't present may have been reclaimed, where abandoned objects are removed
+-- a call for a lent object; one that isn't present may have been reclaimed, if abandoned objects are removed
 abbrev pub lent_reply : Bool → Phase → Answer → Answer
 lent_reply abandoned phases.Lent a = a
 lent_reply true phases.Absent a = answers.Gone
 lent_reply true phases.Gone a = answers.Gone
 lent_reply abandoned _ a = answers.Refused causes.NotLent
 
--- what checking a returned object came to
+-- the outcome of checking a returned object
 abbrev pub returning_reply : Outcome → Bool → Answer
 returning_reply outcomes.Good room = if room then answers.Parked else answers.Destroy
 returning_reply outcomes.TestFailed room = answers.Destroy
@@ -133,7 +135,7 @@ abbrev pub park_reply : Phase → Outcome → Bool → Answer
 park_reply phases.Returning o room = returning_reply o room
 park_reply _ o room = answers.Refused causes.NotHeld
 
--- what making an object for the queue came to
+-- the outcome of making an object for the queue
 abbrev pub adding_reply : Outcome → Bool → Answer
 adding_reply outcomes.ActivateFailed is_open = answers.Refused causes.BadOutcome
 adding_reply outcomes.TestFailed is_open = answers.Refused causes.BadOutcome
@@ -145,7 +147,7 @@ abbrev pub added_reply : Phase → Outcome → Bool → Answer
 added_reply phases.Adding o is_open = adding_reply o is_open
 added_reply _ o is_open = answers.Refused causes.NotHeld
 
--- what testing an idle object came to
+-- the outcome of testing an idle object
 abbrev pub testing_reply : Outcome → Bool → Answer
 testing_reply outcomes.MakeFailed is_open = answers.Refused causes.BadOutcome
 testing_reply outcomes.CreateTestFailed is_open = answers.Refused causes.BadOutcome
@@ -161,7 +163,7 @@ abbrev pub destroyed_reply : Phase → Answer
 destroyed_reply phases.Destroying = answers.Freed
 destroyed_reply _ = answers.Refused causes.NotHeld
 
--- an object is made for the queue, where there is a place
+-- an object is made for the queue, if there is a place
 abbrev pub add_reply : Bool → ℕ → Answer
 add_reply room next = if room then answers.Make next else answers.NoPlace
 
@@ -172,7 +174,7 @@ evict_next_reply S q at (Some r) =
     if evicts S q at r then answers.DestroyIdle r.id
     else (if S.test_while_idle then answers.Test r.id else answers.KeptIdle r.id)
 
--- an object is reclaimed, where abandoned ones are removed and there is one
+-- an object is reclaimed, if abandoned ones are removed and there is one
 abbrev pub reclaim_next_reply : Bool → Option Record → Answer
 reclaim_next_reply true (Some r) = answers.Reclaimed r.id
 reclaim_next_reply _ _ = answers.Nothing
@@ -182,7 +184,7 @@ abbrev pub clear_next_reply : Option Record → Answer
 clear_next_reply (Some r) = answers.DestroyIdle r.id
 clear_next_reply None = answers.Nothing
 
--- the answer that is due
+-- the expected answer
 abbrev pub reply : Settings → List Entry → ℕ → Input → Answer
 reply S J at (Borrow began) =
     if closed J then answers.Refused causes.Closed

@@ -1,4 +1,4 @@
--- What the pool answers to an input after entries that go on from a base: the same table, whose questions start from the base.
+-- What the pool answers to an input after entries that continue a base: the same table, whose queries start from the base.
 use Rattle.std.specs.Prelude.{ℕ, ◌-◌, not, ◌||◌, if◌then◌else◌, List, length}
 use Rattle.pool_journal.specs.declared.base.Base.{Base}
 use Rattle.pool_journal.specs.declared.entry.Entry.{Entry}
@@ -16,7 +16,7 @@ use Rattle.pool_core.specs.Reply.{is_below, tests, choice, examined, forgotten, 
 use Rattle.pool_core.specs.Reply.{borrow_reply, ready_reply, lent_reply, park_reply, added_reply, tested_reply, destroyed_reply}
 use Rattle.pool_core.specs.Reply.{add_reply, evict_next_reply, reclaim_next_reply, clear_next_reply}
 
--- the answer that is due after the entries J, which go on from the base b
+-- the expected answer after the entries J, which continue the base b
 abbrev pub reply_from : Settings → Base → List Entry → ℕ → Input → Answer
 reply_from S b J at (Borrow began) =
     if closed_from b J then answers.Refused causes.Closed

@@ -1,4 +1,4 @@
--- One step on what the pool keeps beside its journal.
+-- One step on the state of the pool apart from its journal.
 use Rattle.std.specs.Prelude.{◌≡◌, ℕ, ◌+◌, ◌<◌, ◌^◌, ◌||◌, Bool, true, false, List, Option, Some, unwrap_or, IsSome, IsSomeAnd, ⊤}
 use Rattle.std.specs.List.{AllByRecursion}
 use Rattle.pool_journal.specs.declared.record.Record.{Record}
@@ -20,7 +20,7 @@ use Rattle.pool_core.specs.Table.{table}
 use Rattle.pool_core.specs.declared.state.Moment.{Moment}
 use Rattle.pool_core.specs.declared.state.State.{State}
 
--- the records after a step, whoever the caller is
+-- the records after a step, by any caller
 abbrev pub known_after : Moment → Input → Answer → ℕ → List Record → List Record
 known_after now input answer next rs = stepped now.position (entry_of 0 now.at input answer) next rs
 
@@ -32,7 +32,7 @@ closed_after answer input shut = shut || is_closing answer input
 abbrev pub cursor_after : Answer → Input → List Record → Option ℕ → Option ℕ
 cursor_after answer input rs cursor = unwrap_or (place_known (examined_by answer input) rs) cursor
 
--- the new state has taken the step that the input asks for, with the answer that is due
+-- the new state has taken the step that the input asks for, with the expected answer
 pub record TakesStep {T : Type 0} (now : Moment) (input : Input) (old new : State T) (answer : Answer) : Type 0 where
   pub due : answer ≡ table old.settings (records_in old.places.kept) old.next old.closed old.cursor now.at input
   pub known : records_in new.places.kept ≡ known_after now input answer old.next (records_in old.places.kept)
@@ -47,8 +47,8 @@ pub record TakesStep {T : Type 0} (now : Moment) (input : Input) (old new : Stat
 abbrev pub AllStay : List Record → Type 0
 AllStay rs = AllByRecursion (λ r. stays r ≡ true) rs
 
--- what is known of the records and the next id before the entry at a position: each record is that of a present object, the
--- one that is found under its id, drawn before and parked before; and there are ids left
+-- what is known of the records and the next id before the entry at a position: each record is that of a present object, found
+-- under its id, created before and parked before; and there are ids left
 pub record IsBefore (position : ℕ) (rs : List Record) (next : ℕ) : Type 0 where
   pub stay : AllStay rs
   pub found : AllByRecursion (λ r. record_in rs r.id ≡ Some r) rs
@@ -78,14 +78,14 @@ comes_from _ _ = false
 abbrev pub MovesNamed : Input → Answer → List Record → Type 0
 MovesNamed input a rs = IsSomeAnd (id_of input) (λ i. IsSomeAnd (record_in rs i) (λ r. comes_from a r.phase ≡ true))
 
--- the object that the input names is idle from then on, with its value
+-- the object that the input names becomes idle, with its value
 abbrev pub keeps_value : Answer → Bool
 keeps_value answers.Parked = true
 keeps_value answers.Kept = true
 keeps_value _ = false
 
--- what an answer finds: an idle object that it takes, a lent one that it reclaims, the next id, or the object that the input
--- names, in a phase from which it moves it; and with the input a value, where the object keeps one
+-- what an answer needs: an idle object that it takes, a lent one that it reclaims, the next id, or the object that the input
+-- names, in a phase from which the answer moves it; and a value with the input, if the object keeps one
 abbrev pub Finds : Input → Answer → List Record → ℕ → Type 0
 Finds input (answers.Take i) rs next = IsInPhase rs i phases.Idle × (is_borrow input ≡ true)
 Finds input (answers.Test i) rs next = IsInPhase rs i phases.Idle × (carries input ≡ false)

@@ -1,4 +1,4 @@
--- The answers, read from what a journal comes to.
+-- The answers, read from the state after a journal.
 use Rattle.std.specs.Prelude.{ℕ, ◌-◌, Bool, false, not, ◌||◌, if◌then◌else◌, List, length, Option, Some, None}
 use Rattle.pool_journal.specs.declared.record.Record.{Record}
 use Rattle.pool_journal.specs.declared.input.Input.{Input}
@@ -27,7 +27,7 @@ abbrev pub new_of : Option Record → Bool
 new_of None = false
 new_of (Some r) = r.is_new
 
--- the answer, from the records, the next id, the closed mark and the cursor
+-- the answer, from the records, the next id, the closed flag and the cursor
 abbrev pub table : Settings → List Record → ℕ → Bool → Option ℕ → ℕ → Input → Answer
 table S rs next shut cursor at (Borrow began) =
     if shut then answers.Refused causes.Closed

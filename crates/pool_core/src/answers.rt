@@ -11,7 +11,7 @@ const NOT_HELD: Answer = Answer::Refused(Cause::NotHeld);
 
 const NOT_LENT: Answer = Answer::Refused(Cause::NotLent);
 
-// The answer to a borrow that has waited so many milliseconds, where there is nothing to have.
+// The answer to a borrow that has waited `waited` milliseconds, if there is no object for it.
 fn full_answer(settings: &Settings, waited: u64) -> Answer
     ensures { result ≡ full_reply settings.now waited }
 {
@@ -24,8 +24,8 @@ fn full_answer(settings: &Settings, waited: u64) -> Answer
     }
 }
 
-/// The answer to a borrow of an open pool that has waited so many milliseconds: `choice` is the
-/// object that it would take, `room` a free place, and `next` the next id.
+/// The answer to a borrow of an open pool that has waited `waited` milliseconds: `choice` is the object that it would
+/// take, `room` whether a place is free, and `next` the next id.
 pub fn borrow_answer(
     settings: &Settings,
     choice: Option<u64>,
@@ -42,7 +42,7 @@ pub fn borrow_answer(
     }
 }
 
-// The answer for an object that is being made ready.
+// The answer for an object in phase Readying.
 fn readying_answer(is_new: bool, outcome: Outcome) -> Answer
     ensures { result ≡ readying_reply is_new outcome }
 {
@@ -56,7 +56,7 @@ fn readying_answer(is_new: bool, outcome: Outcome) -> Answer
     }
 }
 
-/// The answer to what making an object ready came to.
+/// The answer to the outcome of making an object ready.
 pub fn ready_answer(phase: Phase, is_new: bool, outcome: Outcome) -> Answer
     ensures { result ≡ ready_reply phase is_new outcome }
 {
@@ -66,8 +66,8 @@ pub fn ready_answer(phase: Phase, is_new: bool, outcome: Outcome) -> Answer
     }
 }
 
-/// The answer to a return, an invalidation or a use: `answer` where the object is lent. With
-/// `abandoned`, an object that isn't present may have been reclaimed.
+/// The answer to a return, an invalidation or a use: `answer` if the object is lent. With `abandoned`, an object that
+/// isn't present may have been reclaimed.
 pub fn lent_answer(abandoned: bool, phase: Phase, answer: Answer) -> Answer
     ensures { result ≡ lent_reply abandoned phase answer }
 {
@@ -89,7 +89,7 @@ fn returning_answer(outcome: Outcome, room: bool) -> Answer
     }
 }
 
-/// The answer to what checking a returned object came to, with `room` in the queue.
+/// The answer to the outcome of checking a returned object, with `room` in the queue.
 pub fn park_answer(phase: Phase, outcome: Outcome, room: bool) -> Answer
     ensures { result ≡ park_reply phase outcome room }
 {
@@ -99,7 +99,7 @@ pub fn park_answer(phase: Phase, outcome: Outcome, room: bool) -> Answer
     }
 }
 
-/// The answer where an object is wanted in the queue, with `room` for one more in the pool.
+/// The answer if an object is to be made for the queue, with `room` for one more in the pool.
 pub fn add_answer(room: bool, next: u64) -> Answer
     ensures { result ≡ add_reply room next }
 {
@@ -122,7 +122,7 @@ fn adding_answer(outcome: Outcome, is_open: bool) -> Answer
     }
 }
 
-/// The answer to what making an object for the queue came to.
+/// The answer to the outcome of making an object for the queue.
 pub fn added_answer(phase: Phase, outcome: Outcome, is_open: bool) -> Answer
     ensures { result ≡ added_reply phase outcome is_open }
 {
@@ -132,7 +132,7 @@ pub fn added_answer(phase: Phase, outcome: Outcome, is_open: bool) -> Answer
     }
 }
 
-// Whether an idle object of a queue of so many is evicted at the moment `at` (milliseconds).
+// Whether an idle object in a queue of length `queue` is evicted at time `at` (milliseconds).
 fn is_evicted(settings: &Settings, queue: u64, at: u64, known: Record) -> bool
     ensures { result ≡ evicts settings.now queue at known }
 {
@@ -142,8 +142,8 @@ fn is_evicted(settings: &Settings, queue: u64, at: u64, known: Record) -> bool
             && is_more_than(queue, settings.effective_min_idle())
 }
 
-/// The answer to the next step of an eviction run at the moment `at` (milliseconds), over the idle
-/// object that is examined, in a queue of so many.
+/// The answer to the next step of an eviction run at time `at` (milliseconds), for the idle object `examined`, in a
+/// queue of length `queue`.
 pub fn evict_next_answer(
     settings: &Settings,
     queue: u64,
@@ -171,7 +171,7 @@ fn testing_answer(outcome: Outcome, is_open: bool) -> Answer
     }
 }
 
-/// The answer to what an idle test came to.
+/// The answer to the outcome of an idle test.
 pub fn tested_answer(phase: Phase, outcome: Outcome, is_open: bool) -> Answer
     ensures { result ≡ tested_reply phase outcome is_open }
 {
@@ -181,7 +181,7 @@ pub fn tested_answer(phase: Phase, outcome: Outcome, is_open: bool) -> Answer
     }
 }
 
-/// The answer to the word that an object was destroyed.
+/// The answer to the report that an object was destroyed.
 pub fn destroyed_answer(phase: Phase) -> Answer
     ensures { result ≡ destroyed_reply phase }
 {

@@ -18,7 +18,7 @@ fn named_by(input: Input) -> u64
     id_in(input).unwrap()
 }
 
-// The phase in which an object begins that is made for an input.
+// The first phase of an object that is made for an input.
 fn begins_as(input: Input) -> Phase
     ensures { result ≡ (if is_borrow input then phases.Readying else phases.Adding) }
 {
@@ -28,7 +28,7 @@ fn begins_as(input: Input) -> Phase
     }
 }
 
-// The value that was taken, where none was handed in.
+// The value that was taken; none was passed in.
 fn taken<T>(handed: Option<T>, value: T) -> Option<T>
     requires { handed ≡ None }
     ensures { result ≡ Some value }
@@ -43,7 +43,7 @@ impl<T> State<T> {
     ghost use Rattle.pool_core.specs.Steps.{TakesStep, IsBefore, MovesNamed, Finds, known_after, cursor_after, keeps_value};
     ghost use Rattle.pool_core.specs.Kept.{Hands, Keeps, SameValues};
 
-    // The object that the input names comes to where the answer brings it, without a value.
+    // Moves the object that the input names to the phase that the answer gives it, without a value.
     fn bring(&mut self, now: Moment, input: Input, answer: Answer)
         requires before { IsBefore now.position (records_in self.old.places.kept) self.old.next }
         requires moves { MovesNamed input answer (records_in self.old.places.kept) }
@@ -64,8 +64,8 @@ impl<T> State<T> {
         }
     }
 
-    // The object that the input names is idle, with its value: one under an idle test where it was in
-    // the queue, another at the end.
+    // Makes the object that the input names idle, with its value: after an idle test at its position in the queue,
+    // otherwise at the end.
     fn keep(&mut self, now: Moment, input: Input, answer: Answer, value: T)
         requires before { IsBefore now.position (records_in self.old.places.kept) self.old.next }
         requires moves { MovesNamed input answer (records_in self.old.places.kept) }
@@ -83,7 +83,7 @@ impl<T> State<T> {
         }
     }
 
-    // Does what the answer says of the objects and their values.
+    // Applies the answer to the objects and their values.
     fn move_object(
         &mut self,
         now: Moment,
@@ -124,7 +124,7 @@ impl<T> State<T> {
         }
     }
 
-    // Where the next eviction step goes on.
+    // The position after which the next eviction step continues.
     fn cursor_after(&self, input: Input, answer: Answer) -> Option<u64>
         ensures { result
             ≡ cursor_after answer input (records_in self.now.places.kept) self.now.cursor }
@@ -138,7 +138,7 @@ impl<T> State<T> {
         }
     }
 
-    // Finds out when a lent object was last used at the earliest, where abandoned ones are removed.
+    // If abandoned objects are removed, finds the earliest time at which a lent object was last used.
     fn look_for_abandoned(&mut self, at: u64)
         ensures { self.new ≡ self.old }
     {
@@ -148,7 +148,7 @@ impl<T> State<T> {
         }
     }
 
-    // Remembers where an eviction run goes on, and what a removal that found nothing has learned.
+    // Stores where an eviction run continues, and what a removal that found nothing has learned.
     fn remember(&mut self, at: u64, input: Input, answer: Answer)
         ensures { self.new ≡ self.old }
     {
@@ -163,8 +163,8 @@ impl<T> State<T> {
         }
     }
 
-    /// Does what the answer says, for which a place is reserved where an object is made. The value
-    /// is the one that was handed in; what comes out is handed out.
+    /// Applies the answer. If it makes an object, a place is reserved for it. `value` is the value passed in; the
+    /// result is the value returned.
     pub fn apply(
         &mut self,
         now: Moment,

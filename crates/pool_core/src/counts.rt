@@ -8,7 +8,7 @@ ghost use Rattle.pool_places.specs.Shelf.{records_in};
 use crate::state::State;
 use pool_stats::Counts;
 
-/// What so many entries tell of, counted from what the pool keeps.
+/// The counts after `steps` entries, computed from the pool's state.
 pub(crate) fn counts_behind<T>(state: &State<T>, steps: u64) -> Counts
     requires here { AllByRecursion (λ r. is_present r.phase ≡ true) (records_in state.now.places.kept) }
     ensures { result ≡ counts_at (base_in state.now steps) }

@@ -38,7 +38,7 @@ impl<T> State<T> {
         }
     }
 
-    // Whether there is a place for one object more.
+    // Whether there is a place for one more object.
     fn has_free_place(&self) -> bool
         ensures { result
             ≡ is_below self.now.settings.max_total (length (records_in self.now.places.kept)) }
@@ -46,7 +46,7 @@ impl<T> State<T> {
         is_below_limit(self.settings.max_total, self.places.present() as u64)
     }
 
-    // Whether the queue takes one object more.
+    // Whether the queue takes one more object.
     fn takes_one_more(&self) -> bool
         ensures { result
             ≡ has_room self.now.settings self.now.closed (records_in self.now.places.kept) }
@@ -54,7 +54,7 @@ impl<T> State<T> {
         !self.closed && is_below_limit(self.settings.max_idle, self.places.queued() as u64)
     }
 
-    // Whether there are as many objects in the queue, or on their way to it, as are to be kept.
+    // Whether the objects in the queue, or on their way to it, are at least the number to keep.
     fn is_filled(&self) -> bool
         ensures { result ≡ has_enough self.now.settings (records_in self.now.places.kept) }
     {
@@ -94,7 +94,8 @@ impl<T> State<T> {
         self.places.counts().idle
     }
 
-    // Whether fewer than two objects are idle, and at most two could still be made.
+    // Whether fewer than two objects are in the queue, and the others number more than `max_total` less 3 (always, if
+    // it is negative).
     fn is_scarce(&self) -> bool
         ensures { result ≡ is_scarce self.now.settings (records_in self.now.places.kept) }
     {
@@ -102,7 +103,7 @@ impl<T> State<T> {
         counts.queue < 2 && is_near_limit(self.settings.max_total, counts.present - counts.queue)
     }
 
-    /// Whether a removal of abandoned objects takes any.
+    /// Whether a removal of abandoned objects reclaims any.
     pub fn removes(&self, on: When) -> bool
         ensures { result
             ≡ reclaims self.now.settings self.now.closed (records_in self.now.places.kept) on }
@@ -119,7 +120,7 @@ impl<T> State<T> {
         }
     }
 
-    // How many lent objects were not used for the timeout, at the moment `at` (milliseconds).
+    // How many lent objects were not used for the timeout, at time `at` (milliseconds).
     fn count_forgotten(&self, at: u64) -> u64
         ensures { result ≡
             length (forgotten self.now.settings at (records_in self.now.places.kept)) }
@@ -130,7 +131,7 @@ impl<T> State<T> {
         }
     }
 
-    // The answer that reclaims the first of them.
+    // The answer that reclaims the first of them, if any.
     fn reclaim_next(&self, at: u64) -> Answer
         ensures { result ≡ reclaim_next_reply self.now.settings.abandoned
             (first_of (forgotten self.now.settings at (records_in self.now.places.kept))) }
@@ -145,7 +146,7 @@ impl<T> State<T> {
         }
     }
 
-    // The answer that destroys the idle object that was parked first.
+    // The answer that destroys the idle object that was parked first, if any.
     fn clear_next(&self) -> Answer
         ensures { result
             ≡ clear_next_reply (first_of (idle_queue (records_in self.now.places.kept))) }
@@ -156,7 +157,7 @@ impl<T> State<T> {
         }
     }
 
-    // The answer to a call of an object: `answer` where it is lent.
+    // The answer to a call for an object: `answer` if it is lent.
     fn answer_if_lent(&self, id: u64, answer: Answer) -> Answer
         ensures { result ≡ lent_reply self.now.settings.abandoned
             (phase_of (record_in (records_in self.now.places.kept) id)) answer }
@@ -164,7 +165,7 @@ impl<T> State<T> {
         lent_answer(self.settings.abandoned, self.look(id).0, answer)
     }
 
-    // The answer to a borrow that began at a moment (milliseconds).
+    // The answer, at time `at`, to a borrow that began at time `began` (milliseconds).
     fn decide_borrow(&self, at: u64, began: u64) -> Answer
         ensures { result ≡ table self.now.settings (records_in self.now.places.kept)
             self.now.next self.now.closed self.now.cursor at (Input.Borrow began) }
@@ -181,7 +182,7 @@ impl<T> State<T> {
         )
     }
 
-    // The answer where an object is wanted in the queue, with a place for it or none.
+    // The answer if an object is to be made for the queue, whether or not a place is free.
     fn add_one(&self) -> Answer
         ensures { result ≡ add_reply (is_below self.now.settings.max_total
             (length (records_in self.now.places.kept))) self.now.next }
@@ -208,7 +209,7 @@ impl<T> State<T> {
         evict_next_answer(&self.settings, queue, at, self.examine())
     }
 
-    /// The answer that is due to an input at a moment (milliseconds).
+    /// The expected answer to `input` at time `at` (milliseconds).
     pub fn decide(&self, at: u64, input: Input) -> Answer
         ensures { result ≡ table self.now.settings (records_in self.now.places.kept)
             self.now.next self.now.closed self.now.cursor at input }

@@ -1,28 +1,28 @@
 ghost use Rattle.std.specs.Prelude.{◌≡◌, ◌-◌, ◌^◌, int_le, int_lt, min, pos};
 ghost use Rattle.pool_core.specs.Reply.{is_below, has_reached, is_past, is_nearly_full, tests};
 
-/// Whether `n` is below a limit, where a negative one is none.
+/// Whether `n` is below a limit; a negative limit is no limit.
 pub fn is_below_limit(limit: i32, n: u64) -> bool
     ensures { result ≡ is_below limit n }
 {
     limit < 0 || n < limit as u64
 }
 
-/// Whether a limit in milliseconds is reached, where a negative one is none.
+/// Whether a limit in milliseconds is reached; a negative limit is no limit.
 pub fn has_reached_limit(limit: i64, millis: u64) -> bool
     ensures { result ≡ has_reached limit millis }
 {
     limit >= 0 && millis >= limit as u64
 }
 
-/// Whether a limit in milliseconds is passed, where one that isn't positive is none.
+/// Whether a limit in milliseconds is exceeded; a limit that isn't positive is no limit.
 pub fn is_past_limit(limit: i64, millis: u64) -> bool
     ensures { result ≡ is_past limit millis }
 {
     limit > 0 && millis > limit as u64
 }
 
-/// Whether `n` is more than a limit less 3, where a negative limit is none and it always is.
+/// Whether `n` is more than a limit less 3; always, if the limit is negative.
 pub fn is_near_limit(limit: i32, n: u64) -> bool
     ensures { result ≡ is_nearly_full limit n }
 {
@@ -43,8 +43,8 @@ pub fn is_more_than(n: u64, least: i32) -> bool
     least < 0 || n > least as u64
 }
 
-/// How many tests an eviction run makes on a queue: `number`, or a part of the queue where it is
-/// negative, rounded up.
+/// How many tests an eviction run makes on a queue of length `queue`: `number`, but at most `queue`; if `number` is
+/// negative, `queue` divided by its absolute value, rounded up.
 pub fn number_of_tests(number: i32, queue: u64) -> u64
     ensures { result ≡ tests number queue }
 {
@@ -56,7 +56,8 @@ pub fn number_of_tests(number: i32, queue: u64) -> u64
     }
 }
 
-/// How many entries may stand behind `first` others: no more than the limit, and so many that all are fewer than 2^63.
+/// How many entries may come after `first` others: at most the limit, and at most so that all together are fewer than
+/// 2^63.
 pub fn limit_behind(limit: u64, first: u64) -> u64
     ensures { result ≡ min limit (2 ^ 63 - 1 - first) }
 {

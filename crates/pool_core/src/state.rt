@@ -2,25 +2,25 @@ use pool_places::Places;
 use pool_settings::Settings;
 use pool_stats::Ended;
 
-/// Where in the journal and when a step is taken.
+/// The position in the journal and the time (milliseconds) of a step.
 #[derive(Clone, Copy)]
 pub struct Moment {
     pub position: u64,
     pub at: u64,
 }
 
-/// What the pool keeps beside its journal.
+/// The state of the pool apart from its journal.
 #[derive(Drop)]
 pub struct State<T> {
     pub settings: Settings,
     pub places: Places<T>,
-    /// The id that is drawn next.
+    /// The next id to allocate.
     pub next: u64,
     pub closed: bool,
-    /// Where the object was parked that the last eviction step examined.
+    /// The position at which the object was parked that the last eviction step examined.
     pub cursor: Option<u64>,
-    /// How many entries at most are still needed to close the pool and to end what was begun.
+    /// The number of outstanding entries: the most that may still be needed to free every place and close the pool.
     pub owed: u64,
-    /// How many objects are at an end.
+    /// How many objects were destroyed, evicted and reclaimed.
     pub ended: Ended,
 }

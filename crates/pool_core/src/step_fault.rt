@@ -1,8 +1,8 @@
-/// Why a step was refused, with the value that was handed in. Nothing has changed.
+/// Why a step failed, with the value that was passed in. The pool is unchanged.
 #[derive(Drop)]
 pub enum StepFault<T> {
     /// The entry would take the journal past its limit.
     JournalFull(Option<T>),
-    /// Memory was wanting.
+    /// An allocation failed.
     OutOfMemory(Option<T>),
 }
