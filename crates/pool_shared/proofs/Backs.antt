@@ -1,4 +1,4 @@
--- The entries of a return.
+-- The trace of a return.
 use Rattle.std.proofs.Common.{◌≡◌, ℕ, false, true≢false, List, [], Option, None, Err, append-nil, refl, sym, ap, ◌∙◌, subst}
 use Rattle.pool_journal.specs.Journal.{phase}
 use Rattle.pool_journal.specs.declared.entry.Entry.{Entry}
@@ -23,7 +23,7 @@ use Rattle.pool_shared.specs.Returns.{gives, checks, destroys, done, MayComeOut,
 use Rattle.pool_shared.proofs.Walking.{walk_one, walk_on}
 use Rattle.pool_shared.proofs.Rowing.{full_for, short_for}
 
--- an object that came back is destroyed
+-- a returned object is destroyed
 pub destroyed : (s : Settings) (i : ℕ) (o : Outcome) (a : Answer) (before mid after : Standing) → MayComeOut s o → a ≡ answers.Destroy → Makes (Park i o) a before mid → Makes (Destroyed i) answers.Freed mid after
     → Goes_on s i checks before after (done returned.Destroyed)
 destroyed s i o a before mid after may is made freed =
@@ -36,7 +36,7 @@ not_lent s at i seen unfinished lent =
     let due : reply s seen at (GiveBack i) ≡ answers.Check = ap (λ (p : Phase). lent_reply s.abandoned p answers.Check) lent in
     true≢false (sym (ap (λ a. finishes a (GiveBack i)) due) ∙ unfinished)
 
--- a return that was refused for want of room
+-- a return that failed for lack of room
 pub full_row : {T : Type 0} (s : Settings) (number : ℕ) (l : Lent T) (f : StepFault T) (out : Option T) (before after : Standing) → f ≡ JournalFull out → l.pool ≡ number → Refuses s (GiveBack l.id) None f before after
     → ReturnRow s number l (Err (faults.JournalFull, l)) before after
 full_row s number l f out before after is pool refuses =
@@ -45,7 +45,7 @@ full_row s number l f out before after is pool refuses =
       record { es = []; made = refuses.same ∙ sym (append-nil before.made); due = tt; ends = tt; leaves = (full, not_lent s full.0 l.id after.seen full.1.unfinished) },
     )
 
--- so for want of memory
+-- the same for lack of memory
 pub short_row : {T : Type 0} (s : Settings) (number : ℕ) (l : Lent T) (f : StepFault T) (out : Option T) (before after : Standing) → f ≡ OutOfMemory out → l.pool ≡ number → Refuses s (GiveBack l.id) None f before after
     → ReturnRow s number l (Err (faults.OutOfMemory, l)) before after
 short_row s number l f out before after is pool refuses =

@@ -1,4 +1,4 @@
--- The entries of an eviction run.
+-- The trace of an eviction run.
 use Rattle.std.proofs.Common.{◌≡◌, false, true≢false, ℕ, suc, ◌+◌, ◌-◌, ◌<◌, ◌≤◌, Option, None, Some, Ok, Err, refl, sym, subst, arith}
 use Rattle.pool_journal.specs.declared.input.Input.{Input}
 use Rattle.pool_journal.specs.declared.input.Input.TheVariants.{EvictNext, Tested, Destroyed}
@@ -41,7 +41,7 @@ rejected i left run o x a b c can is made freed =
     (step (tests i left run) (destroys i left run) (Tested i o) x answers.Destroy a b is made (λ n at. (refl, can)) (λ n at. refl))
     (step (destroys i left run) (examines left (one_gone run)) (Destroyed i) answers.Freed answers.Freed b c refl freed (λ n at. refl) (λ n at. refl))
 
--- an object is destroyed as it lies
+-- an object is destroyed without a test
 pub destroyed_idle : (i left : ℕ) (run : EvictRun) (x : Answer) (a b c : Standing) → 0 < left → x ≡ answers.DestroyIdle i → Makes EvictNext x a b → Makes (Destroyed i) answers.Freed b c
     → Goes_on (examines left run) a c (examines (left - 1) (one_gone (one_more run)))
 destroyed_idle i left run x a b c some is made freed =
@@ -76,14 +76,14 @@ spared : (a : Answer) → finishes a EvictNext ≡ false → IsSpared a
 spared (answers.DestroyIdle i) is = absurd (true≢false is)
 spared _ is = tt
 
--- an EvictNext was refused
+-- an EvictNext failed
 pub stops_full : {T : Type 0} (s : Settings) (f : StepFault T) (out : Option T) (b c : Standing) → f ≡ JournalFull out → Refuses s EvictNext None f b c → IsStopped s faults.JournalFull c
 stops_full s f out b c is refuses = let full = full_for s EvictNext f out b c is refuses in (full.0, full.1, spared (reply s c.seen full.0 EvictNext) full.1.unfinished)
 
 pub stops_short : {T : Type 0} (s : Settings) (f : StepFault T) (out : Option T) (b c : Standing) → f ≡ OutOfMemory out → Refuses s EvictNext None f b c → IsStopped s faults.OutOfMemory c
 stops_short s f out b c is refuses = let short = short_for s EvictNext f out b c is refuses in (short.0, short.1, spared (reply s c.seen short.0 EvictNext) short.1.unfinished)
 
--- a run that stopped at a fault
+-- a run that stopped with an error
 pub stopped : (s : Settings) (count left : ℕ) (run : EvictRun) (f : PoolFault) (a b c : Standing) → 0 < left → Goes_on (examines count none_yet) a b (examines left run) → c.made ≡ b.made → IsStopped s f c
     → EvictsFrom s (examines count none_yet) (Err f) a c
 stopped s count left run f a b c some w same room =
@@ -95,7 +95,7 @@ pub all_examined : (s : Settings) (count left : ℕ) (run : EvictRun) (a b : Sta
 all_examined s count left run a b none w ends =
     row_at evicts.Due evicts.next (EvictEnds s) (examines count none_yet) (examines 0 run) (Ok run) a b (subst (λ k. Goes_on (examines count none_yet) a b (examines k run)) none w) (refl, ends)
 
--- a run that found no object any more
+-- a run that found no more objects
 pub out_of_objects : (s : Settings) (count left : ℕ) (run : EvictRun) (o : Option Fate) (a b c : Standing) → o ≡ None → Goes_on (examines count none_yet) a b (examines left run) → Goes_on (examines left run) b c (after_one left run o) → EndsWithMade c
     → EvictsFrom s (examines count none_yet) (Ok run) a c
 out_of_objects s count left run o a b c is w one ends =

@@ -1,4 +1,4 @@
--- What a borrower may rely on follows from the laws of what it has seen.
+-- What a borrower may rely on follows from the safety properties of what it has observed.
 use Rattle.std.proofs.Common.{◌≡◌, ◌<◌, ℕ, zero, suc, true, List, [], ◌∷◌, ◌++◌, length, slice_get, Some, Result, Ok, Err, eq-eqb, refl, sym, subst, arith}
 use Rattle.std.specs.Prelude.{IfOk}
 use Rattle.pool_journal.specs.Journal.{lends, phase}
@@ -22,7 +22,7 @@ use Rattle.pool_shared.specs.Promises.{IsAlone}
 use Rattle.pool_shared.specs.Walks.{Ends}
 use Rattle.pool_shared.proofs.Sweeping.{goes_self}
 
--- an element of the front of a list stands there in the list
+-- an element of a prefix of a list has the same position in the list
 front_has : {A : Type 0} (front rest : List A) (k : ℕ) (x : A) → slice_get front k ≡ Some x → (slice_get (front ++ rest) k ≡ Some x) × (k < length front)
 front_has [] rest k x at = absurd (cc at)
 front_has (y ∷ ys) rest zero x at = (at, omega arith)
@@ -48,10 +48,10 @@ pub alone_of : {T E : Type 0} (s : Settings) (number began : ℕ) (from : Stage)
 alone_of s number began from (Ok l) before after goes made = alone s l.id after goes.legal made.leaves
 alone_of s number began from (Err f) before after goes made = tt
 
--- no more objects are present in what is seen than the settings allow
+-- at most as many objects are present in what is observed as the settings allow
 pub within : (s : Settings) (before after : Standing) → Goes s before after → AtMostMaxTotal s after.seen
 within s before after goes = (keeps_laws s after.seen goes.legal).at_most_max_total
 
--- a caller that was not touched
+-- a caller without a step
 pub untouched : (table : TableId) (s : Settings) (id : TableId) (n : ℕ) (v : View) (me : Standing) → IsCaller table s id n v → standing n v ≡ me → Goes s me me
 untouched table s id n v me known is = subst (λ (t : Standing). Goes s t t) is (goes_self s (standing n v) record { legal = known.legal; tended = known.tended; all = known.all })

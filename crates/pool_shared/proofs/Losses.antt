@@ -1,4 +1,4 @@
--- The entries of an invalidation.
+-- The trace of an invalidation.
 use Rattle.std.proofs.Common.{◌≡◌, ℕ, false, true≢false, List, [], Option, None, Err, append-nil, sym, ap, ◌∙◌}
 use Rattle.pool_journal.specs.Journal.{phase}
 use Rattle.pool_journal.specs.declared.entry.Entry.{Entry}
@@ -23,7 +23,7 @@ not_lent s at i seen unfinished lent =
     let due : reply s seen at (Invalidate i) ≡ answers.Destroy = ap (λ (p : Phase). lent_reply s.abandoned p answers.Destroy) lent in
     true≢false (sym (ap (λ a. finishes a (Invalidate i)) due) ∙ unfinished)
 
--- an invalidation that was refused for want of room
+-- an invalidation that failed for lack of room
 pub full_row : {T : Type 0} (s : Settings) (number : ℕ) (l : Lent T) (f : StepFault T) (out : Option T) (before after : Standing) → f ≡ JournalFull out → l.pool ≡ number → Refuses s (Invalidate l.id) None f before after
     → InvalidateRow s number l (Err (faults.JournalFull, l)) before after
 full_row s number l f out before after is pool refuses =
@@ -32,7 +32,7 @@ full_row s number l f out before after is pool refuses =
       record { es = []; made = refuses.same ∙ sym (append-nil before.made); due = tt; ends = tt; leaves = (full, not_lent s full.0 l.id after.seen full.1.unfinished) },
     )
 
--- so for want of memory
+-- the same for lack of memory
 pub short_row : {T : Type 0} (s : Settings) (number : ℕ) (l : Lent T) (f : StepFault T) (out : Option T) (before after : Standing) → f ≡ OutOfMemory out → l.pool ≡ number → Refuses s (Invalidate l.id) None f before after
     → InvalidateRow s number l (Err (faults.OutOfMemory, l)) before after
 short_row s number l f out before after is pool refuses =

@@ -1,4 +1,4 @@
--- The entries of a removal of abandoned objects.
+-- The trace of a removal of abandoned objects.
 use Rattle.std.proofs.Common.{◌≡◌, Bool, true, false, true≢false, Option, None, Some, ℕ, suc, ◌+◌, ◌-◌, ◌<◌, Result, Ok, Err, refl, sym, subst, arith}
 use Rattle.pool_journal.specs.declared.input.Input.TheVariants.{Reclaim, ReclaimNext}
 use Rattle.pool_journal.specs.declared.input.When.{When}
@@ -22,7 +22,7 @@ use Rattle.pool_shared.specs.Reclaims.{Stage, begins, reclaims, through, Goes_on
 use Rattle.pool_shared.proofs.Walking.{walk_one, walk_on}
 use Rattle.pool_shared.proofs.Rowing.{row_at, row_on, row_stopped, full_for, short_for}
 
--- an object was taken away
+-- an object was reclaimed
 pub took_away : (time : When) (count left taken i : ℕ) (x : Answer) (a b c : Standing) → 0 < left → Goes_on time (reclaims count 0) a b (reclaims left taken) → x ≡ answers.Reclaimed i → Makes ReclaimNext x b c
     → Goes_on time (reclaims count 0) a c (reclaims (left - 1) (taken + 1))
 took_away time count left taken i x a b c some w is made =
@@ -40,7 +40,7 @@ none_abandoned s time count left taken x a b c some w is made ends =
     (walk_one Due removals.next (reclaims left taken) (through taken) ReclaimNext answers.Nothing b c (subst (λ y. Makes ReclaimNext y b c) is made) (λ n at. (some, refl)) (λ n at. refl)))
     (refl, ends)
 
--- a removal that went over all of its objects
+-- a removal that reclaimed up to its full number
 pub all_taken : (s : Settings) (time : When) (count left taken : ℕ) (a b : Standing) → left ≡ 0 → taken ≡ count → Goes_on time (reclaims count 0) a b (reclaims left taken) → EndsWithMade b → ReclaimsFrom s time (reclaims count 0) (Ok count) a b
 all_taken s time count left taken a b none all w ends =
     row_at (removals.Due time) removals.next (ReclaimEnds s time) (reclaims count 0) (reclaims 0 taken) (Ok count) a b (subst (λ k. Goes_on time (reclaims count 0) a b (reclaims k taken)) none w) (sym all, ends)
@@ -50,7 +50,7 @@ takes_none true (Some r) is = absurd (true≢false is)
 takes_none true None is = refl
 takes_none false o is = refl
 
--- a ReclaimNext was refused, when it would have taken nothing
+-- a ReclaimNext failed that would have reclaimed nothing
 none_there : (s : Settings) (at : ℕ) (me : Standing) → finishes (reply s me.seen at ReclaimNext) ReclaimNext ≡ false → reply s me.seen at ReclaimNext ≡ answers.Nothing
 none_there s at me unfinished = takes_none s.abandoned (first_of (forgotten s at (records me.seen))) unfinished
 
@@ -60,7 +60,7 @@ stops_full s f out b c is refuses = let full = full_for s ReclaimNext f out b c 
 pub stops_short : {T : Type 0} (s : Settings) (f : StepFault T) (out : Option T) (b c : Standing) → f ≡ OutOfMemory out → Refuses s ReclaimNext None f b c → IsStopped s faults.OutOfMemory c
 stops_short s f out b c is refuses = let short = short_for s ReclaimNext f out b c is refuses in (short.0, short.1, none_there s short.0 c short.1.unfinished)
 
--- a removal that stopped at a fault
+-- a removal that stopped with an error
 pub stopped : (s : Settings) (time : When) (count left taken : ℕ) (f : PoolFault) (a b c : Standing) → 0 < left → Goes_on time (reclaims count 0) a b (reclaims left taken) → c.made ≡ b.made → IsStopped s f c
     → ReclaimsFrom s time (reclaims count 0) (Err f) a c
 stopped s time count left taken f a b c some w same room =

@@ -1,4 +1,4 @@
--- The entries of a removal at the start of a borrow.
+-- The trace of a removal at the start of a borrow.
 use Rattle.std.proofs.Common.{◌≡◌, ℕ, zero, suc, ◌<◌, Bool, true, if◌then◌else◌, Result, Ok, Err, refl, sym, ap, subst, arith}
 use Rattle.pool_journal.specs.declared.entry.Entry.{Entry}
 use Rattle.pool_journal.specs.declared.input.When.TheVariants as times
@@ -19,7 +19,7 @@ use Rattle.pool_shared.specs.Reclaims.{ReclaimEnds, ReclaimRow}
 use Rattle.pool_shared.proofs.Walking.{finishes, finishes_on}
 use Rattle.pool_shared.proofs.Rowing.{walk_of, walk_along}
 
--- where a borrow stands that removes abandoned objects
+-- the stage of a borrow that removes abandoned objects
 as_borrow : removals.Stage → Stage
 as_borrow removals.begins = removes
 as_borrow (removals.reclaims left taken) = reclaiming left
@@ -54,7 +54,7 @@ module _ (s : Settings) (began : ℕ) where
   goes_too (removals.through taken) e due = absurd due
   goes_too (removals.refused a) e due = absurd due
 
-  -- a borrow whose removal made a row
+  -- a borrow whose removal has a trace
   along : (r : Result ℕ PoolFault) (a b : Standing) (row : ReclaimRow s times.Borrow r a b) → Goes_on s began removes a b (as_borrow (walked removals.next removals.begins row.es))
   unfolding as_borrow
   along r a b row =
@@ -69,7 +69,7 @@ module _ (s : Settings) (began : ℕ) where
   over (removals.reclaims (suc left) taken) n me ends = absurd ends
   over _ n me ends = absurd ends
 
-  -- a removal that is through
+  -- a removal that is complete
   pub removed : (n : ℕ) (a b : Standing) → ReclaimRow s times.Borrow (Ok n) a b → Goes_on s began removes a b asks
   removed n a b row = subst (λ st. Goes_on s began removes a b st) (over (walked removals.next removals.begins row.es) n b row.ends) (along (Ok n) a b row)
 
@@ -89,7 +89,7 @@ module _ (s : Settings) (began : ℕ) where
   short_there T E number (removals.reclaims (suc left) taken) me ends = (tt, (ends.0, ends.1))
   short_there T E number _ me ends = absurd ends
 
-  -- a removal that was refused
+  -- a removal that failed
   pub removal_full : {T E : Type 0} (number : ℕ) (f : PoolFault) (a b : Standing) → f ≡ pool_faults.JournalFull → ReclaimRow s times.Borrow (Err f) a b → Finishes {T = T} {E = E} s number began removes (Err faults.JournalFull) a b
   removal_full {T} {E} number f a b is made =
       let row : ReclaimRow s times.Borrow (Err pool_faults.JournalFull) a b = subst (λ x. ReclaimRow s times.Borrow (Err x) a b) is made in

@@ -1,4 +1,4 @@
--- The entries of additions, and of a fill.
+-- The trace of additions, and of a fill.
 use Rattle.std.proofs.Common.{◌≡◌, ℕ, ◌+◌, ◌^◌, ◌<◌, ◌≤◌, ◌==◌, Bool, false, List, [], ◌∷◌, length, Option, None, Result, Ok, Err, length-append, refl, sym, ap, ◌∙◌, subst, arith}
 use Rattle.std.specs.Prelude.{not, OnOk}
 use Rattle.std.proofs.lemmas.List.Filters.{length-filter_both}
@@ -37,7 +37,7 @@ stocked_leaves s input (Err (faults.PassivateFailed f)) me is ends = ends
 stocked_leaves s input (Err faults.JournalFull) me is ends = absurd is
 stocked_leaves s input (Err faults.OutOfMemory) me is ends = absurd is
 
--- the pool was closed before the new object could lie idle
+-- the pool was closed before the new object could become idle
 pub shut_out : (s : Settings) (i : ℕ) (a : Answer) (before mid after : Standing) → a ≡ answers.Destroy → Makes (Added i outcomes.Good) a before mid → Makes (Destroyed i) answers.Freed mid after
     → addition.Goes_on s (makes i) before after (addition.gone outcomes.Good)
 shut_out s i a before mid after is made freed =
@@ -45,7 +45,7 @@ shut_out s i a before mid after is made freed =
     (walk_one (addition.Due s) addition.next (makes i) (addition.destroys i outcomes.Good) (Added i outcomes.Good) answers.Destroy before mid (subst (λ b. Makes (Added i outcomes.Good) b before mid) is made) (λ n at. (refl, tt)) (λ n at. refl))
     (walk_one (addition.Due s) addition.next (addition.destroys i outcomes.Good) (addition.gone outcomes.Good) (Destroyed i) answers.Freed mid after freed (λ n at. refl) (λ n at. refl))
 
--- it is then in the caller's hands, to be destroyed
+-- the caller then owns it, and has to destroy it
 pub has_shut_out : (i : ℕ) (a : Answer) (before after : Standing) → a ≡ answers.Destroy → Makes (Added i outcomes.Good) a before after → (new : Bool) × HasInHand after i phases.Destroying new
 has_shut_out i a before after is made =
     let m : Makes (Added i outcomes.Good) answers.Destroy before after = subst (λ b. Makes (Added i outcomes.Good) b before after) is made in
@@ -86,12 +86,12 @@ module _ (s : Settings) (n : ℕ) where
       (walk_one (fills.Due s) fills.next (asks n) (adds n (makes i)) Fill (answers.Make i) before mid (subst (λ b. Makes Fill b before mid) is made) (λ m at. refl) (λ m at. refl))
       (walk_within (makes i) (ending r) mid after w)) ends
 
-  -- a turn that was refused for want of room
+  -- a turn that failed for lack of room
   pub full_turn : {T E : Type 0} (f : StepFault T) (out : Option T) (before after : Standing) → f ≡ JournalFull out → Refuses s Fill None f before after → Turns {E = E} s n (Err faults.JournalFull) before after
   full_turn f out before after is refuses =
       record { to = asks n; made = walk_none (fills.Due s) fills.next (asks n) before after refuses.same; ends = tt; leaves = full_for s Fill f out before after is refuses }
 
-  -- so for want of memory
+  -- the same for lack of memory
   pub short_turn : {T E : Type 0} (f : StepFault T) (out : Option T) (before after : Standing) → f ≡ OutOfMemory out → Refuses s Fill None f before after → Turns {E = E} s n (Err faults.OutOfMemory) before after
   short_turn f out before after is refuses =
       record { to = asks n; made = walk_none (fills.Due s) fills.next (asks n) before after refuses.same; ends = tt; leaves = short_for s Fill f out before after is refuses }
@@ -131,7 +131,7 @@ reached_walked : (stage : Stage) (es : List Entry) → reached (walked fills.nex
 reached_walked stage [] = omega arith
 reached_walked stage (e ∷ es) = omega (arith, reached_next stage e, reached_walked (fills.next stage e) es)
 
--- a fill has parked no more than it made entries
+-- a fill has parked at most as many as it appended entries
 pub few_parked : (s : Settings) (n : ℕ) (first now : Standing) → Goes_on s (asks 0) first now (asks n) → n ≤ length now.made
 unfolding reached
 few_parked s n first now w =
@@ -141,7 +141,7 @@ few_parked s n first now w =
 own_within : (n : ℕ) (J : List Entry) → length (own n J) ≤ length J
 own_within n J = omega (arith, length-filter_both (λ (e : Entry). e.caller == n) (λ e. not (e.caller == n)) (λ e. refl) J)
 
--- one entry more than a caller has made is seen
+-- the entries that a caller has appended, and one more, are fewer than 2^64
 pub few_made : (s : Settings) (input : Input) (a : Answer) (before after : Standing) → Makes input a before after → Goes s before after → length after.seen < 2 ^ 64 → length before.made + 1 < 2 ^ 64
 few_made s input a before after made goes few =
     let e = entry_of before.number made.0 input a in
@@ -152,7 +152,7 @@ pub either_way : {A E : Type 0} (r : Result A E) (n : ℕ) → n + 1 < 2 ^ 64 �
 either_way (Ok a) n few = few
 either_way (Err f) n few = tt
 
--- what a fill keeps, which has parked so many: the number that it tells
+-- the invariant of a fill that has parked this many: the number that it returns
 abbrev pub IsFilling : Settings → ℕ → Standing → Standing → Type 0
 IsFilling s told first now = (n : ℕ) × (told ≡ n) × Goes_on s (asks 0) first now (asks n)
 

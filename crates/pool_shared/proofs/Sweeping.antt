@@ -1,4 +1,4 @@
--- The entries of a sweep over idle objects.
+-- The trace of a sweep over idle objects.
 use Rattle.std.proofs.Common.{◌≡◌, ℕ, zero, suc, ◌+◌, ◌-◌, ◌<◌, Bool, true, false, true≢false, if◌then◌else◌, List, [], ◌∷◌, length, Option, None, Some, Result, Ok, Err, refl, sym, ◌∙◌, subst, arith}
 use Rattle.pool_journal.specs.Journal.{closed, records}
 use Rattle.pool_journal.specs.Queue.{idle_queue, first_of}
@@ -62,7 +62,7 @@ stops : (o : Option Record) → finishes (clear_next_reply o) ClearNext ≡ fals
 stops None is = refl
 stops (Some r) is = absurd (true≢false is)
 
--- a ClearNext that finishes nothing finds none
+-- a ClearNext that isn't completing finds none
 pub none_idle : (s : Settings) (at : ℕ) (me : Standing) → finishes (reply s me.seen at ClearNext) ClearNext ≡ false → NoneIdle me
 none_idle s at me unfinished = none_first (idle_queue (records me.seen)) (stops (first_of (idle_queue (records me.seen))) unfinished)
 
@@ -70,11 +70,11 @@ shut : (b : Bool) (n : ℕ) → finishes (if b then answers.Nothing else answers
 shut true n is = refl
 shut false n is = absurd (true≢false is)
 
--- a Close that finishes nothing finds the pool closed
+-- a Close that isn't completing finds the pool closed
 pub was_closed : (s : Settings) (at : ℕ) (me : Standing) → finishes (reply s me.seen at Close) Close ≡ false → closed me.seen ≡ true
 was_closed s at me unfinished = shut (closed me.seen) (length (idle_queue (records me.seen))) unfinished
 
--- a sweep whose next section was refused, when it would have found no object
+-- a sweep whose next critical section failed, when it would have found no object
 stopped : (s : Settings) (first : Input) (count left taken : ℕ) (f : PoolFault) (a b c : Standing) → 0 < left → Goes_on first (sweeps count 0) a b (sweeps left taken)
     → c.made ≡ b.made → IsRoomFault s ClearNext f c → NoneIdle c → Sweeps s first count (Err (taken, f)) a c
 stopped s first count left taken f a b c some w same room none =
@@ -120,7 +120,7 @@ close_over s (sweeps zero taken) n me over ends = (over.1, ends)
 close_over s (sweeps (suc left) taken) n me over ends = let none : suc left ≡ 0 = over.0 in absurd (omega (arith, none))
 close_over s _ n me over ends = absurd over
 
--- a clear that is through
+-- a clear that is complete
 pub cleared : (s : Settings) (n taken : ℕ) (a : Answer) (b c d : Standing) → a ≡ answers.Count n → Makes Clear a b c → Sweeps s Clear n (Ok taken) c d → EndsWithMade d → ClearRow s (Ok taken) b d
 cleared s n taken a b c d is made swept ends =
     clear_from s (Ok taken) swept.0 b d (walk_on (clears.Due Clear) clears.next begins (sweeps n 0) swept.0 b c d (begun Clear n a b c is made) swept.1) (clear_over s swept.0 taken d swept.2 ends)
@@ -137,7 +137,7 @@ pub shut_down_part : (s : Settings) (n taken : ℕ) (f : PoolFault) (a : Answer)
 shut_down_part s n taken f a b c d is made swept =
     close_from s (Ok taken) (sweeps (suc swept.0) taken) b d (walk_on (clears.Due Close) clears.next begins (sweeps n 0) (sweeps (suc swept.0) taken) b c d (begun Close n a b c is made) swept.1) (refl, (f, swept.2), swept.3)
 
--- where the first section was refused
+-- if the first critical section failed
 pub clear_full : {T : Type 0} (s : Settings) (f : StepFault T) (out : Option T) (b c : Standing) → f ≡ JournalFull out → Refuses s Clear None f b c → ClearRow s (Err faults.JournalFull) b c
 clear_full s f out b c is refuses =
     clear_from s (Err faults.JournalFull) begins b c (walk_none (clears.Due Clear) clears.next begins b c refuses.same) (full_for s Clear f out b c is refuses)

@@ -1,4 +1,4 @@
--- What maintenance made, from its three parts.
+-- The trace of maintenance, from its three parts.
 use Rattle.std.proofs.Common.{◌≡◌, ℕ, Result, Ok, Err, IsErrAnd, sym, subst}
 use Rattle.pool_journal.specs.declared.input.When.TheVariants as times
 use Rattle.pool_settings.specs.declared.settings.Settings.{Settings}

@@ -1,4 +1,4 @@
--- Entries that lead on, one after the other.
+-- Traces, one after the other.
 use Rattle.std.proofs.Common.{◌≡◌, ℕ, List, [], ◌∷◌, ◌++◌, Result, append_assoc, append-nil, refl, sym, ap, ◌∙◌, subst}
 use Rattle.pool_journal.specs.declared.entry.Entry.{Entry}
 use Rattle.pool_journal.specs.declared.input.Input.{Input}
@@ -60,7 +60,7 @@ ends_of input answer before after same made =
       last_seen = made.1.ends ∙ ap (λ n. made.1.found ++ e n) (sym same);
     }
 
--- what a borrow made up to a stage at which it has its result
+-- the trace of a borrow up to a stage at which it has its result
 pub finishes : {T E : Type 0} (s : Settings) (number began : ℕ) (from to : Stage) (result : Result (Lent T) (BorrowFault E)) (before after : Standing)
     → Goes_on s began from before after to → IsResult number to result → Leaves s began to result after → Finishes s number began from result before after
 finishes s number began from to result before after w is leaves =
@@ -85,7 +85,7 @@ asked_on s began a first now after w made =
     walk_on (borrows.Due s began) borrows.next asks asks (after_asking a) first now after w
     (walk_one (borrows.Due s began) borrows.next asks (after_asking a) (Borrow began) a now after made (λ n at. refl) (λ n at. refl))
 
--- a caller comes from what it was, whatever it has seen and made since
+-- the same caller at a later time, whatever it has observed and appended since
 pub record ComesFrom (first now : Standing) : Type 0 where
   pub number : now.number ≡ first.number
   pub later : Begins first.seen now.seen
@@ -110,7 +110,7 @@ pub waited : (s : Settings) (began : ℕ) (a : Answer) (first now after : Standi
 waited s began a first now after is come w goes made =
     (comes_on s first now after come goes, subst (λ b. Goes_on s began asks first after (after_asking b)) is (asked_on s began a first now after w made))
 
--- a borrow that asked and was refused for want of room or memory
+-- a borrow that asked and failed for lack of room or memory
 pub refused_on : (s : Settings) (began : ℕ) (first now after : Standing) → Goes_on s began asks first now asks → after.made ≡ now.made → Goes_on s began asks first after asks
 refused_on s began first now after w same =
     walk_on (borrows.Due s began) borrows.next asks asks asks first now after w (walk_none (borrows.Due s began) borrows.next asks now after same)
@@ -139,6 +139,6 @@ is_found began (answers.Refused causes.Closed) it other = tt
 is_found began (answers.Refused _) it other = absurd it
 is_found began _ it other = absurd it
 
--- a value that is lent names the object that its last entry lends
+-- a lent value names the object that its last entry lends
 pub lent_ends : (i j : ℕ) (me : Standing) → j ≡ i → Ends (Ready i outcomes.Good) answers.Lent me → Ends (Ready j outcomes.Good) answers.Lent me
 lent_ends i j me is ends = subst (λ k. Ends (Ready k outcomes.Good) answers.Lent me) (sym is) ends

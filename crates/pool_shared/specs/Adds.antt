@@ -1,4 +1,4 @@
--- The sections of an addition.
+-- The critical sections of an addition.
 use Rattle.std.specs.Prelude.{◌≡◌, ℕ, true, Result, Ok, Err}
 use Rattle.pool_journal.specs.declared.entry.Entry.{Entry}
 use Rattle.pool_journal.specs.declared.input.Input.{Input}
@@ -19,7 +19,8 @@ use Rattle.pool_shared.specs.declared.adding.Unfit.{Unfit}
 use Rattle.pool_shared.specs.declared.adding.Unfit.TheVariants as unfit
 use Rattle.pool_shared.specs.Walks.{Walks, EndsWithMade}
 
--- where an addition stands: it asks for a place; it makes an object; it destroys one, which came out so; it has parked one; the object is gone again, which came out so; it was refused
+-- the stage of an addition: it asks for a place; it makes an object; it destroys one, with this outcome; it has parked one; the
+-- object is gone again, with this outcome; it ended with this answer
 pub data Stage : Type 0 where
   asks : Stage
   makes : ℕ → Stage
@@ -44,7 +45,7 @@ next (makes i) e = after_making i e.input e.answer
 next (destroys i o) e = gone o
 next stage e = stage
 
--- how making can come out: the first test fails only where it is set
+-- the possible outcomes of making: the first test fails only if it is set
 abbrev pub MayComeOut : Settings → Outcome → Type 0
 MayComeOut s outcomes.Good = Unit {0}
 MayComeOut s outcomes.MakeFailed = Unit {0}
@@ -56,7 +57,7 @@ abbrev pub IsMade : Settings → ℕ → Input → Type 0
 IsMade s i (Added j o) = (j ≡ i) × MayComeOut s o
 IsMade s i _ = ⊥
 
--- the input that is next
+-- the next input
 abbrev pub Due : Settings → Stage → Entry → Type 0
 Due s asks e = e.input ≡ Add
 Due s (makes i) e = IsMade s i e.input
@@ -66,13 +67,13 @@ Due s _ e = ⊥
 abbrev pub Goes_on : Settings → Stage → Standing → Standing → Stage → Type 0
 Goes_on s from before after to = Walks (Due s) next from before after to
 
--- where an addition stands that nothing failed in
+-- the stage of an addition in which nothing failed
 abbrev pub shelved : Addition → Stage
 shelved additions.Idle = parked
 shelved additions.Destroyed = gone outcomes.Good
 shelved additions.NoPlace = refused answers.NoPlace
 
--- where an addition stands that answers this; where it asks, that section was refused
+-- the stage of an addition with this result; if it asks, that critical section failed
 abbrev pub ending : {E : Type 0} → Result Addition (AddFault E) → Stage
 ending (Ok a) = shelved a
 ending (Err faults.Closed) = refused (answers.Refused causes.Closed)
@@ -82,23 +83,24 @@ ending (Err (faults.PassivateFailed f)) = gone outcomes.PassivateFailed
 ending (Err faults.JournalFull) = asks
 ending (Err faults.OutOfMemory) = asks
 
--- what is seen then: the last entry at its end, or, where the section was refused, a journal in which its entry doesn't fit, or does, as the fault says
+-- what is observed then: the last entry at the end, or, if the critical section failed, a journal in which its entry doesn't fit,
+-- or does, as the error says
 abbrev pub Leaves : {A E : Type 0} → Settings → Input → Result A (AddFault E) → Standing → Type 0
 Leaves s input (Err faults.JournalFull) me = IsFullFor s input me
 Leaves s input (Err faults.OutOfMemory) me = IsShortFor s input me
 Leaves s input _ me = EndsWithMade me
 
--- what an addition made
+-- the trace of an addition
 abbrev pub AddRow : {E : Type 0} → Settings → Result Addition (AddFault E) → Standing → Standing → Type 0
 AddRow s result before after = Goes_on s asks before after (ending result) × Leaves s Add result after
 
--- the faults of the factory are from the calls that they are told of
+-- the factory's errors are from the calls that they report
 abbrev pub IsAddFaultFrom : {E : Type 0} → (E → Type 0) → (E → Type 0) → AddFault E → Type 0
 IsAddFaultFrom make passivate (faults.MakeFailed f) = make f
 IsAddFaultFrom make passivate (faults.PassivateFailed f) = passivate f
 IsAddFaultFrom make passivate _ = Unit {0}
 
--- why a made object can't lie idle: its first test, which is set, or the factory's fault
+-- why a made object can't become idle: its first test, which is set, or the factory's error
 abbrev pub IsWhyUnfit : {E : Type 0} → Settings → (E → Type 0) → Unfit E → Type 0
 IsWhyUnfit s passivate unfit.Test = s.test_on_create ≡ true
 IsWhyUnfit s passivate (unfit.Passivate f) = passivate f

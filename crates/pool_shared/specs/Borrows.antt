@@ -1,4 +1,4 @@
--- The sections of a borrow.
+-- The critical sections of a borrow.
 use Rattle.std.specs.Prelude.{◌≡◌, ℕ, zero, suc, ◌-◌, if◌then◌else◌, Bool, true, false, List, ◌++◌, Option, Some, None, Result, Ok, Err}
 use Rattle.pool_journal.specs.declared.entry.Entry.{Entry}
 use Rattle.pool_journal.specs.declared.input.Input.{Input}
@@ -20,7 +20,8 @@ use Rattle.pool_history.specs.Answers.{IsAnswerTo}
 use Rattle.pool_desk.specs.Sections.{IsFullFor, IsShortFor}
 use Rattle.pool_shared.specs.Walks.{walked, AllDue, Walks, Ends, EndsWithMade}
 
--- where a borrow stands: it removes abandoned objects; it goes over so many; it asks; it readies an object, which it made or took; it destroys one, which came out so; it has lent one; it failed; it was refused
+-- the stage of a borrow: it removes abandoned objects; it reclaims up to this number; it asks; it makes an object ready, a new
+-- one or one that it took; it destroys one, with this outcome; it has lent one; it failed; it ended with this answer
 pub data Stage : Type 0 where
   removes : Stage
   reclaims : ℕ → Stage
@@ -31,7 +32,7 @@ pub data Stage : Type 0 where
   failed : Outcome → Stage
   refused : Answer → Stage
 
--- a removal of so many; of none it is through
+-- a removal of up to this number; with 0 it is complete
 abbrev pub reclaiming : ℕ → Stage
 reclaiming zero = asks
 reclaiming (suc n) = reclaims (suc n)
@@ -70,7 +71,8 @@ next (readies i new) e = after_readying i new e.input e.answer
 next (destroys i new o) e = after_destroying new o
 next stage e = stage
 
--- how readying can come out: a made object alone can fail to be made or fail its first test, and a test fails only where it is set
+-- the possible outcomes of making ready: only a new object can fail to be made or fail its first test, and a test fails only if
+-- it is set
 abbrev pub MayComeOut : Settings → Bool → Outcome → Type 0
 MayComeOut s new outcomes.Good = Unit {0}
 MayComeOut s new outcomes.MakeFailed = new ≡ true
@@ -83,7 +85,7 @@ abbrev pub IsReady : Settings → ℕ → Bool → Input → Type 0
 IsReady s i new (Ready j o) = (j ≡ i) × MayComeOut s new o
 IsReady s i new _ = ⊥
 
--- the input that is next
+-- the next input
 abbrev pub Due : Settings → ℕ → Stage → Entry → Type 0
 Due s began removes e = e.input ≡ Reclaim times.Borrow
 Due s began (reclaims left) e = e.input ≡ ReclaimNext
@@ -95,13 +97,13 @@ Due s began _ e = ⊥
 abbrev pub Goes_on : Settings → ℕ → Stage → Standing → Standing → Stage → Type 0
 Goes_on s began from before after to = Walks (Due s began) next from before after to
 
--- a section was refused
+-- a critical section failed
 abbrev pub IsRoomFault : {E : Type 0} → BorrowFault E → Type 0
 IsRoomFault faults.JournalFull = Unit {0}
 IsRoomFault faults.OutOfMemory = Unit {0}
 IsRoomFault _ = ⊥
 
--- what a borrow answers that stands there; where it removes or asks, its next section was refused
+-- the result of a borrow at this stage; if it removes or asks, its next critical section failed
 abbrev pub IsResult : {T E : Type 0} → ℕ → Stage → Result (Lent T) (BorrowFault E) → Type 0
 IsResult number (lent i) (Ok l) = (l.pool ≡ number) × (l.id ≡ i)
 IsResult number (refused (answers.Refused causes.Closed)) (Err faults.Closed) = Unit {0}
@@ -116,21 +118,22 @@ IsResult number (reclaims left) (Err f) = IsRoomFault f
 IsResult number asks (Err f) = IsRoomFault f
 IsResult number _ _ = ⊥
 
--- the section that was next there was refused so
+-- the next critical section failed for this reason
 abbrev pub IsRefusedThere : (Settings → Input → Standing → Type 0) → Settings → ℕ → Stage → Standing → Type 0
 IsRefusedThere Why s began removes me = Why s (Reclaim times.Borrow) me
 IsRefusedThere Why s began (reclaims left) me = Why s ReclaimNext me
 IsRefusedThere Why s began asks me = Why s (Borrow began) me
 IsRefusedThere Why s began _ me = ⊥
 
--- what is seen then: the last entry at its end, which lends the object where there is one, or, where a section was refused, a journal in which its entry doesn't fit, or does, as the fault says
+-- what is observed then: the last entry at the end, which lends the object if there is one, or, if a critical section failed, a
+-- journal in which its entry doesn't fit, or does, as the error says
 abbrev pub Leaves : {T E : Type 0} → Settings → ℕ → Stage → Result (Lent T) (BorrowFault E) → Standing → Type 0
 Leaves s began stage (Ok l) me = Ends (Ready l.id outcomes.Good) answers.Lent me
 Leaves s began stage (Err faults.JournalFull) me = IsRefusedThere IsFullFor s began stage me
 Leaves s began stage (Err faults.OutOfMemory) me = IsRefusedThere IsShortFor s began stage me
 Leaves s began stage (Err _) me = EndsWithMade me
 
--- what a borrow made from one stage on, up to its result
+-- the trace of a borrow from one stage to its result
 pub record Finishes {T E : Type 0} (s : Settings) (number began : ℕ) (from : Stage) (result : Result (Lent T) (BorrowFault E)) (before after : Standing) : Type 0 where
   pub es : List Entry
   pub made : after.made ≡ before.made ++ es
@@ -138,41 +141,41 @@ pub record Finishes {T E : Type 0} (s : Settings) (number began : ℕ) (from : S
   pub ends : IsResult number (walked next from es) result
   pub leaves : Leaves s began (walked next from es) result after
 
--- where a borrow begins
+-- the first stage of a borrow
 abbrev pub start : Settings → Stage
 start s = if s.remove_abandoned_on_borrow then removes else asks
 
--- what a whole borrow made
+-- the trace of a whole borrow
 abbrev pub BorrowRow : {T E : Type 0} → Settings → ℕ → Result (Lent T) (BorrowFault E) → Standing → Standing → Type 0
 BorrowRow s number result before after = (began : ℕ) × Finishes s number began (start s) result before after
 
--- the value is active, and valid where that was tested
+-- the value is active, and valid if that was tested
 pub record IsLentWell {T : Type 0} (s : Settings) (active valid : T → Type 0) (value : T) : Type 0 where
   pub is_active : active value
   pub is_valid : s.test_on_borrow ≡ true → valid value
 
--- the faults of the factory are from the calls that they are told of
+-- the factory's errors are from the calls that they report
 abbrev pub IsFaultFrom : {E : Type 0} → (E → Type 0) → (E → Type 0) → BorrowFault E → Type 0
 IsFaultFrom make activate (faults.MakeFailed f) = make f
 IsFaultFrom make activate (faults.ActivateFailed f) = activate f
 IsFaultFrom make activate _ = Unit {0}
 
--- why an object didn't get ready: the factory's fault, or a test that is set
+-- why an object was not made ready: the factory's error, or a test that is set
 abbrev pub IsWhyUnready : {E : Type 0} → Settings → (E → Type 0) → Unready E → Type 0
 IsWhyUnready s activate (unready.Activate f) = activate f
 IsWhyUnready s activate unready.Test = s.test_on_borrow ≡ true
 
--- an object was found, or the borrow is refused
+-- an object was found, or the borrow ends with another answer than `Wait`
 abbrev pub IsFound : Answer → Type 0
 IsFound answers.Wait = ⊥
 IsFound a = IsAnswerTo (Borrow 0) a
 
--- where a borrow stands that took an object
+-- the stage of a borrow that took an object
 abbrev pub taken_to : {T : Type 0} → ℕ → Option (Lent T) → Stage
 taken_to i (Some l) = lent i
 taken_to i None = asks
 
--- how readying fails, of an object that was made or taken
+-- how making ready fails, for an object that was made or taken
 abbrev pub IsFailure : Settings → Bool → Outcome → Type 0
 IsFailure s new outcomes.Good = ⊥
 IsFailure s new outcomes.MakeFailed = ⊥

@@ -1,4 +1,4 @@
--- The sections of a clear and of a close.
+-- The critical sections of a clear and of a close.
 use Rattle.std.specs.Prelude.{◌≡◌, ℕ, zero, suc, ◌+◌, ◌-◌, ◌<◌, true, List, [], ◌++◌, Result, Ok, Err}
 use Rattle.pool_journal.specs.declared.entry.Entry.{Entry}
 use Rattle.pool_journal.specs.declared.input.Input.{Input}
@@ -14,7 +14,7 @@ use Rattle.pool_shared.specs.declared.faults.PoolFault.{PoolFault}
 use Rattle.pool_shared.specs.declared.faults.PoolFault.TheVariants as faults
 use Rattle.pool_shared.specs.Walks.{walked, AllDue, Walks, EndsWithMade}
 
--- where a clear stands: it begins; it goes over so many objects more, and took so many; it destroys one; it is through
+-- the stage of a clear: it begins; it destroys up to this many more objects, after this many; it destroys one; it is complete
 pub data Stage : Type 0 where
   begins : Stage
   sweeps : ℕ → ℕ → Stage
@@ -38,7 +38,7 @@ next (sweeps left taken) e = after_sweeping left taken e.answer
 next (destroys i left taken) e = sweeps left taken
 next stage e = stage
 
--- the input that is next, where it began with this one
+-- the next input, if it began with this one
 abbrev pub Due : Input → Stage → Entry → Type 0
 Due first begins e = e.input ≡ first
 Due first (sweeps left taken) e = (0 < left) × (e.input ≡ ClearNext)
@@ -52,29 +52,29 @@ Goes_on first from before after to = Walks (Due first) next from before after to
 abbrev pub NoneIdle : Standing → Type 0
 NoneIdle me = idle_queue (records me.seen) ≡ []
 
--- the next section was refused at this moment, for the fault that is told
+-- the next critical section failed at this time, with this error
 abbrev pub IsRoomFaultAt : Settings → Input → PoolFault → Standing → ℕ → Type 0
 IsRoomFaultAt s input faults.JournalFull me at = LacksRoom s input me at
 IsRoomFaultAt s input faults.OutOfMemory me at = LacksMemory s input me at
 IsRoomFaultAt s input faults.Closed me at = ⊥
 
--- so it was, at some moment
+-- it failed so at some time
 abbrev pub IsRoomFault : Settings → Input → PoolFault → Standing → Type 0
 IsRoomFault s input f me = (at : ℕ) × IsRoomFaultAt s input f me at
 
--- a sweep is over that stands there
+-- a sweep at this stage is complete
 abbrev pub IsOver : Stage → ℕ → Type 0
 IsOver (through taken) n = n ≡ taken
 IsOver (sweeps left taken) n = (left ≡ 0) × (n ≡ taken)
 IsOver _ n = ⊥
 
--- a sweep of so many: it is over, or a section was refused
+-- a sweep of up to this many objects: it is complete, or a critical section failed
 abbrev pub Sweeps : Settings → Input → ℕ → Result ℕ (ℕ × PoolFault) → Standing → Standing → Type 0
 Sweeps s first count (Ok n) before after = (to : Stage) × Goes_on first (sweeps count 0) before after to × IsOver to n
 Sweeps s first count (Err (n, f)) before after =
     (left : ℕ) × Goes_on first (sweeps count 0) before after (sweeps (suc left) n) × IsRoomFault s ClearNext f after × NoneIdle after
 
--- what a clear answers that stands there, and what is seen then
+-- the result of a clear at this stage, and what is observed then
 abbrev pub ClearEnds : Settings → Stage → Result ℕ PoolFault → Standing → Type 0
 ClearEnds s (through taken) (Ok n) me = (n ≡ taken) × EndsWithMade me
 ClearEnds s (sweeps zero taken) (Ok n) me = (n ≡ taken) × EndsWithMade me
@@ -82,7 +82,7 @@ ClearEnds s begins (Err f) me = IsRoomFault s Clear f me
 ClearEnds s (sweeps (suc left) taken) (Err f) me = IsRoomFault s ClearNext f me × NoneIdle me
 ClearEnds s _ _ me = ⊥
 
--- so for a close: a ClearNext that is refused ends it, for no object is idle then, and the first close is never refused
+-- the same for a close: a ClearNext that fails ends it, since no object is idle then, and the first close never fails
 abbrev pub CloseEnds : Settings → Stage → Result ℕ PoolFault → Standing → Type 0
 CloseEnds s (through taken) (Ok n) me = (n ≡ taken) × EndsWithMade me
 CloseEnds s (sweeps zero taken) (Ok n) me = (n ≡ taken) × EndsWithMade me
@@ -90,7 +90,7 @@ CloseEnds s (sweeps (suc left) taken) (Ok n) me = (n ≡ taken) × ((f : PoolFau
 CloseEnds s begins (Err f) me = IsRoomFault s Close f me × (closed me.seen ≡ true)
 CloseEnds s _ _ me = ⊥
 
--- what a clear made
+-- the trace of a clear
 pub record ClearRow (s : Settings) (result : Result ℕ PoolFault) (before after : Standing) : Type 0 where
   pub es : List Entry
   pub made : after.made ≡ before.made ++ es

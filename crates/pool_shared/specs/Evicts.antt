@@ -1,4 +1,4 @@
--- The sections of an eviction run.
+-- The critical sections of an eviction run.
 use Rattle.std.specs.Prelude.{◌≡◌, ℕ, zero, suc, ◌+◌, ◌-◌, ◌<◌, Option, None, Some, Result, Ok, Err}
 use Rattle.pool_journal.specs.declared.entry.Entry.{Entry}
 use Rattle.pool_journal.specs.declared.input.Input.{Input}
@@ -21,7 +21,8 @@ use Rattle.pool_shared.specs.Walks.{Walks, EndsWithMade}
 use Rattle.pool_shared.specs.Rows.{Row}
 use Rattle.pool_shared.specs.Clears.{IsRoomFault, IsRoomFaultAt}
 
--- where an eviction run stands: it begins; it examines so many objects more, after so many; it tests one; it destroys one; it is through; the pool is closed
+-- the stage of an eviction run: it begins; it examines up to this many more objects, with these counts; it tests one; it destroys
+-- one; it is complete; the pool is closed
 pub data Stage : Type 0 where
   begins : Stage
   examines : ℕ → EvictRun → Stage
@@ -34,11 +35,11 @@ pub data Stage : Type 0 where
 abbrev pub none_yet : EvictRun
 none_yet = record { examined = 0; destroyed = 0 }
 
--- one object more is examined
+-- one more object is examined
 abbrev pub one_more : EvictRun → EvictRun
 one_more run = record { examined = run.examined + 1; destroyed = run.destroyed }
 
--- one object more is destroyed
+-- one more object is destroyed
 abbrev pub one_gone : EvictRun → EvictRun
 one_gone run = record { examined = run.examined; destroyed = run.destroyed + 1 }
 
@@ -66,12 +67,12 @@ next (tests i left run) e = after_testing i left run e.answer
 next (destroys i left run) e = examines left (one_gone run)
 next stage e = stage
 
--- the outcome of a test is told
+-- the outcome of a test is reported
 abbrev pub IsTest : ℕ → Input → Type 0
 IsTest i (Tested j o) = (j ≡ i) × CanTest o
 IsTest i _ = ⊥
 
--- the input that is next
+-- the next input
 abbrev pub Due : Stage → Entry → Type 0
 Due begins e = e.input ≡ Evict
 Due (examines left run) e = (0 < left) × (e.input ≡ EvictNext)
@@ -87,11 +88,11 @@ abbrev pub IsSpared : Answer → Type 0
 IsSpared (answers.DestroyIdle i) = ⊥
 IsSpared a = Unit {0}
 
--- an EvictNext was refused at a moment at which it would have destroyed nothing
+-- an EvictNext failed at a time at which it would have destroyed nothing
 abbrev pub IsStopped : Settings → PoolFault → Standing → Type 0
 IsStopped s f me = (at : ℕ) × IsRoomFaultAt s EvictNext f me at × IsSpared (reply s me.seen at EvictNext)
 
--- what an eviction run answers that stands there, and what is seen then
+-- the result of an eviction run at this stage, and what is observed then
 abbrev pub EvictEnds : Settings → Stage → Result EvictRun PoolFault → Standing → Type 0
 EvictEnds s closed (Err faults.Closed) me = EndsWithMade me
 EvictEnds s (through run) (Ok r) me = (r ≡ run) × EndsWithMade me
@@ -100,24 +101,24 @@ EvictEnds s begins (Err f) me = IsRoomFault s Evict f me
 EvictEnds s (examines (suc left) run) (Err f) me = IsStopped s f me
 EvictEnds s _ _ me = ⊥
 
--- what an eviction run made from one stage on, up to its result
+-- the trace of an eviction run from one stage to its result
 abbrev pub EvictsFrom : Settings → Stage → Result EvictRun PoolFault → Standing → Standing → Type 0
 EvictsFrom s from result before after = Row Due next (EvictEnds s) from result before after
 
--- what a whole eviction run made
+-- the trace of a whole eviction run
 abbrev pub EvictRow : Settings → Result EvictRun PoolFault → Standing → Standing → Type 0
 EvictRow s result before after = EvictsFrom s begins result before after
 
--- what a run did, where the last object that it examined fared so
+-- the counts of a run, with this fate of the last object that it examined
 abbrev pub fared : EvictRun → Fate → EvictRun
 fared run fates.Kept = run
 fared run fates.Destroyed = one_gone run
 
--- where a run stands after a test
+-- the stage of a run after a test
 abbrev pub after_test : ℕ → EvictRun → Fate → Stage
 after_test left run fate = examines left (fared run fate)
 
--- where a run stands that examined one object, or found none
+-- the stage of a run that examined one object, or found none
 abbrev pub after_one : ℕ → EvictRun → Option Fate → Stage
 after_one left run (Some fate) = examines (left - 1) (fared (one_more run) fate)
 after_one left run None = through run
@@ -127,7 +128,7 @@ abbrev pub IsFailedTest : Outcome → Type 0
 IsFailedTest outcomes.Good = ⊥
 IsFailedTest o = CanTest o
 
--- how a value fails that is woken and tested
+-- how a value fails that is activated and tested
 abbrev pub IsUnfit : Outcome → Type 0
 IsUnfit outcomes.ActivateFailed = Unit {0}
 IsUnfit outcomes.TestFailed = Unit {0}

@@ -1,4 +1,4 @@
--- The sections of a fill.
+-- The critical sections of a fill.
 use Rattle.std.specs.Prelude.{◌≡◌, ℕ, ◌+◌, Result, Ok, Err}
 use Rattle.pool_journal.specs.declared.entry.Entry.{Entry}
 use Rattle.pool_journal.specs.declared.input.Input.TheVariants.{Fill}
@@ -16,7 +16,8 @@ use Rattle.pool_shared.specs.Walks.{Walks, EndsWithMade}
 use Rattle.pool_shared.specs.Adds as addition
 use Rattle.pool_shared.specs.Adds.{Leaves}
 
--- where a fill stands that has parked so many: it asks for a place; an addition goes on; it is through; an object failed, which came out so
+-- the stage of a fill that has parked this many: it asks for a place; it makes an addition; it is complete; an object failed,
+-- with this outcome
 pub data Stage : Type 0 where
   asks : ℕ → Stage
   adds : ℕ → addition.Stage → Stage
@@ -24,7 +25,8 @@ pub data Stage : Type 0 where
   failed : Outcome → Stage
   lost : Stage
 
--- where it stands with an addition: an object that lies idle counts, one that found the pool closed doesn't, and the first that fails ends it
+-- its stage with an addition: an object that becomes idle counts, one that found the pool closed doesn't, and the first that
+-- fails ends it
 abbrev pub adding : ℕ → addition.Stage → Stage
 adding n addition.parked = asks (n + 1)
 adding n (addition.gone outcomes.Good) = asks n
@@ -42,7 +44,7 @@ next (asks n) e = after_asking n e.answer
 next (adds n stage) e = adding n (addition.next stage e)
 next stage e = stage
 
--- the input that is next
+-- the next input
 abbrev pub Due : Settings → Stage → Entry → Type 0
 Due s (asks n) e = e.input ≡ Fill
 Due s (adds n stage) e = addition.Due s stage e
@@ -51,44 +53,44 @@ Due s _ e = ⊥
 abbrev pub Goes_on : Settings → Stage → Standing → Standing → Stage → Type 0
 Goes_on s from before after to = Walks (Due s) next from before after to
 
--- a section was refused
+-- a critical section failed
 abbrev pub IsRoomFault : {E : Type 0} → AddFault E → Type 0
 IsRoomFault faults.JournalFull = Unit {0}
 IsRoomFault faults.OutOfMemory = Unit {0}
 IsRoomFault _ = ⊥
 
--- the fault of an object that is gone again: the first thing that failed
+-- the error of an object that is gone again: the first thing that failed
 abbrev pub IsFaultOf : {E : Type 0} → Outcome → AddFault E → Type 0
 IsFaultOf outcomes.MakeFailed (faults.MakeFailed f) = Unit {0}
 IsFaultOf outcomes.CreateTestFailed faults.CreateTestFailed = Unit {0}
 IsFaultOf outcomes.PassivateFailed (faults.PassivateFailed f) = Unit {0}
 IsFaultOf _ _ = ⊥
 
--- what a fill answers that stands there; where it asks, that section was refused
+-- the result of a fill at this stage; if it asks, that critical section failed
 abbrev pub IsResult : {E : Type 0} → Stage → Result ℕ (AddFault E) → Type 0
 IsResult (through n) (Ok told) = told ≡ n
 IsResult (failed o) (Err f) = IsFaultOf o f
 IsResult (asks n) (Err f) = IsRoomFault f
 IsResult _ _ = ⊥
 
--- what a fill made from one stage on, up to its result
+-- the trace of a fill from one stage to its result
 pub record Finishes {E : Type 0} (s : Settings) (from : Stage) (result : Result ℕ (AddFault E)) (before after : Standing) : Type 0 where
   pub to : Stage
   pub made : Goes_on s from before after to
   pub ends : IsResult to result
   pub leaves : Leaves s Fill result after
 
--- what a whole fill made
+-- the trace of a whole fill
 abbrev pub FillRow : {E : Type 0} → Settings → Result ℕ (AddFault E) → Standing → Standing → Type 0
 FillRow s result before after = Finishes s (asks 0) result before after
 
--- where a fill stands after one turn: there was no place, or none was missing, or it goes on
+-- the stage of a fill after one turn: there was no place, or none was missing, or it continues
 abbrev pub turned : ℕ → Addition → Stage
 turned n additions.Idle = asks (n + 1)
 turned n additions.Destroyed = asks n
 turned n additions.NoPlace = through n
 
--- what a fill made in one turn
+-- the trace of one turn of a fill
 abbrev pub Turns : {E : Type 0} → Settings → ℕ → Result Addition (AddFault E) → Standing → Standing → Type 0
 Turns s n (Ok a) before after = Goes_on s (asks n) before after (turned n a) × EndsWithMade after
 Turns s n (Err f) before after = Finishes s (asks n) (Err f) before after

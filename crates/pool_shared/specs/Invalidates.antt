@@ -1,4 +1,4 @@
--- The sections of an invalidation.
+-- The critical sections of an invalidation.
 use Rattle.std.specs.Prelude.{◌≡◌, ◌≢◌, ℕ, List, ◌++◌, Result, Ok, Err}
 use Rattle.pool_journal.specs.Journal.{phase}
 use Rattle.pool_journal.specs.declared.entry.Entry.{Entry}
@@ -17,7 +17,7 @@ use Rattle.pool_shared.specs.declared.faults.Returned.TheVariants as returned
 use Rattle.pool_shared.specs.declared.lent.Lent.{Lent}
 use Rattle.pool_shared.specs.Walks.{walked, AllDue, Walks, EndsWithMade}
 
--- where an invalidation stands: it begins; it destroys the object; it is through; it was refused
+-- the stage of an invalidation: it begins; it destroys the object; it is complete; it ended with this answer
 pub data Stage : Type 0 where
   begins : Stage
   destroys : Stage
@@ -34,7 +34,7 @@ next begins e = after_beginning e.answer
 next destroys e = done returned.Destroyed
 next stage e = stage
 
--- the input that is next
+-- the next input
 abbrev pub Due : ℕ → Stage → Entry → Type 0
 Due i begins e = e.input ≡ Invalidate i
 Due i destroys e = e.input ≡ Destroyed i
@@ -43,7 +43,7 @@ Due i _ e = ⊥
 abbrev pub Goes_on : ℕ → Stage → Standing → Standing → Stage → Type 0
 Goes_on i from before after to = Walks (Due i) next from before after to
 
--- what an invalidation answers that stands there; where it begins, that section was refused
+-- the result of an invalidation at this stage; if it begins, that critical section failed
 abbrev pub IsResult : {T : Type 0} → Stage → Result Returned (ReturnFault × Lent T) → Type 0
 IsResult (done r) (Ok q) = q ≡ r
 IsResult (refused (answers.Refused causes.NotLent)) (Err (faults.NotLent, l)) = Unit {0}
@@ -51,13 +51,13 @@ IsResult begins (Err (faults.JournalFull, l)) = Unit {0}
 IsResult begins (Err (faults.OutOfMemory, l)) = Unit {0}
 IsResult _ _ = ⊥
 
--- what is seen then: the last entry at its end, or, where the section was refused, a journal in which the object isn't lent
+-- what is observed then: the last entry at the end, or, if the critical section failed, a journal in which the object isn't lent
 abbrev pub Leaves : {T : Type 0} → Settings → ℕ → Result Returned (ReturnFault × Lent T) → Standing → Type 0
 Leaves s i (Err (faults.JournalFull, l)) me = IsFullFor s (Invalidate i) me × (phase i me.seen ≢ phases.Lent)
 Leaves s i (Err (faults.OutOfMemory, l)) me = IsShortFor s (Invalidate i) me × (phase i me.seen ≢ phases.Lent)
 Leaves s i _ me = EndsWithMade me
 
--- what an invalidation made, up to its result
+-- the trace of an invalidation to its result
 pub record Finishes {T : Type 0} (s : Settings) (i : ℕ) (result : Result Returned (ReturnFault × Lent T)) (before after : Standing) : Type 0 where
   pub es : List Entry
   pub made : after.made ≡ before.made ++ es
@@ -65,7 +65,7 @@ pub record Finishes {T : Type 0} (s : Settings) (i : ℕ) (result : Result Retur
   pub ends : IsResult (walked next begins es) result
   pub leaves : Leaves s i result after
 
--- what a whole invalidation made; nothing, exactly where the object is of another pool
+-- the trace of a whole invalidation; it is empty exactly if the object is of another pool
 abbrev pub InvalidateRow : {T : Type 0} → Settings → ℕ → Lent T → Result Returned (ReturnFault × Lent T) → Standing → Standing → Type 0
 InvalidateRow s number l (Err (faults.ForeignObject, m)) before after = (l.pool ≢ number) × (after ≡ before)
 InvalidateRow s number l result before after = (l.pool ≡ number) × Finishes s l.id result before after

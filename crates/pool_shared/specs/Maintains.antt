@@ -1,4 +1,4 @@
--- What maintenance made.
+-- The trace of maintenance.
 use Rattle.std.specs.Prelude.{◌≡◌, ℕ, Result, Ok, Err}
 use Rattle.pool_journal.specs.declared.input.When.TheVariants as times
 use Rattle.pool_settings.specs.declared.settings.Settings.{Settings}
@@ -12,31 +12,31 @@ use Rattle.pool_shared.specs.Evicts.{EvictRow}
 use Rattle.pool_shared.specs.Reclaims.{ReclaimRow}
 use Rattle.pool_shared.specs.Fills.{FillRow}
 
--- a fault of an eviction run or of a removal, as maintenance tells it
+-- an error of an eviction run or of a removal, as maintenance returns it
 abbrev pub told : {E : Type 0} → PoolFault → AddFault E
 told pool_faults.Closed = faults.Closed
 told pool_faults.JournalFull = faults.JournalFull
 told pool_faults.OutOfMemory = faults.OutOfMemory
 
--- an eviction run went through
+-- an eviction run succeeded
 pub record HasEvicted (s : Settings) (before after : Standing) : Type 0 where
   pub run : EvictRun
   pub goes : Goes s before after
   pub row : EvictRow s (Ok run) before after
 
--- a removal of abandoned objects went through
+-- a removal of abandoned objects succeeded
 pub record HasReclaimed (s : Settings) (before after : Standing) : Type 0 where
   pub taken : ℕ
   pub goes : Goes s before after
   pub row : ReclaimRow s times.Maintain (Ok taken) before after
 
--- how maintenance comes to a fault: the eviction run, the removal after it or the fill after both is the first that fails
+-- how maintenance fails: the eviction run, the removal after it or the fill after both is the first that fails
 pub data Fails {E : Type 0} (s : Settings) (f : AddFault E) (before after : Standing) : Type 0 where
   in_evicting : (g : PoolFault) → f ≡ told g → EvictRow s (Err g) before after → Fails s f before after
   in_reclaiming : (g : PoolFault) (mid : Standing) → f ≡ told g → HasEvicted s before mid → ReclaimRow s times.Maintain (Err g) mid after → Fails s f before after
   in_filling : (mid later : Standing) → HasEvicted s before mid → HasReclaimed s mid later → FillRow s (Err f) later after → Fails s f before after
 
--- what whole maintenance made: an eviction run, a removal and a fill, or these up to the first fault
+-- the trace of whole maintenance: an eviction run, a removal and a fill, or these up to the first error
 abbrev pub MaintainRow : {U E : Type 0} → Settings → Result U (AddFault E) → Standing → Standing → Type 0
 MaintainRow {U} {E} s (Ok u) before after = (mid : Standing) × (later : Standing) × (n : ℕ) × HasEvicted s before mid × HasReclaimed s mid later × FillRow {E = E} s (Ok n) later after
 MaintainRow s (Err f) before after = Fails s f before after

@@ -10,7 +10,8 @@ use Rattle.pool_core.specs.Laws.{LeavesLent}
 use Rattle.pool_history.specs.Standings.{Standing}
 use Rattle.pool_shared.specs.Walks.{Ends}
 
--- the caller's last entry, which ends what it has seen, lends the object to it; each earlier loan of the object ended before that entry
+-- the caller's last entry, at the end of what it has observed, lends the object to it; each earlier loan of the object ended
+-- before that entry
 pub record IsAlone (i : ℕ) (me : Standing) : Type 0 where
   pub by : Ends (Ready i Good) Lent me
   pub lent : phase i me.seen ≡ phases.Lent

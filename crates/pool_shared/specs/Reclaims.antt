@@ -1,4 +1,4 @@
--- The sections of a removal of abandoned objects.
+-- The critical sections of a removal of abandoned objects.
 use Rattle.std.specs.Prelude.{◌≡◌, ℕ, zero, suc, ◌+◌, ◌-◌, ◌<◌, Result, Ok, Err}
 use Rattle.pool_journal.specs.declared.entry.Entry.{Entry}
 use Rattle.pool_journal.specs.declared.input.Input.TheVariants.{Reclaim, ReclaimNext}
@@ -13,7 +13,7 @@ use Rattle.pool_shared.specs.Walks.{Walks, EndsWithMade}
 use Rattle.pool_shared.specs.Rows.{Row}
 use Rattle.pool_shared.specs.Clears.{IsRoomFault, IsRoomFaultAt}
 
--- where a removal stands: it begins; it goes over so many objects more, and reclaimed so many; it is through
+-- the stage of a removal: it begins; it reclaims up to this many more objects, after this many; it is complete
 pub data Stage : Type 0 where
   begins : Stage
   reclaims : ℕ → ℕ → Stage
@@ -34,7 +34,7 @@ next begins e = after_beginning e.answer
 next (reclaims left taken) e = after_reclaiming left taken e.answer
 next stage e = stage
 
--- the input that is next, in a removal at this time
+-- the next input, in a removal on this occasion
 abbrev pub Due : When → Stage → Entry → Type 0
 Due time begins e = e.input ≡ Reclaim time
 Due time (reclaims left taken) e = (0 < left) × (e.input ≡ ReclaimNext)
@@ -43,11 +43,11 @@ Due time _ e = ⊥
 abbrev pub Goes_on : When → Stage → Standing → Standing → Stage → Type 0
 Goes_on time from before after to = Walks (Due time) next from before after to
 
--- a ReclaimNext was refused at a moment at which no object was abandoned
+-- a ReclaimNext failed at a time at which no object was abandoned
 abbrev pub IsStopped : Settings → PoolFault → Standing → Type 0
 IsStopped s f me = (at : ℕ) × IsRoomFaultAt s ReclaimNext f me at × (reply s me.seen at ReclaimNext ≡ answers.Nothing)
 
--- what a removal answers that stands there, and what is seen then; a ReclaimNext is refused only where it would take nothing
+-- the result of a removal at this stage, and what is observed then; a ReclaimNext fails only if it would reclaim nothing
 abbrev pub ReclaimEnds : Settings → When → Stage → Result ℕ PoolFault → Standing → Type 0
 ReclaimEnds s time (through taken) (Ok n) me = (n ≡ taken) × EndsWithMade me
 ReclaimEnds s time (reclaims zero taken) (Ok n) me = (n ≡ taken) × EndsWithMade me
@@ -55,10 +55,10 @@ ReclaimEnds s time begins (Err f) me = IsRoomFault s (Reclaim time) f me
 ReclaimEnds s time (reclaims (suc left) taken) (Err f) me = IsStopped s f me
 ReclaimEnds s time _ _ me = ⊥
 
--- what a removal made from one stage on, up to its result
+-- the trace of a removal from one stage to its result
 abbrev pub ReclaimsFrom : Settings → When → Stage → Result ℕ PoolFault → Standing → Standing → Type 0
 ReclaimsFrom s time from result before after = Row (Due time) next (ReclaimEnds s time) from result before after
 
--- what a whole removal made
+-- the trace of a whole removal
 abbrev pub ReclaimRow : Settings → When → Result ℕ PoolFault → Standing → Standing → Type 0
 ReclaimRow s time result before after = ReclaimsFrom s time begins result before after

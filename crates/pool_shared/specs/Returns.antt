@@ -1,4 +1,4 @@
--- The sections of a return.
+-- The critical sections of a return.
 use Rattle.std.specs.Prelude.{◌≡◌, ◌≢◌, ℕ, true, List, ◌++◌, Result, Ok, Err}
 use Rattle.pool_journal.specs.Journal.{phase}
 use Rattle.pool_journal.specs.declared.entry.Entry.{Entry}
@@ -20,7 +20,7 @@ use Rattle.pool_shared.specs.declared.faults.Returned.TheVariants as returned
 use Rattle.pool_shared.specs.declared.lent.Lent.{Lent}
 use Rattle.pool_shared.specs.Walks.{walked, AllDue, Walks, EndsWithMade}
 
--- where a return stands: it gives the object back; it checks it; it destroys it; it is through
+-- the stage of a return: it returns the object; it checks it; it destroys it; it is complete
 pub data Stage : Type 0 where
   gives : Stage
   checks : Stage
@@ -43,7 +43,7 @@ next checks e = after_checking e.answer
 next destroys e = done returned.Destroyed
 next stage e = stage
 
--- how the check can come out: a test fails only where it is set
+-- the possible outcomes of the check: a test fails only if it is set
 abbrev pub MayComeOut : Settings → Outcome → Type 0
 MayComeOut s outcomes.Good = Unit {0}
 MayComeOut s outcomes.TestFailed = s.test_on_return ≡ true
@@ -54,7 +54,7 @@ abbrev pub IsCheck : Settings → ℕ → Input → Type 0
 IsCheck s i (Park j o) = (j ≡ i) × MayComeOut s o
 IsCheck s i _ = ⊥
 
--- the input that is next
+-- the next input
 abbrev pub Due : Settings → ℕ → Stage → Entry → Type 0
 Due s i gives e = e.input ≡ GiveBack i
 Due s i checks e = IsCheck s i e.input
@@ -64,7 +64,7 @@ Due s i _ e = ⊥
 abbrev pub Goes_on : Settings → ℕ → Stage → Standing → Standing → Stage → Type 0
 Goes_on s i from before after to = Walks (Due s i) next from before after to
 
--- what a return answers that stands there; where it gives the object back, that section was refused
+-- the result of a return at this stage; if it returns the object, that critical section failed
 abbrev pub IsResult : {T : Type 0} → Stage → Result Returned (ReturnFault × Lent T) → Type 0
 IsResult (done r) (Ok q) = q ≡ r
 IsResult (refused (answers.Refused causes.NotLent)) (Err (faults.NotLent, l)) = Unit {0}
@@ -72,13 +72,13 @@ IsResult gives (Err (faults.JournalFull, l)) = Unit {0}
 IsResult gives (Err (faults.OutOfMemory, l)) = Unit {0}
 IsResult _ _ = ⊥
 
--- what is seen then: the last entry at its end, or, where the section was refused, a journal in which the object isn't lent
+-- what is observed then: the last entry at the end, or, if the critical section failed, a journal in which the object isn't lent
 abbrev pub Leaves : {T : Type 0} → Settings → ℕ → Result Returned (ReturnFault × Lent T) → Standing → Type 0
 Leaves s i (Err (faults.JournalFull, l)) me = IsFullFor s (GiveBack i) me × (phase i me.seen ≢ phases.Lent)
 Leaves s i (Err (faults.OutOfMemory, l)) me = IsShortFor s (GiveBack i) me × (phase i me.seen ≢ phases.Lent)
 Leaves s i _ me = EndsWithMade me
 
--- what a return made from one stage on, up to its result
+-- the trace of a return from one stage to its result
 pub record Finishes {T : Type 0} (s : Settings) (i : ℕ) (from : Stage) (result : Result Returned (ReturnFault × Lent T)) (before after : Standing) : Type 0 where
   pub es : List Entry
   pub made : after.made ≡ before.made ++ es
@@ -86,7 +86,7 @@ pub record Finishes {T : Type 0} (s : Settings) (i : ℕ) (from : Stage) (result
   pub ends : IsResult (walked next from es) result
   pub leaves : Leaves s i result after
 
--- what a whole return made; nothing, exactly where the object is of another pool
+-- the trace of a whole return; it is empty exactly if the object is of another pool
 abbrev pub ReturnRow : {T : Type 0} → Settings → ℕ → Lent T → Result Returned (ReturnFault × Lent T) → Standing → Standing → Type 0
 ReturnRow s number l (Err (faults.ForeignObject, m)) before after = (l.pool ≢ number) × (after ≡ before)
 ReturnRow s number l result before after = (l.pool ≡ number) × Finishes s l.id gives result before after

@@ -1,10 +1,10 @@
--- What a call of several sections made, and how it ended.
+-- The trace of an operation of several critical sections, and its end.
 use Rattle.std.specs.Prelude.{◌≡◌, List, ◌++◌}
 use Rattle.pool_journal.specs.declared.entry.Entry.{Entry}
 use Rattle.pool_history.specs.Standings.{Standing}
 use Rattle.pool_shared.specs.Walks.{walked, AllDue}
 
--- the caller made entries, each due where the call stood, from one stage on, and the call ended as it may where they lead
+-- from one stage on, the caller appended entries, each expected at its stage, and the last stage allows the result
 pub record Row {A R : Type 0} (Due : A → Entry → Type 0) (next : A → Entry → A) (Ends : A → R → Standing → Type 0) (from : A) (result : R) (before after : Standing) : Type 0 where
   pub es : List Entry
   pub made : after.made ≡ before.made ++ es

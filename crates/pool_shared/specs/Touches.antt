@@ -1,4 +1,4 @@
--- What a call made that notes a use.
+-- The trace of a note of a use.
 use Rattle.std.specs.Prelude.{◌≡◌, ◌≢◌, ℕ, Result, Ok, Err}
 use Rattle.pool_journal.specs.declared.input.Input.TheVariants.{Use}
 use Rattle.pool_journal.specs.declared.answer.Answer.TheVariants as answers
@@ -11,7 +11,7 @@ use Rattle.pool_shared.specs.declared.faults.Touched.{Touched}
 use Rattle.pool_shared.specs.declared.faults.Touched.TheVariants as touched
 use Rattle.pool_desk.specs.Sections.{Makes, IsFullFor, IsShortFor}
 
--- one entry, or none where the object is of another pool or the section was refused
+-- one entry, or none if the object is of another pool or the critical section failed
 abbrev pub TouchRow : Settings → ℕ → ℕ → ℕ → Result Touched ReturnFault → Standing → Standing → Type 0
 TouchRow s number pool i (Ok touched.Noted) before after = (pool ≡ number) × Makes (Use i) answers.Noted before after
 TouchRow s number pool i (Ok touched.Gone) before after = (pool ≡ number) × Makes (Use i) answers.Gone before after

@@ -1,4 +1,4 @@
--- What a call of several sections made: each entry is the one that is next after those before it.
+-- The trace of an operation of several critical sections: each entry is the next one after those before it.
 use Rattle.std.specs.Prelude.{◌≡◌, ℕ, List, [], ◌∷◌, ◌++◌}
 use Rattle.pool_journal.specs.declared.entry.Entry.{Entry}
 use Rattle.pool_journal.specs.declared.input.Input.{Input}
@@ -6,24 +6,24 @@ use Rattle.pool_journal.specs.declared.answer.Answer.{Answer}
 use Rattle.pool_core.specs.Legal.{entry_of}
 use Rattle.pool_history.specs.Standings.{Standing}
 
--- where a call stands after its entries
+-- the stage of an operation after its entries
 abbrev pub walked : {A : Type 0} → (A → Entry → A) → A → List Entry → A
 walked next stage [] = stage
 walked next stage (e ∷ es) = walked next (next stage e) es
 
--- each entry is due where the call stands before it
+-- each entry is expected at the stage before it
 abbrev pub AllDue : {A : Type 0} → (A → Entry → Type 0) → (A → Entry → A) → A → List Entry → Type 0
 AllDue Due next stage [] = Unit {0}
 AllDue Due next stage (e ∷ es) = Due stage e × AllDue Due next (next stage e) es
 
--- the caller made entries that lead from one stage to another, and no others
+-- the caller appended entries that lead from one stage to another, and no others
 pub record Walks {A : Type 0} (Due : A → Entry → Type 0) (next : A → Entry → A) (from : A) (before after : Standing) (to : A) : Type 0 where
   pub es : List Entry
   pub made : after.made ≡ before.made ++ es
   pub due : AllDue Due next from es
   pub comes : walked next from es ≡ to
 
--- the last entry that the caller made ends what it has seen
+-- the last entry that the caller appended is at the end of what it has observed
 pub record Ends (input : Input) (a : Answer) (me : Standing) : Type 0 where
   pub at : ℕ
   pub made : List Entry

@@ -1,4 +1,4 @@
-// An addition to the stock of idle objects, in its sections.
+// An addition to the idle queue, in critical sections.
 ghost use Rattle.std.specs.Prelude.{◌≡◌, true, OnOk, IfErr};
 ghost use Rattle.pool_journal.specs.declared.input.Outcome.TheVariants as outcomes;
 ghost use Rattle.pool_journal.specs.declared.record.Phase.TheVariants as phases;
@@ -14,7 +14,7 @@ use pool_history::{Caller, Room};
 use pool_journal::{Answer, Cause, Input, Outcome};
 use std::sync::Wait;
 
-/// Why a new object can't lie idle.
+/// Why a new object can't become idle.
 #[derive(Drop)]
 pub(crate) enum Unfit<E> {
     Test,
@@ -28,7 +28,7 @@ impl<T: Drop, E: Drop, F: Factory<T, E> + Drop, C: Clock + Drop, B: Room> Shared
     C,
     B,
 > {
-    // Makes a new value ready to lie idle, once it has passed its first test, where that is set.
+    // Makes a new value passive, after its first test if that is set.
     fn prepare(&self, value: &mut T) -> Result<(), Unfit<E>>
         ensures tested { OnOk result (B.settings.test_on_create ≡ true → F.valid value.old) }
         ensures passive { OnOk result (F.passive value.new) }
@@ -43,7 +43,7 @@ impl<T: Drop, E: Drop, F: Factory<T, E> + Drop, C: Clock + Drop, B: Room> Shared
         }
     }
 
-    // A new object can't lie idle: it is destroyed.
+    // Destroys a new object that can't become idle.
     fn reject<R: Wait>(&self, rt: &R, me: &mut Caller<B>, id: u64, outcome: Outcome, value: T)
         requires hand { (new : _) × HasInHand me.old id phases.Adding new }
         requires outcome { IsFailure B.settings outcome }
@@ -59,7 +59,7 @@ impl<T: Drop, E: Drop, F: Factory<T, E> + Drop, C: Clock + Drop, B: Room> Shared
         }
     }
 
-    // A passive new object lies idle from then on, while the pool is open.
+    // Makes a passive new object idle if the pool is open, and destroys it otherwise.
     fn shelve<R: Wait>(&self, rt: &R, me: &mut Caller<B>, id: u64, value: T) -> Addition
         requires hand { (new : _) × HasInHand me.old id phases.Adding new }
         requires passive { F.passive value }
@@ -83,7 +83,7 @@ impl<T: Drop, E: Drop, F: Factory<T, E> + Drop, C: Clock + Drop, B: Room> Shared
         }
     }
 
-    // The value of a new object is made.
+    // Prepares and parks the value that was made for a new object.
     fn stock_made<R: Wait>(
         &self,
         rt: &R,
@@ -112,7 +112,7 @@ impl<T: Drop, E: Drop, F: Factory<T, E> + Drop, C: Clock + Drop, B: Room> Shared
         }
     }
 
-    // A new object is made for the place that was found.
+    // Makes a new object for the place that was found.
     pub(crate) fn stock<R: Wait>(
         &self,
         rt: &R,
@@ -141,8 +141,8 @@ impl<T: Drop, E: Drop, F: Factory<T, E> + Drop, C: Clock + Drop, B: Room> Shared
         }
     }
 
-    /// Makes an object and parks it, where there is a free place: `Idle`, or `NoPlace` where there is none, or
-    /// `Destroyed` where the pool was closed meanwhile.
+    /// Makes an object and parks it if there is a free place. Returns `Idle`, `NoPlace` if there is none, or
+    /// `Destroyed` if the pool was closed meanwhile.
     ///
     /// # Errors
     ///

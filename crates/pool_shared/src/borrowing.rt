@@ -1,4 +1,4 @@
-// A borrow, in its sections.
+// A borrow, in critical sections.
 ghost use Rattle.std.specs.Prelude.{◌≡◌, ℕ, Bool, true, false, None, Err, IfOk, OnOk, IfErr, IfSome, IfNone};
 ghost use Rattle.pool_journal.specs.Carrying.{carries};
 ghost use Rattle.pool_journal.specs.declared.record.Phase.TheVariants as phases;
@@ -23,7 +23,7 @@ use pool_history::{Caller, Room};
 use pool_journal::{Answer, Cause, Input, Outcome, When};
 use std::sync::{MutexGuard, Wait};
 
-/// Why an object did not get ready.
+/// Why an object was not made ready.
 #[derive(Drop)]
 pub(crate) enum Unready<E> {
     Activate(E),
@@ -37,7 +37,7 @@ impl<T: Drop, E: Drop, F: Factory<T, E> + Drop, C: Clock + Drop, B: Room> Shared
     C,
     B,
 > {
-    // A section in which the caller goes on with its object. It is never refused.
+    // A critical section in which the caller continues its object. It never fails.
     pub(crate) fn carry_on<R: Wait>(&self, rt: &R, me: &mut Caller<B>, input: Input) -> Answer
         requires may { MayAsk me.old input }
         requires on { goes_on input ≡ true }
@@ -53,8 +53,8 @@ impl<T: Drop, E: Drop, F: Factory<T, E> + Drop, C: Clock + Drop, B: Room> Shared
         }
     }
 
-    // Waits until the pool has changed. Where there is no limit to the wait, it sleeps on while a borrow would wait
-    // all the same, so that a borrower who is woken for nothing makes no entry.
+    // Waits until the pool has changed. If the wait is unlimited, it keeps sleeping while a borrow would have to wait,
+    // so a borrower that is woken in vain appends no entry.
     fn wait<'a, R: Wait>(
         &self,
         rt: &R,
@@ -103,7 +103,7 @@ impl<T: Drop, E: Drop, F: Factory<T, E> + Drop, C: Clock + Drop, B: Room> Shared
         unreachable!()
     }
 
-    // Makes a value ready for a holder.
+    // Activates a value for a holder, and tests it if that is set.
     fn activate(&self, value: &mut T) -> Result<(), Unready<E>>
         ensures ok { OnOk result (IsLentWell B.settings F.active F.valid value.new) }
         ensures err { IfErr result (IsWhyUnready B.settings F.from_activate) }
@@ -120,7 +120,7 @@ impl<T: Drop, E: Drop, F: Factory<T, E> + Drop, C: Clock + Drop, B: Room> Shared
         }
     }
 
-    // The place of a destroyed object is given up, and those who wait are told.
+    // Frees the place of a destroyed object, and notifies the waiting threads.
     pub(crate) fn give_up<R: Wait>(&self, rt: &R, me: &mut Caller<B>, id: u64)
         requires { (new : Bool) × HasInHand me.old id phases.Destroying new }
         ensures goes { Goes B.settings me.old me.new }
@@ -133,7 +133,7 @@ impl<T: Drop, E: Drop, F: Factory<T, E> + Drop, C: Clock + Drop, B: Room> Shared
         }
     }
 
-    // The value of an object that must go is destroyed, and its place given up.
+    // Destroys the value of an object, and frees its place.
     pub(crate) fn destroy_held<R: Wait>(&self, rt: &R, me: &mut Caller<B>, id: u64, value: T)
         requires { (new : Bool) × HasInHand me.old id phases.Destroying new }
         ensures goes { Goes B.settings me.old me.new }
@@ -144,7 +144,7 @@ impl<T: Drop, E: Drop, F: Factory<T, E> + Drop, C: Clock + Drop, B: Room> Shared
         self.give_up(rt, me, id);
     }
 
-    // An object did not get ready: it is destroyed.
+    // Destroys an object that was not made ready.
     fn fail<R: Wait>(&self, rt: &R, me: &mut Caller<B>, id: u64, outcome: Outcome, value: T)
         requires { (new : Bool) × HasInHand me.old id phases.Readying new × IsFailure B.settings new outcome }
         ensures goes { Goes B.settings me.old me.new }
@@ -159,7 +159,7 @@ impl<T: Drop, E: Drop, F: Factory<T, E> + Drop, C: Clock + Drop, B: Room> Shared
         }
     }
 
-    // A ready object is lent.
+    // Lends a ready object.
     fn lend<R: Wait>(&self, rt: &R, me: &mut Caller<B>, id: u64, value: T) -> Lent<T>
         requires hand { (new : Bool) × HasInHand me.old id phases.Readying new }
         ensures goes { Goes B.settings me.old me.new }
@@ -178,7 +178,7 @@ impl<T: Drop, E: Drop, F: Factory<T, E> + Drop, C: Clock + Drop, B: Room> Shared
         }
     }
 
-    // An object that was idle is lent, or destroyed.
+    // Lends an object that was idle, or destroys it.
     fn lend_taken<R: Wait>(&self, rt: &R, me: &mut Caller<B>, id: u64, value: T) -> Option<Lent<T>>
         requires hand { HasInHand me.old id phases.Readying false }
         ensures goes { Goes B.settings me.old me.new }
@@ -200,7 +200,7 @@ impl<T: Drop, E: Drop, F: Factory<T, E> + Drop, C: Clock + Drop, B: Room> Shared
         }
     }
 
-    // A new object is lent, or destroyed.
+    // Makes a new object, and lends it or destroys it.
     fn lend_made<R: Wait>(
         &self,
         rt: &R,
@@ -228,7 +228,7 @@ impl<T: Drop, E: Drop, F: Factory<T, E> + Drop, C: Clock + Drop, B: Room> Shared
         }
     }
 
-    // The value of a new object is made.
+    // Lends the value that was made for a new object, or destroys it.
     fn lend_new<R: Wait>(
         &self,
         rt: &R,
@@ -260,7 +260,7 @@ impl<T: Drop, E: Drop, F: Factory<T, E> + Drop, C: Clock + Drop, B: Room> Shared
         }
     }
 
-    // One round of a borrow, which has no result where an idle object did not get ready.
+    // One round of a borrow. It has no result if an idle object was not made ready.
     fn try_once<R: Wait>(
         &self,
         rt: &R,
@@ -288,7 +288,7 @@ impl<T: Drop, E: Drop, F: Factory<T, E> + Drop, C: Clock + Drop, B: Room> Shared
         }
     }
 
-    // Asks until there is a result.
+    // Repeats rounds until there is a result.
     fn keep_asking<R: Wait>(
         &self,
         rt: &R,
@@ -309,7 +309,7 @@ impl<T: Drop, E: Drop, F: Factory<T, E> + Drop, C: Clock + Drop, B: Room> Shared
         unreachable!()
     }
 
-    // Takes away abandoned objects, where a borrow begins with that.
+    // Reclaims abandoned objects, if a borrow begins with that.
     fn remove<R: Wait>(&self, rt: &R, me: &mut Caller<B>) -> Result<(), BorrowFault<E>>
         ensures goes { Goes B.settings me.old me.new }
         ensures walk { OnOk result ((began : ℕ) → Goes_on B.settings began removes me.old me.new asks) }
@@ -324,8 +324,8 @@ impl<T: Drop, E: Drop, F: Factory<T, E> + Drop, C: Clock + Drop, B: Room> Shared
         }
     }
 
-    /// Lends an object: an idle one, or a new one where there is a free place. Nobody else holds it, and at most `maxTotal`
-    /// objects are present.
+    /// Lends an object: an idle one, or a new one if there is a free place. No other caller holds it, and at most
+    /// `maxTotal` objects are present.
     pub fn borrow<R: Wait>(&self, rt: &R, me: &mut Caller<B>) -> Result<Lent<T>, BorrowFault<E>>
         ensures goes { Goes B.settings me.old me.new }
         ensures row { BorrowRow B.settings self.now.number result me.old me.new }

@@ -1,4 +1,4 @@
-// A clear and a close, in their sections.
+// A clear and a close, in critical sections.
 ghost use Rattle.std.specs.Prelude.{◌≡◌, ℕ, IfOk};
 ghost use Rattle.pool_journal.specs.declared.input.Input.TheVariants as inputs;
 ghost use Rattle.pool_history.specs.Standings.{Goes, Knows};
@@ -20,7 +20,7 @@ impl<T: Drop, E: Drop, F: Factory<T, E> + Drop, C: Clock + Drop, B: Room> Shared
     C,
     B,
 > {
-    // Destroys idle objects, as many as there are up to a count. The number is how many it took.
+    // Destroys idle objects until `count` are destroyed or none is left. Returns how many it destroyed.
     fn sweep<R: Wait>(
         &self,
         rt: &R,
@@ -47,7 +47,7 @@ impl<T: Drop, E: Drop, F: Factory<T, E> + Drop, C: Clock + Drop, B: Room> Shared
         Ok(count)
     }
 
-    /// Destroys the idle objects. The number is how many.
+    /// Destroys the idle objects. Returns how many.
     pub fn clear<R: Wait>(&self, rt: &R, me: &mut Caller<B>) -> Result<u64, PoolFault>
         ensures goes { Goes B.settings me.old me.new }
         ensures row { ClearRow B.settings result me.old me.new }
@@ -63,7 +63,7 @@ impl<T: Drop, E: Drop, F: Factory<T, E> + Drop, C: Clock + Drop, B: Room> Shared
         }
     }
 
-    /// Closes the pool, and destroys the idle objects. The number is how many.
+    /// Closes the pool, and destroys the idle objects. Returns how many.
     pub fn close<R: Wait>(&self, rt: &R, me: &mut Caller<B>) -> Result<u64, PoolFault>
         ensures goes { Goes B.settings me.old me.new }
         ensures row { CloseRow B.settings result me.old me.new }

@@ -1,4 +1,4 @@
-// An eviction run, in its sections.
+// An eviction run, in critical sections.
 ghost use Rattle.std.specs.Prelude.{◌≡◌, ◌<◌, ℕ, IfOk, OnOk, IfErr, OnErr};
 ghost use Rattle.pool_journal.specs.declared.record.Phase.TheVariants as phases;
 ghost use Rattle.pool_history.specs.Standings.{Goes, Knows};
@@ -23,7 +23,7 @@ pub struct EvictRun {
     pub destroyed: u64,
 }
 
-// What became of an examined object.
+// The fate of an examined object.
 #[derive(Clone, Copy)]
 pub(crate) enum Fate {
     Kept,
@@ -31,7 +31,7 @@ pub(crate) enum Fate {
 }
 
 impl EvictRun {
-    // One object more was examined.
+    // Counts one more examined object.
     fn count_in(self, fate: Fate) -> EvictRun
         requires examined { self.examined < u64.MAX }
         requires destroyed { self.destroyed < u64.MAX }
@@ -55,7 +55,7 @@ impl<T: Drop, E: Drop, F: Factory<T, E> + Drop, C: Clock + Drop, B: Room> Shared
     C,
     B,
 > {
-    // Wakes a value and tests it.
+    // Activates a value and tests it.
     fn wake(&self, value: &mut T) -> Result<(), Outcome>
         ensures ok { OnOk result (F.active value.new × F.valid value.new) }
         ensures err { IfErr result IsUnfit }
@@ -72,7 +72,7 @@ impl<T: Drop, E: Drop, F: Factory<T, E> + Drop, C: Clock + Drop, B: Room> Shared
         }
     }
 
-    // Wakes a value, tests it and lays it to rest.
+    // Activates a value, tests it and passivates it.
     fn try_out(&self, value: &mut T) -> Result<(), Outcome>
         ensures ok { OnOk result (F.passive value.new) }
         ensures err { IfErr result IsFailedTest }
@@ -84,7 +84,7 @@ impl<T: Drop, E: Drop, F: Factory<T, E> + Drop, C: Clock + Drop, B: Room> Shared
         }
     }
 
-    // An object that failed its test is destroyed.
+    // Destroys an object that failed its test.
     fn fail_test<R: Wait>(&self, rt: &R, me: &mut Caller<B>, id: u64, outcome: Outcome, value: T)
         requires hand { (new : _) × HasInHand me.old id phases.Testing new }
         requires outcome { IsFailedTest outcome }
@@ -100,7 +100,7 @@ impl<T: Drop, E: Drop, F: Factory<T, E> + Drop, C: Clock + Drop, B: Room> Shared
         }
     }
 
-    // An object that passed its test lies idle again, where the pool is still open.
+    // Makes an object that passed its test idle again if the pool is still open, and destroys it otherwise.
     fn keep<R: Wait>(&self, rt: &R, me: &mut Caller<B>, id: u64, value: T) -> Fate
         requires hand { (new : _) × HasInHand me.old id phases.Testing new }
         requires passive { F.passive value }
@@ -123,7 +123,7 @@ impl<T: Drop, E: Drop, F: Factory<T, E> + Drop, C: Clock + Drop, B: Room> Shared
         }
     }
 
-    // An object is tested.
+    // Tests an object.
     fn test<R: Wait>(&self, rt: &R, me: &mut Caller<B>, id: u64, value: T) -> Fate
         requires hand { (new : _) × HasInHand me.old id phases.Testing new }
         ensures goes { Goes B.settings me.old me.new }
@@ -162,7 +162,7 @@ impl<T: Drop, E: Drop, F: Factory<T, E> + Drop, C: Clock + Drop, B: Room> Shared
         }
     }
 
-    // Examines idle objects, as many as there are up to a count.
+    // Examines idle objects until `count` are examined or none is left.
     fn examine<R: Wait>(
         &self,
         rt: &R,
@@ -188,12 +188,13 @@ impl<T: Drop, E: Drop, F: Factory<T, E> + Drop, C: Clock + Drop, B: Room> Shared
         Ok(run)
     }
 
-    /// Examines idle objects, as many as the settings say, and goes on where the last run stopped. Each is destroyed that
-    /// lay idle for too long, or that fails its test where idle objects are tested.
+    /// Examines idle objects, as many as the settings say, and continues after the one that the last run examined last.
+    /// It destroys each that was idle for too long, or that fails its test if idle objects are tested.
     ///
     /// # Errors
     ///
-    /// `Closed`, where the pool is closed; `JournalFull` and `OutOfMemory`, also in the middle: what was done before stays.
+    /// `Closed`, if the pool is closed; `JournalFull` and `OutOfMemory`, also in the middle: what was done before
+    /// remains.
     pub fn evict<R: Wait>(&self, rt: &R, me: &mut Caller<B>) -> Result<EvictRun, PoolFault>
         ensures goes { Goes B.settings me.old me.new }
         ensures row { EvictRow B.settings result me.old me.new }

@@ -1,4 +1,4 @@
-// A fill of the stock of idle objects, in its sections.
+// A fill of the idle queue, in critical sections.
 ghost use Rattle.std.specs.Prelude.{ℕ, ◌+◌, ◌<◌, ◌^◌, length, OnOk, IfErr};
 ghost use Rattle.pool_history.specs.Standings.{Goes};
 ghost use Rattle.pool_shared.specs.Adds.{IsAddFaultFrom};
@@ -18,7 +18,7 @@ impl<T: Drop, E: Drop, F: Factory<T, E> + Drop, C: Clock + Drop, B: Room> Shared
     C,
     B,
 > {
-    // One turn of a fill. There is no place for more where there is none, or none is missing.
+    // One turn of a fill. The result is `NoPlace` if there is no place or no object is missing.
     fn add_missing<R: Wait>(&self, rt: &R, me: &mut Caller<B>) -> Result<Addition, AddFault<E>>
         ensures goes { Goes B.settings me.old me.new }
         ensures turn { (n : ℕ) → Turns B.settings n result me.old me.new }
@@ -35,13 +35,14 @@ impl<T: Drop, E: Drop, F: Factory<T, E> + Drop, C: Clock + Drop, B: Room> Shared
         }
     }
 
-    /// Makes objects and parks them, until as many lie idle as the settings want or there is no free place. The number
-    /// is how many it parked. On a closed pool it is 0.
+    /// Makes objects and parks them, until as many are idle, or on their way there, as the settings require, or there
+    /// is no free place. Returns how many it parked. On a closed pool that is 0.
     ///
     /// # Errors
     ///
     /// `MakeFailed`, `CreateTestFailed` and `PassivateFailed` of the first object that fails; the place is then free
-    /// again. `JournalFull` and `OutOfMemory`, between two objects. What was parked before stays. It is never `Closed`.
+    /// again. `JournalFull` and `OutOfMemory`, between two objects. What was parked before remains. It is never
+    /// `Closed`.
     pub fn fill<R: Wait>(&self, rt: &R, me: &mut Caller<B>) -> Result<u64, AddFault<E>>
         ensures goes { Goes B.settings me.old me.new }
         ensures row { FillRow B.settings result me.old me.new }

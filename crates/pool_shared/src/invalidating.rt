@@ -1,4 +1,4 @@
-// An invalidation, in its sections.
+// An invalidation, in critical sections.
 ghost use Rattle.std.specs.Prelude.{◌≡◌, IfErr};
 ghost use Rattle.pool_history.specs.Standings.{Goes};
 ghost use Rattle.pool_shared.specs.Invalidates.{InvalidateRow};
@@ -18,13 +18,13 @@ impl<T: Drop, E: Drop, F: Factory<T, E> + Drop, C: Clock + Drop, B: Room> Shared
     C,
     B,
 > {
-    /// Takes a lent object back and destroys it, as one that can't be used any more: `Destroyed`, or `Gone` where it
+    /// Returns a lent object that can't be used any more to the pool, which destroys it: `Destroyed`, or `Gone` if it
     /// was reclaimed before. It is never parked.
     ///
     /// # Errors
     ///
-    /// The object comes back with `ForeignObject`, where it is of another pool, and there is no entry; with `NotLent`;
-    /// and, only where it isn't lent any more, with `JournalFull` and `OutOfMemory`.
+    /// The object is returned with `ForeignObject` if it is of another pool, and there is no entry; with `NotLent`;
+    /// and, only if it isn't lent any more, with `JournalFull` and `OutOfMemory`.
     pub fn invalidate<R: Wait>(
         &self,
         rt: &R,

@@ -32,12 +32,12 @@ impl<T: Drop, E: Drop, F: Factory<T, E> + Drop, C: Clock + Drop, B: Room> Shared
     C,
     B,
 > {
-    /// An eviction run, then a removal of abandoned objects, then a fill.
+    /// Does an eviction run, then a removal of abandoned objects, then a fill.
     ///
     /// # Errors
     ///
-    /// The first fault of the three ends it, and what was done before stays: `Closed`, `JournalFull` and `OutOfMemory`
-    /// of each, and those of an object that the fill made.
+    /// The first error of the three ends it, and what was done before remains: `Closed`, `JournalFull` and
+    /// `OutOfMemory` of each, and those of an object that the fill made.
     pub fn maintain<R: Wait>(&self, rt: &R, me: &mut Caller<B>) -> Result<(), AddFault<E>>
         ensures goes { Goes B.settings me.old me.new }
         ensures row { MaintainRow B.settings result me.old me.new }

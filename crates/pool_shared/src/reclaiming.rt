@@ -1,4 +1,4 @@
-// A removal of abandoned objects, in its sections.
+// A removal of abandoned objects, in critical sections.
 ghost use Rattle.std.specs.Prelude.{◌≡◌};
 ghost use Rattle.pool_journal.specs.declared.input.When.{When};
 ghost use Rattle.pool_journal.specs.declared.input.When.TheVariants as times;
@@ -20,7 +20,7 @@ impl<T: Drop, E: Drop, F: Factory<T, E> + Drop, C: Clock + Drop, B: Room> Shared
     C,
     B,
 > {
-    // Takes abandoned objects away, as many as there are up to a count. The number is how many it took.
+    // Reclaims abandoned objects until `count` are reclaimed or none is left. Returns how many it reclaimed.
     fn reclaim_some<R: Wait>(
         &self,
         rt: &R,
@@ -44,7 +44,7 @@ impl<T: Drop, E: Drop, F: Factory<T, E> + Drop, C: Clock + Drop, B: Room> Shared
         Ok(count)
     }
 
-    // Takes abandoned objects away, in a borrow or in maintenance. The number is how many.
+    // Reclaims abandoned objects, in a borrow or in maintenance. Returns how many.
     pub(crate) fn reclaim_on<R: Wait>(
         &self,
         rt: &R,
@@ -62,11 +62,11 @@ impl<T: Drop, E: Drop, F: Factory<T, E> + Drop, C: Clock + Drop, B: Room> Shared
         }
     }
 
-    /// Takes abandoned objects away, where that is set for maintenance. The number is how many.
+    /// Reclaims abandoned objects, if that is set for maintenance. Returns how many.
     ///
     /// # Errors
     ///
-    /// `JournalFull` and `OutOfMemory`, also in the middle: what was done before then stays.
+    /// `JournalFull` and `OutOfMemory`, also in the middle: what was done before remains.
     pub fn reclaim<R: Wait>(&self, rt: &R, me: &mut Caller<B>) -> Result<u64, PoolFault>
         ensures goes { Goes B.settings me.old me.new }
         ensures row { ReclaimRow B.settings times.Maintain result me.old me.new }

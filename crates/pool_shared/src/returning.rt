@@ -1,4 +1,4 @@
-// A return, in its sections.
+// A return, in critical sections.
 ghost use Rattle.std.specs.Prelude.{◌≡◌, ◌≢◌, true, Ok, IfErr};
 ghost use Rattle.pool_journal.specs.declared.answer.Answer.TheVariants as answers;
 ghost use Rattle.pool_journal.specs.declared.input.Input.TheVariants as inputs;
@@ -25,7 +25,7 @@ impl<T: Drop, E: Drop, F: Factory<T, E> + Drop, C: Clock + Drop, B: Room> Shared
     C,
     B,
 > {
-    // An object that came back did not pass: it is destroyed.
+    // Destroys a returned object that did not pass its check.
     fn discard<R: Wait>(&self, rt: &R, me: &mut Caller<B>, id: u64, outcome: Outcome, value: T)
         requires hand { (new : _) × HasInHand me.old id phases.Returning new }
         requires outcome { (outcome ≢ outcomes.Good) × MayComeOut B.settings outcome }
@@ -41,7 +41,7 @@ impl<T: Drop, E: Drop, F: Factory<T, E> + Drop, C: Clock + Drop, B: Room> Shared
         }
     }
 
-    // A passive object lies idle from then on, if there is room for it.
+    // Makes a passive object idle if there is room for it, and destroys it otherwise.
     fn park<R: Wait>(&self, rt: &R, me: &mut Caller<B>, id: u64, value: T) -> Returned
         requires hand { (new : _) × HasInHand me.old id phases.Returning new }
         requires passive { F.passive value }
@@ -64,7 +64,7 @@ impl<T: Drop, E: Drop, F: Factory<T, E> + Drop, C: Clock + Drop, B: Room> Shared
         }
     }
 
-    // An object that came back is checked.
+    // Checks a returned object.
     fn check<R: Wait>(&self, rt: &R, me: &mut Caller<B>, id: u64, value: T) -> Returned
         requires hand { (new : _) × HasInHand me.old id phases.Returning new }
         ensures goes { Goes B.settings me.old me.new }
@@ -85,7 +85,7 @@ impl<T: Drop, E: Drop, F: Factory<T, E> + Drop, C: Clock + Drop, B: Room> Shared
         }
     }
 
-    /// Takes a lent object back.
+    /// Returns a lent object to the pool.
     pub fn give_back<R: Wait>(
         &self,
         rt: &R,

@@ -1,4 +1,4 @@
-// How a thread spends a while awake before it sleeps. No contract speaks of it, and no proof rests on it.
+// How a thread spins for a while before it sleeps. No contract states this, and no proof depends on it.
 use crossbeam_utils::Backoff;
 use std::sync::{Condvar, Mutex, MutexGuard, Wait};
 
