@@ -12,7 +12,7 @@ use Rattle.pool_engines.specs.Engine.{Tells, Gives, Passes}
 use Rattle.pool_engines.specs.declared.engine_fault.EngineFault.{EngineFault}
 use Rattle.pool_engines.specs.declared.engine_fault.EngineFault.TheVariants.{Line, Full, OutOfMemory, Read, Write}
 
--- the bytes that are told were given to the writer, but for those that wait
+-- the output was written, except for what is buffered
 abbrev pub Gave : List ℕ → Option (List ℕ) → Option (List ℕ) → List ℕ → Type 0
 Gave told held written waiting = (sent : List ℕ) × (told ≡ sent ++ waiting) × Appends held written sent
 
@@ -23,11 +23,11 @@ LeavesNoLine result pending = is_read_failure result ≡ true → ¬ Contains pe
 pub leaves_other : (result : Result (Unit {0}) EngineFault) (pending : List ℕ) → is_read_failure result ≡ false → LeavesNoLine result pending
 leaves_other result pending other = λ told. absurd (false≢true (sym other ∙ told))
 
--- more is told
+-- more output
 pub Gave-more : (told held_told : List ℕ) (held written : Option (List ℕ)) (before after words : List ℕ) → Gave told held written before → after ≡ before ++ words → held_told ≡ told ++ words → Gave held_told held written after
 Gave-more told new held written before after words (sent, parts, given) grown is = (sent, is ∙ ap (λ l. l ++ words) parts ∙ append_assoc sent before words ∙ ap (λ l. sent ++ l) (sym grown), given)
 
--- some of what waits is given
+-- some of the buffered output is written
 pub Gave-sent : (told : List ℕ) (held mid written : Option (List ℕ)) (before after more : List ℕ) → Gave told held mid before → before ≡ more ++ after → Appends mid written more → Gave told held written after
 Gave-sent told held mid written before after more (sent, parts, given) e more_given = (sent ++ more, parts ∙ ap (λ l. sent ++ l) e ∙ sym (append_assoc sent more after), Appends-trans held mid written sent more given more_given)
 
@@ -35,7 +35,7 @@ Gave-sent told held mid written before after more (sent, parts, given) e more_gi
 pub Gave-failed : (told : List ℕ) (held mid written : Option (List ℕ)) (waiting : List ℕ) → Gave told held mid waiting → AppendsFront mid written waiting → AppendsFront held written told
 Gave-failed told held mid written waiting (sent, parts, given) (front, rest, e, more_given) = (sent ++ front, rest, parts ∙ ap (λ l. sent ++ l) e ∙ sym (append_assoc sent front rest), Appends-trans held mid written sent front given more_given)
 
--- the bytes that are left, where they are known
+-- the bytes that are left, if they are known
 abbrev pub left : Option (List ℕ) → List ℕ
 left known = unwrap_or known []
 
@@ -66,7 +66,7 @@ module _ {E F : Type 0} (settings : E → F) (taken told : E → List ℕ) (stan
   Gives-gave (Err Read) engine written waiting h = h
   Gives-gave (Err Write) engine written waiting (sent, parts, given) = (sent, waiting, parts, given)
 
-  -- the engine ends before what is pending
+  -- the engine ends before the pending bytes
   pub Passes-ended : (result : Result (Unit {0}) EngineFault) (old new : E) (now written : Option (List ℕ)) (pending before after shown : List ℕ) → Going old now written pending before → LeavesNoLine result pending → shown ≡ pending
       → taken new ≡ taken old → Tells settings taken told stands is_partial ends old new before after → ((more : List ℕ) → ends new (shown ++ more) result)
       → Passes settings taken told stands is_partial ends result begun new known now held written after
@@ -108,7 +108,7 @@ module _ {E F : Type 0} (settings : E → F) (taken told : E → List ℕ) (stan
     gave = Gave-more (told old) (told new) held written before after words going.gave grown told_is;
   }
 
-  -- some of what waits is given
+  -- some of the buffered output is written
   pub Going-sent : (engine : E) (now mid written : Option (List ℕ)) (pending before after sent : List ℕ) → Going engine now mid pending before → before ≡ sent ++ after → Appends mid written sent
       → Going engine now written pending after
   Going-sent engine now mid written pending before after sent going parts given = record {
@@ -119,13 +119,13 @@ module _ {E F : Type 0} (settings : E → F) (taken told : E → List ℕ) (stan
     gave = Gave-sent (told engine) held mid written before after sent going.gave parts given;
   }
 
-  -- all that waits is given
+  -- all of the buffered output is written
   pub Going-emptied : (engine : E) (now mid written : Option (List ℕ)) (pending before after : List ℕ) → Going engine now mid pending before → after ≡ [] → Appends mid written before
       → Going engine now written pending after
   Going-emptied engine now mid written pending before after going empty given =
       Going-sent engine now mid written pending before after before going (sym (ap (λ l. before ++ l) empty ∙ append-nil before)) given
 
-  -- more has come
+  -- more was read
   pub Going-filled : (engine : E) (old now written : Option (List ℕ)) (before after more waiting : List ℕ) → Going engine old written before waiting → after ≡ before ++ more → length after ≤ read_ahead → Consumes old now more
       → Going engine now written after waiting
   Going-filled engine old now written before after more waiting going grown within came = record {
@@ -136,7 +136,7 @@ module _ {E F : Type 0} (settings : E → F) (taken told : E → List ℕ) (stan
     gave = going.gave;
   }
 
-  -- the reader stays where it is
+  -- the reader does not advance
   pub Going-kept : (engine : E) (old now written : Option (List ℕ)) (pending waiting : List ℕ) → Going engine old written pending waiting → Keeps old now
       → Going engine now written pending waiting
   Going-kept engine old now written pending waiting going kept = record {
@@ -192,7 +192,7 @@ module _ {E F : Type 0} (settings : E → F) (taken told : E → List ℕ) (stan
   Gave-from (Err Read) engine written waiting works h = h
   Gave-from (Err Write) engine written waiting works h = absurd (false≢true (sym works))
 
-  -- what waits at the end is given
+  -- the buffered output is written at the end
   pub Passes-handed : (result : Result (Unit {0}) EngineFault) (engine : E) (now mid written : Option (List ℕ)) (waiting : List ℕ) → is_write_failure result ≡ false → Passes settings taken told stands is_partial ends result begun engine known now held mid waiting → Appends mid written waiting
       → Passes settings taken told stands is_partial ends result begun engine known now held written []
   Passes-handed result engine now mid written waiting works p given = record { rest = p.rest; same = p.same; stream = p.stream; leaves = p.leaves; ended = p.ended; gave = Gives-handed result engine mid written waiting works p.gave given }

@@ -14,7 +14,7 @@ pub extends_six : {a b c d e f g : List ℕ} → Extends a b → Extends b c →
     → Extends a g
 extends_six p q r s t u = extends_more (extends_more (extends_more (extends_more (extends_more p q) r) s) t) u
 
--- nine parts, one behind the other
+-- nine parts, one after the other
 pub nine_parts : (a l1 l2 l3 l4 l5 l6 l7 l8 l9 b1 b2 b3 b4 b5 b6 b7 b8 b9 : List ℕ) → b1 ≡ a ++ l1 → b2 ≡ b1 ++ l2 → b3 ≡ b2 ++ l3
     → b4 ≡ b3 ++ l4 → b5 ≡ b4 ++ l5
     → b6 ≡ b5 ++ l6 → b7 ≡ b6 ++ l7 → b8 ≡ b7 ++ l8 → b9 ≡ b8 ++ l9 → b9 ≡ a ++ (l1 ++ l2 ++ l3 ++ l4 ++ l5 ++ l6 ++ l7 ++ l8 ++ l9)

@@ -12,13 +12,13 @@ slice_range-drop xs a n b h =
     let whole : b - a ≡ n + m = omega arith in
     ap (take m) (sym (drop-drop n a xs)) ∙ sym (drop-take n m (drop a xs)) ∙ ap (λ k. drop n (take k (drop a xs))) (sym whole)
 
--- the part, once it is moved to the front
+-- the part, once it is moved to the start
 pub take-copy_within : (xs : List ℕ) (a b : ℕ) → a ≤ b → b ≤ length xs → take (b - a) (copy_within xs a b 0) ≡ slice_range xs a b
 take-copy_within xs a b ordered within =
     ap (λ n. take n (copy_within xs a b 0)) (sym (zero-add (b - a)))
     ∙ take-paste xs 0 (drop a xs) (b - a) (omega arith) (omega (arith, length-drop a xs))
 
--- what stands in front, and what came behind it
+-- what is at the start, and what was read after it
 pub take-grown : (xs front : List ℕ) (n more : ℕ) → take n xs ≡ front → take (n + more) xs ≡ front ++ slice_range xs n (n + more)
 take-grown xs front n more h =
     let rest : (n + more) - n ≡ more = omega arith in

@@ -10,7 +10,7 @@ use Rattle.pool_engines.specs.declared.engine_fault.EngineFault.TheVariants.{Lin
 use Rattle.pool_engines.specs.declared.turn.Turn.{Turn}
 use Rattle.pool_engines.specs.declared.turn.Turn.TheVariants.{Took, Unfinished, Done}
 
--- a fault of the reader or the writer
+-- an error of the reader or the writer
 abbrev pub IsFromOutside : EngineFault → Type 0
 IsFromOutside (Line number fault) = ⊥
 IsFromOutside (Full number) = ⊥
@@ -18,7 +18,7 @@ IsFromOutside OutOfMemory = ⊥
 IsFromOutside Read = ⊤
 IsFromOutside Write = ⊤
 
--- a fault that neither the reader nor the writer is the cause of
+-- an error that neither the reader nor the writer causes
 abbrev pub IsOwnFault : EngineFault → Type 0
 IsOwnFault (Line number fault) = ⊤
 IsOwnFault (Full number) = ⊤
@@ -33,10 +33,11 @@ TakesOne lines_left (Ok Unfinished) old new = lines_left new ≡ lines_left old
 TakesOne lines_left (Ok Done) old new = ⊤
 TakesOne lines_left (Err fault) old new = ⊤
 
--- Words on an engine of the type E: what it goes by, as its settings, the bytes of the lines that it took, what it told of them, when it can go on,
--- which bytes are no whole line, and what is so where it ends before the rest of a stream.
+-- Definitions for an engine of the type E: its fixed parameters, such as its settings, the bytes of the lines that it took, its
+-- output for them, when it can continue, which bytes contain no whole line, and what holds if it ends before the rest of a
+-- stream.
 module _ {E F : Type 0} (settings : E → F) (taken told : E → List ℕ) (stands : E → Type 0) (is_partial : List ℕ → Type 0) (ends : E → List ℕ → Result (Unit {0}) EngineFault → Type 0) where
-  -- what the engine tells is put behind what was there, and what it goes by stays
+  -- the engine's output is appended to what was buffered, and its parameters are unchanged
   abbrev pub Tells : E → E → List ℕ → List ℕ → Type 0
   Tells old new before after = (words : List ℕ) × (after ≡ before ++ words) × (told new ≡ told old ++ words) × (settings new ≡ settings old)
 
@@ -51,12 +52,12 @@ module _ {E F : Type 0} (settings : E → F) (taken told : E → List ℕ) (stan
   abbrev pub Finishes : Result (Unit {0}) EngineFault → E → E → List ℕ → List ℕ → List ℕ → Type 0
   Finishes result old new rest before after = (taken new ≡ taken old) × Tells old new before after × ends new rest result
 
-  -- what is told was given to the writer, but for what still waits, or where the writer failed a front of it
+  -- the output was written, except for what is still buffered, or, if the writer failed, a prefix of it
   abbrev pub Gives : Result (Unit {0}) EngineFault → E → Option (List ℕ) → Option (List ℕ) → List ℕ → Type 0
   Gives (Err Write) engine held written waiting = AppendsFront held written (told engine)
   Gives _ engine held written waiting = (sent : List ℕ) × (told engine ≡ sent ++ waiting) × Appends held written sent
 
-  -- the engine is through with a stream
+  -- the engine has finished with a stream
   pub record Passes (result : Result (Unit {0}) EngineFault) (begun engine : E) (known left held written : Option (List ℕ)) (waiting : List ℕ) : Type 0 where
     pub rest : List ℕ
     pub same : settings engine ≡ settings begun
@@ -65,10 +66,10 @@ module _ {E F : Type 0} (settings : E → F) (taken told : E → List ℕ) (stan
     pub ended : ends engine rest result
     pub gave : Gives result engine held written waiting
 
--- An engine of the type A is one of the type E with what it took, of the type P. There is something that it took, with which this is so
+-- An engine of the type A together with what it took, of the type P, is one of the type E. This holds for something that it took.
 abbrev pub HasPast : {A P E : Type 0} → (A → P → E) → (A → P → Type 0) → A → (E → Type 0) → Type 0
 HasPast {P} with_past keeps engine Is = (past : P) × keeps engine past × Is (with_past engine past)
 
--- behind whatever it had taken and stood, it has taken what has to do with that
+-- after whatever it had taken, if it could continue, it has taken something that is in this relation to that
 abbrev pub Moves : {A P E : Type 0} → (A → P → E) → (A → P → Type 0) → (E → Type 0) → (E → E → Type 0) → A → A → Type 0
 Moves {P} with_past keeps stands Did old new = (past : P) → keeps old past → stands (with_past old past) → HasPast with_past keeps new (Did (with_past old past))

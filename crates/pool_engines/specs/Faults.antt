@@ -1,14 +1,14 @@
--- A fault is told where it came, and nowhere else.
+-- An error is recorded where it occurred, and nowhere else.
 use Rattle.std.specs.Prelude.{◌≡◌, ◌⊎◌, Bool, true, false, List, [], ◌∷◌, Result, Ok, Err}
 use Rattle.pool_engines.specs.declared.engine_fault.EngineFault.{EngineFault}
 use Rattle.pool_engines.specs.declared.engine_fault.EngineFault.TheVariants.{Line, Full, OutOfMemory, Read, Write}
 
--- whether something has failed: it has where that is told, else it is as before
+-- whether something has failed: it has if that is reported, otherwise this is unchanged
 abbrev pub IsTold : Bool → Bool → Bool → Type 0
 IsTold true before after = after ≡ true
 IsTold false before after = after ≡ before
 
--- where it is told that one has failed, one has, and the others are as before; else all are
+-- if a failure is reported, one has failed, and the others are unchanged; otherwise all are
 abbrev pub AreTold : Bool → List Bool → List Bool → Type 0
 AreTold told [] after = (told ≡ false) × (after ≡ [])
 AreTold told (b ∷ before) after =

@@ -1,23 +1,23 @@
--- What a writer got of the bytes that it was to get.
+-- What a writer got of the bytes to write.
 use Rattle.std.specs.Prelude.{◌≡◌, ℕ, ◌+◌, ◌≤◌, List, ◌++◌, Option, Result, Ok, Err, Vec, vec_len, vec_capacity}
 use Rattle.std.specs.Io.KnownBytes.{Appends}
 use Rattle.pool_journal.specs.Appending.{longest_line}
 use Rattle.pool_engines.specs.declared.engine_fault.EngineFault.{EngineFault}
 use Rattle.pool_engines.specs.declared.engine_fault.EngineFault.TheVariants.{Line, Full, OutOfMemory, Read, Write}
 
--- how many bytes have room to wait
+-- the capacity of the output buffer, in bytes
 abbrev pub waiting_room : ℕ
 waiting_room = 65536
 
--- a line has room behind what waits
+-- there is room for a line after the buffered output
 abbrev pub HasRoom : {Z : Type 0} → Vec ℕ Z → Type 0
 HasRoom waiting = vec_len waiting + longest_line ≤ vec_capacity waiting
 
--- known bytes grow by some of the bytes, from their front
+-- a prefix of the bytes is appended to known bytes
 abbrev pub AppendsFront : Option (List ℕ) → Option (List ℕ) → List ℕ → Type 0
 AppendsFront held written bytes = (front : List ℕ) × (rest : List ℕ) × (bytes ≡ front ++ rest) × Appends held written front
 
--- the writer got the bytes, or where it failed a front of them
+-- the writer got the bytes, or if it failed a prefix of them
 abbrev pub Writes : {A : Type 0} → Result A EngineFault → Option (List ℕ) → Option (List ℕ) → List ℕ → Type 0
 Writes (Ok x) held written bytes = Appends held written bytes
 Writes (Err (Line number fault)) held written bytes = Appends held written bytes

@@ -3,7 +3,7 @@ use Rattle.std.specs.Prelude.{◌≡◌, ℕ, ◌≤◌, Bool, true, List, ◌++
 use Rattle.std.specs.Io.KnownBytes.{Consumes}
 use Rattle.pool_journal.specs.Text.{line_feed}
 
--- how many bytes are read ahead of what is handled at most
+-- the most bytes that are read ahead of the handled ones
 abbrev pub read_ahead : ℕ
 read_ahead = 65536
 

@@ -1,4 +1,4 @@
--- What is told of a settings file that gives no settings.
+-- The message for a settings file without settings.
 use Rattle.std.specs.Prelude.{ℕ, List, ◌++◌, codes}
 use Rattle.pool_settings.specs.Faults.{fault_of}
 use Rattle.pool_settings.specs.Messages.{text_of}

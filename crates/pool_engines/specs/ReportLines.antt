@@ -13,7 +13,7 @@ report_text workers rounds refused stats =
     number_line (codes "workers") workers ++ number_line (codes "rounds") rounds ++ number_line (codes "refused") refused
     ++ statistics_text stats
 
--- the writer got the lines, or where it failed a front of them; for want of memory it got nothing
+-- the writer got the lines, or if it failed a prefix of them; if an allocation failed it got nothing
 abbrev pub HandsReport : List ℕ → Option (List ℕ) → Option (List ℕ) → Result (Unit {0}) EngineFault → Type 0
 HandsReport lines held written (Ok u) = Appends held written lines
 HandsReport lines held written (Err Write) = AppendsFront held written lines

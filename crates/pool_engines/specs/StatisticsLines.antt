@@ -19,7 +19,7 @@ statistics_text s =
     ++ number_line (codes "longest") s.longest
     ++ number_line (codes "total") s.total
 
--- the lines, where there are statistics
+-- the lines, if there are statistics
 abbrev pub told_by : Option Statistics → List ℕ
 told_by None = []
 told_by (Some s) = statistics_text s

@@ -4,10 +4,10 @@ use thiserror::Error;
 /// Why an engine stopped before the end of its stream. Lines are counted from 1.
 #[derive(Clone, Copy, Debug, PartialEq, Eq, Error)]
 pub enum EngineFault {
-    /// The line isn't one of the format.
+    /// The line doesn't have the format.
     #[error("pool: line {0}: {1}")]
     Line(u64, LineFault),
-    /// There is no room in the journal for the line's entry.
+    /// The journal has no room for the line's entry.
     #[error("pool: line {0}: journal full")]
     Full(u64),
     #[error("pool: out of memory")]

@@ -2,7 +2,7 @@ use pool_settings::SettingsFault;
 use std::fmt;
 use std::fmt::{Formatter, Write};
 
-/// Why a settings file gives no settings.
+/// Why no settings were read from a file.
 #[derive(Debug, Drop)]
 pub enum FileFault {
     /// A read failed.
@@ -13,11 +13,11 @@ pub enum FileFault {
     TooLong,
     /// The file isn't UTF-8.
     NotUtf8,
-    /// The text has no settings, or there was no memory for reading it.
+    /// The text is not a settings text, or there was no memory for reading it.
     Text(SettingsFault),
 }
 
-/// The fault on one line.
+/// The error on one line.
 impl fmt::Display for FileFault {
     ghost use Rattle.std.specs.Prelude.{Some};
     ghost use Rattle.pool_engines.specs.Messages.{file_text};

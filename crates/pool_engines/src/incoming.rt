@@ -8,10 +8,10 @@ use crate::source::Source;
 use std::alloc::{AllocError, Global};
 use std::marker::Model;
 
-/// How many bytes are kept at most.
+/// The capacity of the input buffer, in bytes.
 const CAPACITY: usize = 65_536;
 
-/// The bytes of a stream that have come and aren't handled yet.
+/// The bytes of a stream that were read and aren't handled yet.
 #[derive(Drop)]
 pub(crate) struct Incoming {
     buffer: Vec<u8>,
@@ -44,7 +44,7 @@ impl Incoming {
         &self.buffer[self.start..self.end]
     }
 
-    /// The first bytes are handled.
+    /// Drops the first bytes, which are handled.
     pub(crate) fn drop_front(&mut self, count: usize)
         requires { count ≤ length self.old }
         ensures { self.new ≡ drop count self.old }
@@ -52,7 +52,7 @@ impl Incoming {
         self.start += count;
     }
 
-    /// Reads more bytes behind those that are there, and tells how many: none only at the end of the stream.
+    /// Reads more bytes after the buffered ones, and returns how many: 0 only at the end of the stream.
     pub(crate) fn fill<R: Source>(&mut self, reader: &mut R) -> Result<usize, EngineFault>
         requires { length self.old < 256 }
         ensures more { IfOk result (λ count. (more : List ℕ) × (length more ≡ count) × (self.new ≡ self.old ++ more)
@@ -73,7 +73,7 @@ impl Incoming {
     }
 }
 
-/// Reads into the buffer from a place on.
+/// Reads into the buffer from an index on.
 pub(crate) fn read_behind<R: Source>(
     buffer: &mut [u8],
     from: usize,

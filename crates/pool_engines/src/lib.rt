@@ -1,4 +1,4 @@
-//! The engines: what the program does with a stream of lines.
+//! The engines: how the program processes a stream of lines.
 #![tactic(auto)]
 
 mod checker;

@@ -6,10 +6,10 @@ ghost use Rattle.pool_engines.specs.Faults.{IsTold};
 use crate::engine_fault::EngineFault;
 use crate::sink::Sink;
 
-/// How many bytes wait at most after a line.
+/// The most bytes that are buffered before a line.
 const FULL: usize = 65_536 - 256;
 
-/// Hands on what waits where there is little room left behind it. A line then has room.
+/// Writes the buffered output if there is little room left. Then a line has room.
 pub(crate) fn make_room<W: Sink>(waiting: &mut Vec<u8>, writer: &mut W) -> Result<(), EngineFault>
     requires room { waiting_room ≤ vec_capacity waiting.old }
     ensures ok { OnOk result ((sent : List ℕ) × (waiting.old.items ≡ sent ++ waiting.new.items)
@@ -28,8 +28,8 @@ pub(crate) fn make_room<W: Sink>(waiting: &mut Vec<u8>, writer: &mut W) -> Resul
     }
 }
 
-/// Gives what waits to the writer, and leaves nothing waiting. On an error the writer got a front of it.
-/// Where nothing waits, nothing is asked of the writer.
+/// Writes all buffered output, and leaves the buffer empty. On an error the writer got a prefix of it. If the buffer is
+/// empty, the writer is not called.
 pub(crate) fn hand_on<W: Sink>(waiting: &mut Vec<u8>, writer: &mut W) -> Result<(), EngineFault>
     ensures ok { OnOk result ((waiting.new.items ≡ [])
         × Appends (W.contents writer.old) (W.contents writer.new) waiting.old.items) }
@@ -51,7 +51,7 @@ pub(crate) fn hand_on<W: Sink>(waiting: &mut Vec<u8>, writer: &mut W) -> Result<
     }
 }
 
-/// Writes all the bytes. On an error a front of them is written.
+/// Writes all the bytes. On an error a prefix of them is written.
 fn write_whole<W: Sink>(writer: &mut W, bytes: &[u8]) -> Result<(), EngineFault>
     ensures ok { OnOk result (Appends (W.contents writer.old) (W.contents writer.new) bytes.now) }
     ensures err { OnErr result

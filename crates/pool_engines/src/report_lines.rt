@@ -10,12 +10,12 @@ use crate::statistics_lines::{push_line, push_statistics};
 use pool_stats::Statistics;
 use std::alloc::{AllocError, Global};
 
-/// Writes what a load found: lines of the number of its workers, of the rounds of each, and of the
-/// borrows that were refused, and then those of its statistics.
+/// Writes the results of a load: the lines `workers`, `rounds` (of each worker) and `refused` (borrows), and then those
+/// of its statistics.
 ///
 /// # Errors
 ///
-/// `OutOfMemory`: nothing is then written. `Write`: a front of the lines may be.
+/// `OutOfMemory`: nothing is then written. `Write`: a prefix of the lines may be written.
 pub fn write_report<W: Sink>(
     alloc: Global,
     workers: u32,

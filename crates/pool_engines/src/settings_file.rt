@@ -11,16 +11,16 @@ use pool_settings::Settings;
 use std::alloc::{AllocError, Global};
 use std::str;
 
-/// How many bytes a settings file has at most.
+/// The most bytes that a settings file may have.
 const LIMIT: usize = 1_048_576;
 
-/// Reads the settings that a file says, of which it reads at most 1,048,577 bytes.
+/// Reads the settings from a file, and at most 1,048,577 bytes of it.
 ///
 /// # Errors
 ///
-/// `OutOfMemory` before anything is read, and `Read` where the reader fails. Then `TooLong` for more
-/// than 1,048,576 bytes, `NotUtf8` for bytes that aren't text, and `Text` for what
-/// [`Settings::from_text`] refuses, want of memory included.
+/// `OutOfMemory` before anything is read, and `Read` if the reader fails. Then `TooLong` for more than 1,048,576 bytes,
+/// `NotUtf8` for bytes that aren't text, and `Text` for what [`Settings::from_text`] rejects, also for an allocation
+/// failure in it.
 pub fn read_settings<R: Source>(alloc: Global, reader: &mut R) -> Result<Settings, FileFault>
     ensures read { TakesAtMost 1048577 (R.remaining reader.old) (R.remaining reader.new) }
     ensures answer { IfSome (R.remaining reader.old) (λ bytes. IsAnswered bytes result) }
@@ -37,14 +37,14 @@ pub fn read_settings<R: Source>(alloc: Global, reader: &mut R) -> Result<Setting
     judge(alloc, &buffer[..count])
 }
 
-/// Room for the longest settings file, and for one byte that is too many.
+/// Room for the longest settings file, and for one more byte.
 fn buffer(alloc: Global) -> Result<Vec<u8>, AllocError>
     ensures { IfOk result (λ buffer. length buffer.items ≡ 1048577) }
 {
     vec![in alloc; 0; LIMIT + 1]
 }
 
-/// Reads into the buffer until it is full or the reader at its end, and tells how many bytes came.
+/// Reads into the buffer until it is full or the reader is at its end, and returns how many bytes were read.
 fn fill<R: Source>(buffer: &mut [u8], reader: &mut R) -> Result<usize, FileFault>
     ensures length { length buffer.new ≡ length buffer.old }
     ensures ok { IfOk result (λ count. (count ≤ length buffer.new)
@@ -65,7 +65,7 @@ fn fill<R: Source>(buffer: &mut [u8], reader: &mut R) -> Result<usize, FileFault
     Ok(count)
 }
 
-/// What the bytes of a file say, if they aren't too many.
+/// The settings in the bytes of a file, if these aren't too many.
 fn judge(alloc: Global, bytes: &[u8]) -> Result<Settings, FileFault>
     ensures judged { IsJudged bytes.now result }
     ensures in_range { IfOk result IsInRange }

@@ -6,10 +6,10 @@ ghost use Rattle.std.specs.IoError.{error_kind};
 use std::io;
 use std::io::{ErrorKind, Stdout, Write};
 
-/// A writer that engines write to. Contracts see whether it has failed, where that is known. A writer
-/// that takes none of some bytes has failed.
+/// A writer that engines write to. Its contracts state whether it has failed, if that is known. A writer that accepts
+/// none of some bytes has failed.
 ///
-/// Of a writer of which it isn't known, as of standard output, `may_have_failed` is always true, and
+/// For a writer of which it isn't known, such as standard output, `may_have_failed` is always true, and
 /// [`write_past_signals`] and [`flush_past_signals`] are its `write_some` and `flush_all`.
 pub trait Sink: Write {
     ghost use Rattle.std.specs.Prelude.{◌<◌, Bool, length, is_err, IfOk};
@@ -20,22 +20,22 @@ pub trait Sink: Write {
     /// Whether a write or a flush may have failed.
     ghost may_have_failed: { Self → Bool };
 
-    /// Writes as `write` does, and again where a signal interrupts it.
+    /// Writes as `write` does, and again if a signal interrupts it.
     ///
     /// # Errors
     ///
-    /// Where a write failed, or took none of some bytes. None is then taken.
+    /// A write failed, or accepted none of some bytes. None is then written.
     fn write_some(&mut self, bytes: &[u8]) -> io::Result<usize>
         ensures bound { WritesAtMost result bytes.now }
         ensures bytes { WriteAppends (Self.contents self.old) (Self.contents self.new) result bytes.now }
         ensures some { IfOk result (λ count. 0 < length bytes.now → 0 < count) }
         ensures told { IsTold (is_err result) (may_have_failed self.old) (may_have_failed self.new) };
 
-    /// Flushes as `flush` does, and again where a signal interrupts it.
+    /// Flushes as `flush` does, and again if a signal interrupts it.
     ///
     /// # Errors
     ///
-    /// Where a flush failed.
+    /// A flush failed.
     fn flush_all(&mut self) -> io::Result<()>
         ensures bytes { Keeps (Self.contents self.old) (Self.contents self.new) }
         ensures told { IsTold (is_err result) (may_have_failed self.old) (may_have_failed self.new) };
@@ -65,11 +65,11 @@ impl Sink for Stdout {
     }
 }
 
-/// Writes as `write` does, and again where a signal interrupts it, 2^64 - 1 times at most.
+/// Writes as `write` does, and again if a signal interrupts it, at most 2^64 - 1 times.
 ///
 /// # Errors
 ///
-/// Where a write failed, or took none of some bytes, and after the last try.
+/// A write failed, or accepted none of some bytes, or the last try was interrupted.
 pub fn write_past_signals<W: Write>(writer: &mut W, bytes: &[u8]) -> io::Result<usize>
     ensures bound { WritesAtMost result bytes.now }
     ensures bytes { WriteAppends (W.contents writer.old) (W.contents writer.new) result bytes.now }
@@ -90,11 +90,11 @@ pub fn write_past_signals<W: Write>(writer: &mut W, bytes: &[u8]) -> io::Result<
     Err(ErrorKind::TimedOut.into())
 }
 
-/// Flushes as `flush` does, and again where a signal interrupts it, 2^64 - 1 times at most.
+/// Flushes as `flush` does, and again if a signal interrupts it, at most 2^64 - 1 times.
 ///
 /// # Errors
 ///
-/// Where a flush failed, and after the last try.
+/// A flush failed, or the last try was interrupted.
 pub fn flush_past_signals<W: Write>(writer: &mut W) -> io::Result<()>
     ensures bytes { Keeps (W.contents writer.old) (W.contents writer.new) }
     ensures retried { IfErr result (λ fault. error_kind fault ≢ ErrorKind.Interrupted) }

@@ -7,10 +7,10 @@ use std::fs::File;
 use std::io;
 use std::io::{ErrorKind, Read, Stdin};
 
-/// A reader that engines read from. Contracts see whether it has failed, where that is known.
+/// A reader that engines read from. Its contracts state whether it has failed, if that is known.
 ///
-/// Of a reader of which it isn't known, as of a file, `may_have_failed` is always true, and
-/// [`read_past_signals`] is its `read_some`.
+/// For a reader of which it isn't known, such as a file, `may_have_failed` is always true, and [`read_past_signals`] is
+/// its `read_some`.
 pub trait Source: Read {
     ghost use Rattle.std.specs.Prelude.{Bool, is_err};
     ghost use Rattle.std.specs.Io.{ReadsAtMost};
@@ -20,18 +20,18 @@ pub trait Source: Read {
     /// Whether a read may have failed.
     ghost may_have_failed: { Self → Bool };
 
-    /// Reads as `read` does, and again where a signal interrupts it.
+    /// Reads as `read` does, and again if a signal interrupts it.
     ///
     /// # Errors
     ///
-    /// Where a read failed. No byte is then taken.
+    /// A read failed. No byte is then taken.
     fn read_some(&mut self, buffer: &mut [u8]) -> io::Result<usize>
         ensures bound { ReadsAtMost result buffer.new }
         ensures bytes { ReadConsumes (Self.remaining self.old) (Self.remaining self.new) result buffer.new }
         ensures told { IsTold (is_err result) (may_have_failed self.old) (may_have_failed self.new) };
 }
 
-/// Bytes in memory never fail.
+/// A read of bytes in memory never fails.
 impl Source for &[u8] {
     ghost may_have_failed = { λ _. false };
 
@@ -56,11 +56,11 @@ impl Source for Stdin {
     }
 }
 
-/// Reads as `read` does, and again where a signal interrupts it, 2^64 - 1 times at most.
+/// Reads as `read` does, and again if a signal interrupts it, at most 2^64 - 1 times.
 ///
 /// # Errors
 ///
-/// Where a read failed, and after the last try.
+/// A read failed, or the last try was interrupted.
 pub fn read_past_signals<R: Read>(reader: &mut R, buffer: &mut [u8]) -> io::Result<usize>
     ensures bound { ReadsAtMost result buffer.new }
     ensures bytes { ReadConsumes (R.remaining reader.old) (R.remaining reader.new) result buffer.new }

@@ -6,7 +6,7 @@ use pool_journal::push_number_word;
 use pool_stats::Statistics;
 use std::alloc::AllocError;
 
-/// Appends the lines of statistics, each a name and its number. On an error `out` is as it was.
+/// Appends the lines of statistics, each a name and its number. On an error `out` is unchanged.
 pub(crate) fn push_statistics(out: &mut Vec<u8>, found: &Statistics) -> Result<(), AllocError>
     ensures ok { OnOk result (out.new.items ≡ out.old.items ++ statistics_text found.now) }
     ensures err { OnErr result (out.new.items ≡ out.old.items) }

@@ -10,14 +10,14 @@ use crate::engine_fault::EngineFault;
 use pool_core::{StepFault, Stepper};
 use pool_journal::{Entry, Input, Outcome, Request};
 
-/// The number of the line whose entry comes next.
+/// The number of the next entry's line.
 pub(crate) fn line_number(stepper: &Stepper<u64>) -> u64
     ensures { result ≡ stepper.now.taken + 1 }
 {
     stepper.taken() + 1
 }
 
-/// The value that an input brings back: that of each object is its id.
+/// The value that an input passes in: that of each object is its id.
 fn value_of(input: &Input) -> Option<u64>
     ensures { is_some result ≡ carries input.now }
 {
@@ -32,8 +32,7 @@ fn value_of(input: &Input) -> Option<u64>
     }
 }
 
-/// Takes the step that a request asks for, which stands in the line of this number, and answers its entry. On an
-/// error the pool is as it was.
+/// Takes the step that a request in line `number` asks for, and returns its entry. On an error the pool is unchanged.
 pub(crate) fn step(
     stepper: &mut Stepper<u64>,
     number: u64,

@@ -1,9 +1,9 @@
-/// What an engine did with the bytes before it.
+/// The result of one turn of an engine, before some bytes.
 pub(crate) enum Turn {
     /// They begin with a whole line, of this length, which is handled.
     Took(usize),
-    /// They are less than a line.
+    /// They contain no whole line.
     Unfinished,
-    /// The engine is through, whatever follows.
+    /// The engine has finished, whatever follows.
     Done,
 }

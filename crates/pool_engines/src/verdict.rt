@@ -4,14 +4,14 @@ ghost use Rattle.pool_journal.specs.Text.{line_feed};
 use pool_journal::{Answer, push_answer, push_number_word};
 use std::alloc::AllocError;
 
-/// What a check says of a journal.
+/// The verdict of a check on a journal.
 #[derive(Clone, Copy)]
 pub(crate) enum Verdict {
-    /// Each answer is the one that was due.
+    /// Each answer is the expected one.
     Legal,
-    /// The next answer is another than this one, which was due.
+    /// The next answer isn't this one, which was expected.
     Illegal(Answer),
-    /// This file, from 0, doesn't begin with the base that was due.
+    /// This file, from 0, doesn't begin with the expected base.
     IllegalBase(u64),
 }
 
@@ -24,7 +24,7 @@ impl Verdict {
         matches!(self, Verdict::Legal)
     }
 
-    /// Appends the line that tells the verdict after so many entries.
+    /// Appends the line of the verdict after `count` entries.
     pub(crate) fn tell(&self, count: u64, line: &mut Vec<u8>) -> Result<(), AllocError>
         ensures { OnOk result (line.new.items ≡ line.old.items ++ told_by self.now count) }
     {
