@@ -1,4 +1,4 @@
--- What joined threads kept, in the order in which they were started.
+-- The promises of joined threads, in the order in which they were started.
 use Rattle.std.proofs.Common.{◌≡◌, ℕ, ◌+◌, ◌*◌, ◌<◌, ◌≤◌, List, [], ◌∷◌, ◌++◌, length, length-append, map, Option, Some, None, Result, Ok, Err, slice_get, refl, sym, ap, ◌∙◌, subst, arith}
 use Rattle.std.specs.Prelude.{slice_index_or, sum}
 use Rattle.std.specs.Option.{option_map}
@@ -26,7 +26,7 @@ mapped_from {X} {Y} f xs i y at = by_element (slice_get xs i) refl (sym (slice_g
     by_element (Some x) some is = record { x = x; at = some; is = cc is }
 
 module _ {H W : Type 0} (before : H → Standing) (rounds : H → ℕ) (caller : W → Standing) (outcome : W → Result ℕ LoadFault) (s : Settings) (n : ℕ) where
-  -- the thread at each place kept what its handle promised
+  -- the thread at each index kept the promise of its handle
   abbrev pub AllKept : List H → List W → Type 0
   AllKept hs ws = (i : ℕ) (d : W) → i < length hs
       → (h : H) × (h ≡ slice_index_or hs i h) × Works s (rounds h) (outcome (slice_index_or ws i d)) (before h) (caller (slice_index_or ws i d))
@@ -63,7 +63,7 @@ outcomes_more outcome ws w fs f so_far is = map-append outcome ws (w ∷ []) ∙
 pub sum_more : (fs : List ℕ) (f : ℕ) → sum (fs ++ f ∷ []) ≡ sum fs + f
 sum_more fs f = fold-append (λ (a b : ℕ). a + b) 0 fs (f ∷ [])
 
--- a worker of the list was refused no more often than that
+-- at most this many borrows of a worker in the list were refused
 pub no_more : {W : Type 0} (caller : W → Standing) (outcome : W → Result ℕ LoadFault) (s : Settings) (most : ℕ) (ws : List W) (i : ℕ) (w : W) (f : ℕ)
     → ((i : ℕ) (d : W) → i < length ws → IsOutcome s most (outcome (slice_index_or ws i d)) (caller (slice_index_or ws i d)))
     → i < length ws → w ≡ slice_index_or ws i w → outcome w ≡ Ok f → f ≤ most
@@ -80,7 +80,7 @@ outcome_up s rounds most (Ok f) me up is = omega (arith, up, is)
 outcome_up s rounds most (Err stops.NoThread) me up is = tt
 outcome_up s rounds most (Err _) me up is = is
 
--- each outcome is one of so many rounds, also where more might be made
+-- each outcome is one of this number of rounds, even if more are allowed
 pub outcomes_within : {W : Type 0} (caller : W → Standing) (outcome : W → Result ℕ LoadFault) (s : Settings) (rounds most : ℕ) (before : List Standing) (ws : List W) → AllWorked s rounds before (map caller ws) (map outcome ws) → rounds ≤ most
     → (i : ℕ) (d : W) → i < length ws → IsOutcome s most (outcome (slice_index_or ws i d)) (caller (slice_index_or ws i d))
 outcomes_within caller outcome s rounds most before ws worked up i d lt =

@@ -1,4 +1,4 @@
--- Each round lends an object or is refused.
+-- In each round an object is lent or the borrow is refused.
 use Rattle.std.proofs.Common.{◌≡◌, ℕ, zero, suc, ◌+◌, ◌*◌, ◌<◌, ◌≤◌, ◌==◌, Bool, true, false, cond, if◌then◌else◌, List, [], ◌∷◌, ◌++◌, length, Some, Result, Ok, Err, slice_get, take, add-one, refl, sym, ap, ◌∙◌, subst, arith}
 use Rattle.std.specs.Prelude.{IfOk, sum, slice_index}
 use Rattle.std.proofs.lemmas.Bool.Decides.{nat_tests}
@@ -38,7 +38,7 @@ lent_counted : (es : List Entry) → count_answers is_lent_answer es ≡ lent_in
 lent_counted [] = refl
 lent_counted (e ∷ es) = sum_by-cons lent_by e es ∙ ap (λ n. lent_by e + n) (lent_counted es)
 
--- what isn't ready isn't lent
+-- an entry that reports no object as ready lends none
 abbrev Ordered : Entry → Type 0
 Ordered e = is_ready e.input ≡ false → is_lent_answer e.answer ≡ false
 
@@ -72,7 +72,7 @@ lent_parts (x ∷ xs) ys = let p = lent_parts xs ys in omega (arith, p)
 not_lent : (e : Entry) → Ordered e → is_ready e.input ≡ false → lent_by e ≡ 0
 not_lent e ordered other = ap (λ b. cond b 1 0) (ordered other)
 
--- where a borrow stands that has lent an object
+-- 1 at the stage of a borrow that has lent an object
 abbrev lent_at : borrows.Stage → ℕ
 lent_at (borrows.lent i) = 1
 lent_at _ = 0
@@ -102,7 +102,7 @@ destroyed_not : (new : Bool) (o : Outcome) → lent_at (borrows.after_destroying
 destroyed_not true o = refl
 destroyed_not false o = refl
 
--- an entry of a borrow lends where the borrow then stands lent
+-- an entry of a borrow lends exactly if it leads to that stage
 borrow_step : (s : Settings) (began : ℕ) (st : borrows.Stage) (e : Entry) → Ordered e → borrows.Due s began st e → lent_by e + lent_at st ≡ lent_at (borrows.next st e)
 borrow_step s began borrows.removes e ordered due =
     let a = not_lent e ordered (ap is_ready due) in let b = removing_not e.answer in omega (arith, a, b)
@@ -136,7 +136,7 @@ refusal_not : (st : borrows.Stage) → IsRefusal st → lent_at st ≡ 0
 refusal_not (borrows.lent i) is = absurd is
 refusal_not _ is = refl
 
--- no entry is of an object that gets ready
+-- no entry reports an object as ready
 abbrev NoneReady : List Entry → Type 0
 NoneReady [] = Unit {0}
 NoneReady (e ∷ es) = (is_ready e.input ≡ false) × NoneReady es
@@ -194,7 +194,7 @@ worked_lends s (suc r) f es all w =
     let sums = w.5 in
     omega (arith, first, rest, both, sums)
 
--- the sum of what a number below n has
+-- the sum of a function over the numbers below n
 abbrev sum_to : (ℕ → ℕ) → ℕ → ℕ
 sum_to f zero = 0
 sum_to f (suc n) = sum_to f n + f n
@@ -243,7 +243,7 @@ all_lends n (e ∷ es) below =
     let one = (sum_but_one e.caller (lent_by e) (λ k. lent_in (own k es)) n).1 below.0 in
     omega (arith, rest, split, one)
 
--- the sum from the front
+-- the sum from the first element on
 abbrev total : List ℕ → ℕ
 total [] = 0
 total (x ∷ xs) = x + total xs
@@ -260,7 +260,7 @@ total_at : (xs : List ℕ) → total xs ≡ sum_to (λ w. slice_index xs w) (len
 total_at [] = refl
 total_at (x ∷ xs) = let rest = total_at xs in let shift = sum_shift (λ w. slice_index (x ∷ xs) w) (length xs) in omega (arith, rest, shift)
 
--- what two sums of so many come to, where each pair comes to r
+-- the sum of two sums over the numbers below n, if each pair adds up to r
 pairs : (f g : ℕ → ℕ) (r n : ℕ) → ((k : ℕ) → k < n → f k + g k ≡ r) → sum_to f n + sum_to g n ≡ n * r
 pairs f g r zero each = sym (zero-mul r)
 pairs f g r (suc n) each =
@@ -269,7 +269,7 @@ pairs f g r (suc n) each =
     let more : suc n * r ≡ n * r + r = suc-mul n r in
     omega (arith, rest, here, more)
 
--- of all the rounds each lent an object or was refused
+-- in each of the rounds an object was lent or the borrow was refused
 pub all_rounds : (s : Settings) (workers rounds refused : ℕ) (r : LoadReport) → IsLoad s workers rounds refused r.stats → r.stats.borrowed + refused ≡ workers * rounds
 all_rounds s workers rounds refused r load =
     let J = load.journal in

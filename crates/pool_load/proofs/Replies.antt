@@ -1,4 +1,4 @@
--- Only an object that gets ready is lent.
+-- Only an object that was reported as ready is lent.
 use Rattle.std.proofs.Common.{◌≡◌, ℕ, ◌||◌, Bool, true, false, if◌then◌else◌, List, length, Option, Some, None, refl}
 use Rattle.std.specs.Prelude.{not, ◌-◌}
 use Rattle.pool_journal.specs.Journal.{phase, drawn, closed, records, present, cursor, is_lent_answer}
@@ -86,7 +86,7 @@ clear_next_idle : (o : Option Record) → Idle (clear_next_reply o)
 clear_next_idle (Some r) = refl
 clear_next_idle None = refl
 
--- an answer that is due lends only an object that got ready
+-- an expected answer lends only an object that was reported as ready
 pub lends_ready : (s : Settings) (at : ℕ) (J : List Entry) (input : Input) → is_ready input ≡ false → is_lent_answer (reply s J at input) ≡ false
 lends_ready s at J (Borrow began) other =
     either (closed J) (answers.Refused causes.Closed) (borrow_reply (choice s.lifo (records J)) (is_below s.max_total (length (present J))) (drawn J) (full_reply s (at - began))) refl

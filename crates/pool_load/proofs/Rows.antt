@@ -1,4 +1,4 @@
--- Rows of calls make rounds.
+-- Traces of borrows and returns make rounds.
 use Rattle.std.proofs.Common.{◌≡◌, ℕ, zero, suc, ◌+◌, List, [], ◌++◌, Ok, Err, append_assoc, append-nil, refl, sym, ap, ◌∙◌, subst, arith}
 use Rattle.pool_journal.specs.declared.entry.Entry.{Entry}
 use Rattle.pool_journal.specs.declared.input.Outcome.{Outcome}
@@ -98,7 +98,7 @@ kept_round E {T} s number l m f a b c is row back =
     let there : returns.ReturnRow s number l (Err (refusals.NotLent, m)) b c = subst (λ x. returns.ReturnRow s number l (Err (x, m)) b c) is back in
     both E s number l a b c row there.1.es there.1.made (record { due = there.1.due; ends = through_not_lent (walked returns.next returns.gives there.1.es) m there.1.ends })
 
--- where a borrow was refused for want of room, an entry was due that doesn't fit
+-- if a borrow failed for lack of room, an expected entry didn't fit
 full_there : (s : Settings) (began : ℕ) (st : borrows.Stage) (me : Standing) → IsLegal s me.seen → borrows.IsRefusedThere IsFullFor s began st me → IsFull s me
 full_there s began borrows.removes me legal is = record { legal = legal; input = inputs.Reclaim times.Borrow; full = is }
 full_there s began (borrows.reclaims left) me legal is = record { legal = legal; input = inputs.ReclaimNext; full = is }
@@ -112,7 +112,7 @@ stopped_borrow T s number _ stops.JournalFull before after legal is row = absurd
 stopped_borrow T s number _ stops.OutOfMemory before after legal is row = absurd is
 stopped_borrow T s number f _ before after legal is row = absurd is
 
--- so was a return
+-- the same for a return
 pub stopped_return : {T : Type 0} (s : Settings) (number : ℕ) (l m : Lent T) (f : ReturnFault) (before after : Standing) → f ≡ refusals.JournalFull → IsLegal s after.seen → returns.ReturnRow s number l (Err (f, m)) before after → IsFull s after
 stopped_return s number l m f before after is legal row =
     let there : returns.ReturnRow s number l (Err (refusals.JournalFull, m)) before after = subst (λ x. returns.ReturnRow s number l (Err (x, m)) before after) is row in

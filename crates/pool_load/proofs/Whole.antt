@@ -1,4 +1,4 @@
--- A history that joined workers and a close have made.
+-- The history of joined workers and a close.
 use Rattle.std.proofs.Common.{◌≡◌, ⊎_elim, ◌⊎◌, inl, inr, ℕ, zero, suc, ◌+◌, ◌<◌, List, [], ◌∷◌, ◌++◌, length, map, Some, Ok, slice_get, length-append, add-one, refl, sym, ap, ◌∙◌, subst, arith}
 use Rattle.std.specs.Prelude.{sum, slice_index, slice_index_or}
 use Rattle.std.specs.Option.{option_map}
@@ -60,7 +60,7 @@ newcomers workers all front last long is cut =
         at ∙ sym (before_end front (last ∷ []) i (slice_index_or front i (newcomer_at 0)) at) ∙ sym (ap (λ l. slice_get l i) cut) ∙ is i below
 
 module _ (s : Settings) (rounds workers : ℕ) (front after : List Standing) (last last' : Standing) (fs : List ℕ) (H : List Entry) where
-  -- a worker, and what it came to
+  -- a worker, and its outcome
   record Worker (w : ℕ) : Type 0 where
     a : Standing
     at : slice_get after w ≡ Some a
@@ -78,7 +78,7 @@ module _ (s : Settings) (rounds workers : ℕ) (front after : List Standing) (la
       let is = worked.each w (newcomer_at w) a (Ok (slice_index fs w)) (new.each w lt) at_a at_o in
       record { a = a; at = at_a; number = is.number; uncut = is.uncut; makes = is.worked }
 
-  -- who came back is one of the callers, and didn't cut the journal
+  -- each returned caller is one of the callers, and didn't cut the journal
   all_back : Newcomers workers front last → AllWorked s rounds front after (map Ok fs) → last'.number ≡ workers → last'.cuts ≡ 0 → (i : ℕ) (c : Standing) → slice_get (after ++ last' ∷ []) i ≡ Some c
       → (c.number < workers + 1) × (c.cuts ≡ 0)
   all_back new worked same uncut i c at = ⊎_elim among the_last (in_front after last' c i at)

@@ -1,4 +1,4 @@
--- What a load made, and why it has no report.
+-- The history of a load, and why it has no report.
 use Rattle.std.specs.Prelude.{◌≡◌, ◌⊎◌, ℕ, ◌+◌, ◌<◌, ◌≤◌, List, length, sum, slice_index, Ok}
 use Rattle.pool_journal.specs.declared.entry.Entry.{Entry}
 use Rattle.pool_settings.specs.declared.settings.Settings.{Settings}
@@ -13,14 +13,16 @@ use Rattle.pool_engines.specs.declared.load_fault.LoadFault.TheVariants.{WorkerC
 use Rattle.pool_load.specs.Rounds.{IsWorked}
 use Rattle.pool_load.specs.Workers.{StopsLoad}
 
--- so many workers may be had, and so many rounds asked of each
+-- the numbers of workers and of rounds are in their ranges
 pub record IsInRange (workers rounds : ℕ) : Type 0 where
   pub some_workers : 0 < workers
   pub few_workers : workers ≤ 1023
   pub some_rounds : 0 < rounds
   pub few_rounds : rounds ≤ 1000000
 
--- all that the caller of this number made in a history is one whole close, the first and the last of its calls: as a newcomer it went on to see a legal history, up to its last entry at least, and made there what a close makes, up to the stage at which one ends
+-- all entries of the caller of this number in a history are those of one whole close, its first and last call: from a newcomer on
+-- it observed a legal history, up to its last entry at least, and appended there what a close appends, up to a stage at which one
+-- ends
 pub record OnlyCloses (s : Settings) (n : ℕ) (journal : List Entry) : Type 0 where
   pub taken : ℕ
   pub after : Standing
@@ -29,7 +31,8 @@ pub record OnlyCloses (s : Settings) (n : ℕ) (journal : List Entry) : Type 0 w
   pub seen : Begins after.seen journal
   pub row : CloseRow s (Ok taken) (newcomer_at n) after
 
--- there is one legal history: each worker made its rounds in it, and the last caller closed the pool, and nothing else stands there. The refusals of all workers are counted, and the statistics are those of this history
+-- there is one legal history: in it each worker made its rounds, the last caller closed the pool, and there are no other entries.
+-- The refused borrows of all workers are counted, and the statistics are those of this history
 pub record IsLoad (s : Settings) (workers rounds refused : ℕ) (stats : Statistics) : Type 0 where
   pub journal : List Entry
   pub legal : IsLegal s journal
@@ -41,7 +44,8 @@ pub record IsLoad (s : Settings) (workers rounds refused : ℕ) (stats : Statist
   pub all : refused ≡ sum refusals
   pub told : stats ≡ statistics_of journal
 
--- why there is no report: a number is out of its range, or, where both are in theirs, an entry of a caller didn't fit the journal, memory is wanting, or a thread
+-- why there is no report: a number is out of its range, or, if both are in theirs, an entry of a caller didn't fit the journal,
+-- an allocation failed, or a thread was not created
 abbrev pub IsLoadFault : Settings → ℕ → ℕ → LoadFault → Type 0
 IsLoadFault s workers rounds WorkerCount = (workers ≡ 0) ⊎ (1023 < workers)
 IsLoadFault s workers rounds RoundCount = (0 < workers) × (workers ≤ 1023) × ((rounds ≡ 0) ⊎ (1000000 < rounds))

@@ -1,4 +1,4 @@
--- Rounds of a caller: a borrow, and, where it got an object, its return.
+-- Rounds of a caller: a borrow, and its return if it got an object.
 use Rattle.std.specs.Prelude.{◌≡◌, ℕ, zero, suc, ◌+◌, List, [], ◌++◌}
 use Rattle.pool_journal.specs.declared.entry.Entry.{Entry}
 use Rattle.pool_journal.specs.declared.input.Input.{Input}
@@ -24,7 +24,7 @@ IsRefusing answers.Exhausted = Unit {0}
 IsRefusing answers.TimedOut = Unit {0}
 IsRefusing _ = ⊥
 
--- a borrow that was refused, or whose new object did not get ready
+-- a borrow that was refused, or whose new object was not made ready
 abbrev pub IsRefusal : borrows.Stage → Type 0
 IsRefusal (borrows.refused a) = IsRefusing a
 IsRefusal (borrows.failed o) = Unit {0}
@@ -35,7 +35,7 @@ abbrev pub IsNotLent : Answer → Type 0
 IsNotLent (answers.Refused causes.NotLent) = Unit {0}
 IsNotLent _ = ⊥
 
--- a return that is through
+-- a return that is complete
 abbrev pub IsThrough : returns.Stage → Type 0
 IsThrough (returns.done r) = Unit {0}
 IsThrough (returns.refused a) = IsNotLent a
@@ -58,12 +58,12 @@ pub record ReturnDone (s : Settings) (i : ℕ) (es : List Entry) : Type 0 where
   pub due : AllDue (returns.Due s i) returns.next returns.gives es
   pub ends : IsThrough (walked returns.next returns.gives es)
 
--- one round, and how many refusals it is
+-- one round, and how many refused borrows are in it
 pub data Round (s : Settings) (f : ℕ) (es : List Entry) : Type 0 where
   lends : (i : ℕ) (bs gs : List Entry) → es ≡ bs ++ gs → f ≡ 0 → BorrowDone s i bs → ReturnDone s i gs → Round s f es
   refuses : f ≡ 1 → BorrowRefused s es → Round s f es
 
--- so many rounds, with so many refusals
+-- this number of rounds, with this number of refused borrows
 abbrev pub IsWorked : Settings → ℕ → ℕ → List Entry → Type 0
 IsWorked s zero f es = (f ≡ 0) × (es ≡ [])
 IsWorked s (suc r) f es = (xs : List Entry) × (ys : List Entry) × (g : ℕ) × (h : ℕ) × (es ≡ xs ++ ys) × (f ≡ g + h) × Round s g xs × IsWorked s r h ys
@@ -74,19 +74,19 @@ MakesRound s f before after = (es : List Entry) × (after.made ≡ before.made +
 abbrev pub MakesRounds : Settings → ℕ → ℕ → Standing → Standing → Type 0
 MakesRounds s r f before after = (es : List Entry) × (after.made ≡ before.made ++ es) × IsWorked s r f es
 
--- a refusal that isn't for want of room or memory
+-- an error that isn't a lack of room or memory
 abbrev pub IsOwn : {E : Type 0} → BorrowFault E → Type 0
 IsOwn faults.JournalFull = ⊥
 IsOwn faults.OutOfMemory = ⊥
 IsOwn _ = Unit {0}
 
--- a refusal for want of room or memory stops a worker
+-- a lack of room or memory stops a worker
 abbrev pub StopsFor : {E : Type 0} → LoadFault → BorrowFault E → Type 0
 StopsFor JournalFull faults.JournalFull = Unit {0}
 StopsFor OutOfMemory faults.OutOfMemory = Unit {0}
 StopsFor _ _ = ⊥
 
--- after a legal history that is seen an entry was due that doesn't fit
+-- after a legal history that is observed, an expected entry doesn't fit
 pub record IsFull (s : Settings) (me : Standing) : Type 0 where
   pub legal : IsLegal s me.seen
   pub input : Input

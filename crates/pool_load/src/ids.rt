@@ -44,7 +44,7 @@ impl Factory<u64, Infallible> for Ids {
     fn destroy(&self, _value: u64) {}
 }
 
-/// Tells how often it was read before.
+/// Returns how often it was read before.
 #[derive(Drop)]
 pub(crate) struct Ticks {
     readings: AtomicU64,

@@ -1,5 +1,5 @@
-//! Workers over a shared pool: rounds of borrows and returns, and a load of many of them at once. It hands on the engines, which go
-//! over a stream of lines.
+//! Workers over a shared pool: rounds of borrows and returns, and a load of many workers at once. It re-exports the
+//! engines, which process a stream of lines.
 #![tactic(auto)]
 
 mod gate;

@@ -1,4 +1,4 @@
-// Many workers at once, and what their history says.
+// Many workers at once, and the statistics of their history.
 ghost use Rattle.std.specs.Prelude.{◌≡◌, ◌+◌, ◌*◌, ℕ, Ok, IfOk, IfErr, OnOk};
 ghost use Rattle.pool_history.specs.Standings.{Goes};
 ghost use Rattle.pool_shared.specs.Clears.{CloseRow};
@@ -23,26 +23,25 @@ const MOST_WORKERS: u32 = 1_023;
 /// How many rounds a worker may make.
 const MOST_ROUNDS: u64 = 1_000_000;
 
-/// What a load found.
+/// The result of a load.
 #[derive(Clone, Copy, Debug, PartialEq, Eq)]
 pub struct LoadReport {
-    /// How many borrows were refused, of all workers.
+    /// How many borrows of all workers were refused.
     pub refused: u64,
     /// The statistics of the whole history.
     pub stats: Statistics,
 }
 
-/// Opens a pool with these settings, lets so many workers make so many rounds on it, each in a thread
-/// of its own, and then closes it. In a round a worker borrows an object, passes the gate with it, and
-/// gives it back; a borrow that is refused is a round too. All threads are joined before the answer.
+/// Opens a pool with these settings, runs `workers` workers on it that make `rounds` rounds each, each in its own
+/// thread, and then closes it. In a round a worker borrows an object, passes the gate with it, and returns it; a borrow
+/// that is refused is a round too. All threads are joined before the call returns.
 ///
 /// The value of an object is its id, the factory never fails, and the clock counts its readings.
 ///
 /// # Errors
 ///
-/// `WorkerCount` and `RoundCount` exactly where a number is out of its range, in this order.
-/// `JournalFull`, where an entry that was due did not fit. `NoThread`, where the system refused a
-/// thread: then no worker has begun. `OutOfMemory`.
+/// `WorkerCount` and `RoundCount` exactly if a number is out of its range, in this order. `JournalFull` if an expected
+/// entry did not fit. `NoThread` if the system did not create a thread: then no worker has begun. `OutOfMemory`.
 pub fn load<G: Gate, R: Threads + Wait + Sync>(
     rt: &R,
     alloc: Global,
@@ -68,7 +67,7 @@ pub fn load<G: Gate, R: Threads + Wait + Sync>(
     }
 }
 
-/// The load of a pool whose name is picked.
+/// The load of a pool on the cell of `site`.
 fn load_on<B: Room + Send + Sync, G: Gate, R: Threads + Wait + Sync>(
     rt: &R,
     alloc: Global,

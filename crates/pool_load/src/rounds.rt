@@ -7,8 +7,7 @@ use pool_engines::LoadFault;
 use pool_shared::{BorrowFault, Caller, Clock, Factory, ReturnFault, Room, SharedPool};
 use std::sync::Wait;
 
-/// A borrow that the pool refused for a cause of its own is a refusal. For want of room or memory a
-/// worker stops.
+/// Passes over a refused borrow. If a borrow failed for lack of room or memory, the worker stops.
 fn pass_over<E>(fault: &BorrowFault<E>) -> Result<(), LoadFault>
     ensures own { IfOk result (λ u. IsOwn fault.now) }
     ensures stops { IfErr result (λ stop. StopsFor stop fault.now) }
@@ -20,7 +19,7 @@ fn pass_over<E>(fault: &BorrowFault<E>) -> Result<(), LoadFault>
     }
 }
 
-/// One round: how many refusals it was.
+/// Makes one round. Returns how many borrows were refused in it: 0 or 1.
 fn round<T: Drop, E: Drop, F: Factory<T, E> + Drop, C: Clock + Drop, B: Room, G: Gate, R: Wait>(
     rt: &R,
     pool: &SharedPool<T, E, F, C, B>,
@@ -52,13 +51,13 @@ fn round<T: Drop, E: Drop, F: Factory<T, E> + Drop, C: Clock + Drop, B: Room, G:
     }
 }
 
-/// Rounds of a caller: in each it borrows an object, passes the gate with it, and gives it back. Answers
-/// how many borrows were refused, which are rounds too; the caller's entries are those of its rounds.
+/// Makes rounds of a caller: in each it borrows an object, passes the gate with it, and returns it. Returns how many
+/// borrows were refused, which are rounds too. The caller's entries are those of its rounds.
 ///
 /// # Errors
 ///
-/// `JournalFull` and `OutOfMemory`, where a section of a borrow or of a return was refused for that; the
-/// rounds end there.
+/// `JournalFull` and `OutOfMemory`, if a critical section of a borrow or of a return failed for that; the rounds end
+/// there.
 pub fn work<T: Drop, E: Drop, F: Factory<T, E> + Drop, C: Clock + Drop, B: Room, G: Gate, R: Wait>(
     rt: &R,
     pool: &SharedPool<T, E, F, C, B>,

@@ -3,10 +3,10 @@ use std::sync::{Condvar, Mutex, Wait};
 
 #[derive(Clone, Copy)]
 enum Signal {
-    /// Not all threads are there yet.
+    /// Not all threads exist yet.
     Wait,
     Work,
-    /// Some thread was not made.
+    /// Some thread was not created.
     GoHome,
 }
 
@@ -25,7 +25,7 @@ impl Start {
         }
     }
 
-    /// Lets the workers go: to work, if all of them are there.
+    /// Gives the signal: to work, if all workers have a thread.
     pub(crate) fn give<R: Wait>(&self, rt: &R, all_there: bool) {
         let mut signal = self.signal.lock(rt);
         *signal = if all_there {
@@ -36,7 +36,7 @@ impl Start {
         self.given.notify_all();
     }
 
-    /// Waits for the signal, and tells whether it is to work.
+    /// Waits for the signal, and returns whether it is to work.
     pub(crate) fn wait<R: Wait>(&self, rt: &R) -> bool {
         let signal = self.given.wait_while(rt, self.signal.lock(rt), |signal| {
             matches!(*signal, Signal::Wait)

@@ -14,14 +14,14 @@ use std::sync::Wait;
 use std::thread;
 use std::thread::{Promise, PromisedHandle, Scope, Threads};
 
-/// What a worker gives back: its caller, and how many borrows were refused, or why it stopped.
+/// The result of a worker: its caller, and how many borrows were refused, or why it stopped.
 #[derive(Drop)]
 pub(crate) struct Worked<B: Room> {
     pub(crate) caller: Caller<B>,
     pub(crate) outcome: Result<u64, LoadFault>,
 }
 
-/// Promises that a caller, as it is now, makes so many rounds.
+/// Promises that a caller, from its state now, makes this number of rounds.
 #[derive(Drop)]
 struct WorkOf<B: Room> {
     before: Snapshot<Caller<B>>,
@@ -34,7 +34,7 @@ impl<B: Room> Promise<Worked<B>> for WorkOf<B> {
     ghost kept_by = { λ p r. Works B.settings p.rounds r.outcome p.before.value r.caller };
 }
 
-/// What a worker's thread does, once the signal is given.
+/// The body of a worker's thread: it works if that is the signal.
 fn run<B: Room, G: Gate, R: Wait>(
     rt: &R,
     pool: &IdPool<B>,
@@ -76,7 +76,7 @@ fn start_one<'s, E, B: Room + Send + Sync, G: Gate, R: Threads + Wait + Sync>(
     }
 }
 
-/// A thread for each caller, in their order.
+/// Starts a thread for each caller, in their order.
 fn start_all<'s, E, B: Room + Send + Sync, G: Gate, R: Threads + Wait + Sync>(
     scope: &Scope<'s, E>,
     rt: &'s R,
@@ -132,11 +132,12 @@ fn work_in<'s, E, B: Room + Send + Sync, G: Gate, R: Threads + Wait + Sync>(
     }
 }
 
-/// Lets each caller work in a thread of its own, and waits until all of them are through.
+/// Lets each caller work in its own thread, and waits until all are finished.
 ///
 /// # Errors
 ///
-/// `NoThread`, where the system refused a thread, and `OutOfMemory`. No worker has begun then.
+/// `NoThread`, if the system did not create a thread: then no worker has begun. `OutOfMemory`, before the workers begin
+/// or after they have finished.
 pub(crate) fn work_all<B: Room + Send + Sync, G: Gate, R: Threads + Wait + Sync>(
     rt: &R,
     alloc: Global,
