@@ -18,7 +18,7 @@ abbrev pub IsWithin : ℤ → ℕ → Type 0
 IsWithin (pos limit) n = n ≤ limit
 IsWithin (negsuc _) n = ⊤
 
--- at most as many objects are present as the settings allow
+-- the number of present objects is within the limit of the settings
 abbrev pub AtMostMaxTotal : Settings → List Entry → Type 0
 AtMostMaxTotal S J = IsWithin S.max_total (length (present J))
 

@@ -30,7 +30,7 @@ counts_at b =
 abbrev pub counts_from : Base → List Entry → Counts
 counts_from b J = counts_at (reach b J)
 
--- at most as many objects are present as the settings allow
+-- the number of present objects is within the limit of the settings
 abbrev pub AtMostMaxTotalFrom : Settings → Base → List Entry → Type 0
 AtMostMaxTotalFrom S b J = IsWithin S.max_total (length (present_from b J))
 

@@ -148,7 +148,7 @@ impl<T> State<T> {
         }
     }
 
-    // Stores where an eviction run continues, and what a removal that found nothing has learned.
+    // Stores the object after which an eviction run continues, and what a removal that found nothing has learned.
     fn remember(&mut self, at: u64, input: Input, answer: Answer)
         ensures { self.new ≡ self.old }
     {
