@@ -48,7 +48,7 @@ pub alone_of : {T E : Type 0} (s : Settings) (number began : ℕ) (from : Stage)
 alone_of s number began from (Ok l) before after goes made = alone s l.id after goes.legal made.leaves
 alone_of s number began from (Err f) before after goes made = tt
 
--- at most as many objects are present in what is observed as the settings allow
+-- in the observed history the number of present objects is within the limit of the settings
 pub within : (s : Settings) (before after : Standing) → Goes s before after → AtMostMaxTotal s after.seen
 within s before after goes = (keeps_laws s after.seen goes.legal).at_most_max_total
 

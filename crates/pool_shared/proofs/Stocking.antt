@@ -131,7 +131,7 @@ reached_walked : (stage : Stage) (es : List Entry) → reached (walked fills.nex
 reached_walked stage [] = omega arith
 reached_walked stage (e ∷ es) = omega (arith, reached_next stage e, reached_walked (fills.next stage e) es)
 
--- a fill has parked at most as many as it appended entries
+-- a fill has parked at most one object per entry that it appended
 pub few_parked : (s : Settings) (n : ℕ) (first now : Standing) → Goes_on s (asks 0) first now (asks n) → n ≤ length now.made
 unfolding reached
 few_parked s n first now w =

@@ -188,8 +188,8 @@ impl<T: Drop, E: Drop, F: Factory<T, E> + Drop, C: Clock + Drop, B: Room> Shared
         Ok(run)
     }
 
-    /// Examines idle objects, as many as the settings say, and continues after the one that the last run examined last.
-    /// It destroys each that was idle for too long, or that fails its test if idle objects are tested.
+    /// Examines the number of idle objects that the settings say, and continues after the one that the last run
+    /// examined last. It destroys each that was idle for too long, or that fails its test if idle objects are tested.
     ///
     /// # Errors
     ///

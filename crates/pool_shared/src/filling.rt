@@ -35,7 +35,7 @@ impl<T: Drop, E: Drop, F: Factory<T, E> + Drop, C: Clock + Drop, B: Room> Shared
         }
     }
 
-    /// Makes objects and parks them, until as many are idle, or on their way there, as the settings require, or there
+    /// Makes objects and parks them, until the number that the settings require is idle, or on its way there, or there
     /// is no free place. Returns how many it parked. On a closed pool that is 0.
     ///
     /// # Errors
