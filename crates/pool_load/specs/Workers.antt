@@ -6,7 +6,7 @@ use Rattle.pool_engines.specs.declared.load_fault.LoadFault.{LoadFault}
 use Rattle.pool_engines.specs.declared.load_fault.LoadFault.TheVariants.{JournalFull, OutOfMemory, NoThread}
 use Rattle.pool_load.specs.Rounds.{MakesRounds, IsFull, Stops}
 
--- at most as many refused borrows as rounds, or why a caller stopped in them; it did not work if another has no thread
+-- the refused borrows are at most the rounds, or why a caller stopped in them; it did not work if another has no thread
 abbrev pub IsOutcome : Settings → ℕ → Result ℕ LoadFault → Standing → Type 0
 IsOutcome s rounds (Ok refused) me = refused ≤ rounds
 IsOutcome s rounds (Err NoThread) me = Unit {0}
