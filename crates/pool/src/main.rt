@@ -1,18 +1,17 @@
-//! The program: plays scripts on a pool, judges journals, tells their statistics, and puts a load on a
-//! pool that threads share.
+//! The program: it runs scripts on a pool, checks journals, reports their statistics, and puts a load on a pool that threads share.
 //!
-//! Without arguments it plays standard input with the default settings; `run SETTINGS SCRIPT` plays a
-//! file, `check SETTINGS JOURNAL..` judges a journal in one file or more, `stats JOURNAL` tells its statistics, and `load SETTINGS
-//! WORKERS ROUNDS` lets workers borrow and give back. It writes to standard output. The status is 0 where all
-//! went well, 1 for a journal that isn't legal, 2 for any other arguments, and 3 at a fault; what is wrong is
-//! told in one line on standard error, which further lines follow at a terminal: where it is, and what to do. If the other
-//! arguments ask for help or for the version, the uses or the version are written too.
+//! Without arguments it runs standard input with the default settings. `run SETTINGS SCRIPT` runs a file, `check SETTINGS JOURNAL..`
+//! checks a journal in one file or more, `stats JOURNAL` writes its statistics, and with `load SETTINGS WORKERS ROUNDS` workers borrow
+//! from one pool and return. It writes to standard output. The status is 0 on success, 1 for a journal that is not legal, 2 for wrong
+//! arguments, and 3 for any other error. An error is reported in one line on standard error. At a terminal further lines follow, with
+//! its place and what to do. If wrong arguments ask for help or for the version, these are written too.
 #![tactic(auto)]
 
 use pool_arguments::{Task, task_of};
 use pool_load::{Gate, load, write_report};
 use pool_tasks::{
-    Fault, check_journal, refuse, run_input, run_script, settings_in, tell, tell_statistics,
+    Fault, check_journal, engine_result, refuse, run_input, run_script, settings_in, tell,
+    tell_statistics,
 };
 use std::env;
 use std::process::ExitCode;
@@ -29,7 +28,7 @@ fn main(rt: HostRuntime) -> ExitCode {
     }
 }
 
-/// The name of the program, and the words behind it.
+/// Returns the name of the program, and the words after it.
 fn arguments_of<'a>(rt: &HostRuntime) -> Result<Vec<String>, Fault<'a>> {
     match env::args(rt) {
         Ok(words) => Ok(words.collect(rt.alloc())?),
@@ -37,7 +36,7 @@ fn arguments_of<'a>(rt: &HostRuntime) -> Result<Vec<String>, Fault<'a>> {
     }
 }
 
-/// Does what is asked for. The threads are those of the runtime.
+/// Does the task that the arguments name. The threads are those of the runtime.
 fn perform<'a, R: Threads + Wait + Sync>(
     rt: &HostRuntime,
     threads: &R,
@@ -77,14 +76,14 @@ fn load_pool<'a, R: Threads + Wait + Sync>(
 ) -> Result<ExitCode, Fault<'a>> {
     let settings = settings_in(rt, settings)?;
     let report = load(threads, rt.alloc(), settings, workers, rounds, &NoGate)?;
-    write_report(
+    let written = write_report(
         rt.alloc(),
         workers,
         rounds,
         report.refused,
         &report.stats,
         &mut rt.stdout(),
-    )
-    .map_err(|fault| Fault::Engine(None, fault))?;
+    );
+    engine_result(None, written)?;
     Ok(ExitCode::SUCCESS)
 }

@@ -1,4 +1,4 @@
--- What is told of a fault has no control character.
+-- The line of an error has no control character.
 use Rattle.std.proofs.Common.{◌≡◌, ℕ, false, List, ◌++◌, ◌∙◌, refl}
 use Rattle.std.proofs.lemmas.List.Folds.{list_any-append}
 use Rattle.std.specs.List.{list_any}

@@ -1,11 +1,11 @@
--- What is told of a fault, and the status that the program ends with.
+-- The line of an error, and the exit status of the program.
 use Rattle.std.specs.Prelude.{ℕ, List, ◌++◌, codes, Option, None, Some}
 use Rattle.pool_settings.specs.Escaped.{escaped}
 use Rattle.pool_engines.specs.Messages.{file_text}
 use Rattle.pool_tasks.specs.declared.fault.Fault.{Fault}
 use Rattle.pool_tasks.specs.declared.fault.Fault.TheVariants.{WrongArguments, Asked, WrongNumbers, Unopened, OutOfMemory, Settings, Engine, Load}
 
--- The line without its line feed. Those of engines and loads hold no key and no path, and are not said here.
+-- The line without its line feed. Those of engines and loads have no key and no path, and are not defined here.
 abbrev pub text_of : Fault → Option (List ℕ)
 text_of WrongArguments = Some (codes "pool: wrong arguments")
 text_of Asked = Some (codes "pool: wrong arguments")

@@ -17,10 +17,10 @@ const ILLEGAL: u8 = 1;
 /// How many files are kept open until they are read.
 const MOST_OPEN: usize = 500;
 
-/// How many files are judged side by side for each processor: with more than one no processor waits for the longest of a few.
+/// The number of files checked in parallel for each processor. With more than one, no processor waits for the longest file.
 const FILES_PER_PROCESSOR: usize = 4;
 
-/// Judges the journal in these files, in their order. The status is 1 if it is not legal.
+/// Checks the journal in these files, in their order. The status is 1 if it is not legal.
 pub fn check_journal<'a, R: Threads + Sync>(
     rt: &HostRuntime,
     threads: &R,
@@ -39,8 +39,8 @@ pub fn check_journal<'a, R: Threads + Sync>(
     }
 }
 
-/// How many files are judged side by side. None where they are judged in turn: where there is one alone or one processor, and
-/// where one is no regular file, which can be read once alone.
+/// Returns the number of files to check in parallel, or `None` if they are checked in turn: if there is only one file or one
+/// processor, or if a file is not regular, since it can be read only once.
 fn width<R: Threads>(threads: &R, rt: &HostRuntime, paths: &[&str]) -> Option<usize> {
     let processors = thread::available_parallelism(threads).ok()?.get();
     if paths.len() < 2 || processors < 2 {
@@ -54,7 +54,7 @@ fn width<R: Threads>(threads: &R, rt: &HostRuntime, paths: &[&str]) -> Option<us
     Some(processors.saturating_mul(FILES_PER_PROCESSOR))
 }
 
-/// Judges files side by side, as many at a time as `width` says.
+/// Checks files in parallel, `width` of them at a time.
 fn check_files<'a, R: Threads + Sync>(
     rt: &HostRuntime,
     threads: &R,
@@ -82,10 +82,10 @@ fn check_files<'a, R: Threads + Sync>(
             return Err(Fault::Unopened(lost));
         }
     }
-    judged.map_err(|fault| Fault::Engine(first_faulty(rt, paths, &fault), fault))
+    verdict_of(rt, paths, judged)
 }
 
-/// Judges files one after the other.
+/// Checks files one after the other.
 fn check_in_turn<'a>(
     rt: &HostRuntime,
     settings: Settings,
@@ -105,11 +105,23 @@ fn check_in_turn<'a>(
     if let Some(lost) = files.iter().find(|file| file.is_lost) {
         return Err(Fault::Unopened(lost.path));
     }
-    judged.map_err(|fault| Fault::Engine(first_faulty(rt, paths, &fault), fault))
+    verdict_of(rt, paths, judged)
 }
 
-/// Opens the file at this path, and puts it behind the others. Where there are many, it is closed, and opened again once it
-/// is read: there may be more files than may be open at once.
+/// Returns whether the journal in these files is legal, or the error with the path of its file, if that is known.
+fn verdict_of<'a>(
+    rt: &HostRuntime,
+    paths: &[&'a str],
+    judged: Result<bool, EngineFault>,
+) -> Result<bool, Fault<'a>> {
+    match judged {
+        Ok(is_legal) => Ok(is_legal),
+        Err(fault) => Err(Fault::Engine(first_faulty(rt, paths, &fault), fault)),
+    }
+}
+
+/// Opens the file at this path, and appends it to the others. After the first `MOST_OPEN` files it closes each, and opens it
+/// again when it is read: there may be more files than may be open at once.
 fn watch<'a, 'p, 'r>(
     rt: &'r HostRuntime,
     path: &'a str,

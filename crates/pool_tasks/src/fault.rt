@@ -16,7 +16,7 @@ const WRONG_ARGUMENTS: u8 = 2;
 
 const FAULT: u8 = 3;
 
-/// Why the program didn't do what it was asked for.
+/// Why the program did not do its task.
 #[derive(Debug, Drop)]
 pub enum Fault<'a> {
     /// The arguments ask for nothing that the program does.
@@ -30,13 +30,13 @@ pub enum Fault<'a> {
     OutOfMemory,
     /// The file at this path gives no settings.
     Settings(&'a str, FileFault),
-    /// A journal or a script wasn't handled to its end. The path is that of its file, if it is known which one it is.
+    /// A journal or a script was not read to its end. The path is that of its file, if that is known.
     Engine(Option<&'a str>, EngineFault),
     Load(LoadFault),
 }
 
 impl<'a> Fault<'a> {
-    /// Why the arguments weren't read: those that aren't text ask for nothing.
+    /// Returns the error of arguments that could not be read. Arguments that are not text are wrong.
     pub fn of_unread(cause: &io::Error) -> Fault<'a> {
         match cause.kind() {
             ErrorKind::OutOfMemory => Fault::OutOfMemory,
@@ -44,7 +44,7 @@ impl<'a> Fault<'a> {
         }
     }
 
-    /// The status that the program ends with.
+    /// Returns the exit status of the program.
     pub(crate) fn status(&self) -> u8
         ensures { result ≡ status_of self.now }
     {
@@ -54,7 +54,7 @@ impl<'a> Fault<'a> {
         }
     }
 
-    /// Writes the line that says the fault, and the hint after it. A key or a path in the line is told without control characters.
+    /// Writes the line of the error, and the hint after it. Control characters of a key or a path in the line are escaped.
     pub(crate) fn tell<W: Write>(&self, hint: &Hint<'_>, writer: &mut W) -> io::Result<()>
         ensures line { OnOk result (IfSome (text_of self.now)
             (λ text. Appends (W.contents writer.old) (W.contents writer.new) (text ++ 10 ∷ shown hint.now))) }
@@ -97,5 +97,16 @@ impl<'a> From<LoadFault> for Fault<'a> {
 impl<'a> From<AllocError> for Fault<'a> {
     fn from(_: AllocError) -> Fault<'a> {
         Fault::OutOfMemory
+    }
+}
+
+/// Returns the result of an engine over the file at this path, or over a standard stream if there is no path.
+pub fn engine_result<'a, T>(
+    path: Option<&'a str>,
+    ran: Result<T, EngineFault>,
+) -> Result<T, Fault<'a>> {
+    match ran {
+        Ok(value) => Ok(value),
+        Err(fault) => Err(Fault::Engine(path, fault)),
     }
 }

@@ -1,4 +1,4 @@
-//! Files that are judged side by side.
+//! Files that are checked in parallel.
 ghost use Rattle.std.specs.Prelude.{map, None};
 
 use crate::progress::{Progress, Watched};
@@ -7,7 +7,7 @@ use std::fs::File;
 use std::io::ErrorKind;
 use std::{fs, io};
 
-/// The files at these paths, each of which is opened when it is read, and as often as it is.
+/// The files at these paths. Each is opened whenever it is read.
 #[derive(Drop)]
 pub(crate) struct Files<'a, 'p, 'r> {
     pub rt: &'r HostRuntime,
@@ -39,7 +39,7 @@ impl<'a, 'p, 'r> Segments<Watched<'a, 'p, 'r>> for Files<'a, 'p, 'r> {
 }
 
 impl<'a> Files<'a, '_, '_> {
-    /// The first of the files that can't be opened now.
+    /// Returns the first of the files that cannot be opened now.
     pub fn first_lost(&self) -> Option<&'a str> {
         for path in self.paths {
             if File::open(self.rt, path).is_err() {
@@ -50,7 +50,7 @@ impl<'a> Files<'a, '_, '_> {
     }
 }
 
-/// Whether there is a regular file at this path.
+/// Returns whether there is a regular file at this path.
 pub(crate) fn is_regular(rt: &HostRuntime, path: &str) -> bool {
     match fs::metadata(rt, path) {
         Ok(metadata) => metadata.is_file(),

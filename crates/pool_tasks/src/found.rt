@@ -1,4 +1,4 @@
-//! A second look at a file with an error, for a person who is to be helped.
+//! A second look at a file with an error, for the hints at a terminal.
 
 use crate::fault::Fault;
 use crate::files::is_regular;
@@ -10,7 +10,7 @@ use std::fs;
 use std::fs::File;
 use std::io::{BufRead, BufReader, IsTerminal};
 
-/// What was found where an error is.
+/// What was found at the place of an error.
 #[derive(Clone, Copy, Debug)]
 pub(crate) struct Found {
     /// The number of the line, from 1, if the line of the error does not say it.
@@ -25,7 +25,7 @@ pub(crate) const NOTHING: Found = Found {
     kind: None,
 };
 
-/// Looks again at the file with an error. Only a regular file can be read a second time.
+/// Reads the file with an error again. Only a regular file can be read a second time.
 pub(crate) fn look(rt: &HostRuntime, fault: &Fault<'_>) -> Found {
     match fault {
         Fault::Settings(path, FileFault::Text(SettingsFault::NotToml)) => {
@@ -39,7 +39,7 @@ pub(crate) fn look(rt: &HostRuntime, fault: &Fault<'_>) -> Found {
     }
 }
 
-/// Looks for where a file stops being TOML.
+/// Finds the line at which a file stops being TOML.
 fn look_at_settings(rt: &HostRuntime, path: &str) -> Option<Found> {
     if !is_regular(rt, path) {
         return None;

@@ -20,7 +20,7 @@ pool                               plays standard input with the default setting
 /// The program's name and version. The number is that of the Rust crate.
 pub(crate) const VERSION: &str = "pool 0.1.0\n";
 
-/// Whether the program's name and the words behind it ask for help.
+/// Returns whether the arguments ask for help. The first argument is the program's name.
 pub(crate) fn asks_for_help(arguments: &[String]) -> bool
     ensures { result ≡ Spec.asks_for_help (drop 1 (map string_bytes arguments.now)) }
 {
@@ -30,7 +30,7 @@ pub(crate) fn asks_for_help(arguments: &[String]) -> bool
     }
 }
 
-/// Whether the words behind the program's name ask for help.
+/// Returns whether the words after the program's name ask for help.
 fn is_help(words: &[String]) -> bool
     ensures { result ≡ Spec.asks_for_help (map string_bytes words.now) }
 {
@@ -40,7 +40,7 @@ fn is_help(words: &[String]) -> bool
     }
 }
 
-/// Whether one of the words asks for help wherever it stands.
+/// Returns whether one of the words asks for help at any position.
 fn has_help_option(words: &[String]) -> bool
     ensures { result ≡ list_any (λ word. Spec.is_help_option (string_bytes word)) words.now }
 {
@@ -75,7 +75,7 @@ fn is_version_option(word: &String) -> bool
     word.as_str() == "--version" || word.as_str() == "-V"
 }
 
-/// Whether a word is one that asks for help wherever it stands.
+/// Returns whether a word asks for help at any position.
 fn is_help_option(word: &String) -> bool
     ensures { result ≡ Spec.is_help_option (string_bytes word.now) }
 {

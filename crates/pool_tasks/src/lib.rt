@@ -1,5 +1,5 @@
-//! What the program does with files, and what it tells of errors: runs, checks and statistics, the lines of each error with hints at a
-//! terminal, and help. A load on a shared pool is not among it.
+//! The parts of the program that need no shared pool: runs, checks and statistics over files, the lines of each error with hints at a
+//! terminal, and help.
 #![tactic(auto)]
 
 mod checks;
@@ -14,6 +14,6 @@ mod runs;
 mod telling;
 
 pub use checks::check_journal;
-pub use fault::Fault;
+pub use fault::{Fault, engine_result};
 pub use runs::{run_input, run_script, settings_in, tell_statistics};
 pub use telling::{refuse, tell};

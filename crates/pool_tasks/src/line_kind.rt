@@ -3,7 +3,7 @@ ghost use Rattle.pool_tasks.specs.Hints as Spec;
 
 use pool_journal::{read_entry, read_head, read_input};
 
-/// A line that is none where it stands, but would be one elsewhere.
+/// A line that is invalid at its place, but would be valid elsewhere.
 #[derive(Clone, Copy, Debug)]
 pub(crate) enum LineKind {
     /// The first line of a segment.

@@ -1,4 +1,4 @@
-//! How far a long work is, told at a terminal.
+//! The progress of a long check, printed at a terminal.
 ghost use Rattle.std.specs.Prelude.{true};
 
 use pool_engines::{Sink, Source, flush_past_signals, read_past_signals, write_past_signals};
@@ -8,26 +8,26 @@ use std::io::{IsTerminal, Read, Stdout, Write};
 use std::sync::atomic::{AtomicBool, AtomicU64, Ordering};
 use std::time::Instant;
 
-/// For how many seconds nothing is told at first, and then between two times.
+/// The number of seconds before the first message, and between two messages.
 const PERIOD: u64 = 1;
 
-/// What is told on standard error while files are read, where that is a terminal: how much of them was read so
+/// The message on standard error while files are read, if that is a terminal: how much of them was read so
 /// far. It is wiped before anything else is written. Threads that read may share it.
 #[derive(Drop)]
 pub(crate) struct Progress<'a> {
     rt: &'a HostRuntime,
-    /// How many bytes the files have, as far as the system knows.
+    /// The length of the files in bytes, as far as the system knows.
     length: AtomicU64,
     read: AtomicU64,
-    /// When the work began. None where nothing is told.
+    /// When the check began. `None` if no message is printed.
     began: Option<Instant>,
-    /// How many seconds after that it was last told.
+    /// The number of seconds from then to the last message.
     told: AtomicU64,
     is_shown: AtomicBool,
 }
 
 impl<'a> Progress<'a> {
-    /// Before the first file.
+    /// Returns the progress before the first file.
     pub fn of(rt: &'a HostRuntime) -> Progress<'a> {
         let began = if rt.stderr().is_terminal() {
             Instant::now(rt).ok()
@@ -50,7 +50,7 @@ impl<'a> Progress<'a> {
         self.length.fetch_add(length, Ordering::SeqCst);
     }
 
-    /// Notes that so many bytes were read, and tells how far it is where that wasn't told for long.
+    /// Notes that `count` bytes were read, and prints a message if the last one was printed `PERIOD` seconds ago or earlier.
     fn note(&self, count: usize) {
         self.read.fetch_add(count as u64, Ordering::SeqCst);
         let Some(began) = self.began else {
@@ -66,14 +66,14 @@ impl<'a> Progress<'a> {
         }
     }
 
-    /// Notes that it is told so many seconds after the beginning, unless another thread has told it since.
+    /// Notes that a message is printed `passed` seconds after the beginning, unless another thread has printed one since.
     fn is_first_to_tell(&self, told: u64, passed: u64) -> bool {
         self.told
             .compare_exchange(told, passed, Ordering::SeqCst, Ordering::SeqCst)
             .is_ok()
     }
 
-    /// Tells how much was read, in millions of bytes. What can't be written is left out.
+    /// Prints how much was read, in millions of bytes. A failed write is ignored.
     fn show(&self) {
         let read = self.read.load(Ordering::SeqCst) / 1_000_000;
         let length = self.length.load(Ordering::SeqCst) / 1_000_000;
@@ -85,7 +85,7 @@ impl<'a> Progress<'a> {
         self.is_shown.store(true, Ordering::SeqCst);
     }
 
-    /// Wipes what was told.
+    /// Wipes the message.
     pub fn wipe(&self) {
         if self.is_shown.swap(false, Ordering::SeqCst) {
             let _ = self.rt.stderr().write_all(b"\r\x1b[K");
@@ -93,20 +93,20 @@ impl<'a> Progress<'a> {
     }
 }
 
-/// A file whose reading is told. It is closed at its end.
+/// A file whose reading is reported. It is closed at its end.
 #[derive(Drop)]
 pub(crate) struct Watched<'a, 'p, 'r> {
     pub rt: &'r HostRuntime,
     pub path: &'a str,
-    /// None where it isn't open.
+    /// `None` if it is not open.
     pub file: Option<File>,
-    /// Whether it couldn't be opened when it was to be read.
+    /// Whether it could not be opened when it was to be read.
     pub is_lost: bool,
     pub progress: &'p Progress<'r>,
 }
 
 impl Watched<'_, '_, '_> {
-    /// The file, which is opened where it isn't open.
+    /// Returns the file, and opens it if it is not open.
     fn take(&mut self) -> io::Result<File> {
         if let Some(file) = self.file.take() {
             return Ok(file);
@@ -137,7 +137,7 @@ impl Source for Watched<'_, '_, '_> {
     }
 }
 
-/// Standard output, before which what was told is wiped.
+/// Standard output. The message is wiped before anything is written to it.
 #[derive(Drop)]
 pub(crate) struct Wiped<'a> {
     pub out: Stdout,

@@ -1,6 +1,6 @@
 //! Runs and statistics, and the files that they and checks read.
 
-use crate::fault::Fault;
+use crate::fault::{Fault, engine_result};
 use pool_engines::{read_settings, run, stats};
 use pool_settings::Settings;
 use std::fs::File;
@@ -9,9 +9,10 @@ use std::process::ExitCode;
 /// Runs the script on standard input with the default settings.
 pub fn run_input<'a>(rt: &HostRuntime) -> Result<ExitCode, Fault<'a>> {
     let settings = Settings::default();
-    run(rt.alloc(), settings, &mut rt.stdin(), &mut rt.stdout()).map_err(|fault| Fault::Engine(
-        None, fault,
-    ))?;
+    engine_result(
+        None,
+        run(rt.alloc(), settings, &mut rt.stdin(), &mut rt.stdout()),
+    )?;
     Ok(ExitCode::SUCCESS)
 }
 
@@ -23,27 +24,30 @@ pub fn run_script<'a>(
 ) -> Result<ExitCode, Fault<'a>> {
     let settings = settings_in(rt, settings)?;
     let mut file = open(rt, script)?;
-    run(rt.alloc(), settings, &mut file, &mut rt.stdout()).map_err(|fault| Fault::Engine(
+    engine_result(
         Some(script),
-        fault,
-    ))?;
+        run(rt.alloc(), settings, &mut file, &mut rt.stdout()),
+    )?;
     Ok(ExitCode::SUCCESS)
 }
 
 /// Writes the statistics of the journal in a file.
 pub fn tell_statistics<'a>(rt: &HostRuntime, journal: &'a str) -> Result<ExitCode, Fault<'a>> {
     let mut file = open(rt, journal)?;
-    stats(rt.alloc(), &mut file, &mut rt.stdout()).map_err(|fault| Fault::Engine(
+    engine_result(
         Some(journal),
-        fault,
-    ))?;
+        stats(rt.alloc(), &mut file, &mut rt.stdout()),
+    )?;
     Ok(ExitCode::SUCCESS)
 }
 
 /// Reads the settings in a file.
 pub fn settings_in<'a>(rt: &HostRuntime, path: &'a str) -> Result<Settings, Fault<'a>> {
     let mut file = open(rt, path)?;
-    read_settings(rt.alloc(), &mut file).map_err(|fault| Fault::Settings(path, fault))
+    match read_settings(rt.alloc(), &mut file) {
+        Ok(settings) => Ok(settings),
+        Err(fault) => Err(Fault::Settings(path, fault)),
+    }
 }
 
 /// Opens the file at this path.

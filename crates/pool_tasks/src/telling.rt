@@ -1,4 +1,4 @@
-//! What the program tells of wrong arguments and of errors.
+//! What the program prints on wrong arguments and on errors.
 
 use crate::fault::Fault;
 use crate::found::{NOTHING, look};
@@ -7,7 +7,7 @@ use crate::hint::Hint;
 use std::io::{IsTerminal, Write};
 use std::process::ExitCode;
 
-/// Returns the fault of wrong arguments. If they ask for help or for the version, writes the uses or the version first, and
+/// Returns the error of wrong arguments. If they ask for help or for the version, writes the uses or the version first, and
 /// ignores a failed write.
 pub fn refuse<'a>(rt: &HostRuntime, arguments: &[String]) -> Fault<'a> {
     let answer = if asks_for_help(arguments) {
@@ -21,7 +21,7 @@ pub fn refuse<'a>(rt: &HostRuntime, arguments: &[String]) -> Fault<'a> {
     Fault::Asked
 }
 
-/// Says the fault on standard error, with a hint if that is a terminal. Where that fails too, the status alone tells of it.
+/// Prints the error on standard error, with a hint if that is a terminal, and returns the exit status. A failed write is ignored.
 pub fn tell(rt: &HostRuntime, fault: &Fault<'_>) -> ExitCode {
     let is_terminal = rt.stderr().is_terminal();
     let found = if is_terminal {
