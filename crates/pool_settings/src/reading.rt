@@ -1,5 +1,5 @@
 //! Settings from a table of TOML: which key is which setting.
-ghost use Rattle.std.specs.Prelude.{◌≡◌, ◌≢◌, codes, [], ◌++◌, drop};
+ghost use Rattle.std.specs.Prelude.{◌≡◌, ◌≢◌, bytes_eq, codes, [], ◌++◌, drop};
 ghost use Rattle.toml.specs.View.{table_view, view};
 ghost use Rattle.pool_settings.specs.Faults.{fault_of, out_of_memory, unknown_key, Makes};
 ghost use Rattle.pool_settings.specs.Keys.{abandoned_rows, abandoned_table, read_key, read_table, rows};
@@ -25,6 +25,7 @@ pub(crate) fn put_table(
     Ok(())
 }
 
+/// Puts the value of a key.
 fn put_key(
     alloc: Global,
     settings: &mut Settings,
@@ -33,23 +34,23 @@ fn put_key(
 ) -> Result<(), SettingsFault>
     ensures { Makes result settings.new (read_key [] rows key.now (view value.now) settings.old) }
 {
-    if key == "abandoned" {
+    if is_named(key, "abandoned") {
         put_abandoned(alloc, settings, value)
-    } else if key == "blockWhenExhausted" {
+    } else if is_named(key, "blockWhenExhausted") {
         put_flag(
             &mut settings.block_when_exhausted,
             "blockWhenExhausted",
             value,
         )
-    } else if key == "journalLimit" {
+    } else if is_named(key, "journalLimit") {
         put_limit(&mut settings.journal_limit, "journalLimit", value)
-    } else if key == "lifo" {
+    } else if is_named(key, "lifo") {
         put_flag(&mut settings.lifo, "lifo", value)
-    } else if key == "maxIdle" {
+    } else if is_named(key, "maxIdle") {
         put_count(&mut settings.max_idle, "maxIdle", i32::MIN, value)
-    } else if key == "maxTotal" {
+    } else if is_named(key, "maxTotal") {
         put_count(&mut settings.max_total, "maxTotal", i32::MIN, value)
-    } else if key == "maxWaitMillis" {
+    } else if is_named(key, "maxWaitMillis") {
         put_millis(&mut settings.max_wait_millis, "maxWaitMillis", -1, value)
     } else {
         put_eviction_key(alloc, settings, key, value)
@@ -65,23 +66,23 @@ fn put_eviction_key(
 ) -> Result<(), SettingsFault>
     ensures { Makes result settings.new (read_key [] (drop 7 rows) key.now (view value.now) settings.old) }
 {
-    if key == "minEvictableIdleMillis" {
+    if is_named(key, "minEvictableIdleMillis") {
         put_millis(
             &mut settings.min_evictable_idle_millis,
             "minEvictableIdleMillis",
             -1,
             value,
         )
-    } else if key == "minIdle" {
+    } else if is_named(key, "minIdle") {
         put_count(&mut settings.min_idle, "minIdle", 0, value)
-    } else if key == "numTestsPerEvictionRun" {
+    } else if is_named(key, "numTestsPerEvictionRun") {
         put_count(
             &mut settings.num_tests_per_eviction_run,
             "numTestsPerEvictionRun",
             i32::MIN,
             value,
         )
-    } else if key == "softMinEvictableIdleMillis" {
+    } else if is_named(key, "softMinEvictableIdleMillis") {
         put_millis(
             &mut settings.soft_min_evictable_idle_millis,
             "softMinEvictableIdleMillis",
@@ -102,13 +103,13 @@ fn put_test_key(
 ) -> Result<(), SettingsFault>
     ensures { Makes result settings.new (read_key [] (drop 11 rows) key.now (view value.now) settings.old) }
 {
-    if key == "testOnBorrow" {
+    if is_named(key, "testOnBorrow") {
         put_flag(&mut settings.test_on_borrow, "testOnBorrow", value)
-    } else if key == "testOnCreate" {
+    } else if is_named(key, "testOnCreate") {
         put_flag(&mut settings.test_on_create, "testOnCreate", value)
-    } else if key == "testOnReturn" {
+    } else if is_named(key, "testOnReturn") {
         put_flag(&mut settings.test_on_return, "testOnReturn", value)
-    } else if key == "testWhileIdle" {
+    } else if is_named(key, "testWhileIdle") {
         put_flag(&mut settings.test_while_idle, "testWhileIdle", value)
     } else {
         Err(unknown(alloc, "", key))
@@ -143,6 +144,7 @@ fn put_abandoned_table(
     Ok(())
 }
 
+/// Puts the value of a key of the table of abandoned objects.
 fn put_abandoned_key(
     alloc: Global,
     settings: &mut Settings,
@@ -152,19 +154,19 @@ fn put_abandoned_key(
     ensures { Makes result settings.new
         (read_key (codes "abandoned.") abandoned_rows key.now (view value.now) settings.old) }
 {
-    if key == "removeAbandonedOnBorrow" {
+    if is_named(key, "removeAbandonedOnBorrow") {
         put_flag(
             &mut settings.remove_abandoned_on_borrow,
             "abandoned.removeAbandonedOnBorrow",
             value,
         )
-    } else if key == "removeAbandonedOnMaintenance" {
+    } else if is_named(key, "removeAbandonedOnMaintenance") {
         put_flag(
             &mut settings.remove_abandoned_on_maintenance,
             "abandoned.removeAbandonedOnMaintenance",
             value,
         )
-    } else if key == "removeAbandonedTimeoutMillis" {
+    } else if is_named(key, "removeAbandonedTimeoutMillis") {
         put_millis(
             &mut settings.remove_abandoned_timeout_millis,
             "abandoned.removeAbandonedTimeoutMillis",
@@ -174,6 +176,13 @@ fn put_abandoned_key(
     } else {
         Err(unknown(alloc, "abandoned.", key))
     }
+}
+
+/// Whether a key has this name.
+fn is_named(key: &str, name: &str) -> bool
+    ensures { result ≡ bytes_eq key.now name.now }
+{
+    key == name
 }
 
 /// The fault of a key that no setting has.
