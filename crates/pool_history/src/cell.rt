@@ -1,7 +1,7 @@
 // The moves of the cell, each as what it does to the views of passes: a step says by its outcome what it makes of them.
-ghost use Rattle.std.specs.Prelude.{◌≡◌, ◌+◌, ◌^◌, ◌<◌, ℕ, [], ◌∷◌, length, IfOk};
+ghost use Rattle.std.specs.Prelude.{◌≡◌, ◌+◌, ◌%◌, ◌^◌, ◌<◌, ℕ, List, [], ◌∷◌, length, slice_index, IfOk};
 ghost use Rattle.crossbeam_utils.specs.Register.{Forks, Merges, Turns, TurnsAt};
-ghost use Rattle.crossbeam_utils.specs.Seq.{cell_view, Gathered, IsSamePass, Stays};
+ghost use Rattle.crossbeam_utils.specs.Seq.{cell_view, Gathered, HasRead, IsSamePass, Stays};
 ghost use Rattle.crossbeam_utils.specs.declared.atomic.seq_cell.Stage.TheVariants.{Writing};
 ghost use Rattle.pool_history.specs.Rule.{Kept, beginner};
 
@@ -32,6 +32,15 @@ pub fn begin(alloc: Global) -> Result<(Cell, Seen), AllocError>
     Ok((Cell { table }, keeper))
 }
 
+/// Reads the version.
+fn version_of(cell: &Cell, pass: &mut Seen) -> u64
+    requires { pass.old.table_id ≡ cell.now.table.shared.table_id }
+    ensures stays { Stays pass.old pass.new }
+    ensures read { HasRead result pass.new.me.0.stage }
+{
+    cell.table.shared.load::<Reads>(pass, 0)
+}
+
 /// Reads the words, one by one.
 fn gather(cell: &Cell, pass: &mut Seen) -> [u64; 8]
     requires { pass.old.table_id ≡ cell.now.table.shared.table_id }
@@ -53,7 +62,7 @@ pub fn load<M: Outcome<[u64; 8], View>, R: Wait>(rt: &R, cell: &Cell, pass: &mut
 {
     let backoff = Backoff::new();
     for _ in rt.forever() {
-        let version = cell.table.shared.load::<Reads>(pass, 0);
+        let version = version_of(cell, pass);
         if version % 2 == 0 {
             let words = gather(cell, pass);
             if cell.table.shared.load::<Checks<M>>(pass, 0) == version {
@@ -65,6 +74,18 @@ pub fn load<M: Outcome<[u64; 8], View>, R: Wait>(rt: &R, cell: &Cell, pass: &mut
     unreachable!()
 }
 
+/// Makes the version odd, if it is this even one still. The answer is the version that it was.
+fn lock(cell: &Cell, pass: &mut Seen, version: u64, words: &[u64; 8]) -> u64
+    requires cell { pass.old.table_id ≡ cell.now.table.shared.table_id }
+    requires even { version % 2 ≡ 0 }
+    requires small { version + 1 < 2 ^ 64 }
+    ensures stays { Stays pass.old pass.new }
+    ensures taken { result ≡ version → (old : _) × (pass.new.me.0.stage ≡ Writing (version + 1) old words.now 0) }
+{
+    let shared = &cell.table.shared;
+    shared.compare_exchange_with::<Locks>(pass, 0, version, version + 1, words)
+}
+
 /// Takes the cell to store words. The answer is the version, which is odd then. After 2^63 stores it waits for ever.
 fn take<R: Wait>(rt: &R, cell: &Cell, pass: &mut Seen, words: [u64; 8]) -> u64
     requires { pass.old.table_id ≡ cell.now.table.shared.table_id }
@@ -74,17 +95,30 @@ fn take<R: Wait>(rt: &R, cell: &Cell, pass: &mut Seen, words: [u64; 8]) -> u64
 {
     let backoff = Backoff::new();
     for _ in rt.forever() {
-        let version = cell.table.shared.load::<Reads>(pass, 0);
+        let version = version_of(cell, pass);
         if version % 2 == 0 && version < u64::MAX - 1 {
-            let shared = &cell.table.shared;
-            let odd = version + 1;
-            if shared.compare_exchange_with::<Locks>(pass, 0, version, odd, &words) == version {
-                return odd;
+            if lock(cell, pass, version, &words) == version {
+                return version + 1;
             }
         }
         backoff.snooze();
     }
     unreachable!()
+}
+
+/// Stores a word, if it differs from what is stored.
+fn put(cell: &Cell, pass: &mut Seen, i: usize, word: u64)
+    requires cell { pass.old.table_id ≡ cell.now.table.shared.table_id }
+    requires inside { i < 8 }
+    requires next { (version : ℕ) × (old : List ℕ) × (words : List ℕ) × (pass.old.me.0.stage ≡ Writing version old words i) × (word ≡ slice_index words i) }
+    ensures stays { Stays pass.old pass.new }
+    ensures put { (version : ℕ) (old words : List ℕ) → pass.old.me.0.stage ≡ Writing version old words i → word ≡ slice_index words i
+        → pass.new.me.0.stage ≡ Writing version old words (i + 1) }
+{
+    let shared = &cell.table.shared;
+    if shared.load::<Compares>(pass, i + 1) != word {
+        shared.store::<Puts>(pass, i + 1, word);
+    }
 }
 
 /// Stores those of the words that differ from what is stored, and gives the cell up.
@@ -95,12 +129,10 @@ fn publish<M: Outcome<[u64; 8], View>>(cell: &Cell, pass: &mut Seen, version: u6
     ensures same { IsSamePass pass.old pass.new }
     ensures view { (old : _) × M.then (cell_view pass.old) old words (cell_view pass.new) }
 {
-    let shared = &cell.table.shared;
     for i in 0..WORDS {
-        if shared.load::<Compares>(pass, i + 1) != words[i] {
-            shared.store::<Puts>(pass, i + 1, words[i]);
-        }
+        put(cell, pass, i, words[i]);
     }
+    let shared = &cell.table.shared;
     shared.store::<Publishes<M>>(pass, 0, version + 1);
 }
 

@@ -1,21 +1,11 @@
 use Rattle.std.proofs.Common.{rules, ◌≡◌, refl, ap, ◌∙◌}
-use Rattle.crossbeam_utils.proofs.SeqKeeps.{puts, publishes}
-use Rattle.pool_history.proofs.Storing.{compares, told_other, turns_there}
+use Rattle.crossbeam_utils.proofs.SeqKeeps.{publishes}
+use Rattle.pool_history.proofs.Storing.{turns_there}
 use Rattle.crossbeam_utils.specs.declared.atomic.seq_cell.Stage.TheVariants.{Writing}
 use Rattle.pool_history.proofs.cell.publish.Goals as goal
 
-pub load-requires : goal.load-requires
-load-requires g c = (search rules, search rules, compares _ _ _ _ _ _ _ c.loop-i.invariant.1.1 (search rules))
-
 pub store-requires : goal.store-requires
-store-requires g c = (
-  search rules,
-  search rules,
-  puts _ _ _ _ _ _ _ _ _ _ _ (c.load.ensures.2.1 ∙ told_other _ _ _ _ _ _ c.loop-i.invariant.1.1 (search rules)) (search rules) (search rules),
-)
-
-pub store-requires-2 : goal.store-requires-2
-store-requires-2 g c =
+store-requires g c =
     let all : c.loop-i.i ≡ 8 = search rules in
     let stays = c.loop-i.invariant.0 in
     let old = c.loop-i.invariant.1.0 in (
