@@ -1,4 +1,5 @@
-use Rattle.std.proofs.Common.{ap, rules, ◌≡◌}
+use Rattle.std.proofs.Common.{ap, rules, ◌≡◌, arith}
+use Rattle.std.proofs.lemmas.Grind.{common_steps}
 use Rattle.pool_shared.proofs.Backs.{full_row, short_row}
 use Rattle.pool_shared.specs.Pools.{refusal}
 use Rattle.pool_shared.proofs.Keeping.{untouched}
@@ -16,3 +17,6 @@ returns-in-Err-OutOfMemory-clause-row g c =
 
 pub returns-then-lent-self-clause-goes : goal.returns-then-lent-self-clause-goes
 returns-then-lent-self-clause-goes g c = untouched g.B.Room.table g.B.Room.settings _ c.me.inside.number _ c.args.me.now c.me.invariant c.me.view_is
+
+pub returns-in-Ok-Check-clause-row : goal.returns-in-Ok-Check-clause-row
+returns-in-Ok-Check-clause-row g c = grind (arith, common_steps)
