@@ -7,8 +7,8 @@ ghost use Rattle.pool_load.specs.Loads.{IsInRange, IsLoad, IsLoadFault};
 
 use crate::gate::Gate;
 use crate::ids::{IdPool, Ids, Ticks};
-use pool_engines::LoadFault;
 use crate::workers::{collect_all, work_all};
+use pool_engines::LoadFault;
 use pool_settings::Settings;
 use pool_shared::{Caller, OpenFault, PoolFault, Room, Site};
 use pool_stats::Statistics;

@@ -4,9 +4,9 @@ ghost use Rattle.pool_load.specs.Workers.{Works, AllWorked, IsOutcome, StopsLoad
 
 use crate::gate::Gate;
 use crate::ids::IdPool;
-use pool_engines::LoadFault;
 use crate::rounds::work;
 use crate::starting::Start;
+use pool_engines::LoadFault;
 use pool_shared::{Caller, Room};
 use std::alloc::Global;
 use std::snapshot::Snapshot;
