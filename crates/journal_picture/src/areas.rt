@@ -4,6 +4,7 @@ use crate::buckets::{Bucket, Span};
 use crate::overview_drawing::{
     LEFT, OBJECTS_HEIGHT, OBJECTS_TOP, WAITING_HEIGHT, WAITING_TOP, WIDTH, bucket_left,
 };
+use crate::pattern::{Value, write_pattern};
 use crate::scale::step_over;
 use std::io;
 use std::io::Write;
@@ -95,19 +96,22 @@ pub(crate) fn draw_waiting<W: Write>(out: &mut W, buckets: &[Bucket]) -> io::Res
         highest: highest_of(buckets, Edge::Waiting),
     };
     draw_edge(out, buckets, &frame, Edge::Waiting)?;
-    write!(
+    write_pattern(
         out,
-        "<path id=\"waiting\" fill=\"none\" stroke=\"#6a3fa0\" d=\"M{LEFT} {}",
-        frame.bottom()
+        "<path id=\"waiting\" fill=\"none\" stroke=\"#6a3fa0\" d=\"M{} {}",
+        &[LEFT, frame.bottom()],
     )?;
     draw_steps(out, buckets, &frame, Edge::Waiting, true)?;
-    writeln!(out, "\"/>")?;
+    out.write_all(b"\"/>\n")?;
     draw_numbers(out, &frame)?;
-    writeln!(
+    write_pattern(
         out,
-        "<text x=\"{LEFT}\" y=\"{}\" font-weight=\"bold\">{}: the line is the greatest number in each bucket</text>",
-        WAITING_TOP - 10,
-        Edge::Waiting.name()
+        "<text x=\"{}\" y=\"{}\" font-weight=\"bold\">{}: the line is the greatest number in each bucket</text>\n",
+        &[
+            Value::Number(LEFT),
+            Value::Number(WAITING_TOP - 10),
+            Value::Text(Edge::Waiting.name()),
+        ],
     )
 }
 
@@ -129,13 +133,19 @@ fn draw_edge<W: Write>(
 ) -> io::Result<()> {
     let (full, light) = edge.colours();
     for (is_greatest, colour, extent) in [(true, light, "greatest"), (false, full, "least")] {
-        write!(
+        write!(out, "<path id=\"{edge:?}")?;
+        write_pattern(
             out,
-            "<path id=\"{edge:?}-{extent}\" fill=\"{colour}\" d=\"M{LEFT} {}",
-            frame.bottom()
+            "-{}\" fill=\"{}\" d=\"M{} {}",
+            &[
+                Value::Text(extent),
+                Value::Text(colour),
+                Value::Number(LEFT),
+                Value::Number(frame.bottom()),
+            ],
         )?;
         draw_steps(out, buckets, frame, edge, is_greatest)?;
-        writeln!(out, "V{}Z\"/>", frame.bottom())?;
+        write_pattern(out, "V{}Z\"/>\n", &[frame.bottom()])?;
     }
     Ok(())
 }
@@ -156,7 +166,7 @@ fn draw_steps<W: Write>(
             span.least
         };
         let right = bucket_left(number.saturating_add(1), buckets.len());
-        write!(out, "V{}H{right}", frame.y_of(level))?;
+        write_pattern(out, "V{}H{}", &[frame.y_of(level), right])?;
     }
     Ok(())
 }
@@ -171,11 +181,10 @@ fn draw_numbers<W: Write>(out: &mut W, frame: &Frame) -> io::Result<()> {
             return Ok(());
         }
         let y = frame.y_of(level);
-        writeln!(
+        write_pattern(
             out,
-            "<path d=\"M{LEFT} {y}h{WIDTH}\" stroke=\"#000000\" stroke-opacity=\"0.12\"/><text x=\"{}\" y=\"{}\" text-anchor=\"end\">{level}</text>",
-            LEFT - 6,
-            y.saturating_add(4)
+            "<path d=\"M{} {}h{}\" stroke=\"#000000\" stroke-opacity=\"0.12\"/><text x=\"{}\" y=\"{}\" text-anchor=\"end\">{}</text>\n",
+            &[LEFT, y, WIDTH, LEFT - 6, y.saturating_add(4), level],
         )?;
     }
     Ok(())
@@ -183,19 +192,25 @@ fn draw_numbers<W: Write>(out: &mut W, frame: &Frame) -> io::Result<()> {
 
 /// What the colours of the areas mean.
 fn draw_legend<W: Write>(out: &mut W) -> io::Result<()> {
-    writeln!(
+    write_pattern(
         out,
-        "<text x=\"{LEFT}\" y=\"86\" font-weight=\"bold\">objects, stacked</text>"
+        "<text x=\"{}\" y=\"86\" font-weight=\"bold\">objects, stacked</text>\n",
+        &[LEFT],
     )?;
     let mut x = LEFT + 120;
     for edge in [Edge::Lent, Edge::LentOrIdle, Edge::All] {
         let (full, light) = edge.colours();
-        writeln!(
+        write_pattern(
             out,
-            "<rect x=\"{x}\" y=\"76\" width=\"14\" height=\"12\" fill=\"{full}\"/><rect x=\"{}\" y=\"76\" width=\"14\" height=\"12\" fill=\"{light}\"/><text x=\"{}\" y=\"86\">{}</text>",
-            x.saturating_add(14),
-            x.saturating_add(34),
-            edge.name()
+            "<rect x=\"{}\" y=\"76\" width=\"14\" height=\"12\" fill=\"{}\"/><rect x=\"{}\" y=\"76\" width=\"14\" height=\"12\" fill=\"{}\"/><text x=\"{}\" y=\"86\">{}</text>\n",
+            &[
+                Value::Number(x),
+                Value::Text(full),
+                Value::Number(x.saturating_add(14)),
+                Value::Text(light),
+                Value::Number(x.saturating_add(34)),
+                Value::Text(edge.name()),
+            ],
         )?;
         x = x.saturating_add(90);
     }

@@ -1,5 +1,6 @@
 use crate::history::{History, Sample};
 use crate::layout::{CHART, Layout};
+use crate::pattern::{Value, write_pattern};
 use crate::scale::Scale;
 use std::io;
 use std::io::Write;
@@ -40,19 +41,23 @@ pub(crate) fn draw_chart<W: Write>(
     let highest = highest_of(&history.samples);
     let mut y = layout.chart_top.saturating_add(12);
     for line in [Line::Idle, Line::Lent, Line::Reserved] {
-        writeln!(
+        write_pattern(
             out,
-            "<text x=\"10\" y=\"{y}\" fill=\"{}\">{line:?}</text>",
-            line.colour()
+            "<text x=\"10\" y=\"{}\" fill=\"{}\">",
+            &[Value::Number(y), Value::Text(line.colour())],
         )?;
+        writeln!(out, "{line:?}</text>")?;
         draw_line(out, history, layout, scale, line, highest)?;
         y = y.saturating_add(16);
     }
-    writeln!(
+    write_pattern(
         out,
-        "<text x=\"104\" y=\"{}\" text-anchor=\"end\">{highest}</text><text x=\"104\" y=\"{}\" text-anchor=\"end\">0</text>",
-        layout.chart_top.saturating_add(4),
-        layout.chart_top.saturating_add(CHART)
+        "<text x=\"104\" y=\"{}\" text-anchor=\"end\">{}</text><text x=\"104\" y=\"{}\" text-anchor=\"end\">0</text>\n",
+        &[
+            layout.chart_top.saturating_add(4),
+            highest,
+            layout.chart_top.saturating_add(CHART),
+        ],
     )
 }
 
@@ -77,23 +82,25 @@ fn draw_line<W: Write>(
     highest: u64,
 ) -> io::Result<()> {
     let bottom = layout.chart_top.saturating_add(CHART);
-    write!(
+    write_pattern(
         out,
-        "<path fill=\"none\" stroke=\"{}\" d=\"M{} {bottom}",
-        line.colour(),
-        scale.place_of(history.first)
+        "<path fill=\"none\" stroke=\"{}\" d=\"M{} {}",
+        &[
+            Value::Text(line.colour()),
+            Value::Number(scale.place_of(history.first)),
+            Value::Number(bottom),
+        ],
     )?;
     for sample in &history.samples {
         let height = CHART
             .saturating_mul(line.count_in(sample))
             .checked_div(highest)
             .unwrap_or(0);
-        write!(
+        write_pattern(
             out,
             "H{}V{}",
-            scale.place_of(sample.at),
-            bottom.saturating_sub(height)
+            &[scale.place_of(sample.at), bottom.saturating_sub(height)],
         )?;
     }
-    writeln!(out, "H{}\"/>", scale.place_of(history.last))
+    write_pattern(out, "H{}\"/>\n", &[scale.place_of(history.last)])
 }

@@ -1,7 +1,8 @@
 use crate::charting::draw_chart;
 use crate::colours::fill_of;
-use crate::history::{Bar, History};
+use crate::history::{Bar, History, Waiting};
 use crate::layout::{BAR, LANE, LEFT, Layout, WIDTH, lane_top};
+use crate::pattern::{Value, write_pattern};
 use crate::scale::Scale;
 use pool_journal::Phase;
 use std::io;
@@ -25,132 +26,151 @@ pub(crate) fn draw<W: Write>(out: &mut W, history: &History) -> io::Result<()> {
     draw_head(out, history, &layout)?;
     draw_legend(out)?;
     draw_axis(out, &layout, &scale)?;
+    draw_waiters(out, history, &layout)?;
     draw_waits(out, history, &layout, &scale)?;
     draw_lanes(out, history, &layout)?;
     draw_bars(out, history, &layout, &scale)?;
     draw_chart(out, history, &layout, &scale)?;
-    writeln!(out, "</svg>")
+    out.write_all(b"</svg>\n")
 }
 
 /// The size of the picture, and what it tells of.
 fn draw_head<W: Write>(out: &mut W, history: &History, layout: &Layout) -> io::Result<()> {
     let width = LEFT + WIDTH + 30;
-    writeln!(
+    write_pattern(
         out,
-        "<svg xmlns=\"http://www.w3.org/2000/svg\" viewBox=\"0 0 {width} {}\" width=\"{width}\" font-family=\"sans-serif\" font-size=\"11\">",
-        layout.height
+        "<svg xmlns=\"http://www.w3.org/2000/svg\" viewBox=\"0 0 {} {}\" width=\"{}\" font-family=\"sans-serif\" font-size=\"11\">\n\
+        <rect width=\"100%\" height=\"100%\" fill=\"white\"/>\n",
+        &[width, layout.height, width],
     )?;
-    writeln!(out, "<rect width=\"100%\" height=\"100%\" fill=\"white\"/>")?;
-    writeln!(
+    write_pattern(
         out,
-        "<text x=\"10\" y=\"22\" font-size=\"15\">{} entries from position {}, {} objects, times {} to {} ms</text>",
-        history.entries,
-        history.position,
-        history.objects.len(),
-        history.first,
-        history.last
+        "<text x=\"10\" y=\"22\" font-size=\"15\">{} entries from position {}, {} objects, times {} to {} ms</text>\n",
+        &[
+            history.entries,
+            history.position,
+            history.objects.len() as u64,
+            history.first,
+            history.last,
+        ],
     )?;
     draw_omissions(out, history, layout)
 }
 
 /// What has no place in the picture.
 fn draw_omissions<W: Write>(out: &mut W, history: &History, layout: &Layout) -> io::Result<()> {
-    write!(out, "<text x=\"10\" y=\"40\" fill=\"#a00000\">")?;
-    if layout.objects < history.objects.len() {
-        write!(
+    let (objects, waiters) = (history.objects.len(), history.waiters.len());
+    out.write_all(b"<text x=\"10\" y=\"40\" fill=\"#a00000\">")?;
+    if layout.objects < objects {
+        write_pattern(
             out,
             "{} of {} objects have a lane. ",
-            layout.objects,
-            history.objects.len()
+            &[layout.objects, objects],
         )?;
     }
-    if layout.waiters < history.waiters.len() {
-        write!(
+    if layout.waiters < waiters {
+        write_pattern(
             out,
             "{} of {} waiting callers have one.",
-            layout.waiters,
-            history.waiters.len()
+            &[layout.waiters, waiters],
         )?;
     }
-    writeln!(out, "</text>")
+    out.write_all(b"</text>\n")
 }
 
 /// What the colours mean.
 fn draw_legend<W: Write>(out: &mut W) -> io::Result<()> {
     let mut x: u64 = 10;
     for phase in PHASES {
-        writeln!(
+        write_pattern(
             out,
-            "<rect x=\"{x}\" y=\"52\" width=\"14\" height=\"{BAR}\" fill=\"{}\" stroke=\"#808080\"/><text x=\"{}\" y=\"63\">{phase:?}</text>",
-            fill_of(phase, Some(0)),
-            x.saturating_add(20)
+            "<rect x=\"{}\" y=\"52\" width=\"14\" height=\"{}\" fill=\"{}\" stroke=\"#808080\"/><text x=\"{}\" y=\"63\">{}</text>\n",
+            &[
+                Value::Number(x),
+                Value::Number(BAR),
+                Value::Fill(fill_of(phase, Some(0))),
+                Value::Number(x.saturating_add(20)),
+                Value::Phase(phase),
+            ],
         )?;
         x = x.saturating_add(100);
     }
-    writeln!(
+    write_pattern(
         out,
-        "<text x=\"{x}\" y=\"63\">lent: the colour and number of its caller; waits of borrowers above</text>"
+        "<text x=\"{}\" y=\"63\">lent: the colour and number of its caller; waits of borrowers above</text>\n",
+        &[x],
     )
 }
 
 /// The times, with a line down from each.
 fn draw_axis<W: Write>(out: &mut W, layout: &Layout, scale: &Scale) -> io::Result<()> {
+    let axis = layout.axis;
     for number in 0..12 {
         let Some(at) = scale.tick(number) else {
             continue;
         };
         let x = scale.place_of(at);
-        writeln!(
+        write_pattern(
             out,
-            "<path d=\"M{x} 76V{}\" stroke=\"#dddddd\"/><text x=\"{x}\" y=\"{}\" text-anchor=\"middle\">{at}</text>",
-            layout.axis,
-            layout.axis.saturating_add(14)
+            "<path d=\"M{} 76V{}\" stroke=\"#dddddd\"/><text x=\"{}\" y=\"{}\" text-anchor=\"middle\">{}</text>\n",
+            &[x, axis, x, axis.saturating_add(14), at],
         )?;
     }
-    writeln!(
+    write_pattern(
         out,
-        "<text x=\"{LEFT}\" y=\"{}\">time, in milliseconds</text>",
-        layout.axis.saturating_add(32)
+        "<text x=\"{}\" y=\"{}\">time, in milliseconds</text>\n",
+        &[LEFT, axis.saturating_add(32)],
     )
 }
 
-/// The waits of borrowers, a lane for each caller.
+/// The names of the callers that wait, a lane for each.
+fn draw_waiters<W: Write>(out: &mut W, history: &History, layout: &Layout) -> io::Result<()> {
+    let waiters = history.waiters.iter().take(layout.waiters);
+    for (number, caller) in waiters.enumerate() {
+        let top = lane_top(layout.waits_top, number);
+        write_pattern(
+            out,
+            "<text x=\"10\" y=\"{}\">caller {} waits</text>\n",
+            &[top.saturating_add(11), u64::from(*caller)],
+        )?;
+    }
+    Ok(())
+}
+
+/// The waits of borrowers, each in the lane of its caller.
 fn draw_waits<W: Write>(
     out: &mut W,
     history: &History,
     layout: &Layout,
     scale: &Scale,
 ) -> io::Result<()> {
-    let waiters = history.waiters.iter().take(layout.waiters);
-    for (number, caller) in waiters.enumerate() {
-        let top = lane_top(layout.waits_top, number);
-        writeln!(
-            out,
-            "<text x=\"10\" y=\"{}\">caller {caller} waits</text>",
-            top.saturating_add(11)
-        )?;
-    }
     for wait in &history.waits {
         let lane = history
             .waiters
             .iter()
             .position(|caller| *caller == wait.caller);
-        let Some(number) = lane.filter(|number| *number < layout.waiters) else {
-            continue;
-        };
-        writeln!(
-            out,
-            "<rect x=\"{}\" y=\"{}\" width=\"{}\" height=\"{BAR}\" fill=\"{}\" fill-opacity=\"0.5\"><title>caller {} waits, {} to {} ms</title></rect>",
-            scale.place_of(wait.from),
-            lane_top(layout.waits_top, number),
-            scale.width_of(wait.from, wait.until),
-            fill_of(Phase::Lent, Some(wait.caller)),
-            wait.caller,
-            wait.from,
-            wait.until
-        )?;
+        if let Some(number) = lane.filter(|number| *number < layout.waiters) {
+            draw_wait(out, wait, lane_top(layout.waits_top, number), scale)?;
+        }
     }
     Ok(())
+}
+
+fn draw_wait<W: Write>(out: &mut W, wait: &Waiting, top: u64, scale: &Scale) -> io::Result<()> {
+    write_pattern(
+        out,
+        "<rect x=\"{}\" y=\"{}\" width=\"{}\" height=\"{}\" fill=\"{}\" fill-opacity=\"0.5\"><title>caller {} waits, {} to {} ms</title></rect>\n",
+        &[
+            Value::Number(scale.place_of(wait.from)),
+            Value::Number(top),
+            Value::Number(scale.width_of(wait.from, wait.until)),
+            Value::Number(BAR),
+            Value::Fill(fill_of(Phase::Lent, Some(wait.caller))),
+            Value::Number(u64::from(wait.caller)),
+            Value::Number(wait.from),
+            Value::Number(wait.until),
+        ],
+    )
 }
 
 /// The names of the objects, a lane for each.
@@ -158,10 +178,10 @@ fn draw_lanes<W: Write>(out: &mut W, history: &History, layout: &Layout) -> io::
     let objects = history.objects.iter().take(layout.objects);
     for (number, object) in objects.enumerate() {
         let bottom = lane_top(layout.objects_top, number).saturating_add(LANE - 2);
-        writeln!(
+        write_pattern(
             out,
-            "<text x=\"10\" y=\"{}\">object {object}</text><path d=\"M{LEFT} {bottom}h{WIDTH}\" stroke=\"#eeeeee\"/>",
-            bottom.saturating_sub(5)
+            "<text x=\"10\" y=\"{}\">object {}</text><path d=\"M{} {}h{}\" stroke=\"#eeeeee\"/>\n",
+            &[bottom.saturating_sub(5), *object, LEFT, bottom, WIDTH],
         )?;
     }
     Ok(())
@@ -189,24 +209,37 @@ fn draw_bars<W: Write>(
 fn draw_bar<W: Write>(out: &mut W, bar: &Bar, top: u64, scale: &Scale) -> io::Result<()> {
     let x = scale.place_of(bar.from);
     let width = scale.width_of(bar.from, bar.until);
-    write!(
+    write_pattern(
         out,
-        "<rect x=\"{x}\" y=\"{top}\" width=\"{width}\" height=\"{BAR}\" fill=\"{}\"><title>object {}: {:?}, ",
-        fill_of(bar.phase, bar.caller),
-        bar.object,
-        bar.phase
+        "<rect x=\"{}\" y=\"{}\" width=\"{}\" height=\"{}\" fill=\"{}\"><title>object {}: {}, ",
+        &[
+            Value::Number(x),
+            Value::Number(top),
+            Value::Number(width),
+            Value::Number(BAR),
+            Value::Fill(fill_of(bar.phase, bar.caller)),
+            Value::Number(bar.object),
+            Value::Phase(bar.phase),
+        ],
     )?;
     match bar.caller {
-        Some(caller) => write!(out, "by caller {caller}")?,
-        None => write!(out, "since before the first entry")?,
+        Some(caller) => write_pattern(out, "by caller {}", &[caller])?,
+        None => out.write_all(b"since before the first entry")?,
     }
-    writeln!(out, ", {} to {} ms</title></rect>", bar.from, bar.until)?;
+    write_pattern(
+        out,
+        ", {} to {} ms</title></rect>\n",
+        &[bar.from, bar.until],
+    )?;
     match bar.caller {
-        Some(caller) if bar.phase == Phase::Lent && has_room(width, caller) => writeln!(
+        Some(caller) if bar.phase == Phase::Lent && has_room(width, caller) => write_pattern(
             out,
-            "<text x=\"{}\" y=\"{}\">{caller}</text>",
-            x.saturating_add(3),
-            top.saturating_add(11)
+            "<text x=\"{}\" y=\"{}\">{}</text>\n",
+            &[
+                x.saturating_add(3),
+                top.saturating_add(11),
+                u64::from(caller),
+            ],
         ),
         _ => Ok(()),
     }

@@ -32,6 +32,7 @@ mod moves;
 mod overview;
 mod overview_drawing;
 mod panel;
+mod pattern;
 mod reading;
 mod scale;
 mod state;

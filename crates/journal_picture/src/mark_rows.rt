@@ -3,6 +3,7 @@
 use crate::buckets::Bucket;
 use crate::marks::Marks;
 use crate::overview_drawing::{LEFT, ROW_HEIGHT, ROWS_TOP, WIDTH, bucket_left};
+use crate::pattern::{Value, write_pattern};
 use std::io;
 use std::io::Write;
 
@@ -61,10 +62,10 @@ impl Row {
 
 /// A row for each kind of marks, with a bar in each bucket that has some.
 pub(crate) fn draw_rows<W: Write>(out: &mut W, buckets: &[Bucket]) -> io::Result<()> {
-    writeln!(
+    write_pattern(
         out,
-        "<text x=\"{LEFT}\" y=\"{}\" font-weight=\"bold\">marks: a bar grows with the number in its bucket, the total is at the left; no object: a borrow was exhausted or timed out</text>",
-        ROWS_TOP - 8
+        "<text x=\"{}\" y=\"{}\" font-weight=\"bold\">marks: a bar grows with the number in its bucket, the total is at the left; no object: a borrow was exhausted or timed out</text>\n",
+        &[LEFT, ROWS_TOP - 8],
     )?;
     let mut top = ROWS_TOP;
     for row in ALL {
@@ -77,30 +78,47 @@ pub(crate) fn draw_rows<W: Write>(out: &mut W, buckets: &[Bucket]) -> io::Result
 fn draw_row<W: Write>(out: &mut W, buckets: &[Bucket], row: Row, top: u64) -> io::Result<()> {
     let bottom = top.saturating_add(ROW_HEIGHT - 6);
     let (total, most) = sums_of(buckets, row);
-    writeln!(
-        out,
-        "<text x=\"{}\" y=\"{}\" text-anchor=\"end\">{}</text><text id=\"total-{row:?}\" x=\"{}\" y=\"{bottom}\" text-anchor=\"end\" fill=\"#505050\">{total}</text><path d=\"M{LEFT} {bottom}h{WIDTH}\" stroke=\"#000000\" stroke-opacity=\"0.25\"/>",
-        LEFT - 6,
-        bottom.saturating_sub(13),
-        row.name(),
-        LEFT - 6
-    )?;
+    draw_total(out, row, bottom, total)?;
     for (number, bucket) in buckets.iter().enumerate() {
         let count = row.count_in(&bucket.marks);
         if count > 0 {
             let left = bucket_left(number, buckets.len());
             let right = bucket_left(number.saturating_add(1), buckets.len());
             let height = height_of(count, most);
-            writeln!(
+            write_pattern(
                 out,
-                "<rect x=\"{left}\" y=\"{}\" width=\"{}\" height=\"{height}\" fill=\"{}\"/>",
-                bottom.saturating_sub(height),
-                right.saturating_sub(left).clamp(2, 8),
-                row.colour()
+                "<rect x=\"{}\" y=\"{}\" width=\"{}\" height=\"{}\" fill=\"{}\"/>\n",
+                &[
+                    Value::Number(left),
+                    Value::Number(bottom.saturating_sub(height)),
+                    Value::Number(right.saturating_sub(left).clamp(2, 8)),
+                    Value::Number(height),
+                    Value::Text(row.colour()),
+                ],
             )?;
         }
     }
     Ok(())
+}
+
+/// The name and the total of a row, with the line below its bars.
+fn draw_total<W: Write>(out: &mut W, row: Row, bottom: u64, total: u64) -> io::Result<()> {
+    let x = LEFT - 6;
+    write_pattern(
+        out,
+        "<text x=\"{}\" y=\"{}\" text-anchor=\"end\">{}</text>",
+        &[
+            Value::Number(x),
+            Value::Number(bottom.saturating_sub(13)),
+            Value::Text(row.name()),
+        ],
+    )?;
+    write!(out, "<text id=\"total-{row:?}")?;
+    write_pattern(
+        out,
+        "\" x=\"{}\" y=\"{}\" text-anchor=\"end\" fill=\"#505050\">{}</text><path d=\"M{} {}h{}\" stroke=\"#000000\" stroke-opacity=\"0.25\"/>\n",
+        &[x, bottom, total, LEFT, bottom, WIDTH],
+    )
 }
 
 /// The number of a row's marks in all buckets, and the greatest in one.

@@ -3,8 +3,6 @@ ghost use Rattle.std.specs.Prelude.{◌≡◌};
 ghost use Rattle.pool_journal.specs.Totals.{is_evicting};
 
 use pool_journal::{Answer, Entry, Input, Outcome};
-use std::fmt;
-use std::fmt::Formatter;
 
 /// How many entries of each kind there are that are marked.
 #[derive(Clone, Copy, Debug, PartialEq, Eq)]
@@ -53,16 +51,6 @@ impl Marks {
             reclaimed: self.reclaimed.saturating_add(other.reclaimed),
             failed: self.failed.saturating_add(other.failed),
         }
-    }
-}
-
-impl fmt::Display for Marks {
-    fn fmt<W: fmt::Write>(&self, f: &mut Formatter<W>) -> fmt::Result {
-        write!(
-            f,
-            "refused {}, no object {}, evicted {}, reclaimed {}, failed tests {}",
-            self.refused, self.without, self.evicted, self.reclaimed, self.failed
-        )
     }
 }
 

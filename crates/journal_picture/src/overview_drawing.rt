@@ -1,10 +1,11 @@
 //! Draws the overview of a journal.
 
 use crate::areas::{draw_areas, draw_waiting};
-use crate::buckets::Buckets;
+use crate::buckets::{Bucket, Buckets};
 use crate::mark_rows::{ROWS, draw_rows};
 use crate::overview::Overview;
 use crate::panel::{PANEL_WIDTH, draw_panel, height_of};
+use crate::pattern::write_pattern;
 use crate::state::Present;
 use crate::time_axis::draw_times;
 use std::io;
@@ -59,28 +60,36 @@ pub(crate) fn draw_overview<W: Write>(
     draw_rows(out, overview.buckets.as_slice())?;
     draw_hints(out, &overview.buckets)?;
     draw_panel(out, overview, held)?;
-    writeln!(out, "</svg>")
+    out.write_all(b"</svg>\n")
 }
 
 /// The size of the picture, and what it is of.
 fn draw_head<W: Write>(out: &mut W, overview: &Overview, held: &[Present]) -> io::Result<()> {
     let width = PANEL_LEFT + PANEL_WIDTH + 20;
     let height = height_of(held.len()).max(LEAST_HEIGHT);
-    writeln!(
+    write_pattern(
         out,
-        "<svg xmlns=\"http://www.w3.org/2000/svg\" viewBox=\"0 0 {width} {height}\" width=\"{width}\" height=\"{height}\" font-family=\"sans-serif\" font-size=\"11\">",
+        "<svg xmlns=\"http://www.w3.org/2000/svg\" viewBox=\"0 0 {} {}\" width=\"{}\" height=\"{}\" font-family=\"sans-serif\" font-size=\"11\">\n\
+        <rect width=\"100%\" height=\"100%\" fill=\"white\"/>\n",
+        &[width, height, width, height],
     )?;
-    writeln!(out, "<rect width=\"100%\" height=\"100%\" fill=\"white\"/>")?;
-    writeln!(
+    write_pattern(
         out,
-        "<text x=\"10\" y=\"26\" font-size=\"17\">Overview of a journal: {} entries from position {}, times {} to {} ms</text>",
-        overview.entries, overview.position, overview.first, overview.last
+        "<text x=\"10\" y=\"26\" font-size=\"17\">Overview of a journal: {} entries from position {}, times {} to {} ms</text>\n",
+        &[
+            overview.entries,
+            overview.position,
+            overview.first,
+            overview.last,
+        ],
     )?;
-    writeln!(
+    write_pattern(
         out,
-        "<text x=\"10\" y=\"46\" fill=\"#505050\">Time runs in {} buckets of {} ms. Full colour: the least number in a bucket; light: up to the greatest. A browser shows a bucket's numbers under the pointer.</text>",
-        overview.buckets.as_slice().len(),
-        overview.buckets.width()
+        "<text x=\"10\" y=\"46\" fill=\"#505050\">Time runs in {} buckets of {} ms. Full colour: the least number in a bucket; light: up to the greatest. A browser shows a bucket's numbers under the pointer.</text>\n",
+        &[
+            overview.buckets.as_slice().len() as u64,
+            overview.buckets.width(),
+        ],
     )
 }
 
@@ -94,17 +103,31 @@ fn draw_hints<W: Write>(out: &mut W, buckets: &Buckets) -> io::Result<()> {
         let from = buckets
             .first()
             .saturating_add(width.saturating_mul(number as u64));
-        let levels = &bucket.levels;
-        write!(
+        write_pattern(
             out,
-            "<rect x=\"{left}\" y=\"{OBJECTS_TOP}\" width=\"{}\" height=\"{}\" fill=\"white\" fill-opacity=\"0\"><title>{from} to {} ms: ",
-            right.saturating_sub(left),
-            BOTTOM - OBJECTS_TOP,
-            from.saturating_add(width.saturating_sub(1))
+            "<rect x=\"{}\" y=\"{}\" width=\"{}\" height=\"{}\" fill=\"white\" fill-opacity=\"0\"><title>{} to {} ms: ",
+            &[
+                left,
+                OBJECTS_TOP,
+                right.saturating_sub(left),
+                BOTTOM - OBJECTS_TOP,
+                from,
+                from.saturating_add(width.saturating_sub(1)),
+            ],
         )?;
-        write!(
-            out,
-            "lent {} to {}, idle {} to {}, reserved {} to {}, waiting {} to {}; ",
+        write_numbers(out, bucket)?;
+    }
+    Ok(())
+}
+
+/// The levels and the marks of a bucket, and the end of its hint.
+fn write_numbers<W: Write>(out: &mut W, bucket: &Bucket) -> io::Result<()> {
+    let (levels, marks) = (&bucket.levels, &bucket.marks);
+    write_pattern(
+        out,
+        "lent {} to {}, idle {} to {}, reserved {} to {}, waiting {} to {}; \
+        refused {}, no object {}, evicted {}, reclaimed {}, failed tests {}</title></rect>\n",
+        &[
             levels.lent.least,
             levels.lent.greatest,
             levels.idle.least,
@@ -112,9 +135,12 @@ fn draw_hints<W: Write>(out: &mut W, buckets: &Buckets) -> io::Result<()> {
             levels.reserved.least,
             levels.reserved.greatest,
             levels.waiting.least,
-            levels.waiting.greatest
-        )?;
-        writeln!(out, "{}</title></rect>", bucket.marks)?;
-    }
-    Ok(())
+            levels.waiting.greatest,
+            marks.refused,
+            marks.without,
+            marks.evicted,
+            marks.reclaimed,
+            marks.failed,
+        ],
+    )
 }

@@ -2,6 +2,7 @@
 
 use crate::overview::Overview;
 use crate::overview_drawing::{BOTTOM, LEFT, OBJECTS_TOP, WIDTH};
+use crate::pattern::{Value, write_pattern};
 use crate::scale::{Scale, step_over};
 use std::io;
 use std::io::Write;
@@ -55,20 +56,22 @@ pub(crate) fn draw_times<W: Write>(out: &mut W, overview: &Overview) -> io::Resu
             draw_time(out, scale.place_of(at), elapsed)?;
         }
     }
-    writeln!(
+    write_pattern(
         out,
-        "<text x=\"{LEFT}\" y=\"{}\">{} since the first entry, which is at {} ms</text>",
-        BOTTOM + 38,
-        unit.name,
-        overview.first
+        "<text x=\"{}\" y=\"{}\">{} since the first entry, which is at {} ms</text>\n",
+        &[
+            Value::Number(LEFT),
+            Value::Number(BOTTOM + 38),
+            Value::Text(unit.name),
+            Value::Number(overview.first),
+        ],
     )
 }
 
 fn draw_time<W: Write>(out: &mut W, x: u64, elapsed: u64) -> io::Result<()> {
-    writeln!(
+    write_pattern(
         out,
-        "<path d=\"M{x} {OBJECTS_TOP}V{}\" stroke=\"#000000\" stroke-opacity=\"0.12\"/><text x=\"{x}\" y=\"{}\" text-anchor=\"middle\">{elapsed}</text>",
-        BOTTOM + 4,
-        BOTTOM + 18
+        "<path d=\"M{} {}V{}\" stroke=\"#000000\" stroke-opacity=\"0.12\"/><text x=\"{}\" y=\"{}\" text-anchor=\"middle\">{}</text>\n",
+        &[x, OBJECTS_TOP, BOTTOM + 4, x, BOTTOM + 18, elapsed],
     )
 }
