@@ -1,12 +1,11 @@
 //! The charts of the overview.
 
 use crate::buckets::{Bucket, Span};
+use crate::canvas::{Canvas, Value};
 use crate::overview_drawing::{
     LEFT, OBJECTS_HEIGHT, OBJECTS_TOP, WAITING_HEIGHT, WAITING_TOP, WIDTH, bucket_left,
 };
-use crate::pattern::{Value, write_pattern};
 use crate::scale::step_over;
-use std::io;
 use std::io::Write;
 
 /// An upper edge that is drawn over the buckets.
@@ -75,44 +74,42 @@ impl Frame {
 }
 
 /// The objects lent, idle and reserved, stacked.
-pub(crate) fn draw_areas<W: Write>(out: &mut W, buckets: &[Bucket]) -> io::Result<()> {
+pub(crate) fn draw_areas<W: Write>(out: &mut Canvas<'_, W>, buckets: &[Bucket]) {
     let frame = Frame {
         top: OBJECTS_TOP,
         height: OBJECTS_HEIGHT,
         highest: highest_of(buckets, Edge::All),
     };
     for edge in STACK {
-        draw_edge(out, buckets, &frame, edge)?;
+        draw_edge(out, buckets, &frame, edge);
     }
-    draw_numbers(out, &frame)?;
-    draw_legend(out)
+    draw_numbers(out, &frame);
+    draw_legend(out);
 }
 
 /// The borrowers that wait, with a line at the greatest number in each bucket.
-pub(crate) fn draw_waiting<W: Write>(out: &mut W, buckets: &[Bucket]) -> io::Result<()> {
+pub(crate) fn draw_waiting<W: Write>(out: &mut Canvas<'_, W>, buckets: &[Bucket]) {
     let frame = Frame {
         top: WAITING_TOP,
         height: WAITING_HEIGHT,
         highest: highest_of(buckets, Edge::Waiting),
     };
-    draw_edge(out, buckets, &frame, Edge::Waiting)?;
-    write_pattern(
-        out,
+    draw_edge(out, buckets, &frame, Edge::Waiting);
+    out.put(
         "<path id=\"waiting\" fill=\"none\" stroke=\"#6a3fa0\" d=\"M{} {}",
         &[LEFT, frame.bottom()],
-    )?;
-    draw_steps(out, buckets, &frame, Edge::Waiting, true)?;
-    out.write_all(b"\"/>\n")?;
-    draw_numbers(out, &frame)?;
-    write_pattern(
-        out,
+    );
+    draw_steps(out, buckets, &frame, Edge::Waiting, true);
+    out.text("\"/>\n");
+    draw_numbers(out, &frame);
+    out.put(
         "<text x=\"{}\" y=\"{}\" font-weight=\"bold\">{}: the line is the greatest number in each bucket</text>\n",
         &[
             Value::Number(LEFT),
             Value::Number(WAITING_TOP - 10),
             Value::Text(Edge::Waiting.name()),
         ],
-    )
+    );
 }
 
 /// The greatest number below an edge, and at least 1.
@@ -125,39 +122,44 @@ fn highest_of(buckets: &[Bucket], edge: Edge) -> u64 {
 }
 
 /// The areas up to the greatest and up to the least number of each bucket.
-fn draw_edge<W: Write>(
-    out: &mut W,
+fn draw_edge<W: Write>(out: &mut Canvas<'_, W>, buckets: &[Bucket], frame: &Frame, edge: Edge) {
+    let (full, light) = edge.colours();
+    draw_extent(out, buckets, frame, edge, (light, true));
+    draw_extent(out, buckets, frame, edge, (full, false));
+}
+
+/// The area in a colour up to the greatest or up to the least number of each bucket.
+fn draw_extent<W: Write>(
+    out: &mut Canvas<'_, W>,
     buckets: &[Bucket],
     frame: &Frame,
     edge: Edge,
-) -> io::Result<()> {
-    let (full, light) = edge.colours();
-    for (is_greatest, colour, extent) in [(true, light, "greatest"), (false, full, "least")] {
-        write!(out, "<path id=\"{edge:?}")?;
-        write_pattern(
-            out,
-            "-{}\" fill=\"{}\" d=\"M{} {}",
-            &[
-                Value::Text(extent),
-                Value::Text(colour),
-                Value::Number(LEFT),
-                Value::Number(frame.bottom()),
-            ],
-        )?;
-        draw_steps(out, buckets, frame, edge, is_greatest)?;
-        write_pattern(out, "V{}Z\"/>\n", &[frame.bottom()])?;
-    }
-    Ok(())
+    (colour, is_greatest): (&str, bool),
+) {
+    let extent = if is_greatest { "greatest" } else { "least" };
+    out.text("<path id=\"");
+    out.name(&edge);
+    out.put(
+        "-{}\" fill=\"{}\" d=\"M{} {}",
+        &[
+            Value::Text(extent),
+            Value::Text(colour),
+            Value::Number(LEFT),
+            Value::Number(frame.bottom()),
+        ],
+    );
+    draw_steps(out, buckets, frame, edge, is_greatest);
+    out.put("V{}Z\"/>\n", &[frame.bottom()]);
 }
 
 /// A step for each bucket, as high as its number.
 fn draw_steps<W: Write>(
-    out: &mut W,
+    out: &mut Canvas<'_, W>,
     buckets: &[Bucket],
     frame: &Frame,
     edge: Edge,
     is_greatest: bool,
-) -> io::Result<()> {
+) {
     for (number, bucket) in buckets.iter().enumerate() {
         let span = edge.span_in(bucket);
         let level = if is_greatest {
@@ -166,42 +168,37 @@ fn draw_steps<W: Write>(
             span.least
         };
         let right = bucket_left(number.saturating_add(1), buckets.len());
-        write_pattern(out, "V{}H{}", &[frame.y_of(level), right])?;
+        out.put("V{}H{}", &[frame.y_of(level), right]);
     }
-    Ok(())
 }
 
 /// The numbers at the left of a chart, with a line across at each.
-fn draw_numbers<W: Write>(out: &mut W, frame: &Frame) -> io::Result<()> {
+fn draw_numbers<W: Write>(out: &mut Canvas<'_, W>, frame: &Frame) {
     let most = frame.height / 24;
     let step = step_over(frame.highest).max(frame.highest.checked_div(most).unwrap_or(1));
     for number in 0..11u64 {
         let level = step.saturating_mul(number);
         if level > frame.highest {
-            return Ok(());
+            return;
         }
         let y = frame.y_of(level);
-        write_pattern(
-            out,
+        out.put(
             "<path d=\"M{} {}h{}\" stroke=\"#000000\" stroke-opacity=\"0.12\"/><text x=\"{}\" y=\"{}\" text-anchor=\"end\">{}</text>\n",
             &[LEFT, y, WIDTH, LEFT - 6, y.saturating_add(4), level],
-        )?;
+        );
     }
-    Ok(())
 }
 
 /// What the colours of the areas mean.
-fn draw_legend<W: Write>(out: &mut W) -> io::Result<()> {
-    write_pattern(
-        out,
+fn draw_legend<W: Write>(out: &mut Canvas<'_, W>) {
+    out.put(
         "<text x=\"{}\" y=\"86\" font-weight=\"bold\">objects, stacked</text>\n",
         &[LEFT],
-    )?;
+    );
     let mut x = LEFT + 120;
     for edge in [Edge::Lent, Edge::LentOrIdle, Edge::All] {
         let (full, light) = edge.colours();
-        write_pattern(
-            out,
+        out.put(
             "<rect x=\"{}\" y=\"76\" width=\"14\" height=\"12\" fill=\"{}\"/><rect x=\"{}\" y=\"76\" width=\"14\" height=\"12\" fill=\"{}\"/><text x=\"{}\" y=\"86\">{}</text>\n",
             &[
                 Value::Number(x),
@@ -211,8 +208,7 @@ fn draw_legend<W: Write>(out: &mut W) -> io::Result<()> {
                 Value::Number(x.saturating_add(34)),
                 Value::Text(edge.name()),
             ],
-        )?;
+        );
         x = x.saturating_add(90);
     }
-    Ok(())
 }

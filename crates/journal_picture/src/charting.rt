@@ -1,8 +1,7 @@
+use crate::canvas::{Canvas, Value};
 use crate::history::{History, Sample};
 use crate::layout::{CHART, Layout};
-use crate::pattern::{Value, write_pattern};
 use crate::scale::Scale;
-use std::io;
 use std::io::Write;
 
 /// A count of objects that is drawn as a line.
@@ -33,32 +32,31 @@ impl Line {
 
 /// The counts of objects over time.
 pub(crate) fn draw_chart<W: Write>(
-    out: &mut W,
+    out: &mut Canvas<'_, W>,
     history: &History,
     layout: &Layout,
     scale: &Scale,
-) -> io::Result<()> {
+) {
     let highest = highest_of(&history.samples);
     let mut y = layout.chart_top.saturating_add(12);
     for line in [Line::Idle, Line::Lent, Line::Reserved] {
-        write_pattern(
-            out,
+        out.put(
             "<text x=\"10\" y=\"{}\" fill=\"{}\">",
             &[Value::Number(y), Value::Text(line.colour())],
-        )?;
-        writeln!(out, "{line:?}</text>")?;
-        draw_line(out, history, layout, scale, line, highest)?;
+        );
+        out.name(&line);
+        out.text("</text>\n");
+        draw_line(out, history, layout, scale, line, highest);
         y = y.saturating_add(16);
     }
-    write_pattern(
-        out,
+    out.put(
         "<text x=\"104\" y=\"{}\" text-anchor=\"end\">{}</text><text x=\"104\" y=\"{}\" text-anchor=\"end\">0</text>\n",
         &[
             layout.chart_top.saturating_add(4),
             highest,
             layout.chart_top.saturating_add(CHART),
         ],
-    )
+    );
 }
 
 /// The greatest count in any sample, and at least 1.
@@ -74,33 +72,31 @@ fn highest_of(samples: &[Sample]) -> u64 {
 }
 
 fn draw_line<W: Write>(
-    out: &mut W,
+    out: &mut Canvas<'_, W>,
     history: &History,
     layout: &Layout,
     scale: &Scale,
     line: Line,
     highest: u64,
-) -> io::Result<()> {
+) {
     let bottom = layout.chart_top.saturating_add(CHART);
-    write_pattern(
-        out,
+    out.put(
         "<path fill=\"none\" stroke=\"{}\" d=\"M{} {}",
         &[
             Value::Text(line.colour()),
             Value::Number(scale.place_of(history.first)),
             Value::Number(bottom),
         ],
-    )?;
+    );
     for sample in &history.samples {
         let height = CHART
             .saturating_mul(line.count_in(sample))
             .checked_div(highest)
             .unwrap_or(0);
-        write_pattern(
-            out,
+        out.put(
             "H{}V{}",
             &[scale.place_of(sample.at), bottom.saturating_sub(height)],
-        )?;
+        );
     }
-    write_pattern(out, "H{}\"/>\n", &[scale.place_of(history.last)])
+    out.put("H{}\"/>\n", &[scale.place_of(history.last)]);
 }

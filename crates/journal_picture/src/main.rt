@@ -13,6 +13,7 @@
 mod areas;
 mod arguments;
 mod buckets;
+mod canvas;
 mod charting;
 mod colours;
 mod counts;
@@ -32,7 +33,6 @@ mod moves;
 mod overview;
 mod overview_drawing;
 mod panel;
-mod pattern;
 mod reading;
 mod scale;
 mod state;
@@ -40,6 +40,7 @@ mod telling;
 mod time_axis;
 
 use arguments::{Task, task_of};
+use canvas::Canvas;
 use drawing::draw;
 use fault::{Cause, Fault};
 use help::{USES, VERSION};
@@ -113,10 +114,12 @@ fn picture<'a>(rt: &HostRuntime, paths: &'a [String]) -> Result<(), Fault<'a>> {
 }
 
 fn write_picture<W: Write>(out: &mut W, parts: &Parts) -> io::Result<()> {
+    let mut canvas = Canvas::new(out);
     match parts {
-        Parts::Lanes(history) => draw(out, history)?,
-        Parts::Overview(overview, held) => draw_overview(out, overview, held)?,
+        Parts::Lanes(history) => draw(&mut canvas, history),
+        Parts::Overview(overview, held) => draw_overview(&mut canvas, overview, held),
     }
+    canvas.finish()?;
     out.flush()
 }
 

@@ -1,10 +1,9 @@
 //! The rows of marks in the overview.
 
 use crate::buckets::Bucket;
+use crate::canvas::{Canvas, Value};
 use crate::marks::Marks;
 use crate::overview_drawing::{LEFT, ROW_HEIGHT, ROWS_TOP, WIDTH, bucket_left};
-use crate::pattern::{Value, write_pattern};
-use std::io;
 use std::io::Write;
 
 /// The number of rows.
@@ -61,32 +60,29 @@ impl Row {
 }
 
 /// A row for each kind of marks, with a bar in each bucket that has some.
-pub(crate) fn draw_rows<W: Write>(out: &mut W, buckets: &[Bucket]) -> io::Result<()> {
-    write_pattern(
-        out,
+pub(crate) fn draw_rows<W: Write>(out: &mut Canvas<'_, W>, buckets: &[Bucket]) {
+    out.put(
         "<text x=\"{}\" y=\"{}\" font-weight=\"bold\">marks: a bar grows with the number in its bucket, the total is at the left; no object: a borrow was exhausted or timed out</text>\n",
         &[LEFT, ROWS_TOP - 8],
-    )?;
+    );
     let mut top = ROWS_TOP;
     for row in ALL {
-        draw_row(out, buckets, row, top)?;
+        draw_row(out, buckets, row, top);
         top = top.saturating_add(ROW_HEIGHT);
     }
-    Ok(())
 }
 
-fn draw_row<W: Write>(out: &mut W, buckets: &[Bucket], row: Row, top: u64) -> io::Result<()> {
+fn draw_row<W: Write>(out: &mut Canvas<'_, W>, buckets: &[Bucket], row: Row, top: u64) {
     let bottom = top.saturating_add(ROW_HEIGHT - 6);
     let (total, most) = sums_of(buckets, row);
-    draw_total(out, row, bottom, total)?;
+    draw_total(out, row, bottom, total);
     for (number, bucket) in buckets.iter().enumerate() {
         let count = row.count_in(&bucket.marks);
         if count > 0 {
             let left = bucket_left(number, buckets.len());
             let right = bucket_left(number.saturating_add(1), buckets.len());
             let height = height_of(count, most);
-            write_pattern(
-                out,
+            out.put(
                 "<rect x=\"{}\" y=\"{}\" width=\"{}\" height=\"{}\" fill=\"{}\"/>\n",
                 &[
                     Value::Number(left),
@@ -95,30 +91,28 @@ fn draw_row<W: Write>(out: &mut W, buckets: &[Bucket], row: Row, top: u64) -> io
                     Value::Number(height),
                     Value::Text(row.colour()),
                 ],
-            )?;
+            );
         }
     }
-    Ok(())
 }
 
 /// The name and the total of a row, with the line below its bars.
-fn draw_total<W: Write>(out: &mut W, row: Row, bottom: u64, total: u64) -> io::Result<()> {
+fn draw_total<W: Write>(out: &mut Canvas<'_, W>, row: Row, bottom: u64, total: u64) {
     let x = LEFT - 6;
-    write_pattern(
-        out,
+    out.put(
         "<text x=\"{}\" y=\"{}\" text-anchor=\"end\">{}</text>",
         &[
             Value::Number(x),
             Value::Number(bottom.saturating_sub(13)),
             Value::Text(row.name()),
         ],
-    )?;
-    write!(out, "<text id=\"total-{row:?}")?;
-    write_pattern(
-        out,
+    );
+    out.text("<text id=\"total-");
+    out.name(&row);
+    out.put(
         "\" x=\"{}\" y=\"{}\" text-anchor=\"end\" fill=\"#505050\">{}</text><path d=\"M{} {}h{}\" stroke=\"#000000\" stroke-opacity=\"0.25\"/>\n",
         &[x, bottom, total, LEFT, bottom, WIDTH],
-    )
+    );
 }
 
 /// The number of a row's marks in all buckets, and the greatest in one.

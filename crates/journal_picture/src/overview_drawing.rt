@@ -2,13 +2,12 @@
 
 use crate::areas::{draw_areas, draw_waiting};
 use crate::buckets::{Bucket, Buckets};
+use crate::canvas::Canvas;
 use crate::mark_rows::{ROWS, draw_rows};
 use crate::overview::Overview;
 use crate::panel::{PANEL_WIDTH, draw_panel, height_of};
-use crate::pattern::write_pattern;
 use crate::state::Present;
 use crate::time_axis::draw_times;
-use std::io;
 use std::io::Write;
 
 /// Where the charts begin, right of their labels, and how wide they are.
@@ -49,32 +48,30 @@ pub(crate) fn bucket_left(number: usize, count: usize) -> u64 {
 
 /// Draws an overview as an SVG picture, with the objects that are held at the end.
 pub(crate) fn draw_overview<W: Write>(
-    out: &mut W,
+    out: &mut Canvas<'_, W>,
     overview: &Overview,
     held: &[Present],
-) -> io::Result<()> {
-    draw_head(out, overview, held)?;
-    draw_times(out, overview)?;
-    draw_areas(out, overview.buckets.as_slice())?;
-    draw_waiting(out, overview.buckets.as_slice())?;
-    draw_rows(out, overview.buckets.as_slice())?;
-    draw_hints(out, &overview.buckets)?;
-    draw_panel(out, overview, held)?;
-    out.write_all(b"</svg>\n")
+) {
+    draw_head(out, overview, held);
+    draw_times(out, overview);
+    draw_areas(out, overview.buckets.as_slice());
+    draw_waiting(out, overview.buckets.as_slice());
+    draw_rows(out, overview.buckets.as_slice());
+    draw_hints(out, &overview.buckets);
+    draw_panel(out, overview, held);
+    out.text("</svg>\n");
 }
 
 /// The size of the picture, and what it is of.
-fn draw_head<W: Write>(out: &mut W, overview: &Overview, held: &[Present]) -> io::Result<()> {
+fn draw_head<W: Write>(out: &mut Canvas<'_, W>, overview: &Overview, held: &[Present]) {
     let width = PANEL_LEFT + PANEL_WIDTH + 20;
     let height = height_of(held.len()).max(LEAST_HEIGHT);
-    write_pattern(
-        out,
+    out.put(
         "<svg xmlns=\"http://www.w3.org/2000/svg\" viewBox=\"0 0 {} {}\" width=\"{}\" height=\"{}\" font-family=\"sans-serif\" font-size=\"11\">\n\
         <rect width=\"100%\" height=\"100%\" fill=\"white\"/>\n",
         &[width, height, width, height],
-    )?;
-    write_pattern(
-        out,
+    );
+    out.put(
         "<text x=\"10\" y=\"26\" font-size=\"17\">Overview of a journal: {} entries from position {}, times {} to {} ms</text>\n",
         &[
             overview.entries,
@@ -82,19 +79,18 @@ fn draw_head<W: Write>(out: &mut W, overview: &Overview, held: &[Present]) -> io
             overview.first,
             overview.last,
         ],
-    )?;
-    write_pattern(
-        out,
+    );
+    out.put(
         "<text x=\"10\" y=\"46\" fill=\"#505050\">Time runs in {} buckets of {} ms. Full colour: the least number in a bucket; light: up to the greatest. A browser shows a bucket's numbers under the pointer.</text>\n",
         &[
             overview.buckets.as_slice().len() as u64,
             overview.buckets.width(),
         ],
-    )
+    );
 }
 
 /// The numbers of each bucket, over its width.
-fn draw_hints<W: Write>(out: &mut W, buckets: &Buckets) -> io::Result<()> {
+fn draw_hints<W: Write>(out: &mut Canvas<'_, W>, buckets: &Buckets) {
     let count = buckets.as_slice().len();
     let width = buckets.width();
     for (number, bucket) in buckets.as_slice().iter().enumerate() {
@@ -103,8 +99,7 @@ fn draw_hints<W: Write>(out: &mut W, buckets: &Buckets) -> io::Result<()> {
         let from = buckets
             .first()
             .saturating_add(width.saturating_mul(number as u64));
-        write_pattern(
-            out,
+        out.put(
             "<rect x=\"{}\" y=\"{}\" width=\"{}\" height=\"{}\" fill=\"white\" fill-opacity=\"0\"><title>{} to {} ms: ",
             &[
                 left,
@@ -114,17 +109,15 @@ fn draw_hints<W: Write>(out: &mut W, buckets: &Buckets) -> io::Result<()> {
                 from,
                 from.saturating_add(width.saturating_sub(1)),
             ],
-        )?;
-        write_numbers(out, bucket)?;
+        );
+        write_numbers(out, bucket);
     }
-    Ok(())
 }
 
 /// The levels and the marks of a bucket, and the end of its hint.
-fn write_numbers<W: Write>(out: &mut W, bucket: &Bucket) -> io::Result<()> {
+fn write_numbers<W: Write>(out: &mut Canvas<'_, W>, bucket: &Bucket) {
     let (levels, marks) = (&bucket.levels, &bucket.marks);
-    write_pattern(
-        out,
+    out.put(
         "lent {} to {}, idle {} to {}, reserved {} to {}, waiting {} to {}; \
         refused {}, no object {}, evicted {}, reclaimed {}, failed tests {}</title></rect>\n",
         &[
@@ -142,5 +135,5 @@ fn write_numbers<W: Write>(out: &mut W, bucket: &Bucket) -> io::Result<()> {
             marks.reclaimed,
             marks.failed,
         ],
-    )
+    );
 }

@@ -1,11 +1,10 @@
 //! The tables beside the charts of the overview.
 
+use crate::canvas::{Canvas, Value};
 use crate::loans::Loan;
 use crate::overview::Overview;
 use crate::overview_drawing::PANEL_LEFT;
-use crate::pattern::{Value, write_pattern};
 use crate::state::Present;
-use std::io;
 use std::io::Write;
 
 /// The height of a line.
@@ -45,18 +44,14 @@ pub(crate) fn height_of(held: usize) -> u64 {
 }
 
 /// The tables.
-pub(crate) fn draw_panel<W: Write>(
-    out: &mut W,
-    overview: &Overview,
-    held: &[Present],
-) -> io::Result<()> {
-    draw_durations(out, overview)?;
-    draw_longest(out, overview.longest.as_slice())?;
-    draw_held(out, overview, held)
+pub(crate) fn draw_panel<W: Write>(out: &mut Canvas<'_, W>, overview: &Overview, held: &[Present]) {
+    draw_durations(out, overview);
+    draw_longest(out, overview.longest.as_slice());
+    draw_held(out, overview, held);
 }
 
 /// The distributions of waits and of loans.
-fn draw_durations<W: Write>(out: &mut W, overview: &Overview) -> io::Result<()> {
+fn draw_durations<W: Write>(out: &mut Canvas<'_, W>, overview: &Overview) {
     let (waits, loans) = (&overview.waits, &overview.loans);
     let rows = [
         ("number", waits.count(), loans.count()),
@@ -69,213 +64,194 @@ fn draw_durations<W: Write>(out: &mut W, overview: &Overview) -> io::Result<()> 
         out,
         DURATIONS_TOP,
         "Waits and loans that ended, in milliseconds",
-    )?;
+    );
     let mut y = DURATIONS_TOP + LINE;
-    draw_cells(
-        out,
-        y,
-        &[(WAITS, Value::Text("waits")), (LOANS, Value::Text("loans"))],
-    )?;
+    draw_words(out, y, &[(WAITS, "waits"), (LOANS, "loans")]);
     for (name, of_waits, of_loans) in rows {
         y = y.saturating_add(LINE);
-        draw_pair(out, y, name, of_waits, of_loans)?;
+        draw_pair(out, y, name, of_waits, of_loans);
     }
-    write_pattern(
-        out,
+    out.put(
         "<text x=\"{}\" y=\"{}\" fill=\"#505050\">p50, p90, p99: exact below 128 ms, else at most 1/64 (1.6 %) too long. {} borrowers still wait at the end.</text>\n",
         &[PANEL_LEFT, y.saturating_add(LINE), overview.waiting()],
-    )
+    );
 }
 
 /// A row of the distributions.
-fn draw_pair<W: Write>(
-    out: &mut W,
-    y: u64,
-    name: &str,
-    of_waits: u64,
-    of_loans: u64,
-) -> io::Result<()> {
-    write_pattern(
-        out,
+fn draw_pair<W: Write>(out: &mut Canvas<'_, W>, y: u64, name: &str, of_waits: u64, of_loans: u64) {
+    out.put(
         "<g class=\"durations\"><text x=\"{}\" y=\"{}\" text-anchor=\"end\">{}</text>",
         &[
             Value::Number(PANEL_LEFT + 60),
             Value::Number(y),
             Value::Text(name),
         ],
-    )?;
-    draw_cells(
-        out,
-        y,
-        &[
-            (WAITS, Value::Number(of_waits)),
-            (LOANS, Value::Number(of_loans)),
-        ],
-    )?;
-    out.write_all(b"</g>\n")
+    );
+    draw_number(out, WAITS, y, of_waits);
+    draw_number(out, LOANS, y, of_loans);
+    out.text("</g>\n");
 }
 
 /// The longest loans that ended.
-fn draw_longest<W: Write>(out: &mut W, loans: &[Loan]) -> io::Result<()> {
-    draw_heading(out, LOANS_TOP, "The longest loans that ended")?;
+fn draw_longest<W: Write>(out: &mut Canvas<'_, W>, loans: &[Loan]) {
+    draw_heading(out, LOANS_TOP, "The longest loans that ended");
     let [object, _, caller, from, duration] = COLUMNS;
     let mut y = LOANS_TOP + LINE;
-    draw_cells(
+    draw_words(
         out,
         y,
         &[
-            (object, Value::Text("object")),
-            (caller, Value::Text("caller")),
-            (from, Value::Text("from (ms)")),
-            (duration, Value::Text("lasted (ms)")),
+            (object, "object"),
+            (caller, "caller"),
+            (from, "from (ms)"),
+            (duration, "lasted (ms)"),
         ],
-    )?;
+    );
     for loan in loans {
         y = y.saturating_add(LINE);
-        draw_loan(out, y, loan)?;
+        draw_loan(out, y, loan);
     }
-    Ok(())
 }
 
 /// A row of the longest loans.
-fn draw_loan<W: Write>(out: &mut W, y: u64, loan: &Loan) -> io::Result<()> {
+fn draw_loan<W: Write>(out: &mut Canvas<'_, W>, y: u64, loan: &Loan) {
     let [object, _, caller, from, duration] = COLUMNS;
-    out.write_all(b"<g class=\"loan\">")?;
-    draw_cells(
-        out,
-        y,
-        &[
-            (object, Value::Number(loan.object)),
-            (caller, caller_or_word(loan.caller)),
-            (from, Value::Number(loan.from)),
-            (duration, Value::Number(loan.duration())),
-        ],
-    )?;
-    out.write_all(b"</g>\n")
+    out.text("<g class=\"loan\">");
+    draw_number(out, object, y, loan.object);
+    draw_caller(out, caller, y, loan.caller);
+    draw_number(out, from, y, loan.from);
+    draw_number(out, duration, y, loan.duration());
+    out.text("</g>\n");
 }
 
 /// The objects that are held at the end.
-fn draw_held<W: Write>(out: &mut W, overview: &Overview, held: &[Present]) -> io::Result<()> {
-    write_pattern(
-        out,
+fn draw_held<W: Write>(out: &mut Canvas<'_, W>, overview: &Overview, held: &[Present]) {
+    out.put(
         "<text x=\"{}\" y=\"{}\" font-weight=\"bold\">Objects held at the end: {}</text>\n",
         &[PANEL_LEFT, HELD_TOP, held.len() as u64],
-    )?;
+    );
     let [object, phase, caller, since, duration] = COLUMNS;
     let mut y = HELD_TOP + LINE;
-    draw_cells(
+    draw_words(
         out,
         y,
         &[
-            (object, Value::Text("object")),
-            (phase, Value::Text("phase")),
-            (caller, Value::Text("caller")),
-            (since, Value::Text("since (ms)")),
-            (duration, Value::Text("for (ms)")),
+            (object, "object"),
+            (phase, "phase"),
+            (caller, "caller"),
+            (since, "since (ms)"),
+            (duration, "for (ms)"),
         ],
-    )?;
+    );
     for present in held.iter().take(MOST_HELD) {
         y = y.saturating_add(LINE);
-        draw_present(out, y, present, overview.last)?;
+        draw_present(out, y, present, overview.last);
     }
-    draw_more(out, y.saturating_add(LINE), held)
+    draw_more(out, y.saturating_add(LINE), held);
 }
 
-/// A row of the objects that are held: with the time since when, and for how long up to the end, at `last`.
-fn draw_present<W: Write>(out: &mut W, y: u64, present: &Present, last: u64) -> io::Result<()> {
-    let [object, phase, caller, since, duration] = COLUMNS;
-    let (from, lasted) = match present.from {
-        Some(from) => (
-            Value::Number(from),
-            Value::Number(last.saturating_sub(from)),
-        ),
-        None => (
-            Value::Text("before the first entry"),
-            Value::Text("unknown"),
-        ),
-    };
-    out.write_all(b"<g class=\"held\">")?;
-    draw_cells(
-        out,
-        y,
+/// A row of the objects that are held, at the time `last`.
+fn draw_present<W: Write>(out: &mut Canvas<'_, W>, y: u64, present: &Present, last: u64) {
+    let [object, phase, caller, _, _] = COLUMNS;
+    out.text("<g class=\"held\">");
+    draw_number(out, object, y, present.record.id);
+    out.put(
+        "<text x=\"{}\" y=\"{}\" text-anchor=\"end\">{}</text>",
         &[
-            (object, Value::Number(present.record.id)),
-            (phase, Value::Phase(present.record.phase)),
-            (caller, caller_or_word(present.caller)),
-            (since, from),
-            (duration, lasted),
+            Value::Number(phase),
+            Value::Number(y),
+            Value::Phase(present.record.phase),
         ],
-    )?;
-    out.write_all(b"</g>\n")
+    );
+    draw_caller(out, caller, y, present.caller);
+    draw_since(out, y, present.from, last);
+    out.text("</g>\n");
+}
+
+/// Since when an object is held, and for how long up to the end.
+fn draw_since<W: Write>(out: &mut Canvas<'_, W>, y: u64, since: Option<u64>, last: u64) {
+    let [_, _, _, column, duration] = COLUMNS;
+    match since {
+        Some(from) => {
+            draw_number(out, column, y, from);
+            draw_number(out, duration, y, last.saturating_sub(from));
+        }
+        None => draw_words(
+            out,
+            y,
+            &[(column, "before the first entry"), (duration, "unknown")],
+        ),
+    }
 }
 
 /// How many objects more are held, with their names in a hint.
-fn draw_more<W: Write>(out: &mut W, y: u64, held: &[Present]) -> io::Result<()> {
+fn draw_more<W: Write>(out: &mut Canvas<'_, W>, y: u64, held: &[Present]) {
     if held.len() <= MOST_HELD {
-        return Ok(());
+        return;
     }
     let more = held.len() - MOST_HELD;
-    write_pattern(
-        out,
+    out.put(
         "<text x=\"{}\" y=\"{}\">and {} more, which a browser names under the pointer<title>",
         &[PANEL_LEFT, y, more as u64],
-    )?;
+    );
     for present in held.iter().skip(MOST_HELD) {
-        write_name(out, present)?;
+        write_name(out, present);
     }
-    out.write_all(b"</title></text>\n")
+    out.text("</title></text>\n");
 }
 
 /// The line of an object in the hint.
-fn write_name<W: Write>(out: &mut W, present: &Present) -> io::Result<()> {
-    write_pattern(
-        out,
+fn write_name<W: Write>(out: &mut Canvas<'_, W>, present: &Present) {
+    out.put(
         "object {}: {}",
         &[
             Value::Number(present.record.id),
             Value::Phase(present.record.phase),
         ],
-    )?;
+    );
     if let Some(caller) = present.caller {
-        write_pattern(out, ", caller {}", &[caller])?;
+        out.put(", caller {}", &[caller]);
     }
     if let Some(from) = present.from {
-        write_pattern(out, ", since {} ms", &[from])?;
+        out.put(", since {} ms", &[from]);
     }
-    out.write_all(b"\n")
+    out.text("\n");
 }
 
 /// The heading of a table.
-fn draw_heading<W: Write>(out: &mut W, y: u64, heading: &str) -> io::Result<()> {
-    write_pattern(
-        out,
+fn draw_heading<W: Write>(out: &mut Canvas<'_, W>, y: u64, heading: &str) {
+    out.put(
         "<text x=\"{}\" y=\"{}\" font-weight=\"bold\">{}</text>\n",
         &[
             Value::Number(PANEL_LEFT),
             Value::Number(y),
             Value::Text(heading),
         ],
-    )
+    );
 }
 
-/// The cells of a row, each in the column that ends at its place. Words are grey.
-fn draw_cells<W: Write>(out: &mut W, y: u64, cells: &[(u64, Value<'_>)]) -> io::Result<()> {
-    for (x, value) in cells {
-        let pattern = match value {
-            Value::Text(_) => {
-                "<text x=\"{}\" y=\"{}\" text-anchor=\"end\" fill=\"#505050\">{}</text>\n"
-            }
-            _ => "<text x=\"{}\" y=\"{}\" text-anchor=\"end\">{}</text>",
-        };
-        write_pattern(out, pattern, &[Value::Number(*x), Value::Number(y), *value])?;
+/// Words in grey, each in the column that ends at its place.
+fn draw_words<W: Write>(out: &mut Canvas<'_, W>, y: u64, words: &[(u64, &str)]) {
+    for (x, word) in words {
+        out.put(
+            "<text x=\"{}\" y=\"{}\" text-anchor=\"end\" fill=\"#505050\">{}</text>\n",
+            &[Value::Number(*x), Value::Number(y), Value::Text(word)],
+        );
     }
-    Ok(())
 }
 
 /// A caller, or a word in its place if it is not known.
-fn caller_or_word<'a>(caller: Option<u32>) -> Value<'a> {
+fn draw_caller<W: Write>(out: &mut Canvas<'_, W>, x: u64, y: u64, caller: Option<u32>) {
     match caller {
-        Some(caller) => Value::Number(u64::from(caller)),
-        None => Value::Text("unknown"),
+        Some(caller) => draw_number(out, x, y, u64::from(caller)),
+        None => draw_words(out, y, &[(x, "unknown")]),
     }
+}
+
+/// A number in the column that ends at `x`.
+fn draw_number<W: Write>(out: &mut Canvas<'_, W>, x: u64, y: u64, number: u64) {
+    out.put(
+        "<text x=\"{}\" y=\"{}\" text-anchor=\"end\">{}</text>",
+        &[x, y, number],
+    );
 }

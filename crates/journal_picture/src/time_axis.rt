@@ -1,10 +1,9 @@
 //! The times below the charts of the overview.
 
+use crate::canvas::{Canvas, Value};
 use crate::overview::Overview;
 use crate::overview_drawing::{BOTTOM, LEFT, OBJECTS_TOP, WIDTH};
-use crate::pattern::{Value, write_pattern};
 use crate::scale::{Scale, step_over};
-use std::io;
 use std::io::Write;
 
 /// A unit of time, with its length in milliseconds and its name.
@@ -37,7 +36,7 @@ fn unit_for(span: u64) -> Unit {
 }
 
 /// The times since the first entry, with a line up from each.
-pub(crate) fn draw_times<W: Write>(out: &mut W, overview: &Overview) -> io::Result<()> {
+pub(crate) fn draw_times<W: Write>(out: &mut Canvas<'_, W>, overview: &Overview) {
     let buckets = &overview.buckets;
     let span = buckets
         .width()
@@ -53,11 +52,10 @@ pub(crate) fn draw_times<W: Write>(out: &mut W, overview: &Overview) -> io::Resu
             let at = buckets
                 .first()
                 .saturating_add(elapsed.saturating_mul(unit.length));
-            draw_time(out, scale.place_of(at), elapsed)?;
+            draw_time(out, scale.place_of(at), elapsed);
         }
     }
-    write_pattern(
-        out,
+    out.put(
         "<text x=\"{}\" y=\"{}\">{} since the first entry, which is at {} ms</text>\n",
         &[
             Value::Number(LEFT),
@@ -65,13 +63,12 @@ pub(crate) fn draw_times<W: Write>(out: &mut W, overview: &Overview) -> io::Resu
             Value::Text(unit.name),
             Value::Number(overview.first),
         ],
-    )
+    );
 }
 
-fn draw_time<W: Write>(out: &mut W, x: u64, elapsed: u64) -> io::Result<()> {
-    write_pattern(
-        out,
+fn draw_time<W: Write>(out: &mut Canvas<'_, W>, x: u64, elapsed: u64) {
+    out.put(
         "<path d=\"M{} {}V{}\" stroke=\"#000000\" stroke-opacity=\"0.12\"/><text x=\"{}\" y=\"{}\" text-anchor=\"middle\">{}</text>\n",
         &[x, OBJECTS_TOP, BOTTOM + 4, x, BOTTOM + 18, elapsed],
-    )
+    );
 }

@@ -1,0 +1,86 @@
+//! The text of a picture, and values in it.
+
+use crate::colours::Fill;
+use pool_journal::Phase;
+use std::io::Write;
+use std::{fmt, io};
+
+/// A value in a text, where not all are numbers.
+#[derive(Clone, Copy, Debug)]
+pub(crate) enum Value<'a> {
+    Number(u64),
+    Text(&'a str),
+    Phase(Phase),
+    Fill(Fill),
+}
+
+impl fmt::Display for Value<'_> {
+    fn fmt<W: fmt::Write>(&self, f: &mut fmt::Formatter<W>) -> fmt::Result {
+        match self {
+            Value::Number(number) => write!(f, "{number}"),
+            Value::Text(text) => f.write_str(text),
+            Value::Phase(phase) => write!(f, "{phase:?}"),
+            Value::Fill(fill) => write!(f, "{fill}"),
+        }
+    }
+}
+
+/// A picture that is being written. After a write that fails nothing more is written, and `finish` returns the error: so no
+/// function that draws has a way out at each write.
+pub(crate) struct Canvas<'a, W: Write> {
+    out: &'a mut W,
+    result: io::Result<()>,
+}
+
+impl<'a, W: Write> Canvas<'a, W> {
+    pub(crate) fn new(out: &'a mut W) -> Canvas<'a, W> {
+        Canvas {
+            out,
+            result: Ok(()),
+        }
+    }
+
+    /// Writes a text with a value in place of each `{}`, in their order. There are as many values as places.
+    pub(crate) fn put<V: fmt::Display>(&mut self, pattern: &str, values: &[V]) {
+        if self.result.is_ok() {
+            self.result = write_pattern(self.out, pattern, values);
+        }
+    }
+
+    /// Writes a text.
+    pub(crate) fn text(&mut self, text: &str) {
+        if self.result.is_ok() {
+            self.result = self.out.write_all(text.as_bytes());
+        }
+    }
+
+    /// Writes the name of a variant.
+    pub(crate) fn name<D: fmt::Debug>(&mut self, variant: &D) {
+        if self.result.is_ok() {
+            self.result = write!(self.out, "{variant:?}");
+        }
+    }
+
+    /// Ends the picture: with the error of the write that failed, if one did.
+    pub(crate) fn finish(self) -> io::Result<()> {
+        let Canvas { out: _, result } = self;
+        result
+    }
+}
+
+/// Writes a text with values in it. With `write!` each value is a part of the type of what is written, and each function that
+/// writes many takes several times as long to prove as with this one.
+fn write_pattern<W: Write, V: fmt::Display>(
+    out: &mut W,
+    pattern: &str,
+    values: &[V],
+) -> io::Result<()> {
+    let mut rest = values.iter();
+    for text in pattern.split("{}") {
+        out.write_all(text.as_bytes())?;
+        if let Some(value) = rest.next() {
+            write!(out, "{value}")?;
+        }
+    }
+    Ok(())
+}
