@@ -52,7 +52,7 @@ impl Edge {
 }
 
 /// Where a chart stands, and the number at its top.
-#[derive(Clone, Copy, Debug)]
+#[derive(Clone, Copy)]
 struct Frame {
     top: u64,
     height: u64,
@@ -124,8 +124,8 @@ fn highest_of(buckets: &[Bucket], edge: Edge) -> u64 {
 /// The areas up to the greatest and up to the least number of each bucket.
 fn draw_edge<W: Write>(out: &mut Canvas<'_, W>, buckets: &[Bucket], frame: &Frame, edge: Edge) {
     let (full, light) = edge.colours();
-    draw_extent(out, buckets, frame, edge, (light, true));
-    draw_extent(out, buckets, frame, edge, (full, false));
+    draw_extent(out, buckets, frame, edge, light, true);
+    draw_extent(out, buckets, frame, edge, full, false);
 }
 
 /// The area in a colour up to the greatest or up to the least number of each bucket.
@@ -134,7 +134,8 @@ fn draw_extent<W: Write>(
     buckets: &[Bucket],
     frame: &Frame,
     edge: Edge,
-    (colour, is_greatest): (&str, bool),
+    colour: &str,
+    is_greatest: bool,
 ) {
     let extent = if is_greatest { "greatest" } else { "least" };
     out.text("<path id=\"");

@@ -1,7 +1,7 @@
 //! What the arguments ask for.
 
 /// A use of the program.
-#[derive(Clone, Copy, Debug)]
+#[derive(Clone, Copy)]
 pub(crate) enum Task<'a> {
     Help,
     Version,

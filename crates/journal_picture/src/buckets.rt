@@ -9,7 +9,7 @@ use std::alloc::{AllocError, Global};
 const MOST: usize = 1_000;
 
 /// The least and the greatest of some numbers.
-#[derive(Clone, Copy, Debug, PartialEq, Eq)]
+#[derive(Clone, Copy)]
 pub(crate) struct Span {
     pub(crate) least: u64,
     pub(crate) greatest: u64,
@@ -41,7 +41,7 @@ impl Span {
 }
 
 /// The numbers of objects and of borrowers that wait, at one time or over a stretch of time.
-#[derive(Clone, Copy, Debug, PartialEq, Eq)]
+#[derive(Clone, Copy)]
 pub(crate) struct Levels {
     pub(crate) lent: Span,
     pub(crate) idle: Span,
@@ -78,7 +78,7 @@ impl Levels {
 }
 
 /// A stretch of time: the levels at its beginning and after each of its entries, and the marks of its entries.
-#[derive(Clone, Copy, Debug)]
+#[derive(Clone, Copy)]
 pub(crate) struct Bucket {
     pub(crate) levels: Levels,
     pub(crate) marks: Marks,

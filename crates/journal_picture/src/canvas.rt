@@ -1,4 +1,5 @@
 //! The text of a picture, and values in it.
+ghost use Rattle.std.specs.Prelude.{◌≡◌, count_by, eqb, length};
 
 use crate::colours::Fill;
 use pool_journal::Phase;
@@ -6,7 +7,7 @@ use std::io::Write;
 use std::{fmt, io};
 
 /// A value in a text, where not all are numbers.
-#[derive(Clone, Copy, Debug)]
+#[derive(Clone, Copy)]
 pub(crate) enum Value<'a> {
     Number(u64),
     Text(&'a str),
@@ -40,8 +41,10 @@ impl<'a, W: Write> Canvas<'a, W> {
         }
     }
 
-    /// Writes a text with a value in place of each `{}`, in their order. There are as many values as places.
-    pub(crate) fn put<V: fmt::Display>(&mut self, pattern: &str, values: &[V]) {
+    /// Writes a text with a value in place of each `{}`, in their order. The contract counts the places by their `{`.
+    pub(crate) fn put<V: fmt::Display>(&mut self, pattern: &str, values: &[V])
+        requires as_many { count_by (eqb 123) pattern.now ≡ length values.now }
+    {
         if self.result.is_ok() {
             self.result = write_pattern(self.out, pattern, values);
         }

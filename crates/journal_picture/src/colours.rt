@@ -2,7 +2,7 @@ use pool_journal::Phase;
 use std::fmt;
 
 /// A colour, as SVG names it: a hue of the circle, in degrees, with its saturation and lightness in percent.
-#[derive(Clone, Copy, Debug)]
+#[derive(Clone, Copy)]
 pub(crate) struct Fill {
     hue: u32,
     saturation: u8,

@@ -3,7 +3,7 @@
 use pool_journal::Phase;
 
 /// How many objects there are.
-#[derive(Clone, Copy, Debug, PartialEq, Eq)]
+#[derive(Clone, Copy)]
 pub(crate) struct Counts {
     pub(crate) idle: u64,
     pub(crate) lent: u64,

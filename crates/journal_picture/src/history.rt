@@ -2,7 +2,7 @@ use crate::counts::Counts;
 use pool_journal::Phase;
 
 /// A stretch of time that an object was in one phase. Times are in milliseconds.
-#[derive(Clone, Copy, Debug)]
+#[derive(Clone, Copy)]
 pub(crate) struct Bar {
     pub(crate) object: u64,
     pub(crate) phase: Phase,
@@ -13,7 +13,7 @@ pub(crate) struct Bar {
 }
 
 /// A stretch of time that a borrower waited.
-#[derive(Clone, Copy, Debug)]
+#[derive(Clone, Copy)]
 pub(crate) struct Waiting {
     pub(crate) caller: u32,
     pub(crate) from: u64,
@@ -21,14 +21,14 @@ pub(crate) struct Waiting {
 }
 
 /// The counts of objects from a time on.
-#[derive(Clone, Copy, Debug)]
+#[derive(Clone, Copy)]
 pub(crate) struct Sample {
     pub(crate) at: u64,
     pub(crate) counts: Counts,
 }
 
 /// What there is to draw of a journal, object by object.
-#[derive(Debug, Drop)]
+#[derive(Drop)]
 pub(crate) struct History {
     /// The number of entries.
     pub(crate) entries: u64,

@@ -25,7 +25,7 @@ pub(crate) const CHART: u64 = 90;
 const GAP: u64 = 24;
 
 /// Where the parts of a picture stand, from its top down.
-#[derive(Clone, Copy, Debug)]
+#[derive(Clone, Copy)]
 pub(crate) struct Layout {
     /// How many waiting callers and objects have a lane.
     pub(crate) waiters: usize,

@@ -7,7 +7,7 @@ use std::alloc::{AllocError, Global};
 const MOST_LISTED: usize = 10;
 
 /// A loan that ended. Times are in milliseconds.
-#[derive(Clone, Copy, Debug)]
+#[derive(Clone, Copy)]
 pub(crate) struct Loan {
     pub(crate) object: u64,
     /// The caller that borrowed, or none if that was before the first entry.

@@ -96,18 +96,33 @@ fn write_text<'a>(rt: &HostRuntime, text: &str) -> Result<(), Fault<'a>> {
 /// Draws the journal in the files at these paths.
 fn picture<'a>(rt: &HostRuntime, paths: &'a [String]) -> Result<(), Fault<'a>> {
     let mut journal = Journal::new(rt.alloc());
+    read_paths(rt, &mut journal, paths)?;
+    let parts = journal.into_parts(rt.alloc())?;
+    write_parts(rt, &parts)
+}
+
+/// Reads the files at these paths, one after the other.
+fn read_paths<'a>(
+    rt: &HostRuntime,
+    journal: &mut Journal,
+    paths: &'a [String],
+) -> Result<(), Fault<'a>> {
     for path in paths {
         let path = path.as_str();
-        if let Err(cause) = read_path(rt, &mut journal, path) {
+        if let Err(cause) = read_path(rt, journal, path) {
             return Err(Fault::Journal(path, cause));
         }
     }
-    let parts = journal.into_parts(rt.alloc())?;
+    Ok(())
+}
+
+/// Writes the picture to standard output.
+fn write_parts<'a>(rt: &HostRuntime, parts: &Parts) -> Result<(), Fault<'a>> {
     let mut out = match BufWriter::new(rt.alloc(), io::writer(rt)) {
         Ok(out) => out,
         Err(_) => return Err(Fault::OutOfMemory),
     };
-    match write_picture(&mut out, &parts) {
+    match write_picture(&mut out, parts) {
         Ok(()) => Ok(()),
         Err(_) => Err(Fault::NotWritten),
     }

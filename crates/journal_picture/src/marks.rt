@@ -5,7 +5,7 @@ ghost use Rattle.pool_journal.specs.Totals.{is_evicting};
 use pool_journal::{Answer, Entry, Input, Outcome};
 
 /// How many entries of each kind there are that are marked.
-#[derive(Clone, Copy, Debug, PartialEq, Eq)]
+#[derive(Clone, Copy)]
 pub(crate) struct Marks {
     /// Those that were refused.
     pub(crate) refused: u64,

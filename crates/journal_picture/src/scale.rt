@@ -4,7 +4,7 @@ use crate::history::History;
 const MOST_TICKS: u64 = 10;
 
 /// From moments, in milliseconds, to places across the picture.
-#[derive(Clone, Copy, Debug)]
+#[derive(Clone, Copy)]
 pub(crate) struct Scale {
     first: u64,
     span: u64,

@@ -7,7 +7,7 @@ use crate::scale::{Scale, step_over};
 use std::io::Write;
 
 /// A unit of time, with its length in milliseconds and its name.
-#[derive(Clone, Copy, Debug)]
+#[derive(Clone, Copy)]
 struct Unit {
     length: u64,
     name: &'static str,
