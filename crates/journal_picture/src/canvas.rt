@@ -6,7 +6,7 @@ use pool_journal::Phase;
 use std::io::Write;
 use std::{fmt, io};
 
-/// A value in a text, where not all are numbers.
+/// A value in a text whose values are not all numbers.
 #[derive(Clone, Copy)]
 pub(crate) enum Value<'a> {
     Number(u64),
@@ -26,14 +26,15 @@ impl fmt::Display for Value<'_> {
     }
 }
 
-/// A picture that is being written. After a write that fails nothing more is written, and `finish` returns the error: so no
-/// function that draws has a way out at each write.
+/// A picture that is being written. It keeps the error of the first write that fails, and then writes nothing more. `finish`
+/// returns that error, so functions that draw have no `?`.
 pub(crate) struct Canvas<'a, W: Write> {
     out: &'a mut W,
     result: io::Result<()>,
 }
 
 impl<'a, W: Write> Canvas<'a, W> {
+    /// Returns a canvas that writes to `out`.
     pub(crate) fn new(out: &'a mut W) -> Canvas<'a, W> {
         Canvas {
             out,
@@ -41,9 +42,9 @@ impl<'a, W: Write> Canvas<'a, W> {
         }
     }
 
-    /// Writes a text with a value in place of each `{}`, in their order. The contract counts the places by their `{`.
+    /// Writes a text with a value in place of each `{}`, in their order. Each `{` is counted as a place.
     pub(crate) fn put<V: fmt::Display>(&mut self, pattern: &str, values: &[V])
-        requires as_many { count_by (eqb 123) pattern.now ≡ length values.now }
+        requires placed { count_by (eqb 123) pattern.now ≡ length values.now }
     {
         if self.result.is_ok() {
             self.result = write_pattern(self.out, pattern, values);
@@ -64,15 +65,15 @@ impl<'a, W: Write> Canvas<'a, W> {
         }
     }
 
-    /// Ends the picture: with the error of the write that failed, if one did.
+    /// Ends the picture. Returns the error of the first write that failed.
     pub(crate) fn finish(self) -> io::Result<()> {
         let Canvas { out: _, result } = self;
         result
     }
 }
 
-/// Writes a text with values in it. With `write!` each value is a part of the type of what is written, and each function that
-/// writes many takes several times as long to prove as with this one.
+/// Writes a text with values in it. A function that writes many values takes several times as long to prove with `write!`, since
+/// each value is then a part of the type of what is written.
 fn write_pattern<W: Write, V: fmt::Display>(
     out: &mut W,
     pattern: &str,
