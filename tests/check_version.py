@@ -4,7 +4,7 @@ change log.
 
     check_version.py [PROGRAM..]
 
-Each crate whose sources have a constant VERSION is a program that prints it: its name, the version and a line feed. Of the PROGRAMs, paths of
+Each constant VERSION in the sources of a crate is what a program prints: its name, the version and a line feed. Of the PROGRAMs, paths of
 such programs, that is what `--version` prints. Prints each that differs, and in the end the line 'N passed, M failed'.
 """
 
@@ -17,7 +17,8 @@ import tomllib
 from playing import play_checks
 
 TOP = pathlib.Path(__file__).resolve().parent.parent
-PRINTED = re.compile(r'^pub\(crate\) const VERSION: &str = "(.*)\\n";$', re.MULTILINE)
+PROGRAMS = ["journal_picture", "judge", "pool"]
+PRINTED = re.compile(r'^pub(?:\(crate\))? const VERSION: &str = "(.*)\\n";$', re.MULTILINE)
 
 
 def found(pattern, name):
@@ -26,9 +27,9 @@ def found(pattern, name):
 
 
 def printed():
-    """What the programs print by their sources, by their crates."""
-    lines = ((path, PRINTED.findall(path.read_text())) for path in sorted(TOP.glob("crates/*/src/*.rt")))
-    return {path.parent.parent.name: line for path, has in lines for line in has}
+    """What the programs print by the sources, by the first word of it, their names."""
+    lines = (line for path in sorted(TOP.glob("crates/*/src/*.rt")) for line in PRINTED.findall(path.read_text()))
+    return {line.partition(" ")[0]: line for line in lines}
 
 
 def checks(version, programs):
@@ -41,9 +42,9 @@ def checks(version, programs):
     yield "the numbers of zuphinka.h", version.split("."), found(r"^#define ZUPHINKA_VERSION_(?:MAJOR|MINOR|PATCH) (\d+)$", "c/zuphinka.h")
     yield "the man page", [f"Zuphinka {version}"], found(r'^\.TH POOL 1 "" "(.*)"$', "docs/pool.1")
     yield "the change log", True, version in found(r"^## \[(.*?)\]", "CHANGELOG.md")
-    yield "a program's source", True, "pool" in printed()
-    for crate, line in printed().items():
-        yield f"the source of {crate}", f"{crate} {version}", line
+    yield "the programs of the sources", PROGRAMS, sorted(printed())
+    for name, line in printed().items():
+        yield f"the source of {name}", f"{name} {version}", line
     for program in map(pathlib.Path, programs):
         wanted = f"{program.name} {version}\n" if program.name in printed() else ""
         yield f"{program} --version", wanted, subprocess.run([program, "--version"], capture_output=True, text=True, stdin=subprocess.DEVNULL).stdout
