@@ -22,7 +22,7 @@ TOP = pathlib.Path(__file__).resolve().parent.parent
 sys.path.append(str(TOP / "tools"))
 
 import sources
-from static import kit
+from static import crate_of, kit
 
 CRATE = "server"
 RUN, BUILD = "(cd crates/{} && rt try)", "python3 tools/build.py {}"
@@ -61,7 +61,7 @@ def unproved(room, name):
     sys.path.append(str(kit() / "bin"))
     import rtlib
 
-    copy = next(crate for crate in rtlib.crates_below(str(room)) if crate.name == name)
+    copy = crate_of(rtlib, room, name)
     words = [rtlib.RATTLE, "check", *copy.words(["--jobs", "2"], keeps=False)]
     done = subprocess.run(words, cwd=copy.folder, stdout=subprocess.PIPE, stderr=subprocess.STDOUT, text=True)
     proved = any(line.startswith("logic=proved ") for line in done.stdout.splitlines())

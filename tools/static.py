@@ -21,6 +21,11 @@ def kit():
     return pathlib.Path(subprocess.run(["rt", "doc"], check=True, capture_output=True, text=True).stdout.split()[0]).resolve().parent
 
 
+def crate_of(rtlib, top, name):
+    """What the kit knows of a crate of a repository. Nothing else is looked at there, so that other builds may come and go."""
+    return rtlib.Crate(str(top / "crates" / name), str(top), {})
+
+
 def main():
     if len(sys.argv) != 2:
         sys.exit(__doc__)
@@ -30,7 +35,7 @@ def main():
     sys.path.insert(0, str(top / "bin"))
     import rtlib
 
-    crate = next((crate for crate in rtlib.crates_below(str(TOP)) if crate.name == sys.argv[1]), None)
+    crate = crate_of(rtlib, TOP, sys.argv[1]) if sys.argv[1] in sources.libraries() else None
     if crate is None or not crate.is_static:
         sys.exit(f"{sys.argv[1]}: no static library of this repository")
     stale = [library.name for library in crate.below() if not sources.is_current(library.name)]
