@@ -9,7 +9,7 @@ import time
 from collections.abc import Callable
 
 TOP = pathlib.Path(__file__).resolve().parent.parent
-JAVA, RUST, CRATE = TOP / "bench/peers_java", TOP / "bench/peers_rust", TOP / "rust/zuphinka"
+JAVA, RUST, CRATE = TOP / "bench/peers_java", TOP / "bench/peers_rust", TOP / "bindings/rust"
 JAR = pathlib.Path("/usr/share/java/commons-pool2.jar")
 REGISTRY = pathlib.Path("/usr/share/cargo/registry")
 COMMONS, R2D2, PLAIN = "Commons Pool 2", "r2d2", "plain Rust"

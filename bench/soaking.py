@@ -110,7 +110,7 @@ class Soak:
         self.play("Rust crate", built_by_cargo(TOP / "bench/soak_rust") / "soak")
 
     def play_c(self):
-        program, folder = self.folder / "soak_c", TOP / "c"
+        program, folder = self.folder / "soak_c", TOP / "bindings/c"
         library = pathlib.Path(os.environ.get("ZUPHINKA_LIB", TOP / "crates/zuphinka/out")) / "libzuphinka.a"
         sources = TOP / "bench/soak_c.c", folder / "zuphinka_pool.c", library, heap()
         build(os.environ.get("CC", "cc"), "-std=c11", "-O2", "-pthread", "-I", folder, "-o", program, *sources)

@@ -48,7 +48,7 @@ WRONG = b"pool: wrong arguments\n"
 
 def version():
     """The line that the program prints for its version, which is that of the Rust crate."""
-    text = (TOP / "rust/zuphinka/Cargo.toml").read_text()
+    text = (TOP / "bindings/rust/Cargo.toml").read_text()
     return b"pool " + re.search(r'^version = "(.*)"$', text, re.MULTILINE)[1].encode() + b"\n"
 
 

@@ -31,7 +31,7 @@ SAID = r"\b(?:ensures|ghost|pub (?:trait|struct|enum|fn)|pub\(crate\) fn) %s\b"
 def sources():
     """The text of each source, by its path."""
     found = [path for end in ("rt", "antt", "toml") for path in TOP.glob(f"crates/*/**/*.{end}") if "out" not in path.relative_to(TOP).parts]
-    for pattern in ("c/*", "rust/zuphinka/src/*.rs", "rust/zuphinka/examples/*", "tests/*.*", "bench/*", "tools/*", "docs/pictures/*.py", "examples/*", "pool", "check", "crates.txt"):
+    for pattern in ("bindings/c/*", "bindings/rust/src/*.rs", "bindings/rust/examples/*", "tests/*.*", "bench/*", "tools/*", "docs/pictures/*.py", "examples/*", "pool", "check", "crates.txt"):
         found += [path for path in TOP.glob(pattern) if path.is_file() and path != pathlib.Path(__file__).resolve()]
     return {path: path.read_text() for path in found}
 

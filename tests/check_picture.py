@@ -321,7 +321,7 @@ def argument_differences(program, folder):
         done = run(program, arguments)
         if (done.returncode, done.stdout, done.stderr.decode()) != (status, b"", message):
             yield f"{arguments}: {done}"
-    version = re.search(r'^version = "(.*)"$', (TOP / "rust/zuphinka/Cargo.toml").read_text(), re.MULTILINE)[1]
+    version = re.search(r'^version = "(.*)"$', (TOP / "bindings/rust/Cargo.toml").read_text(), re.MULTILINE)[1]
     starts = dict.fromkeys(["--version", "-V"], f"journal_picture {version}\n") | dict.fromkeys(["--help", "-h"], "journal_picture JOURNAL..")
     for word, start in starts.items():
         done = run(program, [word])

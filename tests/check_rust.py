@@ -1,12 +1,12 @@
 #!/usr/bin/env python3
-"""Builds the Rust crate in rust/zuphinka, and sees that its tests pass and its examples do what they say.
+"""Builds the Rust crate in bindings/rust, and sees that its tests pass and its examples do what they say.
 
     check_rust.py POOL
 
 POOL is the program. The crate's tests are cargo's: those in its files, in tests/ and in its pages. The segments that the example `servers` stores are
 judged by the program; what the example `settings` writes of a file must be what Python reads there; the example `pairs` must make as many
-entries as its rounds are, whatever becomes of its journal, and the segments that it stores are judged too; and the codes, the fields and the functions of `src/sys.rs` must be those of `c/zuphinka.h`. Where no
-cargo runs, all of it is left out.
+entries as its rounds are, whatever becomes of its journal, and the segments that it stores are judged too; and the codes, the fields and the functions
+of `src/sys.rs` must be those of `bindings/c/zuphinka.h`. Where no cargo runs, all of it is left out.
 
 Prints what fails, and in the end the line 'N passed, M failed'.
 """
@@ -20,9 +20,9 @@ import tempfile
 import tomllib
 
 TOP = pathlib.Path(__file__).resolve().parent.parent
-CRATE = TOP / "rust/zuphinka"
+CRATE = TOP / "bindings/rust"
 # The tests under tokio, and where Debian has its source.
-TRIAL, REGISTRY = TOP / "rust/tokio_trial", pathlib.Path("/usr/share/cargo/registry")
+TRIAL, REGISTRY = TOP / "tests/tokio_trial", pathlib.Path("/usr/share/cargo/registry")
 RESULT = re.compile(r"^test result: \w+\. (\d+) passed; (\d+) failed;", flags=re.MULTILINE)
 # The types of C that the binding has; a token is a pointer in C.
 TYPES = {"u64": "uint64_t", "u32": "uint32_t", "i64": "int64_t", "i32": "int32_t", "usize": "void", "*mut u8": "void"}
@@ -58,7 +58,7 @@ def run_tests(environment, *options, package=CRATE):
 def run_trial(environment):
     """The same of the tests under tokio, whose source is Debian's. Without its package they are left out."""
     if not any(REGISTRY.glob("tokio-[0-9]*")):
-        print(f"rust/tokio_trial is left out, since there is no librust-tokio-dev ({REGISTRY})")
+        print(f"tests/tokio_trial is left out, since there is no librust-tokio-dev ({REGISTRY})")
         return 0, 0
     source = ["--config", 'source.crates-io.replace-with="debian"', "--config", f'source.debian.directory="{REGISTRY}"']
     return run_tests(environment, *source, package=TRIAL)
@@ -114,7 +114,7 @@ def check_settings(settings):
 def check_binding():
     """The codes and the longest line, the fields of each struct with their types in their order, and the functions with how many parameters
     they have. Each code is named after its enum."""
-    header, binding = (TOP / "c/zuphinka.h").read_text(), (CRATE / "src/sys.rs").read_text()
+    header, binding = (TOP / "bindings/c/zuphinka.h").read_text(), (CRATE / "src/sys.rs").read_text()
     header = re.sub(r"/\*.*?\*/|^static inline .*?^\}$", "", header, flags=re.DOTALL | re.MULTILINE)
     for kind, body in re.findall(r"enum zuphinka_(\w+) \{(.*?)\};", header, flags=re.DOTALL):
         other = [name for name in re.findall(r"(\w+) =", body) if not name.startswith(f"ZUPHINKA_{kind.upper()}_")]
@@ -137,7 +137,7 @@ def check_binding():
 
 def check_version():
     """The version of the crate is that of the header, as a text and in numbers."""
-    header = (TOP / "c/zuphinka.h").read_text()
+    header = (TOP / "bindings/c/zuphinka.h").read_text()
     crate = tomllib.loads((CRATE / "Cargo.toml").read_text())["package"]["version"]
     text = re.findall(r'^#define ZUPHINKA_VERSION "(.*)"$', header, flags=re.MULTILINE)
     numbers = re.findall(r"^#define ZUPHINKA_VERSION_(?:MAJOR|MINOR|PATCH) (\d+)$", header, flags=re.MULTILINE)
@@ -162,7 +162,7 @@ def check_pairs(pairs, pool):
 
 def main(pool):
     if not runs_cargo():
-        print("rust/zuphinka is left out, since no cargo runs here; rustup.rs has one, and so have most systems' packages")
+        print("bindings/rust is left out, since no cargo runs here; rustup.rs has one, and so have most systems' packages")
         print("0 passed, 0 failed")
         return 0
     environment = os.environ | {"ZUPHINKA_POOL": str(pathlib.Path(pool).resolve())}

@@ -34,12 +34,12 @@ def printed():
 
 def checks(version, programs):
     """What tells a version: its name, what is wanted of it, and what it tells."""
-    lock = tomllib.loads((TOP / "rust/zuphinka/Cargo.lock").read_text())["package"]
+    lock = tomllib.loads((TOP / "bindings/rust/Cargo.lock").read_text())["package"]
     yield "the form of VERSION", True, bool(re.fullmatch(r"\d+\.\d+\.\d+", version))
-    yield "Cargo.toml", version, tomllib.loads((TOP / "rust/zuphinka/Cargo.toml").read_text())["package"]["version"]
+    yield "Cargo.toml", version, tomllib.loads((TOP / "bindings/rust/Cargo.toml").read_text())["package"]["version"]
     yield "Cargo.lock", [version], [package["version"] for package in lock if package["name"] == "zuphinka"]
-    yield "the text of zuphinka.h", [version], found(r'^#define ZUPHINKA_VERSION "(.*)"$', "c/zuphinka.h")
-    yield "the numbers of zuphinka.h", version.split("."), found(r"^#define ZUPHINKA_VERSION_(?:MAJOR|MINOR|PATCH) (\d+)$", "c/zuphinka.h")
+    yield "the text of zuphinka.h", [version], found(r'^#define ZUPHINKA_VERSION "(.*)"$', "bindings/c/zuphinka.h")
+    yield "the numbers of zuphinka.h", version.split("."), found(r"^#define ZUPHINKA_VERSION_(?:MAJOR|MINOR|PATCH) (\d+)$", "bindings/c/zuphinka.h")
     yield "the man page", [f"Zuphinka {version}"], found(r'^\.TH POOL 1 "" "(.*)"$', "docs/pool.1")
     yield "the change log", True, version in found(r"^## \[(.*?)\]", "CHANGELOG.md")
     yield "the programs of the sources", PROGRAMS, sorted(printed())

@@ -1,5 +1,5 @@
 #!/usr/bin/env python3
-"""Tests the pool for threads in C, c/zuphinka_pool.c, by the program tests/play_c_pool.c.
+"""Tests the pool for threads in C, bindings/c/zuphinka_pool.c, by the program tests/play_c_pool.c.
 
     play_c_pool.py LIBRARY POOL
 
@@ -12,7 +12,7 @@ program, with warnings as errors; the header must compile by itself as C99, C11 
   objects exist than maxTotal allows, and none is left; the program `pool` must judge the journal legal, whatever segments it has; it must have
   each loan that the threads counted; and all journals together must have each answer.
 - A pool without a journal lends SOAKED times to THREADS threads, in memory that does not grow.
-- c/shared_life.c must write the segments of a legal journal, with SHARED_ROUNDS loans for each thread.
+- bindings/c/shared_life.c must write the segments of a legal journal, with SHARED_ROUNDS loans for each thread.
 - The same must hold while one allocation in REFUSE_OF fails (tests/refuse.c), and some must have failed in each of FEW_SEEDS runs.
 - All tests and some seeds must run under valgrind without an error or a leak, and under ThreadSanitizer with MORE_THREADS threads without a
   race, if these are installed; what is missing is printed.
@@ -34,7 +34,7 @@ from play_library import FLAGS, TOP, VALGRIND, compiler, heap
 from playing import differing
 from preloading import preloaded
 
-POOL_FLAGS = [*FLAGS, "-pthread", "-I", TOP / "c"]
+POOL_FLAGS = [*FLAGS, "-pthread", "-I", TOP / "bindings/c"]
 SEEDS, THREADS, CALLS = 18, 4, 2_000
 SHARED_ROUNDS, SOAKED = 5_000, 5_000_000
 # Under valgrind and ThreadSanitizer, and while allocations fail.
@@ -53,7 +53,7 @@ ANSWERS = set(
 def built(folder, name, library, flags, main=TOP / "tests/play_c_pool.c"):
     """Compiles a program over the pool with flags, links it with the library, and returns its path."""
     program = pathlib.Path(folder) / name
-    subprocess.run([compiler(), *POOL_FLAGS, *flags, "-o", program, main, TOP / "c/zuphinka_pool.c", library, heap()], check=True)
+    subprocess.run([compiler(), *POOL_FLAGS, *flags, "-o", program, main, TOP / "bindings/c/zuphinka_pool.c", library, heap()], check=True)
     return program
 
 
@@ -146,13 +146,13 @@ def header_differing(folder):
     """What differs where the header is compiled by itself, and in the names of its codes."""
     source = pathlib.Path(folder) / "header"
     source.write_text('#include "zuphinka_pool.h"\nint main(void) { return zuphinka_pool_caller() == 0; }\n')
-    words = ["-fsyntax-only", "-pedantic", "-Wall", "-Wextra", "-Werror", "-I", TOP / "c"]
+    words = ["-fsyntax-only", "-pedantic", "-Wall", "-Wextra", "-Werror", "-I", TOP / "bindings/c"]
     for name, language, standard in (compiler(), "c", "c99"), (compiler(), "c", "c11"), (os.environ.get("CXX", "c++"), "c++", "c++11"):
         if shutil.which(name):
             yield differing(f"zuphinka_pool.h in {standard}", (b"", b"", 0), run(name, *words, "-x", language, f"-std={standard}", source))
         else:
             print(f"there is no {name}, so the header isn't compiled in {standard}")
-    for kind, body in re.findall(r"enum (zuphinka_\w+) \{(.*?)\};", (TOP / "c/zuphinka_pool.h").read_text(), flags=re.DOTALL):
+    for kind, body in re.findall(r"enum (zuphinka_\w+) \{(.*?)\};", (TOP / "bindings/c/zuphinka_pool.h").read_text(), flags=re.DOTALL):
         names = re.findall(r"^  (\w+) =", body, flags=re.MULTILINE)
         yield [f"{name} isn't named after {kind}" for name in names if not name.startswith(kind.upper() + "_")]
 
@@ -194,7 +194,7 @@ def main(library, pool):
         calls = all_calls(plain, library, folder)
         with concurrent.futures.ThreadPoolExecutor(os.cpu_count()) as workers:
             found = list(workers.map(lambda call: call[0](*call[1:]), calls))
-        shared = built(folder, "shared_life", library, [], TOP / "c/shared_life.c")
+        shared = built(folder, "shared_life", library, [], TOP / "bindings/c/shared_life.c")
         found += [plain.soak(), plain.shared(shared), *plain.sinks(), *header_differing(folder)]
     missing = ANSWERS - plain.answers
     found.append([f"no journal has {sorted(missing)}"] if missing else [])

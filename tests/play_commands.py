@@ -54,7 +54,7 @@ class Place:
 
     def __init__(self, folder, pool):
         self.folder = pathlib.Path(folder)
-        for name in ("examples", "crates", "c", "rust", "tools"):
+        for name in ("examples", "crates", "bindings", "tools"):
             (self.folder / name).symlink_to(TOP / name)
         (self.folder / "pool").symlink_to(pool)
         self.runs_cargo = runs_cargo()

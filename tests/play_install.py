@@ -4,8 +4,8 @@
     play_install.py LIBRARY
 
 LIBRARY is libzuphinka.a, as `rt lib` builds it. The headers and the source of the pool must be those of c/, and pkg-config must have the version
-of the header. c/plain_life.c and c/shared_life.c, copied to a folder by themselves, must compile with the flags that pkg-config tells, and run.
-Where pkg-config isn't installed nothing is compiled, which is printed. Without a library nothing is installed, with status 1.
+of the header. bindings/c/plain_life.c and bindings/c/shared_life.c, copied to a folder by themselves, must compile with the flags that pkg-config
+tells, and run. Where pkg-config isn't installed nothing is compiled, which is printed. Without a library nothing is installed, with status 1.
 
 Prints each run that differs, and in the end the line 'N passed, M failed'.
 """
@@ -21,7 +21,7 @@ import tempfile
 from play_library import FLAGS, PLAIN_LIFE, TOP, compiler
 from playing import differing
 
-INSTALLED = {"include/zuphinka.h": "c/zuphinka.h", "include/zuphinka_pool.h": "c/zuphinka_pool.h", "share/zuphinka/zuphinka_pool.c": "c/zuphinka_pool.c"}
+INSTALLED = {"include/zuphinka.h": "bindings/c/zuphinka.h", "include/zuphinka_pool.h": "bindings/c/zuphinka_pool.h", "share/zuphinka/zuphinka_pool.c": "bindings/c/zuphinka_pool.c"}
 THREADS, ROUNDS = 4, 500
 # A run that takes longer hangs, in seconds.
 LONGEST = 600
@@ -51,7 +51,7 @@ def copies(prefix):
 def flags_of(prefix):
     """What differs in the version that pkg-config tells, and the flags."""
     environment = os.environ | {"PKG_CONFIG_PATH": str(prefix / "lib/pkgconfig")}
-    version = re.search(r'^#define ZUPHINKA_VERSION "(.*)"$', (TOP / "c/zuphinka.h").read_text(), flags=re.MULTILINE)[1]
+    version = re.search(r'^#define ZUPHINKA_VERSION "(.*)"$', (TOP / "bindings/c/zuphinka.h").read_text(), flags=re.MULTILINE)[1]
     told = run("pkg-config", "--modversion", "zuphinka", environment=environment)
     flags = run("pkg-config", "--cflags", "--libs", "zuphinka", environment=environment)
     return differing("the version", (version.encode() + b"\n", b"", 0), told), flags.stdout.decode().split()
@@ -60,7 +60,7 @@ def flags_of(prefix):
 def program_differing(name, folder, flags, words, wanted):
     """What differs where a program of c/ is built by the installed files, and run."""
     source, program = folder / f"{name}.c", folder / name
-    shutil.copy(TOP / "c" / source.name, source)
+    shutil.copy(TOP / "bindings/c" / source.name, source)
     made = run(compiler(), *FLAGS, "-o", program, source, *flags)
     return differing(f"{name} is compiled", (b"", b"", 0), made) or differing(name, (wanted, b"", 0), run(program, *words))
 

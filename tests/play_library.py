@@ -7,8 +7,8 @@
     play_library.py segments LIBRARY POOL FOLDER..
     play_library.py many LIBRARY POOL
 
-LIBRARY is libzuphinka.a, as `rt lib` builds it. The programs c/plain_life.c, c/long_life.c and c/play.c are compiled with c/zuphinka.h by the C
-compiler that CC names, or cc, and linked with it and with the kit's heap.
+LIBRARY is libzuphinka.a, as `rt lib` builds it. The programs bindings/c/plain_life.c, bindings/c/long_life.c and bindings/c/play.c are compiled with
+bindings/c/zuphinka.h by the C compiler that CC names, or cc, and linked with it and with the kit's heap.
 
 - programs: `plain_life examples/settings.toml` must write the journal of examples/plain-life.script, which stands here, and end with status 0;
   and so it must, and `play` with the first case of the folder, whole and cut, under valgrind, where it is installed, with no fault and nothing
@@ -74,7 +74,7 @@ def compiled(name, library, folder, flags):
     """Compiles c/NAME.c in the folder, links it with the library, and gives its path."""
     program = pathlib.Path(folder) / name
     program.parent.mkdir(exist_ok=True)
-    subprocess.run([compiler(), *FLAGS, "-I", TOP / "c", "-o", program, TOP / "c" / f"{name}.c", *flags, library, heap()], check=True)
+    subprocess.run([compiler(), *FLAGS, "-I", TOP / "bindings/c", "-o", program, TOP / "bindings/c" / f"{name}.c", *flags, library, heap()], check=True)
     return program
 
 
@@ -192,7 +192,7 @@ def odd_runs(life, long, play, folder):
 
 def header_runs(folder):
     """The header by itself, for compilers of C99, C11 and, where there is one, C++."""
-    words = ["-fsyntax-only", "-pedantic", "-Wall", "-Wextra", "-Werror", "-I", TOP / "c"]
+    words = ["-fsyntax-only", "-pedantic", "-Wall", "-Wextra", "-Werror", "-I", TOP / "bindings/c"]
     compilers = [(compiler(), "c", "c99"), (compiler(), "c", "c11"), (os.environ.get("CXX", "c++"), "c++", "c++11")]
     source = pathlib.Path(folder) / "header"
     source.write_text('#include "zuphinka.h"\nint main(void) { return zuphinka_status_text(0) == 0; }\n')

@@ -28,8 +28,8 @@ import sys
 import tempfile
 
 TOP = pathlib.Path(__file__).resolve().parent.parent
-HEADERS = [TOP / "c/zuphinka.h", TOP / "c/zuphinka_pool.h"]
-POOL = TOP / "c/zuphinka_pool.c"
+HEADERS = [TOP / "bindings/c/zuphinka.h", TOP / "bindings/c/zuphinka_pool.h"]
+POOL = TOP / "bindings/c/zuphinka_pool.c"
 PKG_CONFIG = """prefix={prefix}
 includedir=${{prefix}}/include
 libdir=${{prefix}}/lib
@@ -75,7 +75,7 @@ def merge(archive, library, heap):
         pool, merged = pathlib.Path(folder) / "zuphinka_pool.o", pathlib.Path(folder) / archive.name
         for name, file in ("library.a", library), ("heap.a", heap):
             (pathlib.Path(folder) / name).symlink_to(file.resolve())
-        flags = ["-std=c11", "-O2", "-fPIC", "-pthread", "-Wall", "-Wextra", "-I", TOP / "c"]
+        flags = ["-std=c11", "-O2", "-fPIC", "-pthread", "-Wall", "-Wextra", "-I", TOP / "bindings/c"]
         run(os.environ.get("CC", "cc"), *flags, "-c", "-o", pool, POOL)
         parts = f"ADDLIB {folder}/library.a\nADDLIB {folder}/heap.a\nADDMOD {pool}\n"
         run(os.environ.get("AR", "ar"), "-M", text=f"CREATE {merged}\n{parts}SAVE\nEND\n")

@@ -101,7 +101,7 @@ def lay_out(stage, programs):
     install.install(stage, shown, built(LIBRARY, programs), install.heap_of_kit())
     crate = stage / "rust/zuphinka"
     places = {stage / "bin": [built(name, programs) for name in PROGRAMS], stage / "share/man/man1": [TOP / "docs/pool.1"]}
-    places[stage / "examples"] = [*(TOP / "c" / name for name in C_EXAMPLES), *(TOP / "examples").iterdir()]
+    places[stage / "examples"] = [*(TOP / "bindings/c" / name for name in C_EXAMPLES), *(TOP / "examples").iterdir()]
     places[stage] = [TOP / "LICENSE", TOP / "CHANGELOG.md"]
     places[crate / "lib"] = [stage / "lib/libzuphinka.a"]
     for folder, files in places.items():
@@ -109,7 +109,7 @@ def lay_out(stage, programs):
         for file in files:
             shutil.copy(file, folder)
     for name in CRATE:
-        whole = TOP / "rust/zuphinka" / name
+        whole = TOP / "bindings/rust" / name
         (shutil.copytree if whole.is_dir() else shutil.copy)(whole, crate / name)
     text = (TOP / "tools/release_readme.md").read_text()
     (stage / "README.md").write_text(text.replace("VERSION", install.version(), 1))

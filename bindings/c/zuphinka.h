@@ -14,8 +14,8 @@
  *
  *     cc -o server server.c $(PKG_CONFIG_PATH=FOLDER/lib/pkgconfig pkg-config --cflags --libs zuphinka)
  *
- * c/plain_life.c and c/long_life.c are programs of one thread to copy from. c/zuphinka_pool.h is a pool for threads over this library:
- * c/zuphinka_pool.c is an example of how threads share a core under a lock, and c/shared_life.c a program that uses it.
+ * bindings/c/plain_life.c and bindings/c/long_life.c are programs of one thread to copy from. bindings/c/zuphinka_pool.h is a pool for threads over
+ * this library: bindings/c/zuphinka_pool.c is an example of how threads share a core under a lock, and bindings/c/shared_life.c a program that uses it.
  *
  * Rules
  *
@@ -55,8 +55,8 @@
  * ZUPHINKA_ANSWER_TIMED_OUT. Make, test and destroy objects without the lock. Destroy an object before you report it
  * (ZUPHINKA_INPUT_DESTROYED): the report frees its place, and another thread may make a new object at once.
  *
- * c/zuphinka_pool.c does all of this, and is tested with eight threads under ThreadSanitizer. Copy from it, or use it as it is
- * (c/zuphinka_pool.h), as c/shared_life.c does.
+ * bindings/c/zuphinka_pool.c does all of this, and is tested with eight threads under ThreadSanitizer. Copy from it, or use it as it is
+ * (bindings/c/zuphinka_pool.h), as bindings/c/shared_life.c does.
  */
 #ifndef ZUPHINKA_H
 #define ZUPHINKA_H

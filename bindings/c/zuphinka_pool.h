@@ -2,11 +2,11 @@
  * zuphinka_pool.h: a pool of objects for threads, over zuphinka.h.
  *
  * The host writes callbacks that make and destroy objects and, if it wishes, activate, test and passivate them. The pool lends the objects to
- * threads, with the settings of docs/guide/settings.md. The installed archive has it; otherwise compile c/zuphinka_pool.c with the program, with
- * -std=c11 and -pthread. zuphinka.h has the commands.
+ * threads, with the settings of docs/guide/settings.md. The installed archive has it; otherwise compile bindings/c/zuphinka_pool.c with the
+ * program, with -std=c11 and -pthread. zuphinka.h has the commands.
  *
  * Each decision is a step of the proved core. The lock, the waits and the journals of this file are not proved: tests/play_c_pool.py tests them.
- * c/shared_life.c is a program to copy from.
+ * bindings/c/shared_life.c is a program to copy from.
  *
  * Rules
  *
