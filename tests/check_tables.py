@@ -85,7 +85,7 @@ def check_cases():
 
 def check_trials():
     rows = {name for row in tables(TOP / "docs/dev/trials.md") for name in backquoted(row.get("Tests", ""))}
-    files = {path.stem for path in (TOP / "crates/thread_trials/src").glob("*.rt") if "#[test]" in path.read_text()}
+    files = {path.stem for path in (TOP / "crates/test_threads/src").glob("*.rt") if "#[test]" in path.read_text()}
     for name in sorted(rows | files):
         yield None if name in rows & files else f"docs/dev/trials.md: {name}: {'no such file' if name in rows else 'no row'}"
 

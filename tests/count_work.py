@@ -9,7 +9,7 @@ below of lists and their elements; reads and writes within bounds that follow fr
 depend on the words alone, are counted first, and left out of the others. Segments that are judged side by side must each be read once, so
 what was found of them ahead must be used: a segment that was judged again would be read twice.
 
-TALLY is the test program crates/tally, which cuts a pool of up to 100,000 objects, reads the base that tests/pool_model.py tells, compares
+TALLY is the test program crates/test_counts, which cuts a pool of up to 100,000 objects, reads the base that tests/pool_model.py tells, compares
 and prints it, and opens a pool from it, which goes on as the model does. The allocations of each of these calls are counted.
 
 Prints each number that is out of its bounds, and in the end the line 'N passed, M failed'.

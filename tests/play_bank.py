@@ -3,7 +3,7 @@
 
     play_bank.py BANK POOL JOURNAL_PICTURE RUNS
 
-All three are programs. Each run must write the file stdout of crates/bank. Its books are read by the sqlite3 that comes with Python, and must
+All three are programs. Each run must write the file stdout of crates/example_bank. Its books are read by the sqlite3 that comes with Python, and must
 hold what the orders add up to; its journal must be legal, have the statistics that follow from what its clerks did, and be
 drawn. The last line is 'N passed, M failed'.
 """
@@ -17,7 +17,7 @@ import tempfile
 
 from check_picture import differences
 
-CRATE = pathlib.Path(__file__).resolve().parent.parent / "crates/bank"
+CRATE = pathlib.Path(__file__).resolve().parent.parent / "crates/example_bank"
 
 SETTINGS = re.compile('const SETTINGS: &str = "(.*?)";', re.DOTALL)
 

@@ -1,10 +1,10 @@
 #!/usr/bin/env python3
-"""Copies the crate `server` under another name by the commands of its README, looks at the copy, and proves it.
+"""Copies the crate `example_server` under another name by the commands of its README, looks at the copy, and proves it.
 
     play_copy.py
 
 The commands before the one that runs the copy are run in a folder with the crate, crates.txt and the other crates. The line that they add to
-crates.txt must be the one of `server` with the other name. The copy must have the files of `server` but for its README, and each must be the same
+crates.txt must be the one of `example_server` with the other name. The copy must have the files of `example_server` but for its README, and each must be the same
 once the name is put back. The last commands must run and build the copy. The copy must be proved over the libraries that the gate has left, as
 `rt check` would prove it once it had proved those.
 
@@ -24,7 +24,7 @@ sys.path.append(str(TOP / "tools"))
 import sources
 from static import crate_of, kit
 
-CRATE = "server"
+CRATE = "example_server"
 RUN, BUILD = "(cd crates/{} && rt try)", "python3 tools/build.py {}"
 
 
@@ -41,7 +41,7 @@ def line_of(crate, room):
 
 
 def files(folder, name):
-    """The files of a crate by their paths, with the name that proofs import given back to `server`."""
+    """The files of a crate by their paths, with the name that proofs import given back to `example_server`."""
     paths = [path.relative_to(folder) for path in folder.rglob("*") if path.is_file() and path.name != "README.md"]
     return {path: (folder / path).read_text().replace(f"Rattle.{name}.", f"Rattle.{CRATE}.") for path in paths}
 

@@ -16,7 +16,7 @@ use Rattle.pool_shared.specs.declared.faults.ReturnFault.{ReturnFault}
 use Rattle.pool_shared.specs.declared.faults.ReturnFault.TheVariants as refusals
 use Rattle.pool_shared.specs.declared.faults.Returned.{Returned}
 use Rattle.pool_shared.specs.declared.lent.Lent.{Lent}
-use Rattle.pool_desk.specs.Sections.{IsFullFor}
+use Rattle.pool_lock.specs.Sections.{IsFullFor}
 use Rattle.pool_shared.specs.Walks.{walked}
 use Rattle.pool_shared.specs.Borrows as borrows
 use Rattle.pool_shared.specs.Returns as returns

@@ -8,7 +8,7 @@ use Rattle.pool_journal.specs.declared.answer.Cause.TheVariants as causes
 use Rattle.pool_settings.specs.declared.settings.Settings.{Settings}
 use Rattle.pool_core.specs.Legal.{IsLegal}
 use Rattle.pool_history.specs.Standings.{Standing}
-use Rattle.pool_desk.specs.Sections.{IsFullFor}
+use Rattle.pool_lock.specs.Sections.{IsFullFor}
 use Rattle.pool_shared.specs.declared.faults.BorrowFault.{BorrowFault}
 use Rattle.pool_shared.specs.declared.faults.BorrowFault.TheVariants as faults
 use Rattle.pool_shared.specs.Walks.{walked, AllDue}

@@ -17,7 +17,7 @@ use Rattle.pool_history.specs.Standings.{Standing}
 use Rattle.pool_shared.specs.declared.faults.ReturnFault.TheVariants as faults
 use Rattle.pool_shared.specs.declared.faults.Returned.TheVariants as returned
 use Rattle.pool_shared.specs.declared.lent.Lent.{Lent}
-use Rattle.pool_desk.specs.Sections.{Makes, Refuses}
+use Rattle.pool_lock.specs.Sections.{Makes, Refuses}
 use Rattle.pool_shared.specs.Returns as returns
 use Rattle.pool_shared.specs.Returns.{gives, checks, destroys, done, MayComeOut, Goes_on, ReturnRow, Finishes}
 use Rattle.pool_shared.proofs.Walking.{walk_one, walk_on}

@@ -13,7 +13,7 @@ use Rattle.pool_core.specs.Legal.{entry_of}
 use Rattle.pool_core.specs.Reply.{reply}
 use Rattle.pool_history.specs.Standings.{Standing}
 use Rattle.pool_history.specs.Tended.{CanTest}
-use Rattle.pool_desk.specs.Sections.{Makes, Refuses}
+use Rattle.pool_lock.specs.Sections.{Makes, Refuses}
 use Rattle.pool_shared.specs.declared.evicting.EvictRun.{EvictRun}
 use Rattle.pool_shared.specs.declared.evicting.Fate.{Fate}
 use Rattle.pool_shared.specs.declared.evicting.Fate.TheVariants as fates

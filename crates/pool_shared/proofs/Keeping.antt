@@ -16,7 +16,7 @@ use Rattle.pool_history.specs.Standings.{Standing, Goes, IsCaller}
 use Rattle.pool_history.proofs.Tending.{at_seam, last_here}
 use Rattle.pool_shared.specs.declared.faults.BorrowFault.{BorrowFault}
 use Rattle.pool_shared.specs.declared.lent.Lent.{Lent}
-use Rattle.pool_desk.proofs.Sections.{standing}
+use Rattle.pool_lock.proofs.Sections.{standing}
 use Rattle.pool_shared.specs.Borrows.{Stage, Finishes}
 use Rattle.pool_shared.specs.Promises.{IsAlone}
 use Rattle.pool_shared.specs.Walks.{Ends}

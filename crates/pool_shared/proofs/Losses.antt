@@ -14,7 +14,7 @@ use Rattle.pool_core.specs.Reply.{reply, lent_reply}
 use Rattle.pool_history.specs.Standings.{Standing}
 use Rattle.pool_shared.specs.declared.faults.ReturnFault.TheVariants as faults
 use Rattle.pool_shared.specs.declared.lent.Lent.{Lent}
-use Rattle.pool_desk.specs.Sections.{Refuses}
+use Rattle.pool_lock.specs.Sections.{Refuses}
 use Rattle.pool_shared.specs.Invalidates.{InvalidateRow}
 use Rattle.pool_shared.proofs.Rowing.{full_for, short_for}
 

@@ -13,7 +13,7 @@ use Rattle.pool_core.specs.declared.step_fault.StepFault.TheVariants.{JournalFul
 use Rattle.pool_core.specs.Finishing.{finishes}
 use Rattle.pool_core.specs.Reply.{reply, forgotten, reclaim_next_reply}
 use Rattle.pool_history.specs.Standings.{Standing}
-use Rattle.pool_desk.specs.Sections.{Makes, Refuses}
+use Rattle.pool_lock.specs.Sections.{Makes, Refuses}
 use Rattle.pool_shared.specs.declared.faults.PoolFault.{PoolFault}
 use Rattle.pool_shared.specs.declared.faults.PoolFault.TheVariants as faults
 use Rattle.pool_shared.specs.Walks.{EndsWithMade}

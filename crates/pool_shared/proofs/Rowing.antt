@@ -6,7 +6,7 @@ use Rattle.pool_settings.specs.declared.settings.Settings.{Settings}
 use Rattle.pool_core.specs.declared.step_fault.StepFault.{StepFault}
 use Rattle.pool_core.specs.declared.step_fault.StepFault.TheVariants.{JournalFull, OutOfMemory}
 use Rattle.pool_history.specs.Standings.{Standing}
-use Rattle.pool_desk.specs.Sections.{Refuses, IsWhy, IsFullFor, IsShortFor}
+use Rattle.pool_lock.specs.Sections.{Refuses, IsWhy, IsFullFor, IsShortFor}
 use Rattle.pool_shared.specs.Walks.{walked, AllDue, Walks}
 use Rattle.pool_shared.specs.Rows.{Row}
 use Rattle.pool_shared.proofs.Walking.{walk_on, walk_none}

@@ -19,7 +19,7 @@ use Rattle.pool_shared.specs.declared.faults.Addition.{Addition}
 use Rattle.pool_shared.specs.declared.faults.Addition.TheVariants as additions
 use Rattle.pool_shared.specs.declared.faults.AddFault.{AddFault}
 use Rattle.pool_shared.specs.declared.faults.AddFault.TheVariants as faults
-use Rattle.pool_desk.specs.Sections.{HasInHand, Makes, Refuses}
+use Rattle.pool_lock.specs.Sections.{HasInHand, Makes, Refuses}
 use Rattle.pool_shared.specs.Walks.{walked, AllDue, EndsWithMade}
 use Rattle.pool_shared.specs.Adds as addition
 use Rattle.pool_shared.specs.Adds.{makes, ending, Leaves, IsStocked}

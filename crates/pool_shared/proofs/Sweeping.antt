@@ -17,7 +17,7 @@ use Rattle.pool_history.proofs.Answering.{none_misused}
 use Rattle.pool_history.proofs.Hands.{begins_trans, begins_self}
 use Rattle.pool_shared.specs.declared.faults.PoolFault.{PoolFault}
 use Rattle.pool_shared.specs.declared.faults.PoolFault.TheVariants as faults
-use Rattle.pool_desk.specs.Sections.{Makes, Refuses}
+use Rattle.pool_lock.specs.Sections.{Makes, Refuses}
 use Rattle.pool_shared.specs.Walks.{EndsWithMade}
 use Rattle.pool_shared.specs.Clears as clears
 use Rattle.pool_shared.specs.Clears.{Stage, begins, sweeps, destroys, through, Goes_on, NoneIdle, IsRoomFault, IsOver, Sweeps, ClearEnds, CloseEnds, ClearRow, CloseRow}

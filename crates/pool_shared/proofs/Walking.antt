@@ -15,7 +15,7 @@ use Rattle.pool_shared.specs.declared.faults.BorrowFault.{BorrowFault}
 use Rattle.pool_shared.specs.declared.lent.Lent.{Lent}
 use Rattle.pool_journal.specs.declared.answer.Cause.TheVariants as causes
 use Rattle.pool_history.specs.Answers.{IsAnswerTo}
-use Rattle.pool_desk.specs.Sections.{Makes}
+use Rattle.pool_lock.specs.Sections.{Makes}
 use Rattle.pool_shared.specs.Walks.{walked, AllDue, Walks, Ends}
 use Rattle.pool_shared.specs.Borrows as borrows
 use Rattle.pool_shared.specs.Borrows.{asks, after_asking, Stage, Goes_on, Finishes, IsResult, Leaves}

@@ -10,7 +10,7 @@ use Rattle.pool_journal.specs.declared.answer.Answer.TheVariants as answers
 use Rattle.pool_journal.specs.declared.answer.Cause.TheVariants as causes
 use Rattle.pool_settings.specs.declared.settings.Settings.{Settings}
 use Rattle.pool_history.specs.Standings.{Standing}
-use Rattle.pool_desk.specs.Sections.{IsFullFor, IsShortFor}
+use Rattle.pool_lock.specs.Sections.{IsFullFor, IsShortFor}
 use Rattle.pool_shared.specs.declared.faults.Addition.{Addition}
 use Rattle.pool_shared.specs.declared.faults.Addition.TheVariants as additions
 use Rattle.pool_shared.specs.declared.faults.AddFault.{AddFault}

@@ -17,7 +17,7 @@ use Rattle.pool_shared.specs.declared.lent.Lent.{Lent}
 use Rattle.pool_shared.specs.declared.borrowing.Unready.{Unready}
 use Rattle.pool_shared.specs.declared.borrowing.Unready.TheVariants as unready
 use Rattle.pool_history.specs.Answers.{IsAnswerTo}
-use Rattle.pool_desk.specs.Sections.{IsFullFor, IsShortFor}
+use Rattle.pool_lock.specs.Sections.{IsFullFor, IsShortFor}
 use Rattle.pool_shared.specs.Walks.{walked, AllDue, Walks, Ends, EndsWithMade}
 
 -- the stage of a borrow: it removes abandoned objects; it reclaims up to this number; it asks; it makes an object ready, a new

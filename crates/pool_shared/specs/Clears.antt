@@ -9,7 +9,7 @@ use Rattle.pool_journal.specs.Journal.{closed, records}
 use Rattle.pool_journal.specs.Queue.{idle_queue}
 use Rattle.pool_settings.specs.declared.settings.Settings.{Settings}
 use Rattle.pool_history.specs.Standings.{Standing}
-use Rattle.pool_desk.specs.Sections.{LacksRoom, LacksMemory}
+use Rattle.pool_lock.specs.Sections.{LacksRoom, LacksMemory}
 use Rattle.pool_shared.specs.declared.faults.PoolFault.{PoolFault}
 use Rattle.pool_shared.specs.declared.faults.PoolFault.TheVariants as faults
 use Rattle.pool_shared.specs.Walks.{walked, AllDue, Walks, EndsWithMade}

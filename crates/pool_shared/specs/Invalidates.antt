@@ -9,7 +9,7 @@ use Rattle.pool_journal.specs.declared.answer.Cause.TheVariants as causes
 use Rattle.pool_journal.specs.declared.record.Phase.TheVariants as phases
 use Rattle.pool_settings.specs.declared.settings.Settings.{Settings}
 use Rattle.pool_history.specs.Standings.{Standing}
-use Rattle.pool_desk.specs.Sections.{IsFullFor, IsShortFor}
+use Rattle.pool_lock.specs.Sections.{IsFullFor, IsShortFor}
 use Rattle.pool_shared.specs.declared.faults.ReturnFault.{ReturnFault}
 use Rattle.pool_shared.specs.declared.faults.ReturnFault.TheVariants as faults
 use Rattle.pool_shared.specs.declared.faults.Returned.{Returned}

@@ -9,7 +9,7 @@ use Rattle.pool_shared.specs.declared.faults.ReturnFault.{ReturnFault}
 use Rattle.pool_shared.specs.declared.faults.ReturnFault.TheVariants as faults
 use Rattle.pool_shared.specs.declared.faults.Touched.{Touched}
 use Rattle.pool_shared.specs.declared.faults.Touched.TheVariants as touched
-use Rattle.pool_desk.specs.Sections.{Makes, IsFullFor, IsShortFor}
+use Rattle.pool_lock.specs.Sections.{Makes, IsFullFor, IsShortFor}
 
 -- one entry, or none if the object is of another pool or the critical section failed
 abbrev pub TouchRow : Settings → ℕ → ℕ → ℕ → Result Touched ReturnFault → Standing → Standing → Type 0

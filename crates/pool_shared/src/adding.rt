@@ -3,13 +3,13 @@ ghost use Rattle.std.specs.Prelude.{◌≡◌, true, OnOk, IfErr};
 ghost use Rattle.pool_journal.specs.declared.input.Outcome.TheVariants as outcomes;
 ghost use Rattle.pool_journal.specs.declared.record.Phase.TheVariants as phases;
 ghost use Rattle.pool_history.specs.Standings.{Goes};
-ghost use Rattle.pool_desk.specs.Sections.{HasInHand};
+ghost use Rattle.pool_lock.specs.Sections.{HasInHand};
 ghost use Rattle.pool_shared.specs.Walks.{EndsWithMade};
 ghost use Rattle.pool_shared.specs.Adds.{makes, gone, shelved, ending, Goes_on, AddRow, IsAddFaultFrom, IsWhyUnfit, IsFailure, IsPlaced, IsStocked};
 
 use crate::faults::{AddFault, Addition, NoRoom};
 use crate::pool::SharedPool;
-use pool_desk::{Clock, Factory};
+use pool_lock::{Clock, Factory};
 use pool_history::{Caller, Room};
 use pool_journal::{Answer, Cause, Input, Outcome};
 use std::sync::Wait;

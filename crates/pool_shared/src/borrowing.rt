@@ -8,7 +8,7 @@ ghost use Rattle.pool_journal.specs.declared.input.Outcome.TheVariants as outcom
 ghost use Rattle.pool_core.specs.Laws.{AtMostMaxTotal};
 ghost use Rattle.pool_history.specs.Standings.{Goes};
 ghost use Rattle.pool_history.specs.Answers.{IsAnswerTo};
-ghost use Rattle.pool_desk.specs.Sections.{HasInHand, MayAsk, Makes, Gets, IsWhy, goes_on};
+ghost use Rattle.pool_lock.specs.Sections.{HasInHand, MayAsk, Makes, Gets, IsWhy, goes_on};
 ghost use Rattle.pool_shared.specs.Promises.{IsAlone};
 ghost use Rattle.pool_shared.specs.Walks.{Ends};
 ghost use Rattle.pool_shared.specs.Borrows.{removes, asks, readies, lent, after_asking, after_destroying, Goes_on, Finishes, BorrowRow, IsLentWell, IsFaultFrom, IsWhyUnready, IsFound, taken_to, IsFailure};
@@ -18,7 +18,7 @@ use crate::lent::Lent;
 use crate::pool::SharedPool;
 use crate::spinning::{lock, wait};
 use pool_core::StepFault;
-use pool_desk::{Clock, Desk, Factory};
+use pool_lock::{Clock, Desk, Factory};
 use pool_history::{Caller, Room};
 use pool_journal::{Answer, Cause, Input, Outcome, When};
 use std::sync::{MutexGuard, Wait};

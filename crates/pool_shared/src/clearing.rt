@@ -8,7 +8,7 @@ ghost use Rattle.pool_shared.specs.Clears.{Sweeps, ClearRow, CloseRow};
 use crate::faults::{NoRoom, PoolFault};
 use crate::pool::SharedPool;
 use pool_core::StepFault;
-use pool_desk::{Clock, Factory};
+use pool_lock::{Clock, Factory};
 use pool_history::{Caller, Room};
 use pool_journal::{Answer, Input};
 use std::sync::Wait;

@@ -2,7 +2,7 @@
 ghost use Rattle.std.specs.Prelude.{◌≡◌, ◌<◌, ℕ, IfOk, OnOk, IfErr, OnErr};
 ghost use Rattle.pool_journal.specs.declared.record.Phase.TheVariants as phases;
 ghost use Rattle.pool_history.specs.Standings.{Goes, Knows};
-ghost use Rattle.pool_desk.specs.Sections.{HasInHand};
+ghost use Rattle.pool_lock.specs.Sections.{HasInHand};
 ghost use Rattle.pool_shared.specs.Walks.{EndsWithMade};
 ghost use Rattle.pool_shared.specs.declared.evicting.EvictRun.{EvictRun};
 ghost use Rattle.pool_shared.specs.declared.evicting.Fate.TheVariants as fates;
@@ -11,7 +11,7 @@ ghost use Rattle.pool_shared.specs.Evicts.{examines, tests, none_yet, one_more, 
 use crate::faults::{NoRoom, PoolFault};
 use crate::pool::SharedPool;
 use pool_core::StepFault;
-use pool_desk::{Clock, Factory};
+use pool_lock::{Clock, Factory};
 use pool_history::{Caller, Room};
 use pool_journal::{Answer, Cause, Input, Outcome};
 use std::sync::Wait;

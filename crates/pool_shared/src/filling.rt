@@ -6,7 +6,7 @@ ghost use Rattle.pool_shared.specs.Fills.{Turns, FillRow};
 
 use crate::faults::{AddFault, Addition, NoRoom};
 use crate::pool::SharedPool;
-use pool_desk::{Clock, Factory};
+use pool_lock::{Clock, Factory};
 use pool_history::{Caller, Room};
 use pool_journal::{Answer, Input};
 use std::sync::Wait;

@@ -6,7 +6,7 @@ ghost use Rattle.pool_shared.specs.Invalidates.{InvalidateRow};
 use crate::faults::{NoRoom, ReturnFault, Returned};
 use crate::lent::Lent;
 use crate::pool::SharedPool;
-use pool_desk::{Clock, Factory};
+use pool_lock::{Clock, Factory};
 use pool_history::{Caller, Room};
 use pool_journal::{Answer, Cause, Input};
 use std::sync::Wait;

@@ -6,7 +6,7 @@ ghost use Rattle.pool_shared.specs.Maintains.{MaintainRow};
 
 use crate::faults::{AddFault, PoolFault};
 use crate::pool::SharedPool;
-use pool_desk::{Clock, Factory};
+use pool_lock::{Clock, Factory};
 use pool_history::{Caller, Room};
 use std::sync::Wait;
 

@@ -8,7 +8,7 @@ ghost use Rattle.pool_shared.specs.Reclaims.{reclaims, ReclaimsFrom, ReclaimRow}
 
 use crate::faults::{NoRoom, PoolFault};
 use crate::pool::SharedPool;
-use pool_desk::{Clock, Factory};
+use pool_lock::{Clock, Factory};
 use pool_history::{Caller, Room};
 use pool_journal::{Answer, Input, When};
 use std::sync::Wait;

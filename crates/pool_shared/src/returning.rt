@@ -5,7 +5,7 @@ ghost use Rattle.pool_journal.specs.declared.input.Input.TheVariants as inputs;
 ghost use Rattle.pool_journal.specs.declared.input.Outcome.TheVariants as outcomes;
 ghost use Rattle.pool_journal.specs.declared.record.Phase.TheVariants as phases;
 ghost use Rattle.pool_history.specs.Standings.{Goes};
-ghost use Rattle.pool_desk.specs.Sections.{HasInHand};
+ghost use Rattle.pool_lock.specs.Sections.{HasInHand};
 ghost use Rattle.pool_shared.specs.Walks.{EndsWithMade};
 ghost use Rattle.pool_shared.specs.Returns.{checks, done, MayComeOut, Goes_on, ReturnRow};
 ghost use Rattle.pool_shared.specs.declared.faults.Returned.TheVariants as returned;
@@ -13,7 +13,7 @@ ghost use Rattle.pool_shared.specs.declared.faults.Returned.TheVariants as retur
 use crate::faults::{NoRoom, ReturnFault, Returned};
 use crate::lent::Lent;
 use crate::pool::SharedPool;
-use pool_desk::{Clock, Factory};
+use pool_lock::{Clock, Factory};
 use pool_history::{Caller, Room};
 use pool_journal::{Answer, Cause, Input, Outcome};
 use std::sync::Wait;

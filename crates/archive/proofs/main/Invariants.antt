@@ -1,4 +1,0 @@
-use Rattle.archive.proofs.main.Given as goal
-
-abbrev pub ghosts-live : goal.ghosts-live
-ghosts-live g a = record { table = a.site; settings = a.settings; callers = 5 }

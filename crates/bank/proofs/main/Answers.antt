@@ -1,7 +1,0 @@
-use Rattle.std.proofs.Crossing.{crosses}
-use denote.Param.Send.{sendable}
-use Rattle.bank.proofs.Crossing.{host_send, store_send}
-use Rattle.bank.proofs.main.Goals as goal
-
-pub keep_books-requires-send-S : goal.keep_books-requires-send-S
-keep_books-requires-send-S g c κs = search (host_send, store_send, crosses, sendable) depth 40 fits 20000

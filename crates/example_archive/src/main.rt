@@ -1,0 +1,148 @@
+//! An example: four workers share a pool that could run for years. `example_archive FOLDER` fills a folder that has no archive yet.
+//!
+//! The pool's journal has room for 300 entries, and they make some eight thousand. So each of them looks now and then, and where it is
+//! full, whether little room is left, and if so cuts it and writes what was cut, a segment, to a file of its own, beside the pool's
+//! settings. In the folder `pool check archive.toml segment-*` judges all files as the one journal that they are.
+#![tactic(auto)]
+
+ghost use Rattle.std.specs.Prelude.{◌≡◌};
+
+mod archive;
+mod clock;
+mod connections;
+mod fault;
+mod working;
+
+use archive::Archive;
+use clock::Uptime;
+use connections::{Connection, Connector};
+use fault::Fault;
+use pool_core::Core;
+use pool_settings::Settings;
+use pool_shared::{Caller, Room, SharedPool, Site};
+use std::alloc::Global;
+use std::convert::Infallible;
+use std::marker::Brand;
+use std::sync::Wait;
+use std::thread::Threads;
+use std::{env, thread};
+use working::{Tally, work};
+
+/// How the pool is to behave.
+const SETTINGS: &str = "journalLimit = 300
+maxTotal = 3
+minIdle = 1
+testOnBorrow = true
+";
+
+/// The number that tells this pool from others.
+const NUMBER: u64 = 1;
+
+const WORKERS: u32 = 4;
+
+/// The pool of connections.
+type Connections<B> = SharedPool<Connection, Infallible, Connector, Uptime, B>;
+
+/// What came of it all.
+#[derive(Clone, Copy)]
+struct Outcome {
+    answered: u64,
+    still_open: u64,
+    entries: u64,
+    archived: u64,
+}
+
+// All workers work, each on a thread of its own. Their callers come back.
+fn work_all<B: Room + Send + Sync, R: Threads + Wait + Sync>(
+    rt: &R,
+    archive: &Archive<'_>,
+    pool: &Connections<B>,
+    workers: Vec<Caller<B>>,
+    back: &mut Vec<Caller<B>>,
+) -> Result<Tally, Fault> {
+    let mut all = Tally {
+        answered: 0,
+        archived: 0,
+    };
+    for worked in thread::map_vec(rt, workers, &|me| work(rt, archive, pool, me))? {
+        let (caller, tally) = worked?;
+        back.push(caller)?;
+        all.answered = all.answered.saturating_add(tally.answered);
+        all.archived = all.archived.saturating_add(tally.archived);
+    }
+    Ok(all)
+}
+
+// The keeper closes the pool, and archives what is left. The number is how many entries that were.
+fn close<B: Room, R: Wait>(
+    rt: &R,
+    archive: &Archive<'_>,
+    pool: &Connections<B>,
+    keeper: &mut Caller<B>,
+) -> Result<u64, Fault> {
+    pool.close(rt, keeper).map_err(|_| Fault::NotClosed)?;
+    archive.take_in_below(rt, pool, keeper, u64::MAX)
+}
+
+// What came of the work, and of the entries that were archived in the end.
+fn outcome_of(core: &Core<Connection>, tally: Tally, rest: u64) -> Outcome {
+    let counts = core.counts();
+    Outcome {
+        answered: tally.answered,
+        still_open: counts.idle + counts.lent + counts.reserved,
+        entries: counts.steps,
+        archived: tally.archived.saturating_add(rest),
+    }
+}
+
+// The life of the pool, with a caller for each worker and one for the keeper. `B` stands for this one pool: so the check knows that
+// the callers are its own.
+fn live<B: Room + Send + Sync, R: Threads + Wait + Sync>(
+    rt: &R,
+    alloc: Global,
+    site: Site,
+    settings: Settings,
+    uptime: Uptime,
+    archive: &Archive<'_>,
+) -> Result<Outcome, Fault>
+    requires { (site ≡ B.table) × (settings ≡ B.settings) × (5 ≡ B.callers) }
+{
+    let (pool, mut callers) = Connections::<B>::open(
+        rt,
+        alloc,
+        site,
+        settings,
+        NUMBER,
+        WORKERS + 1,
+        Connector,
+        uptime,
+    )
+    .map_err(|_| Fault::NotOpened)?;
+    let mut keeper = callers.pop().ok_or(Fault::CallerMissing)?;
+    let mut back = Vec::new(alloc);
+    let tally = work_all(rt, archive, &pool, callers, &mut back)?;
+    let rest = close(rt, archive, &pool, &mut keeper)?;
+    back.push(keeper)?;
+    let core = pool.finish(rt, back).map_err(|_| Fault::CallerMissing)?;
+    Ok(outcome_of(&core, tally, rest))
+}
+
+fn main(rt: HostRuntime) -> Result<(), Fault> {
+    let settings = Settings::from_text(rt.alloc(), SETTINGS).map_err(|_| Fault::Settings)?;
+    let words: Vec<String> = env::args(&rt)
+        .map_err(|_| Fault::NoFolder)?
+        .collect(rt.alloc())?;
+    let [_, folder] = words.as_slice() else {
+        return Err(Fault::NoFolder);
+    };
+    let archive = Archive::new(&rt, folder.as_str());
+    archive.write_new("archive.toml", SETTINGS.as_bytes())?;
+    let site = Site::new(rt.alloc())?;
+    let uptime = Uptime::start(&rt)?;
+    let outcome = live::<Brand, _>(&rt, rt.alloc(), site, settings, uptime, &archive)?;
+    println!(rt; "requests answered: {}", outcome.answered)?;
+    println!(rt; "connections still open: {}", outcome.still_open)?;
+    let missing = outcome.entries.abs_diff(outcome.archived);
+    println!(rt; "entries that no file has: {missing}")?;
+    Ok(())
+}

@@ -1,6 +1,0 @@
-use Rattle.pool_places.specs.Shelf.{records_in}
-use Rattle.part_trials.specs.Before.{AllBefore}
-use Rattle.part_trials.proofs.places.calls.many_calls.Given as goal
-
-abbrev pub invariant-loop-moment : goal.invariant-loop-moment
-invariant-loop-moment g l = AllBefore l.moment (records_in l.places.kept)

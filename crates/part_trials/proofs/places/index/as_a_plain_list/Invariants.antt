@@ -1,5 +1,0 @@
-use Rattle.rising_index.specs.Pairs.{IdsBelow}
-use Rattle.part_trials.proofs.places.index.as_a_plain_list.Given as goal
-
-abbrev pub invariant-loop-id : goal.invariant-loop-id
-invariant-loop-id g l = IdsBelow l.id l.index.pairs

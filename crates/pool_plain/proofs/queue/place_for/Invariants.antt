@@ -1,7 +1,0 @@
-use Rattle.std.proofs.Common.{◌≡◌}
-use Rattle.pool_journal.specs.Queue.{put_rising}
-use Rattle.pool_plain.proofs.Queues.{put_from}
-use Rattle.pool_plain.proofs.queue.place_for.Given as goal
-
-abbrev pub invariant-loop-index : goal.invariant-loop-index
-invariant-loop-index l = put_rising (λ r. r.parked) l.queue l.object ≡ put_from (λ r. r.parked) l.index l.queue l.object

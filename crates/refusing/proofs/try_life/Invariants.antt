@@ -1,4 +1,0 @@
-use Rattle.refusing.proofs.try_life.Given as goal
-
-abbrev pub ghosts-live : goal.ghosts-live
-ghosts-live g a = record { table = a.site; settings = a.settings; callers = 1 }

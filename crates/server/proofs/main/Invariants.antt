@@ -1,4 +1,0 @@
-use Rattle.server.proofs.main.Given as goal
-
-abbrev pub ghosts-day : goal.ghosts-day
-ghosts-day g a = record { table = a.site; settings = a.settings; callers = 5 }

@@ -1,0 +1,10 @@
+use Rattle.std.proofs.Common.{◌≡◌}
+use Rattle.pool_places.specs.Changes.{IdsBelow}
+use Rattle.pool_places.specs.Shelf.{records_in}
+use Rattle.test_parts.proofs.places.restores.many_restores.Given as goal
+
+abbrev pub invariant-loop-id : goal.invariant-loop-id
+invariant-loop-id g l = record {
+  same : l.places.kept ≡ l.plain.items;
+  below : IdsBelow l.id (records_in l.plain.items);
+}

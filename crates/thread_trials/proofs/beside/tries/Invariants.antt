@@ -1,4 +1,0 @@
-use Rattle.thread_trials.proofs.beside.tries.Given as goal
-
-abbrev pub ghosts-lives : goal.ghosts-lives
-ghosts-lives g a = record { table = a.site; settings = a.settings; callers = 3 }

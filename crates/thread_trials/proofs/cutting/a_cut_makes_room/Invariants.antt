@@ -1,4 +1,0 @@
-use Rattle.thread_trials.proofs.cutting.a_cut_makes_room.Given as goal
-
-abbrev pub ghosts-one_caller_cuts : goal.ghosts-one_caller_cuts
-ghosts-one_caller_cuts g a = record { table = a.site; settings = a.settings; callers = 1 }

@@ -1,4 +1,0 @@
-use Rattle.thread_trials.proofs.dropping.nothing_stays_in_any_order.Given as goal
-
-abbrev pub ghosts-drops : goal.ghosts-drops
-ghosts-drops g a = record { table = a.site; settings = a.settings; callers = 2 }

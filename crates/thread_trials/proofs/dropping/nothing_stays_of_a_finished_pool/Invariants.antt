@@ -1,4 +1,0 @@
-use Rattle.thread_trials.proofs.dropping.nothing_stays_of_a_finished_pool.Given as goal
-
-abbrev pub ghosts-finishes : goal.ghosts-finishes
-ghosts-finishes g a = record { table = a.site; settings = a.settings; callers = 1 }

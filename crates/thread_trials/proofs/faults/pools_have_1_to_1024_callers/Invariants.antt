@@ -1,4 +1,0 @@
-use Rattle.thread_trials.proofs.faults.pools_have_1_to_1024_callers.Given as goal
-
-abbrev pub ghosts-opens : goal.ghosts-opens
-ghosts-opens g a = record { table = a.site; settings = a.settings; callers = a.callers }
