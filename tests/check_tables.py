@@ -6,7 +6,8 @@ check_tables.py  The last line is 'N passed, M failed'.
 Each setting has the default that the definitions say, in docs/guide/settings.md and in examples/settings.toml; the answers to each input are the
 same in docs/guide/program.md and docs/proof/definitions.md; each of them is given in the case that docs/proof/definitions.md names; docs/dev/trials.md
 has a row for each file of tests of the shared pool; the outstanding entries and the room of docs/guide/operations.md follow from the definitions; and
-docs/proof/edits.md has a row for each edit of crates/*/must-fail, in the section of its crate, which names the function that it changes.
+docs/proof/edits.md has a row for each edit of crates/*/must-fail, in the section of its crate, which names the function that it changes. Each crate is
+named by the section of crates.txt that it is in, docs/dev/architecture.md says what it has, and docs/pictures/crates.svg is as its script draws it.
 """
 
 import re
@@ -14,6 +15,9 @@ import sys
 import tomllib
 
 from check_names import TOP, backquoted, rows_in, tables
+
+sys.path.append(str(TOP / "docs/pictures"))
+import draw_crates  # noqa: E402
 
 DEFINITIONS = TOP / "docs/proof/definitions.md"
 EDITS = TOP / "docs/proof/edits.md"
@@ -158,9 +162,26 @@ def check_edits():
     yield None if [edit for edit, _ in rows] == list(edits) else "docs/proof/edits.md: not in the order of crates.txt and of names"
 
 
+def check_crates():
+    text = (TOP / "crates.txt").read_text()
+    groups, page = draw_crates.sections(text), (TOP / "docs/dev/architecture.md").read_text()
+    starts = {"Examples": "example_", "Tests": "test_"}
+    for title, crates in groups:
+        start = starts.get(re.match(r"\w+", title)[0], "")
+        for crate in crates:
+            is_named = crate.startswith(start) and (start or not crate.startswith(tuple(starts.values())))
+            yield None if is_named else f"crates.txt: {crate}: in the section {title}"
+            yield None if f"**`{crate}`**" in page else f"docs/dev/architecture.md: {crate}: no paragraph"
+    folders = {path.parent.name for path in (TOP / "crates").glob("*/src")}
+    listed = {crate for _, crates in groups for crate in crates}
+    yield None if folders == listed else f"crates.txt: {sorted(folders ^ listed)}: a folder or a line alone"
+    drawn = (TOP / "docs/pictures/crates.svg").read_text() == draw_crates.picture(text)
+    yield None if drawn else "docs/pictures/crates.svg: draw it anew, by docs/pictures/draw_crates.py"
+
+
 def main():
     passed, wrong = 0, []
-    for check in (check_settings, check_answers, check_cases, check_trials, check_room, check_edits):
+    for check in (check_settings, check_answers, check_cases, check_trials, check_room, check_edits, check_crates):
         faults = list(check())
         passed += faults.count(None)
         wrong += [fault for fault in faults if fault] if faults else [f"{check.__name__}: nothing to check"]
