@@ -16,7 +16,9 @@ import sys
 TOP = pathlib.Path(__file__).resolve().parent.parent
 PAGES = [TOP / "README.md", *sorted((TOP / "docs").rglob("*.md"))]
 # Names of other libraries, some by their beginnings; and what a page names because it is not there.
-FOREIGN = re.compile(r"(get|list|log|use|add|prepare|evictor|timeBetween|max)[A-Z]\w*$|\w+ObjectPool$|DestroyMode$|Millis$|IsPartitionPoint-from_clause$")
+FOREIGN = re.compile(
+    r"(get|list|log|use|add|prepare|evictor|timeBetween|max)[A-Z]\w*$|\w+ObjectPool$|DestroyMode$|Millis$|IsPartitionPoint-from_clause$"
+)
 ABSENT = {"proofs/Phrases.antt", "src/phrases.rt", "OnNone"}
 PLACEHOLDER = re.compile(r"[A-Z]*NAME|[<*]|X_")
 FILE = re.compile(r"[\w./-]*(?:/|\.(?:antt|rt|py|md|toml|txt|c|rs|svg|script))[\w./-]*$")
@@ -25,13 +27,18 @@ OPENING = re.compile(r"# .+\n\nThis page is for [^.]+\.\n\n")
 OWNED = re.compile(r"[^\W\d]\w*::\w+$")
 DECLARED = r"^(?:(?:abbrev|unfoldable|record|data|pub|mod) )+%s\b"
 SAID = r"\b(?:ensures|ghost|pub (?:trait|struct|enum|fn)|pub\(crate\) fn) %s\b"
+# The sources besides those of the crates.
+OTHERS = (
+    *("bindings/c/*", "bindings/rust/src/*.rs", "bindings/rust/examples/*", "tests/*.*", "bench/*", "tools/*", "docs/pictures/*.py", "examples/*"),
+    *("pool", "check", "crates.txt"),
+)
 
 
 @functools.cache
 def sources():
     """The text of each source, by its path."""
     found = [path for end in ("rt", "antt", "toml") for path in TOP.glob(f"crates/*/**/*.{end}") if "out" not in path.relative_to(TOP).parts]
-    for pattern in ("bindings/c/*", "bindings/rust/src/*.rs", "bindings/rust/examples/*", "tests/*.*", "bench/*", "tools/*", "docs/pictures/*.py", "examples/*", "pool", "check", "crates.txt"):
+    for pattern in OTHERS:
         found += [path for path in TOP.glob(pattern) if path.is_file() and path != pathlib.Path(__file__).resolve()]
     return {path: path.read_text() for path in found}
 
@@ -52,16 +59,28 @@ def is_file(named, crate):
     return any((TOP / "crates").glob(f"*/{named}" if "/" in named else f"*/*/{named}"))
 
 
+@functools.cache
+def code():
+    """The text of each source that is compiled, by its path."""
+    return {path: text for path, text in sources().items() if path.suffix in (".rt", ".rs")}
+
+
+@functools.cache
+def code_of(owner):
+    """The sources of a type, or the file of tests with this name; and those that have an enum of this name."""
+    named = re.compile(rf"\b(?:impl|trait)\b.*\b{owner}\b")
+    own = [text for path, text in code().items() if path.stem == owner or owner in text and named.search(text)]
+    return own, [text for text in code().values() if f"enum {owner}" in text]
+
+
+@functools.cache
 def is_owned(owner, name):
-    """Whether a function stands in the file of its type or in the file of tests that has the owner's name, a type in its crate, or a variant in its enum."""
-    code = {path: text for path, text in sources().items() if path.suffix in (".rt", ".rs")}
+    """Whether a function is in a source of its type or in the file of tests with the owner's name, a type in its crate, a variant in its enum."""
     if (TOP / "crates" / owner).exists():
-        return any(re.search(rf"\b(?:struct|enum|trait) {name}\b", text) for path, text in code.items() if path.is_relative_to(TOP / "crates" / owner))
-    return any(
-        (path.stem == owner or re.search(rf"\b(?:impl|trait)\b.*\b{owner}\b", text)) and re.search(rf"\bfn {name}\b", text)
-        or re.search(rf"\benum {owner}\b[^}}]*\b{name}\b", text)
-        for path, text in code.items()
-    )
+        return any(re.search(rf"\b(?:struct|enum|trait) {name}\b", text) for path, text in code().items() if path.is_relative_to(TOP / "crates" / owner))
+    own, enums = code_of(owner)
+    has_function = any(re.search(rf"\bfn {name}\b", text) for text in own)
+    return has_function or any(re.search(rf"\benum {owner}\b[^}}]*\b{name}\b", text) for text in enums)
 
 
 def fault_of_name(token, crate):
@@ -169,7 +188,8 @@ def main():
     passed, failed = 0, 0
     checks = [(check, page) for page in PAGES for check in (check_mentions, check_links)]
     checks += [(check_opening, page) for page in PAGES if page != TOP / "README.md"]
-    checks += [(check_definitions, TOP / "docs/proof/definitions.md"), (check_definitions, TOP / "docs/proof/sharing.md"), (check_clauses, TOP / "docs/proof/proved.md")]
+    checks += [(check_definitions, TOP / "docs/proof" / name) for name in ("definitions.md", "sharing.md")]
+    checks.append((check_clauses, TOP / "docs/proof/proved.md"))
     for check, page in checks:
         found = list(check(page))
         for named, fault in found:
