@@ -1,13 +1,14 @@
 #!/usr/bin/env python3
-"""Holds the tables of README.md and docs/ against each other, the sources and the cases.
+"""Compares the tables of docs/ with each other, the sources and the cases.
 
 check_tables.py  The last line is 'N passed, M failed'.
 
 Each setting has the default that the definitions say, in docs/guide/settings.md and in examples/settings.toml; the answers to each input are the
 same in docs/guide/program.md and docs/proof/definitions.md; each of them is given in the case that docs/proof/definitions.md names; docs/dev/trials.md
 has a row for each file of tests of the shared pool; the outstanding entries and the room of docs/guide/operations.md follow from the definitions; and
-docs/proof/edits.md has a row for each edit of crates/*/must-fail, in the section of its crate, which names the function that it changes. Each crate is
-named by the section of crates.txt that it is in, docs/dev/architecture.md says what it has, and docs/pictures/crates.svg is as its script draws it.
+docs/proof/edits.md has a row for each edit of crates/*/must-fail, in the section of its crate, which names the function that it changes. The name of
+each crate begins as its section of crates.txt requires, docs/dev/architecture.md has a paragraph on it, and docs/pictures/crates.svg is as its script
+draws it.
 """
 
 import re
@@ -75,7 +76,8 @@ def answers_in(page):
 def check_answers():
     guide, definitions = answers_in(TOP / "docs/guide/program.md"), answers_in(DEFINITIONS)
     for name in sorted({*guide, *definitions}):
-        yield None if guide.get(name) == definitions.get(name) else f"docs/guide/program.md: {name}: {guide.get(name)}, docs/proof/definitions.md: {definitions.get(name)}"
+        here, there = guide.get(name), definitions.get(name)
+        yield None if here == there else f"docs/guide/program.md: {name}: {here}, docs/proof/definitions.md: {there}"
 
 
 def check_cases():
@@ -95,7 +97,7 @@ def check_trials():
 
 
 def room_of_steps(weights):
-    """The room that the steps need which docs/guide/operations.md lists: one entry, and what becomes outstanding more than before."""
+    """The room that each step of docs/guide/operations.md needs: its entry, and the rise in the number of outstanding entries."""
     return {
         "`borrow` that makes an object": 1 + weights["Readying"],
         "`borrow` that takes an idle object": 1 + weights["Readying"] - weights["Idle"],
@@ -108,7 +110,8 @@ def check_room():
     text = (TOP / "crates/pool_places/specs/Counts.antt").read_text()
     weights = {phase: int(number) for phase, number in re.findall(r"^weight phases\.(\w+) = ([1-9]\d*)$", text, flags=re.MULTILINE)}
     rows = list(tables(TOP / "docs/guide/operations.md"))
-    found = {phase: int(row["Outstanding entries"]) for row in rows if "Outstanding entries" in row for phase in re.findall(r"\w+", re.sub(r"\(.*\)", "", row["Phase of the object"]))}
+    listed = [(re.sub(r"\(.*\)", "", row["Phase of the object"]), row["Outstanding entries"]) for row in rows if "Outstanding entries" in row]
+    found = {phase: int(number) for phases, number in listed for phase in re.findall(r"\w+", phases)}
     for phase in sorted({*weights, *found}):
         same = weights.get(phase) == found.get(phase)
         yield None if same else f"docs/guide/operations.md: {phase}: {found.get(phase)}, the definitions say {weights.get(phase)}"
@@ -134,14 +137,14 @@ def listed_edits():
 
 
 def functions_of(path):
-    """The functions in which the lines stand that an edit replaces."""
+    """The functions whose lines an edit replaces."""
     text = path.read_text()
     source = (path.parent.parent / re.search(r"^file: (.*)$", text, re.MULTILINE)[1]).read_text()
     return {re.findall(r"\bfn (\w+)", source.partition(old)[0])[-1] for old in re.findall(r"^old: (.*)$", text, re.MULTILINE)}
 
 
 def fault_of_row(path, functions):
-    """Why the functions of an edit's row are wrong: those in which its lines stand, behind the public one that calls them if they are private."""
+    """Why the functions of an edit's row are wrong. They are those whose lines it replaces, after the public one that calls them if they are private."""
     public, *private = [function.split("::")[-1] for function in functions]
     changed = functions_of(path)
     if set(private or [public]) != changed:

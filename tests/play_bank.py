@@ -4,8 +4,8 @@
     play_bank.py BANK POOL JOURNAL_PICTURE RUNS
 
 All three are programs. Each run must write the file stdout of crates/example_bank. Its books are read by the sqlite3 that comes with Python, and must
-hold what the orders add up to; its journal must be legal, have the statistics that follow from what its clerks did, and be
-drawn. The last line is 'N passed, M failed'.
+have the sums of the orders; its journal must be legal, have the statistics that follow from the work of its clerks, and be drawn. The last line is
+'N passed, M failed'.
 """
 
 import pathlib

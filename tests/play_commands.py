@@ -20,7 +20,9 @@ import sys
 import tempfile
 
 TOP = pathlib.Path(__file__).resolve().parent.parent
-COMMAND = re.compile(r"(\./pool|\./try|\./check|pool|crates/\S+|\(cd|mkdir|printf|python3 tools/\S+|cc|\./plain_life|\./long_life|\./shared_life|cargo) ")
+COMMAND = re.compile(
+    r"(\./pool|\./try|\./check|pool|crates/\S+|\(cd|mkdir|printf|python3 tools/\S+|cc|\./plain_life|\./long_life|\./shared_life|cargo) "
+)
 ENTRY = re.compile(r"\d+ \d+ .* = ")
 BASE = re.compile(r"pool-journal 2 |\d+ (readying|adding|lent|returning|idle|testing|destroying) ")
 FORM = "<caller> <at> <input>"

@@ -4,9 +4,9 @@
     play_copy.py
 
 The commands before the one that runs the copy are run in a folder with the crate, crates.txt and the other crates. The line that they add to
-crates.txt must be the one of `example_server` with the other name. The copy must have the files of `example_server` but for its README, and each must be the same
-once the name is put back. The last commands must run and build the copy. The copy must be proved over the libraries that the gate has left, as
-`rt check` would prove it once it had proved those.
+crates.txt must be the one of `example_server` with the other name. The copy must have the files of `example_server` except its README, and each must
+be the same once the name is put back. The last commands must run and build the copy. The copy must be proved over the libraries that the full check
+has left, as `rt check` would prove it once it had proved those.
 
 Prints what is wrong, and in the end the line 'N passed, M failed'.
 """

@@ -1,11 +1,11 @@
 #!/usr/bin/env python3
-"""Tests tools/install.py: installs the C library under a prefix of its own, and builds programs with what is there alone.
+"""Tests tools/install.py: installs the C library under a prefix of its own, and builds programs with the installed files alone.
 
     play_install.py LIBRARY
 
-LIBRARY is libzuphinka.a, as `rt lib` builds it. The headers and the source of the pool must be those of c/, and pkg-config must have the version
-of the header. bindings/c/plain_life.c and bindings/c/shared_life.c, copied to a folder by themselves, must compile with the flags that pkg-config
-tells, and run. Where pkg-config isn't installed nothing is compiled, which is printed. Without a library nothing is installed, with status 1.
+LIBRARY is libzuphinka.a, as `rt lib` builds it. The headers and the source of the pool must be those of bindings/c, and pkg-config must have the
+version of the header. bindings/c/plain_life.c and bindings/c/shared_life.c, copied to a folder by themselves, must compile with the flags that
+pkg-config prints, and run. If pkg-config isn't installed, nothing is compiled, which is printed. Without a library nothing is installed, with status 1.
 
 Prints each run that differs, and in the end the line 'N passed, M failed'.
 """
@@ -21,7 +21,13 @@ import tempfile
 from play_library import FLAGS, PLAIN_LIFE, TOP, compiler
 from playing import differing
 
-INSTALLED = {"include/zuphinka.h": "bindings/c/zuphinka.h", "include/zuphinka_pool.h": "bindings/c/zuphinka_pool.h", "share/zuphinka/zuphinka_pool.c": "bindings/c/zuphinka_pool.c"}
+SOURCES = TOP / "bindings/c"
+# The installed files by their paths, each with its source.
+INSTALLED = {
+    "include/zuphinka.h": SOURCES / "zuphinka.h",
+    "include/zuphinka_pool.h": SOURCES / "zuphinka_pool.h",
+    "share/zuphinka/zuphinka_pool.c": SOURCES / "zuphinka_pool.c",
+}
 THREADS, ROUNDS = 4, 500
 # A run that takes longer hangs, in seconds.
 LONGEST = 600
@@ -36,7 +42,7 @@ def install(prefix, library):
 
 
 def missing_library(folder):
-    """What differs where there is no library."""
+    """What differs if there is no library."""
     prefix = folder / "nothing"
     done = install(prefix, folder / "none.a")
     told = [] if done.returncode == 1 and b"none.a: no such file" in done.stderr else [f"no library: {done}"]
@@ -44,23 +50,23 @@ def missing_library(folder):
 
 
 def copies(prefix):
-    """The files that aren't those of c/."""
-    return [there for there, here in INSTALLED.items() if (prefix / there).read_bytes() != (TOP / here).read_bytes()]
+    """The installed files that differ from their sources."""
+    return [name for name, source in INSTALLED.items() if (prefix / name).read_bytes() != source.read_bytes()]
 
 
 def flags_of(prefix):
     """What differs in the version that pkg-config tells, and the flags."""
     environment = os.environ | {"PKG_CONFIG_PATH": str(prefix / "lib/pkgconfig")}
-    version = re.search(r'^#define ZUPHINKA_VERSION "(.*)"$', (TOP / "bindings/c/zuphinka.h").read_text(), flags=re.MULTILINE)[1]
+    version = re.search(r'^#define ZUPHINKA_VERSION "(.*)"$', (SOURCES / "zuphinka.h").read_text(), flags=re.MULTILINE)[1]
     told = run("pkg-config", "--modversion", "zuphinka", environment=environment)
     flags = run("pkg-config", "--cflags", "--libs", "zuphinka", environment=environment)
     return differing("the version", (version.encode() + b"\n", b"", 0), told), flags.stdout.decode().split()
 
 
 def program_differing(name, folder, flags, words, wanted):
-    """What differs where a program of c/ is built by the installed files, and run."""
+    """What differs if a program of bindings/c is built with the installed files, and run."""
     source, program = folder / f"{name}.c", folder / name
-    shutil.copy(TOP / "bindings/c" / source.name, source)
+    shutil.copy(SOURCES / source.name, source)
     made = run(compiler(), *FLAGS, "-o", program, source, *flags)
     return differing(f"{name} is compiled", (b"", b"", 0), made) or differing(name, (wanted, b"", 0), run(program, *words))
 

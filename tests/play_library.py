@@ -71,7 +71,7 @@ def heap():
 
 
 def compiled(name, library, folder, flags):
-    """Compiles c/NAME.c in the folder, links it with the library, and gives its path."""
+    """Compiles bindings/c/NAME.c in the folder, links it with the library, and returns its path."""
     program = pathlib.Path(folder) / name
     program.parent.mkdir(exist_ok=True)
     subprocess.run([compiler(), *FLAGS, "-I", TOP / "bindings/c", "-o", program, TOP / "bindings/c" / f"{name}.c", *flags, library, heap()], check=True)

@@ -93,7 +93,8 @@ WRONG_ARGUMENTS = [
     "run", "check", "Help", "--help=run", "-help", "run help", "runs", "--version=1", "-Vx", "-- --version", "-- -V",
     "run --version", "run -V", "check --version", "stats -V", "load --version", "run defaults.toml plain.script --version",
     "run defaults.toml", "check defaults.toml", "run defaults.toml plain.script more", "run missing missing missing",
-    "check defaults.toml plain.journal -x", "check defaults.toml plain.journal -x -- missing", "run -x defaults.toml plain.script", "run --settings defaults.toml plain.script",
+    "check defaults.toml plain.journal -x", "check defaults.toml plain.journal -x -- missing", "run -x defaults.toml plain.script",
+    "run --settings defaults.toml plain.script",
     "run defaults.toml --script=plain.script", "-- run defaults.toml plain.script", "-q run defaults.toml plain.script",
     "defaults.toml plain.script", "run run", "run --", "run -- defaults.toml",
     "run defaults.toml plain.script -- more", "run defaults.toml plain.script -- --", "check defaults.toml --", "check -- defaults.toml",
@@ -303,7 +304,8 @@ def play_many_workers(play, settings, workers, rounds):
     objects = int(found["created"])
     all_rounds = workers * rounds
     most = {"four_objects.toml": 4, "small.toml": 1}.get(settings, 8)
-    got = (list(found), found["workers"], found["rounds"], found["refused"], found["borrowed"], found["returned"], found["destroyed"], done.stderr, done.returncode)
+    told = [found[name] for name in ("workers", "rounds", "refused", "borrowed", "returned", "destroyed")]
+    got = (list(found), *told, done.stderr, done.returncode)
     wanted = (["workers", "rounds", "refused", *NAMES], workers, rounds, 0, all_rounds, all_rounds, objects, b"", 0)
     play.note(got == wanted and 1 <= objects <= most, f"load {settings} {workers} {rounds}: {done}")
 

@@ -143,7 +143,8 @@ def commands(top):
         return
     said, faults, status = shell(run_rust, top)
     yield run_rust, (b"", 0), (said, status)
-    yield "what the Rust example tells", True, re.fullmatch(rb"%d requests were answered over \d+ connections\n" % ANSWERED, faults) is not None or faults
+    report = re.fullmatch(rb"%d requests were answered over \d+ connections\n" % ANSWERED, faults)
+    yield "what the Rust example tells", True, report is not None or faults
     yield "the journal of the Rust example", *is_legal(top, top / "journal")
     yield blocks[1].strip(), 0, shell(blocks[1].strip(), top)[2]
     segment = min((top / "journal").glob("segment-*"))

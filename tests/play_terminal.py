@@ -62,6 +62,7 @@ FILES = {
 USES = "try pool --help"
 SWAPPED = "this is a script or a journal: SETTINGS comes first"
 LIMIT = "a larger journalLimit in the settings makes room"
+ANSWERED = "this line of a journal has an answer: pool check and pool stats take a journal"
 
 # Words, and the lines of the error at a terminal. Each but the first is a hint.
 HINTS = [
@@ -79,7 +80,7 @@ HINTS = [
     ("run key.toml script", ["settings: unknown key maxTotl", "in key.toml"]),
     ("load bytes.toml 1 1", ["settings: not TOML", "in bytes.toml", "settings are UTF-8"]),
     ("check folder journal", ["read failed", "in folder"]),
-    ("run defaults.toml journal", ["line 1: not a line", "in journal", "this line of a journal has an answer: pool check and pool stats take a journal"]),
+    ("run defaults.toml journal", ["line 1: not a line", "in journal", ANSWERED]),
     ("check defaults.toml script", ["line 1: not a line", "in script", "this line of a script has no answer: pool run plays a script"]),
     ("check defaults.toml joined", ["line 5: not a line", "in joined", "a segment begins here: pool check takes each segment as a file of its own"]),
     ("stats returns", ["line 1: not a line", "in returns", "this line ends with a carriage return and a line feed, and not with a line feed alone"]),

@@ -49,7 +49,19 @@ SCRIPT = b"".join(line.split(b" = ")[0] + b"\n" for line in JOURNAL.splitlines()
 
 STATISTICS = b"borrowed 1\nreturned 1\ncreated 1\ndestroyed 0\nevicted 0\nborrowtestfailed 0\nreclaimed 0\nlongest 4\ntotal 4\n"
 
-LOAD = b"workers 1\nrounds 1\nrefused 0\nborrowed 1\nreturned 1\ncreated 1\ndestroyed 1\nevicted 0\nborrowtestfailed 0\nreclaimed 0\nlongest 1\ntotal 1\n"
+LOAD = b"""workers 1
+rounds 1
+refused 0
+borrowed 1
+returned 1
+created 1
+destroyed 1
+evicted 0
+borrowtestfailed 0
+reclaimed 0
+longest 1
+total 1
+"""
 
 FILES = {
     "a.toml": b"maxTotal = 4\n", "all.toml": b"lifo = true\nmaxIdle = 3\nminIdle = 1\n[abandoned]\nremoveAbandonedOnBorrow = true\n",
