@@ -76,8 +76,9 @@ def code_of(owner):
 @functools.cache
 def is_owned(owner, name):
     """Whether a function is in a source of its type or in the file of tests with the owner's name, a type in its crate, a variant in its enum."""
-    if (TOP / "crates" / owner).exists():
-        return any(re.search(rf"\b(?:struct|enum|trait) {name}\b", text) for path, text in code().items() if path.is_relative_to(TOP / "crates" / owner))
+    crate = TOP / "crates" / owner
+    if crate.exists():
+        return any(re.search(rf"\b(?:struct|enum|trait) {name}\b", text) for path, text in code().items() if path.is_relative_to(crate))
     own, enums = code_of(owner)
     has_function = any(re.search(rf"\bfn {name}\b", text) for text in own)
     return has_function or any(re.search(rf"\benum {owner}\b[^}}]*\b{name}\b", text) for text in enums)

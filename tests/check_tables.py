@@ -144,7 +144,7 @@ def functions_of(path):
 
 
 def fault_of_row(path, functions):
-    """Why the functions of an edit's row are wrong. They are those whose lines it replaces, after the public one that calls them if they are private."""
+    """Why the functions of an edit's row are wrong. They are those that it changes, after the public one that calls them if they are private."""
     public, *private = [function.split("::")[-1] for function in functions]
     changed = functions_of(path)
     if set(private or [public]) != changed:
