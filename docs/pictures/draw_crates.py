@@ -2,10 +2,10 @@
 """Draws docs/pictures/crates.svg, the graph of the crates, from crates.txt.
 
 draw_crates.py          writes the picture
-draw_crates.py --check  fails where the picture that stands is another one
+draw_crates.py --check  fails if the picture in the file is another one
 
-An arrow leads from a crate to one that it depends on. An arrow is left out where a chain of others leads there. A crate is in the lowest row that is
-above all that it depends on. Its colour is that of its section of crates.txt.
+An arrow leads from a crate to one that it depends on, unless a chain of other arrows leads there. A crate is in the lowest row that is above all
+crates that it depends on. Its colour is that of its section of crates.txt.
 """
 
 import html
@@ -39,7 +39,7 @@ def below(crate, uses):
 
 
 def graph(text):
-    """For each crate those that it depends on by no chain of others."""
+    """For each crate those that it depends on, except those to which a chain of others leads."""
     crates = {crate: names for _, group in sections(text) for crate, names in group.items()}
     uses = {crate: [name for name in names if name in crates] for crate, names in crates.items()}
     return {crate: [name for name in names if not any(name in below(other, uses) for other in names)] for crate, names in uses.items()}
