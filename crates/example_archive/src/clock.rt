@@ -1,9 +1,9 @@
-// Moments, by the system's clock.
+// Times, by the system's clock.
 use pool_shared::Clock;
 use std::io;
 use std::time::Instant;
 
-/// Tells the milliseconds since it was started.
+/// Returns the milliseconds since it was started.
 #[derive(Clone, Copy)]
 pub struct Uptime {
     rt: HostRuntime,
@@ -20,7 +20,7 @@ impl Uptime {
 }
 
 impl Clock for Uptime {
-    /// Where the system tells no time it is moment 0: a pool takes moments that go back.
+    /// Returns 0 if the system gives no time: a pool accepts times that go back.
     fn now(&self) -> u64 {
         match self.started.elapsed(&self.rt) {
             Ok(elapsed) => u64::try_from(elapsed.as_millis()).unwrap_or(u64::MAX),

@@ -3,7 +3,7 @@ use pool_shared::Factory;
 use std::convert::Infallible;
 use std::thread;
 
-/// How many questions a connection holds.
+/// How many questions a connection lasts for.
 const LASTS: u64 = 100;
 
 /// A connection to something that answers. It counts what it was asked.
@@ -13,14 +13,14 @@ pub struct Connection {
 }
 
 impl Connection {
-    /// Asks. Meanwhile other workers go on.
+    /// Asks. Meanwhile other workers may run.
     pub fn ask(&mut self) {
         thread::yield_now();
         self.asked = self.asked.saturating_add(1);
     }
 }
 
-/// Makes connections. One that was asked often enough fails its test, and the pool makes a new one in its place.
+/// Makes connections. One that was asked `LASTS` times fails its test, and the pool makes a new one in its place.
 #[derive(Drop)]
 pub struct Connector;
 

@@ -4,7 +4,7 @@ use std::io;
 /// What ends the work early.
 #[derive(Clone, Copy, Debug)]
 pub enum Fault {
-    /// One argument is wanted, the folder of the archive.
+    /// The argument is missing, the folder of the archive.
     NoFolder,
     Settings,
     NotOpened,
@@ -13,7 +13,7 @@ pub enum Fault {
     NotMaintained,
     NotClosed,
     CallerMissing,
-    /// The system told no time, made no thread or wrote no file: maybe since there is an archive in the folder already.
+    /// The system gave no time, created no thread or wrote no file: perhaps the folder already has an archive.
     System,
     OutOfMemory,
 }

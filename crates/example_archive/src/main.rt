@@ -1,8 +1,8 @@
 //! An example: four workers share a pool that could run for years. `example_archive FOLDER` fills a folder that has no archive yet.
 //!
-//! The pool's journal has room for 300 entries, and they make some eight thousand. So each of them looks now and then, and where it is
-//! full, whether little room is left, and if so cuts it and writes what was cut, a segment, to a file of its own, beside the pool's
-//! settings. In the folder `pool check archive.toml segment-*` judges all files as the one journal that they are.
+//! The pool's journal has room for 300 entries, and they make some eight thousand. So now and then, and when the journal is full,
+//! each of them tests whether little room is left. If so, it cuts the journal, and writes the segment to a file of its own, beside
+//! the pool's settings. In the folder, `pool check archive.toml segment-*` checks all files as the one journal that they are.
 #![tactic(auto)]
 
 ghost use Rattle.std.specs.Prelude.{◌≡◌};
@@ -43,7 +43,7 @@ const WORKERS: u32 = 4;
 /// The pool of connections.
 type Connections<B> = SharedPool<Connection, Infallible, Connector, Uptime, B>;
 
-/// What came of it all.
+/// The results of the work.
 #[derive(Clone, Copy)]
 struct Outcome {
     answered: u64,
@@ -52,7 +52,7 @@ struct Outcome {
     archived: u64,
 }
 
-// All workers work, each on a thread of its own. Their callers come back.
+// Runs all workers, each in its own thread, and collects their callers and results.
 fn work_all<B: Room + Send + Sync, R: Threads + Wait + Sync>(
     rt: &R,
     archive: &Archive<'_>,
@@ -73,7 +73,7 @@ fn work_all<B: Room + Send + Sync, R: Threads + Wait + Sync>(
     Ok(all)
 }
 
-// The keeper closes the pool, and archives what is left. The number is how many entries that were.
+// Closes the pool, and archives the entries that are left. Returns how many they are.
 fn close<B: Room, R: Wait>(
     rt: &R,
     archive: &Archive<'_>,
@@ -84,7 +84,7 @@ fn close<B: Room, R: Wait>(
     archive.take_in_below(rt, pool, keeper, u64::MAX)
 }
 
-// What came of the work, and of the entries that were archived in the end.
+// Adds the entries that were archived at the end to the results of the work.
 fn outcome_of(core: &Core<Connection>, tally: Tally, rest: u64) -> Outcome {
     let counts = core.counts();
     Outcome {
@@ -95,8 +95,8 @@ fn outcome_of(core: &Core<Connection>, tally: Tally, rest: u64) -> Outcome {
     }
 }
 
-// The life of the pool, with a caller for each worker and one for the keeper. `B` stands for this one pool: so the check knows that
-// the callers are its own.
+// Runs the pool, with a caller for each worker and one for the keeper. The type `B` names this one pool, so the compiler knows that
+// the callers are those of this pool.
 fn live<B: Room + Send + Sync, R: Threads + Wait + Sync>(
     rt: &R,
     alloc: Global,

@@ -1,4 +1,4 @@
-// What a worker does.
+// The work of a worker.
 use crate::Connections;
 use crate::archive::Archive;
 use crate::connections::Connection;
@@ -12,10 +12,10 @@ const REQUESTS: u32 = 500;
 /// After how many of them it looks after the pool.
 const SPAN: u32 = 50;
 
-/// How much room the journal is to have, in entries.
+/// The least room that the journal should have, in entries.
 const LEAST: u64 = 100;
 
-/// How often a borrow is tried for which there was no room in the journal.
+/// How often a borrow is tried if the journal has no room for it.
 const TRIES: u32 = 100;
 
 /// How many requests a worker answered, and how many entries it wrote to files.
@@ -25,7 +25,7 @@ pub struct Tally {
     pub archived: u64,
 }
 
-// Borrows a connection. Where the journal has no room for that, it is archived, unless another worker did so just now. Other workers may
+// Borrows a connection. If the journal has no room for that, archives it, unless another worker has just done so. Other workers may
 // have filled it again by the next try.
 fn borrow<B: Room, R: Wait>(
     rt: &R,
@@ -47,7 +47,7 @@ fn borrow<B: Room, R: Wait>(
     Err(Fault::NotBorrowed)
 }
 
-// Maintains the pool, and archives its journal if little room is left. Maintenance that finds no room is left to who comes next.
+// Maintains the pool, and archives its journal if little room is left. Maintenance that finds no room is left to the next worker.
 fn look_after<B: Room, R: Wait>(
     rt: &R,
     archive: &Archive<'_>,
@@ -60,7 +60,7 @@ fn look_after<B: Room, R: Wait>(
     }
 }
 
-/// Answers requests, each over a connection that is borrowed for it, and looks after the pool now and then.
+/// Answers requests, each over a connection that it borrows for that, and looks after the pool now and then.
 pub fn work<B: Room, R: Wait>(
     rt: &R,
     archive: &Archive<'_>,

@@ -1,10 +1,10 @@
-// The bank's books: how one is opened and closed, and the accounts in it, in SQL.
+// The bank's books: how a book is opened and closed, and the accounts in it, in SQL.
 use sqlite::{Alter, Connection, Error, ErrorCode, File, FileStore, Transaction, params};
 
-/// The paths of the books. The accounts stand in each, and what they hold is the sum over all.
+/// The paths of the books. Each book has all accounts, and the balance of an account is the sum over the books.
 pub const BOOKS: [&str; 3] = ["bank.1.db", "bank.2.db", "bank.3.db"];
 
-/// Four accounts with nothing on them. None may owe any.
+/// Four empty accounts. No balance may be negative.
 const ACCOUNTS: &str = "CREATE TABLE account (
     id INTEGER PRIMARY KEY,
     balance INTEGER NOT NULL CHECK (balance >= 0)
@@ -29,14 +29,14 @@ pub struct Order {
 
 /// Where books are kept, over connections of a type `C`.
 pub trait Shelf<C> {
-    /// Connects to what stands at a path, and makes it where there is nothing.
+    /// Connects to the book at a path, and makes it if there is none.
     fn open(&self, path: &str) -> Result<C, Error>;
 
-    /// Closes a connection. What was committed is kept, also where that fails.
+    /// Closes a connection. Committed transactions are kept, even if the close fails.
     fn close(&self, connection: C) -> Result<(), Error>;
 }
 
-/// Books in files. What calls this is proved over any shelf, and the check looks in two methods and `main` at what a store of files is.
+/// Books in files. Its callers are proved over any shelf: only two methods and `main` depend on what a store of files is.
 #[derive(Clone, Copy)]
 pub struct Files {
     rt: HostRuntime,
@@ -63,7 +63,7 @@ pub struct Book<S: Alter> {
     connection: Connection<S>,
 }
 
-// It is written out, so that who drops a book doesn't prove again how each part of a connection is dropped.
+// It is written out, so that code that drops a book is not proved again for each part of a connection.
 impl<S: Alter + Drop> Drop for Book<S> {
     fn drop(self) {
         let Book { connection: _ } = self;
@@ -71,7 +71,7 @@ impl<S: Alter + Drop> Drop for Book<S> {
 }
 
 impl<S: Alter> Book<S> {
-    /// Opens the book at a path, and makes it where there is none.
+    /// Opens the book at a path, and makes it if there is none.
     pub fn open<H: Shelf<Connection<S>>>(shelf: &H, path: &str) -> Result<Book<S>, Error> {
         Ok(Book {
             connection: shelf.open(path)?,
@@ -83,7 +83,7 @@ impl<S: Alter> Book<S> {
         self.connection.execute_batch(ACCOUNTS)
     }
 
-    /// Carries an order out, whole or not at all: a transaction that is dropped before it is committed leaves nothing.
+    /// Executes an order, whole or not at all: a transaction that is dropped before it is committed changes nothing.
     pub fn carry_out(&mut self, order: Order) -> Result<(), Error> {
         if !self.connection.is_autocommit() {
             return Err(Error::SqliteFailure(ErrorCode::TransactionState));
@@ -95,24 +95,24 @@ impl<S: Alter> Book<S> {
         transaction.commit()
     }
 
-    /// What an account holds by this book.
+    /// Returns the balance of an account in this book.
     pub fn balance(&mut self, account: i64) -> Result<i64, Error> {
         self.connection.query_row(BALANCE, params![account])?.get(0)
     }
 
-    /// Breaks the connection, for the example: from now on it refuses each statement that reads a row.
+    /// Breaks the connection, for the example: from now on each statement that reads a row fails.
     pub fn break_down(&mut self) {
         self.connection.set_step_limit(Some(0));
     }
 
-    /// Closes it. What was committed is kept, also where that fails.
+    /// Closes it. Committed transactions are kept, even if the close fails.
     pub fn close<H: Shelf<Connection<S>>>(self, shelf: &H) -> Result<(), Error> {
         let Book { connection } = self;
         shelf.close(connection)
     }
 }
 
-// Puts an amount on an account, or takes it off.
+// Adds an amount to an account, or subtracts it.
 fn change<S: Alter>(
     transaction: &mut Transaction<'_, S>,
     how: &str,

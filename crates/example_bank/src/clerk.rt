@@ -1,4 +1,4 @@
-// What a clerk does all day.
+// The work of a clerk.
 use crate::Bank;
 use crate::books::Order;
 use crate::connections::Connected;
@@ -7,7 +7,7 @@ use pool_shared::{Caller, Factory, Room};
 use sqlite::Error;
 use std::sync::Wait;
 
-/// How many orders each clerk carries out.
+/// How many orders each clerk executes.
 const ORDERS: u32 = 25;
 
 /// What goes wrong with an order.
@@ -15,7 +15,7 @@ const ORDERS: u32 = 25;
 enum Mishap {
     /// The connection breaks before it.
     BreaksBefore,
-    /// The connection breaks after it, and is given back.
+    /// The connection breaks after it, and is returned.
     BreaksAfter,
     /// The clerk forgets the connection after it.
     Forgets,
@@ -30,7 +30,7 @@ fn mishap_of(clerk: u32, number: u32) -> Option<Mishap> {
     }
 }
 
-// A deposit of 10 on the account with the clerk's number, of which the clerk's number and 1 go on to the next account.
+// A deposit of 10 to the account with the clerk's number, and a transfer of that number plus 1 to the next account.
 fn order_of(clerk: u32) -> Order {
     let account = i64::from(clerk % 4);
     Order {
@@ -41,8 +41,8 @@ fn order_of(clerk: u32) -> Order {
     }
 }
 
-// Borrows a connection, carries an order out over it, and hands it back. The answer is whether the order was carried out:
-// a connection over which it wasn't is destroyed, and nothing of the order is left.
+// Borrows a connection, executes an order over it, and returns it to the pool. Returns whether the order was executed. If it was
+// not, the connection is destroyed, and nothing has changed.
 fn try_order<L: Connected, F: Factory<L, Error> + Drop, B: Room, R: Wait>(
     rt: &R,
     bank: &Bank<L, F, B>,
@@ -71,8 +71,8 @@ fn try_order<L: Connected, F: Factory<L, Error> + Drop, B: Room, R: Wait>(
     Ok(true)
 }
 
-/// Carries out all orders of a clerk, each over a connection that is borrowed for it. An order whose connection breaks is carried
-/// out over another.
+/// Executes all orders of a clerk, each over a connection that it borrows for that. If the connection breaks, it executes the order
+/// over another one. Returns the clerk's caller.
 pub fn work<L: Connected, F: Factory<L, Error> + Drop, B: Room, R: Wait>(
     rt: &R,
     bank: &Bank<L, F, B>,

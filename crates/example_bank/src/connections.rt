@@ -4,16 +4,16 @@ use pool_shared::Factory;
 use sqlite::{Alter, Connection, Error, ErrorCode};
 use std::cell::RefCell;
 
-/// What a clerk asks of a connection.
+/// A connection that executes orders.
 pub trait Connected: Send + Drop {
-    /// Carries an order out. Where it fails, nothing has changed.
+    /// Executes an order. If it fails, nothing has changed.
     fn carry_out(&mut self, order: Order) -> Result<(), Error>;
 
     /// Breaks the connection, for the example.
     fn break_down(&mut self);
 }
 
-/// A connection to one of the books. It stands in a cell, since a test has it by a shared reference, and runs a query.
+/// A connection to one of the books. It is in a cell, since a test has it by a shared reference, and runs a query.
 pub struct Link<S: Alter> {
     book: RefCell<Book<S>>,
 }

@@ -1,10 +1,10 @@
 //! An example: four clerks share a pool of connections to SQLite databases.
 //!
-//! Here SQLite keeps a database file for one connection at a time. So the bank has three books, each a file, and the pool
-//! three places; a clerk's order is a transaction in whichever book the borrowed connection is to, and what an account holds is the
-//! sum over the books. In the course of the day one connection breaks in use, one breaks and is given back, and one is forgotten by the
-//! clerk who borrowed it. The first is seen by its holder, the second by the test of the next borrow, and the third by the manager's
-//! maintenance in the evening, which also opens a new one in its place. Then the accounts are added up.
+//! SQLite locks a database file for one connection at a time. So the bank has three books, each a file, and the pool has three
+//! places. A clerk's order is a transaction in the book of the borrowed connection, and the balance of an account is the sum over
+//! the books. In the course of the day one connection breaks in use, one breaks and is returned, and one is forgotten by the clerk
+//! who borrowed it. The holder finds the first, the test of the next borrow the second, and the manager's maintenance in the evening
+//! the third. It also opens a new one in its place. Then the accounts are added up.
 //!
 //! It leaves the books and `bank.journal` in the folder that it runs in.
 #![tactic(auto)]
@@ -53,14 +53,14 @@ const NUMBER: u64 = 1;
 
 const CLERKS: u32 = 4;
 
-/// How long the bank is closed before the evening, in milliseconds: longer than a connection may be lent.
+/// How long the bank is closed before the evening, in milliseconds: longer than the timeout of abandoned connections.
 const PAUSE: u64 = 250;
 
-/// The pool of connections. Clerks work over connections of any type, so that the check looks only in `main` at what a connection to
-/// SQLite is made of: whether it may go from thread to thread.
+/// The pool of connections. Clerks work over connections of any type. So only the proof of `main` considers the parts of a
+/// connection to SQLite, to show that it may go from thread to thread.
 type Bank<L, F, B> = SharedPool<L, Error, F, OfficeClock, B>;
 
-// All clerks work, each on a thread of its own. Their callers come back.
+// Runs all clerks, each in its own thread. Returns their callers.
 fn work_all<
     L: Connected,
     F: Factory<L, Error> + Send + Drop,
@@ -79,7 +79,7 @@ fn work_all<
     Ok(back)
 }
 
-// The manager opens the connections in the morning, and in the evening looks after them and closes the pool.
+// Opens the connections in the morning, and maintains and closes the pool in the evening. Returns the clerks' callers.
 fn keep_open<
     L: Connected,
     F: Factory<L, Error> + Send + Drop,
@@ -103,8 +103,8 @@ fn keep_open<
     Ok(back)
 }
 
-// A day at the bank, with a caller for each clerk and one for the manager. `B` stands for this one pool: so the check
-// knows that the callers are its own.
+// Runs a day at the bank, with a caller for each clerk and one for the manager. The type `B` names this one pool, so the
+// compiler knows that the callers are those of this pool.
 fn day<
     L: Connected,
     F: Factory<L, Error> + Send + Drop,
@@ -136,7 +136,7 @@ fn day<
     bank.finish(rt, back).map_err(|_| Fault::CallerMissing)
 }
 
-// New books, with the accounts in each.
+// Makes new books, with the accounts in each.
 fn found<S: Alter + Drop, H: Shelf<Connection<S>>>(
     rt: &HostRuntime,
     shelf: &H,
@@ -152,7 +152,7 @@ fn found<S: Alter + Drop, H: Shelf<Connection<S>>>(
     Ok(())
 }
 
-// All books, opened.
+// Opens all books.
 fn open_all<S: Alter + Drop, H: Shelf<Connection<S>>>(
     rt: &HostRuntime,
     shelf: &H,
@@ -164,7 +164,7 @@ fn open_all<S: Alter + Drop, H: Shelf<Connection<S>>>(
     Ok(all)
 }
 
-// What an account holds by all books.
+// Returns the balance of an account: the sum over all books.
 fn balance<S: Alter>(all: &mut [Book<S>], account: i64) -> Result<i64, Error> {
     let mut sum = 0i64;
     for book in all {
@@ -173,7 +173,7 @@ fn balance<S: Alter>(all: &mut [Book<S>], account: i64) -> Result<i64, Error> {
     Ok(sum)
 }
 
-// What the accounts hold in the end.
+// Prints the balance of each account at the end, and their sum.
 fn tell_accounts<S: Alter + Drop, H: Shelf<Connection<S>>>(
     rt: &HostRuntime,
     shelf: &H,
@@ -189,7 +189,7 @@ fn tell_accounts<S: Alter + Drop, H: Shelf<Connection<S>>>(
     Ok(())
 }
 
-// What the pool did, by its counts.
+// Prints what the pool did, by its counts.
 fn tell_pool<L>(rt: &HostRuntime, core: &Core<L>) -> Result<(), Fault> {
     let counts = core.counts();
     let still_open = counts.idle + counts.lent + counts.reserved;
@@ -209,7 +209,7 @@ fn write_journal<L>(rt: &HostRuntime, core: &Core<L>) -> Result<(), Fault> {
     Ok(())
 }
 
-// A day at a new bank, whose books are on a shelf, and what it came to.
+// Runs a day at a new bank, whose books are on a shelf, and prints the results.
 fn keep_books<
     S: Alter + Drop + Send,
     H: Shelf<Connection<S>> + Copy + Send + Sync,

@@ -12,7 +12,7 @@ pub struct Connection {
 }
 
 impl Connection {
-    /// Asks, and answers whether the connection held.
+    /// Asks, and returns whether the connection held.
     pub fn ask(&mut self, request: Request) -> bool {
         self.asked = self.asked.saturating_add(1);
         self.is_broken = matches!(request, Request::Fatal);
@@ -31,7 +31,7 @@ pub enum Request {
 #[derive(Clone, Copy, Debug)]
 pub struct Unreachable;
 
-/// Makes connections, and wakes them when they are borrowed.
+/// Makes connections, and activates them when they are borrowed.
 #[derive(Drop)]
 pub struct Connector;
 

@@ -1,11 +1,11 @@
-// The judgement of a journal, by the engine that the program `pool check` runs.
+// The check of a journal, by the engine that the program `pool check` runs.
 use crate::fault::Fault;
 use pool_engines::check;
 use pool_journal::{Entry, print_entry};
 use pool_settings::Settings;
 use std::alloc::Global;
 
-/// Whether a pool with these settings gives just these answers.
+/// Returns whether each answer is the one that a pool with these settings gives.
 pub fn is_legal(alloc: Global, settings: Settings, journal: &[Entry]) -> Result<bool, Fault> {
     let mut text = Vec::new(alloc);
     for entry in journal {

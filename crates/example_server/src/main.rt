@@ -1,7 +1,7 @@
 //! An example: four servers answer requests over a pool of three connections.
 //!
 //! In the course of the day one connection breaks, and one is forgotten by the server that borrowed it. In the evening the
-//! pool is maintained, which takes the forgotten one away, and closed, and its journal is judged.
+//! pool is maintained, which reclaims the forgotten one. Then it is closed, and its journal is checked.
 //!
 //! README.md, beside this folder, says how to copy the crate under another name.
 #![tactic(auto)]
@@ -63,14 +63,14 @@ impl Clock for Watch<'_> {
 /// The pool of connections.
 type Connections<'a, B> = SharedPool<Connection, Unreachable, Connector, Watch<'a>, B>;
 
-/// What is left of a day.
+/// The pool's core at the end of a day, and how many requests were answered.
 #[derive(Drop)]
 struct Evening {
     core: Core<Connection>,
     answered: u64,
 }
 
-// All servers answer requests, each on a thread of its own. Their callers come back, and the number is how many had an answer.
+// Runs all servers, each in its own thread. Returns their callers, and how many requests were answered.
 fn serve_all<B: Room + Send + Sync, R: Threads + Wait + Sync>(
     rt: &R,
     alloc: Global,
@@ -87,8 +87,8 @@ fn serve_all<B: Room + Send + Sync, R: Threads + Wait + Sync>(
     Ok((back, answered))
 }
 
-// A day of the pool, with a caller for each server and one for the keeper. `B` stands for this one pool: so the check knows
-// that the callers are its own.
+// Runs a day of the pool, with a caller for each server and one for the keeper. The type `B` names this one pool, so the
+// compiler knows that the callers are those of this pool.
 fn day<B: Room + Send + Sync, R: Threads + Wait + Sync>(
     rt: &R,
     alloc: Global,
@@ -122,7 +122,7 @@ fn day<B: Room + Send + Sync, R: Threads + Wait + Sync>(
     Ok(Evening { core, answered })
 }
 
-// How many connections were found broken.
+// Returns how many connections were found broken by their holders.
 fn broken(journal: &[Entry]) -> usize {
     journal
         .iter()
@@ -130,7 +130,7 @@ fn broken(journal: &[Entry]) -> usize {
         .count()
 }
 
-// What came of the day, and whether its journal is legal.
+// Prints the results of the day, and whether its journal is legal.
 fn tell(rt: &HostRuntime, settings: Settings, evening: &Evening) -> Result<(), Fault> {
     let journal = evening.core.journal();
     let counts = evening.core.counts();

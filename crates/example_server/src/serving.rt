@@ -8,7 +8,7 @@ use std::sync::Wait;
 /// How many requests each server answers.
 const REQUESTS: u32 = 100;
 
-// What is special about a request of a server.
+// Returns the kind of a request of a server.
 fn request_of(server: u32, request: u32) -> Request {
     match (server, request) {
         (0, 10) => Request::Fatal,
@@ -16,12 +16,12 @@ fn request_of(server: u32, request: u32) -> Request {
     }
 }
 
-// Whether a server forgets the connection that it borrowed for a request.
+// Returns whether a server forgets the connection that it borrowed for a request.
 fn forgets(server: u32, request: u32) -> bool {
     server == 1 && request == 20
 }
 
-/// Answers requests, each over a connection that is borrowed for it. The number is how many had an answer.
+/// Answers requests, each over a connection that it borrows for that. Returns the caller, and how many were answered.
 pub fn serve<B: Room, R: Wait>(
     rt: &R,
     pool: &Connections<B>,
