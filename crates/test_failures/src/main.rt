@@ -1,9 +1,9 @@
-//! A test program: one caller's calls on a shared pool, each made when the journal has memory or room for few entries more.
+//! A test program: one caller makes each call of a shared pool, when the journal has memory or room for few more entries.
 //!
-//! After each call it is seen that nothing is left in its hands, and that what was lent is lent or was reclaimed; after each
-//! that was refused, and at the end, that a new core gives the answers of the journal, of what was cut from it before what it
-//! stores, and counts as the pool does. A call that is answered that there is no memory is then made again: so what is printed
-//! is the same whatever allocation is refused. Which call it was is told on standard error.
+//! After each call it checks that no object is half-processed, and that each object that was lent is lent or was reclaimed.
+//! After each call that failed, and at the end, it checks that a new core returns the answers of the journal, cut entries
+//! included, and has the pool's counts. A call that failed for lack of memory is then made again, so the output is the same
+//! whichever allocation fails. Standard error has the name of that call.
 #![tactic(auto)]
 
 ghost use Rattle.std.specs.Prelude.{◌≡◌};

@@ -8,13 +8,13 @@ use pool_journal::{Answer, Entry, Input, Outcome, Segment};
 use pool_settings::Settings;
 use std::alloc::{AllocError, Global};
 
-/// How many steps a life tries before its pool is opened anew, and as many after it.
+/// How many steps a life tries before its pool is opened again, and again after that.
 const HALF: u64 = 40;
 
-/// The moment at which all that was begun is finished.
+/// The time at which all work is completed.
 const END: u64 = 80;
 
-/// How often a step is tried that wants memory.
+/// How often a step is tried that fails for lack of memory.
 const TRIES: u64 = 3;
 
 /// A pool, as long as it lives, with what it did before it was opened anew.
@@ -42,7 +42,7 @@ fn open(alloc: Global, settings: Settings) -> Result<Core<u64>, AllocError> {
 }
 
 impl Life {
-    /// A life from its beginning to its end, with a journal of at most so many entries.
+    /// Runs a life from its start to its end, with a journal of at most `limit` entries.
     pub fn lived(alloc: Global, limit: u64) -> Result<Life, AllocError> {
         let settings = Settings {
             journal_limit: limit,
@@ -74,7 +74,7 @@ impl Life {
         Ok(life)
     }
 
-    /// Whether another life has the same entries, before its pool was opened anew and after it.
+    /// Returns whether another life has the same entries, before and after its pool was opened again.
     pub fn is_same(&self, other: &Life) -> bool {
         self.entries_before() == other.entries_before()
             && self.core.journal() == other.core.journal()
@@ -87,13 +87,13 @@ impl Life {
         }
     }
 
-    /// Whether the pool is closed, and nothing is owed: each place was given back.
+    /// Returns whether the pool is closed, and no entry is outstanding: each place is free.
     pub fn is_finished(&self) -> bool {
         let used = self.core.journal().len() as u64;
         self.closed && self.core.room() == self.limit.saturating_sub(used)
     }
 
-    /// Takes a step, again where it wants memory. There is no answer where the journal is full.
+    /// Takes a step, again if it fails for lack of memory. Returns `None` if the journal is full.
     fn step(&mut self, at: u64, input: Input) -> Option<Answer> {
         for _ in 0..TRIES {
             match self.core.step(0, at, input, value_of(input)) {
@@ -115,7 +115,7 @@ impl Life {
         answer
     }
 
-    /// Cuts the journal, and goes on with a pool that is opened from what it came to.
+    /// Cuts the journal, and continues with a pool that is opened from the state after it.
     fn open_anew(&mut self, alloc: Global, settings: Settings) -> Result<(), AllocError> {
         self.before = Some(cut_again(alloc, &mut self.core)?);
         self.core = opened_again(alloc, settings, &self.core)?;

@@ -1,8 +1,8 @@
-//! A test program: lives pools to the last lines of their journals, in many ways, and then finishes all that was begun.
+//! A test program: it runs pools at random to the last lines that their journals have room for, and then completes all work.
 //!
-//! In the midst of each life the journal is cut, and the pool opened anew from what it came to. Each life is lived twice. What
-//! wants memory, a step, the cut or the opening, is tried again, so that the two are the same also where an allocation was
-//! refused in one of them. For each limit of the journal a line tells what was found.
+//! In the middle of each run it cuts the journal, and opens the pool again from the state after it. It makes each run twice. A
+//! step, a cut or an opening that fails for lack of memory is tried again, so both runs are the same, even if an allocation
+//! fails in one of them. It writes a line with the result for each limit of the journal.
 #![tactic(auto)]
 
 mod dice;

@@ -1,10 +1,10 @@
-//! A test program: four threads call a shared pool by chance, over a factory that fails by chance.
+//! A test program: four threads call a shared pool at random, over a factory that fails at random.
 //!
-//! They also cut its journal, and keep the segments. For each seed the journal, in its segments and what is stored, is judged by
-//! the engine of `pool check` and by a pool that is cut where it was, what each thread did is compared with what the journal tells
-//! of it, and the objects are counted. A line tells what was found, and nothing in it depends on how the threads run, nor
-//! on which allocations are refused: a call that wants memory isn't made again, but the journal is compared then, too; what
-//! is done before and after all calls is tried again. Standard error tells how many calls of each kind wanted memory.
+//! They also cut its journal, and store the segments. For each seed the engine of `pool check` checks the journal, segments and
+//! stored entries, and a second pool takes the same steps and is cut at the same positions. The calls of each thread are
+//! compared with its entries, and the objects are counted. A line has the verdict; nothing in it depends on the schedule of the
+//! threads, or on which allocations fail. A call that fails for lack of memory is not made again, and the journal is compared
+//! with it too. Work before and after all calls is tried again. Standard error has the number of such failures by kind of call.
 #![tactic(auto)]
 
 ghost use Rattle.std.specs.Prelude.{◌≡◌};
