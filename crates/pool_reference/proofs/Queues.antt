@@ -1,4 +1,4 @@
--- What one more object does to what is picked from all.
+-- One more object in the queue, or among the abandoned ones.
 use Rattle.std.proofs.Common.{◌≡◌, ℕ, zero, suc, ◌+◌, ◌-◌, ◌<◌, Bool, true, false, cond, List, [], ◌∷◌, ◌++◌}
 use Rattle.std.proofs.Common.{length, get_or, take, drop, Some, refl, ap, ◌∙◌, arith}
 use Rattle.std.specs.Prelude.{filter, find, fold, slice_get}
@@ -9,7 +9,7 @@ use Rattle.pool_journal.specs.declared.record.Record.{Record}
 use Rattle.pool_journal.specs.Queue.{is_idle, put_rising, by_rising, idle_queue, first_of, last_of}
 use Rattle.pool_places.specs.Overdue.{is_overdue, overdue}
 
--- a list with x put into it, where all up to i stay before x
+-- a list with x inserted in order among the elements from index i on
 abbrev pub put_from : {X : Type 0} → (X → ℕ) → ℕ → List X → X → List X
 put_from key i xs x = take i xs ++ put_rising key (drop i xs) x
 

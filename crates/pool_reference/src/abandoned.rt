@@ -17,7 +17,7 @@ fn is_lent_phase(phase: Phase) -> bool
     matches!(phase, Phase::Lent)
 }
 
-// Whether a lent object was not used for the timeout; both are in milliseconds.
+// Whether an object is lent and, at time `at`, was not used for `timeout` (both in milliseconds).
 fn is_unused(at: u64, timeout: u64, object: Record) -> bool
     ensures { result ≡ is_overdue at timeout object }
 {
@@ -37,7 +37,7 @@ fn unused(alloc: Global, at: u64, timeout: u64, known: &[Record]) -> Result<Vec<
     Ok(found)
 }
 
-// The lent objects that were not used for the timeout, by rising id; none where it is negative.
+// The lent objects that were not used for the timeout, in ascending order of id; none if it is negative.
 pub fn forgotten_of(
     alloc: Global,
     at: u64,
@@ -53,7 +53,8 @@ pub fn forgotten_of(
     }
 }
 
-// Whether idle objects and places are scarce.
+// Whether fewer than two objects are in the queue, and the others number more than `max_total` less 3 (always, if it is
+// negative).
 fn is_scarce_now(settings: &Settings, known: &[Record]) -> bool
     ensures { result ≡ is_scarce settings.now known.now }
 {
@@ -61,7 +62,7 @@ fn is_scarce_now(settings: &Settings, known: &[Record]) -> bool
     queued < 2 && is_near_limit(settings.max_total, known.len() - queued)
 }
 
-// Whether a removal takes anything.
+// Whether a removal of abandoned objects reclaims any.
 fn is_removing(settings: &Settings, closed: bool, known: &[Record], on: When) -> bool
     ensures { result ≡ reclaims settings.now closed known.now on }
 {
@@ -74,7 +75,7 @@ fn is_removing(settings: &Settings, closed: bool, known: &[Record], on: When) ->
     settings.abandoned && is_asked
 }
 
-// A removal of abandoned objects begins.
+// The expected answer to Reclaim.
 pub fn reply_to_reclaim(
     alloc: Global,
     settings: &Settings,
@@ -93,7 +94,7 @@ pub fn reply_to_reclaim(
     Ok(Answer::Count(0))
 }
 
-// A removal of abandoned objects goes on.
+// The expected answer to ReclaimNext.
 pub fn reply_to_reclaim_next(
     alloc: Global,
     settings: &Settings,

@@ -11,7 +11,7 @@ use pool_journal::{Answer, Cause, Entry, Record};
 use pool_settings::Settings;
 use std::alloc::{AllocError, Global};
 
-// An object is made for the queue where there is a place, beside so many that are present.
+// The answer if an object is to be made for the queue: it is made if a place is free, with `there` present objects.
 fn make_one(settings: &Settings, entries: &[Entry], there: usize) -> Answer
     ensures { result ≡ add_reply (is_below settings.now.max_total there) (drawn entries.now) }
 {
@@ -22,7 +22,7 @@ fn make_one(settings: &Settings, entries: &[Entry], there: usize) -> Answer
     }
 }
 
-// Whether as many objects as are to be kept are in the queue or made for it.
+// Whether the objects in the queue, or on their way to it, are at least the number to keep.
 fn is_filled(settings: &Settings, known: &[Record]) -> bool
     ensures { result ≡ has_enough settings.now known.now }
 {
@@ -30,7 +30,7 @@ fn is_filled(settings: &Settings, known: &[Record]) -> bool
     least < 0 || (least as usize).saturating_sub(count_queued(known)) <= count_adding(known)
 }
 
-// An idle object more is wanted.
+// The expected answer to Add.
 pub fn reply_to_add(
     alloc: Global,
     settings: &Settings,
@@ -45,7 +45,7 @@ pub fn reply_to_add(
     Ok(make_one(settings, entries, known.len()))
 }
 
-// As many idle objects are wanted as are to be kept.
+// The expected answer to Fill.
 pub fn reply_to_fill(
     alloc: Global,
     settings: &Settings,

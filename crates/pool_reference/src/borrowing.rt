@@ -12,7 +12,7 @@ use pool_journal::{Answer, Cause, Entry, Record};
 use pool_settings::Settings;
 use std::alloc::{AllocError, Global};
 
-// The object of a queue that a borrow takes.
+// The object of a queue that a borrow takes: the last one, or the first.
 fn choose(lifo: bool, queue: &[Record]) -> Option<u64>
     ensures { result
         ≡ option_map (λ r. r.id) (if lifo then last_of queue.now else first_of queue.now) }
@@ -24,7 +24,7 @@ fn choose(lifo: bool, queue: &[Record]) -> Option<u64>
     }
 }
 
-// No object can be had, after a wait of so many milliseconds.
+// The answer if there is no object for a borrow that has waited `waited` milliseconds.
 fn reply_when_full(settings: &Settings, waited: u64) -> Answer
     ensures { result ≡ full_reply settings.now waited }
 {
@@ -39,7 +39,7 @@ fn reply_when_full(settings: &Settings, waited: u64) -> Answer
     }
 }
 
-// An object is wanted, since the moment `began`.
+// The expected answer, at time `at`, to a borrow that began at time `began` (milliseconds).
 pub fn reply_to_borrow(
     alloc: Global,
     settings: &Settings,

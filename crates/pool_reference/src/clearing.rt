@@ -11,7 +11,7 @@ use crate::records::records_of;
 use pool_journal::{Answer, Entry};
 use std::alloc::{AllocError, Global};
 
-// How many objects are idle.
+// The number of objects in phase Idle.
 fn count_idle(alloc: Global, entries: &[Entry]) -> Result<u64, AllocError>
     ensures { IfOk result (λ n. n ≡ length (idle_queue (records entries.now))) }
 {
@@ -20,7 +20,7 @@ fn count_idle(alloc: Global, entries: &[Entry]) -> Result<u64, AllocError>
     Ok(queue.len() as u64)
 }
 
-// All idle objects are to be destroyed.
+// The expected answer to Clear.
 pub fn reply_to_clear(alloc: Global, entries: &[Entry]) -> Result<Answer, AllocError>
     ensures { (S : Properties) (at : ℕ)
         → IfOk result (λ a. a ≡ reply S entries.now at inputs.Clear) }
@@ -28,7 +28,7 @@ pub fn reply_to_clear(alloc: Global, entries: &[Entry]) -> Result<Answer, AllocE
     Ok(Answer::Count(count_idle(alloc, entries)?))
 }
 
-// The next idle object is to be destroyed.
+// The expected answer to ClearNext.
 pub fn reply_to_clear_next(alloc: Global, entries: &[Entry]) -> Result<Answer, AllocError>
     ensures { (S : Properties) (at : ℕ)
         → IfOk result (λ a. a ≡ reply S entries.now at inputs.ClearNext) }
@@ -42,7 +42,7 @@ pub fn reply_to_clear_next(alloc: Global, entries: &[Entry]) -> Result<Answer, A
     Ok(answer)
 }
 
-// The pool closes.
+// The expected answer to Close.
 pub fn reply_to_close(alloc: Global, entries: &[Entry]) -> Result<Answer, AllocError>
     ensures { (S : Properties) (at : ℕ)
         → IfOk result (λ a. a ≡ reply S entries.now at inputs.Close) }

@@ -10,8 +10,7 @@ use pool_journal::{Answer, Cause, Entry, Record};
 use pool_settings::Settings;
 use std::alloc::{AllocError, Global};
 
-// Whether an idle object of a queue of so many was idle for too long at the moment `at`
-// (milliseconds).
+// Whether an idle object in a queue of length `queued` is evicted at time `at` (milliseconds).
 fn is_evicted(settings: &Settings, queued: usize, at: u64, object: Record) -> bool
     ensures { result ≡ evicts settings.now queued at object }
 {
@@ -22,7 +21,7 @@ fn is_evicted(settings: &Settings, queued: usize, at: u64, object: Record) -> bo
             && (least < 0 || queued > least as usize)
 }
 
-// An eviction run begins.
+// The expected answer to Evict.
 pub fn reply_to_evict(
     alloc: Global,
     settings: &Settings,
@@ -38,7 +37,7 @@ pub fn reply_to_evict(
     Ok(Answer::Count(tests as u64))
 }
 
-// An eviction run goes on.
+// The expected answer to EvictNext.
 pub fn reply_to_evict_next(
     alloc: Global,
     settings: &Settings,

@@ -35,7 +35,7 @@ fn is_borrowing(input: Input) -> bool
     matches!(input, Input::Borrow { began: _ })
 }
 
-// Where an object that is taken from the queue comes to.
+// The move of an object that is taken from the queue.
 fn takes(input: Input, id: u64) -> Option<(u64, Phase)>
     ensures { result ≡ moved_by (Answer.Take id) input }
 {
@@ -46,7 +46,7 @@ fn takes(input: Input, id: u64) -> Option<(u64, Phase)>
     }
 }
 
-// Where an object that is made comes to.
+// The move of an object that is made.
 fn begins(input: Input, id: u64) -> Option<(u64, Phase)>
     ensures { result ≡ made_to input id }
 {
@@ -57,7 +57,7 @@ fn begins(input: Input, id: u64) -> Option<(u64, Phase)>
     }
 }
 
-// The object that an entry moves, and where it comes to.
+// The object that an entry moves, and the phase that it moves it to.
 pub fn move_of(answer: Answer, input: Input) -> Option<(u64, Phase)>
     ensures { result ≡ moved_by answer input }
 {

@@ -26,7 +26,7 @@ fn is_adding_phase(phase: Phase) -> bool
     matches!(phase, Phase::Adding)
 }
 
-// Where an object goes into a queue: before the first that was parked later.
+// The index at which an object enters a queue: before the first object that was parked later.
 fn place_for(queue: &[Record], object: Record) -> usize
     ensures bound { result ≤ length queue.now }
     ensures place { insert queue.now result object ≡ put_rising (λ r. r.parked) queue.now object }
@@ -87,7 +87,7 @@ fn first_after(cursor: Option<u64>, queue: &[Record]) -> Option<Record>
         .find(|record| is_parked_after(cursor, *record))
 }
 
-// The object of a queue that is examined next.
+// The object of a queue that is examined next: the first that was parked after the cursor, otherwise the first.
 #[tactic(auto, using(crate::proofs::Queues::first_found))]
 pub fn examine(cursor: Option<u64>, queue: &[Record]) -> Option<Record>
     ensures { result ≡ option_or (first_of (filter (is_after cursor) queue.now)) (first_of queue.now) }
@@ -98,7 +98,7 @@ pub fn examine(cursor: Option<u64>, queue: &[Record]) -> Option<Record>
     }
 }
 
-// How many objects are in the queue.
+// The number of objects in the queue.
 pub fn count_queued(known: &[Record]) -> usize
     ensures { result ≡ queue_length known.now }
 {
@@ -108,7 +108,7 @@ pub fn count_queued(known: &[Record]) -> usize
         .count()
 }
 
-// How many objects are being made for the queue.
+// The number of objects that are being made for the queue.
 pub fn count_adding(known: &[Record]) -> usize
     ensures { result ≡ count_by (λ r. is_adding r.phase) known.now }
 {

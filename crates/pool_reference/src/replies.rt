@@ -7,7 +7,7 @@ use crate::records::{is_here, phase_of, record_of};
 use pool_journal::{Answer, Cause, Entry, Outcome, Phase};
 use pool_settings::Settings;
 
-// What making an object ready came to.
+// The expected answer to Ready.
 pub fn reply_to_ready(entries: &[Entry], id: u64, outcome: Outcome) -> Answer
     ensures { result ≡ ready_reply (phase id entries.now) (is_new id entries.now) outcome }
 {
@@ -25,7 +25,7 @@ pub fn reply_to_ready(entries: &[Entry], id: u64, outcome: Outcome) -> Answer
     }
 }
 
-// What is done with an object that its holder names: `answer` where it is lent.
+// The expected answer to a return, an invalidation or a use of an object: `answer` if it is lent.
 pub fn reply_if_lent(settings: &Settings, entries: &[Entry], id: u64, answer: Answer) -> Answer
     ensures { result ≡ lent_reply settings.now.abandoned (phase id entries.now) answer }
 {
@@ -39,7 +39,7 @@ pub fn reply_if_lent(settings: &Settings, entries: &[Entry], id: u64, answer: An
     }
 }
 
-// What checking a returned object came to, where the queue has room for it or not.
+// The expected answer to Park for an object in this phase, with `room` in the queue.
 pub fn reply_to_check(phase: Phase, outcome: Outcome, room: bool) -> Answer
     ensures { result ≡ park_reply phase outcome room }
 {
@@ -52,7 +52,7 @@ pub fn reply_to_check(phase: Phase, outcome: Outcome, room: bool) -> Answer
     }
 }
 
-// What making an object for the queue came to.
+// The expected answer to Added.
 pub fn reply_to_added(entries: &[Entry], id: u64, outcome: Outcome) -> Answer
     ensures { result ≡ added_reply (phase id entries.now) outcome (not (closed entries.now)) }
 {
@@ -67,7 +67,7 @@ pub fn reply_to_added(entries: &[Entry], id: u64, outcome: Outcome) -> Answer
     }
 }
 
-// What testing an idle object came to.
+// The expected answer to Tested.
 pub fn reply_to_tested(entries: &[Entry], id: u64, outcome: Outcome) -> Answer
     ensures { result ≡ tested_reply (phase id entries.now) outcome (not (closed entries.now)) }
 {
@@ -81,7 +81,7 @@ pub fn reply_to_tested(entries: &[Entry], id: u64, outcome: Outcome) -> Answer
     }
 }
 
-// An object was destroyed.
+// The expected answer to Destroyed.
 pub fn reply_to_destroyed(entries: &[Entry], id: u64) -> Answer
     ensures { result ≡ destroyed_reply (phase id entries.now) }
 {

@@ -11,7 +11,7 @@ use pool_journal::{Answer, Entry, Outcome};
 use pool_settings::Settings;
 use std::alloc::{AllocError, Global};
 
-// What checking a returned object came to.
+// The expected answer to Park.
 pub fn reply_to_park(
     alloc: Global,
     settings: &Settings,
