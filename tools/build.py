@@ -1,15 +1,15 @@
 #!/usr/bin/env python3
-"""Proves and builds a program of the repository, or a static library, with the libraries that it stands on: those that don't stand on one
-another side by side.
+"""Proves and builds a program of the repository, or a static library, with the libraries that it depends on: independent ones in parallel.
 
     tools/build.py PROGRAM
 
-Says on standard error what it is at, how far it is, and how long it has worked and will about take. What a build said is shown only where it
-failed, and the status is then 1. What is built of its sources as they are (tools/sources.py) is passed over, and nothing is said where all is.
+Prints on standard error which crates it builds, how many are done, how long it has worked, and about how long it takes. It shows the output of a
+build only if the build failed, and the status is then 1. It passes over crates that are built of their sources as they are (tools/sources.py), and
+prints nothing if all are.
 
-Each crate is built in a room of its own, a folder that has it and the libraries below it: `rt` lets nobody else work in the folders of the
-crates that it reads, so that in one place two crates that stand on a third would wait for each other. The crate that the longest chain waits for
-has the processors that it can use, the next what is over, and so on. How long a chain is tells tools/proof_seconds.txt.
+Each crate is built in a room of its own, a folder with the crate and the libraries below it: `rt` locks the folders of the crates that it reads, so
+in one place two crates that depend on a third would wait for each other. A build on which a longer chain of crates waits comes first: it has the
+processors that it can use, the next one what is left, and so on. tools/proof_seconds.txt has the times from which the length of a chain follows.
 """
 
 import fcntl
@@ -31,7 +31,7 @@ SECONDS = pathlib.Path(__file__).resolve().parent / "proof_seconds.txt"
 BYTES = 400
 # For how long to wait before looking again, and before saying again how long it has been, in seconds.
 PAUSE, REMIND = 0.2, 60
-# The part of a proof that one processor does alone, and that of all processors which are at work on average.
+# The part of a proof that one processor does alone, and the part of all processors that is at work on average.
 ALONE, AT_WORK = 1 / 3, 3 / 4
 # By how much nicer a build is for each one beside it that a longer chain waits for, and the most that it may be.
 NICER, NICEST = 5, 19
@@ -165,17 +165,17 @@ class Work:
         return sources.product(crate).exists() if sources.is_program(crate) else status == 0
 
     def left(self, crate):
-        """The processor seconds that are left of the longest chain from this crate up, at most: a build takes one in each second at least."""
+        """The most processor seconds that are left of the longest chain from this crate up: a build takes at least one in each second."""
         began = self.running[crate][0] if crate in self.running else time.monotonic()
         return self.ways[crate] - min(seconds(crate), time.monotonic() - began)
 
     def jobs(self, rank):
-        """How many jobs a build gets beside this number of builds that longer chains wait for, as far as there is memory."""
+        """How many jobs a build gets, as far as there is memory, while longer chains wait for this number of other builds."""
         most = processors() if rank < WIDE else max(1, processors() // 2)
         return max(1, min(most, 1 + free_memory() // EACH_JOB))
 
     def start(self):
-        """Starts what stands on nothing that isn't built, and tells whether there was some of it."""
+        """Starts each build whose libraries are built, and returns whether there was one."""
         ready = sorted((crate for crate, uses in self.waiting.items() if uses <= self.done), key=lambda crate: -self.ways[crate])
         for crate in ready:
             rank = sum(self.left(other) > self.left(crate) for other in self.running)
@@ -188,7 +188,7 @@ class Work:
         return bool(ready)
 
     def collect(self):
-        """Takes out what has ended, and tells whether something has."""
+        """Collects the builds that have ended, and returns whether one has."""
         ended = [crate for crate, (_, started, *_) in self.running.items() if started.poll() is not None]
         for crate in ended:
             _, started, log, room = self.running.pop(crate)
@@ -201,7 +201,7 @@ class Work:
         return bool(ended)
 
     def stop(self):
-        """Stops what runs, keeps what it has proved, and notes what is built, but for what was edited meanwhile."""
+        """Stops the builds that run, keeps what they have proved, and notes what is built, except crates that were edited meanwhile."""
         for _, started, _, room in self.running.values():
             started.terminate()
             started.wait()

@@ -22,7 +22,7 @@ def kit():
 
 
 def crate_of(rtlib, top, name):
-    """What the kit knows of a crate of a repository. Nothing else is looked at there, so that other builds may come and go."""
+    """The kit's view of one crate of a repository. It reads no other crate there, so other builds may come and go."""
     return rtlib.Crate(str(top / "crates" / name), str(top), {})
 
 

@@ -14,8 +14,8 @@
  *
  *     cc -o server server.c $(PKG_CONFIG_PATH=FOLDER/lib/pkgconfig pkg-config --cflags --libs zuphinka)
  *
- * bindings/c/plain_life.c and bindings/c/long_life.c are programs of one thread to copy from. bindings/c/zuphinka_pool.h is a pool for threads over
- * this library: bindings/c/zuphinka_pool.c is an example of how threads share a core under a lock, and bindings/c/shared_life.c a program that uses it.
+ * In the repository, bindings/c/plain_life.c and bindings/c/long_life.c are programs of one thread to copy from. zuphinka_pool.h is a pool for
+ * threads over this library. bindings/c/zuphinka_pool.c shows how threads share a core under a lock, and bindings/c/shared_life.c uses that pool.
  *
  * Rules
  *
@@ -56,7 +56,7 @@
  * (ZUPHINKA_INPUT_DESTROYED): the report frees its place, and another thread may make a new object at once.
  *
  * bindings/c/zuphinka_pool.c does all of this, and is tested with eight threads under ThreadSanitizer. Copy from it, or use it as it is
- * (bindings/c/zuphinka_pool.h), as bindings/c/shared_life.c does.
+ * (zuphinka_pool.h), as bindings/c/shared_life.c does.
  */
 #ifndef ZUPHINKA_H
 #define ZUPHINKA_H
