@@ -20,6 +20,8 @@ FOREIGN = re.compile(
     r"(get|list|log|use|add|prepare|evictor|timeBetween|max)[A-Z]\w*$|\w+ObjectPool$|DestroyMode$|Millis$|IsPartitionPoint-from_clause$"
 )
 ABSENT = {"proofs/Phrases.antt", "src/phrases.rt", "OnNone"}
+# The words with which names of predicates begin.
+BEGINNINGS = {"Is", "Has"}
 PLACEHOLDER = re.compile(r"[A-Z]*NAME|[<*]|X_")
 FILE = re.compile(r"[\w./-]*(?:/|\.(?:antt|rt|py|md|toml|txt|c|rs|svg|script))[\w./-]*$")
 NAME = re.compile(r"[^\W\d]\w*(?:-\w+)*$")
@@ -86,7 +88,7 @@ def is_owned(owner, name):
 
 def fault_of_name(token, crate):
     """Why a name between backquotes is none, if it isn't. Of several words only files are looked at."""
-    if PLACEHOLDER.search(token) or token in ABSENT or FOREIGN.match(token):
+    if PLACEHOLDER.search(token) or token in ABSENT | BEGINNINGS or FOREIGN.match(token):
         return None
     if " " in token:
         return next((f"no file {word}" for word in token.split(" ") if FILE.match(word) and not is_file(word, crate)), None)

@@ -1,4 +1,4 @@
-// Three callers beside one another, each in a thread of its own, or fewer where some do nothing.
+// Three callers in parallel, each in its own thread, or fewer if some do nothing.
 ghost use Rattle.std.specs.Prelude.{◌≡◌};
 
 use crate::clocks::TestClock;
@@ -18,7 +18,7 @@ use std::sync::Wait;
 use std::thread;
 use std::thread::Threads;
 
-// Looks until the journal has so many entries. Answers whether it had, within the turns.
+// Waits until the journal has `steps` entries. Returns whether it had them within the turns.
 fn turns_until_steps<B: Room, R: Wait>(
     rt: &R,
     pool: &Pool<B>,
@@ -34,7 +34,7 @@ fn turns_until_steps<B: Room, R: Wait>(
     false
 }
 
-// Looks until an object is lent. Answers whether one was, within the turns.
+// Waits until an object is lent. Returns whether one was within the turns.
 fn turns_until_lent<B: Room, R: Wait>(rt: &R, pool: &Pool<B>, me: &mut Caller<B>) -> bool {
     for _ in 0..TURNS {
         if counts(rt, pool, me).lent == 1 {
@@ -53,7 +53,7 @@ fn of_wait(has_come: bool) -> Reply {
     }
 }
 
-// Borrows and gives back. The number is how often an object was lent and taken back.
+// Borrows and returns. The number is how often an object was lent and returned.
 fn takes_turns<B: Room, R: Wait>(rt: &R, pool: &Pool<B>, me: &mut Caller<B>, rounds: u32) -> Reply {
     let mut held = None;
     let mut number = 0u64;
@@ -87,14 +87,14 @@ fn borrows_or_times_out<B: Room, R: Wait>(
     }
 }
 
-// Whether all that were made are somewhere.
+// Whether the counts account for all created objects.
 fn adds_up(counts: &Counts) -> bool {
     let kept = u128::from(counts.idle) + u128::from(counts.lent) + u128::from(counts.reserved);
     let lost = u128::from(counts.destroyed) + u128::from(counts.reclaimed);
     u128::from(counts.created) == kept + lost
 }
 
-// Looks at the counts. The number is how often they added up and the steps had not fallen.
+// Reads the counts. The number is how often they added up and the steps had not decreased.
 fn watches<B: Room, R: Wait>(rt: &R, pool: &Pool<B>, me: &mut Caller<B>, looks: u32) -> Reply {
     let mut before = 0;
     let mut number = 0u64;
@@ -108,7 +108,7 @@ fn watches<B: Room, R: Wait>(rt: &R, pool: &Pool<B>, me: &mut Caller<B>, looks: 
     ("done", number)
 }
 
-// Cuts the journal. The number is how many segments were kept.
+// Cuts the journal. The number is that of the stored segments.
 fn cuts<B: Room, R: Wait>(
     rt: &R,
     alloc: Global,
@@ -129,7 +129,7 @@ fn cuts<B: Room, R: Wait>(
     ("done", number)
 }
 
-// Does a deed that others have a part in, or one of a caller alone.
+// Does an action that involves other callers, or one of a caller alone.
 fn does_beside<B: Room, R: Wait>(
     rt: &R,
     pool: &Pool<B>,
@@ -158,7 +158,7 @@ fn does_beside<B: Room, R: Wait>(
     }
 }
 
-// Does a deed of any kind.
+// Does an action of any kind.
 fn does_any<B: Room, R: Wait>(
     rt: &R,
     alloc: Global,
@@ -175,7 +175,7 @@ fn does_any<B: Room, R: Wait>(
     }
 }
 
-// Goes through rows, and compares what each came to. Answers with the caller and the segments that it cut.
+// Does the actions of rows, and compares each result. Returns the caller and the segments that it cut.
 fn takes_part<B: Room, R: Wait + Abort>(
     rt: &R,
     alloc: Global,
@@ -203,10 +203,10 @@ fn takes_part<B: Room, R: Wait + Abort>(
     (caller, segments)
 }
 
-/// The core that is left of a trial, and the segments that the third caller cut.
+/// The core at the end of a test, and the segments that the third caller cut.
 pub type Left = (Core<Item>, Vec<Segment>);
 
-/// What the callers of a trial go through.
+/// The rows of the callers of a test.
 pub type Parts<'a> = [&'a [Row]; 3];
 
 // The callers 0, 1 and 2 again.
@@ -224,7 +224,7 @@ fn together<B: Room>(
     callers
 }
 
-// Has the callers 1 and 2 go through their rows, each in a thread of its own. Answers with both, and the segments that 2 cut.
+// Runs the rows of callers 1 and 2, each in its own thread. Returns both callers, and the segments that caller 2 cut.
 fn both<B: Room + Send + Sync, R: Threads + Wait + Abort + Sync>(
     rt: &R,
     alloc: Global,
@@ -245,7 +245,7 @@ fn both<B: Room + Send + Sync, R: Threads + Wait + Abort + Sync>(
     (one, two, segments)
 }
 
-// Has each caller go through its rows in a thread of its own.
+// Runs the rows of each caller in its own thread.
 fn all_three<B: Room + Send + Sync, R: Threads + Wait + Abort + Sync>(
     rt: &R,
     alloc: Global,
@@ -284,7 +284,7 @@ fn lives<B: Room + Send + Sync, R: Threads + Wait + Abort + Sync>(
     (finished(rt, pool, callers), segments)
 }
 
-/// What waits at the gate of a trial.
+/// What waits at the gate of a test.
 #[derive(Clone, Copy)]
 pub enum Gated {
     Nothing,
@@ -311,8 +311,8 @@ fn clock(gated: Gated, flags: &Flags) -> TestClock<'_> {
     }
 }
 
-/// Has three callers of a new pool go through their parts, over a factory that fails so, under the settings of a text. Nothing waits at the
-/// gate until the turns run out. Answers with the core that is left, and the segments that the third caller cut.
+/// Runs the rows of three callers of a new pool, with this factory and the settings of a text. Nothing waits at the gate until the turns
+/// run out. Returns the core at the end, and the segments that the third caller cut.
 pub fn tries<R: Threads + Wait + Abort + Sync>(
     rt: &R,
     alloc: Global,

@@ -1,4 +1,4 @@
-// Journals that are cut: by their only caller, and beside two that borrow and give back.
+// Journals that are cut: by the only caller, and in parallel with two callers that borrow and return.
 ghost use Rattle.std.specs.Prelude.{◌≡◌};
 
 use crate::beside::{Gated, Parts, tries};
@@ -16,7 +16,7 @@ use std::marker::Brand;
 use std::process::Abort;
 use std::sync::Wait;
 
-// After a borrow and a return there is room for the end alone.
+// After a borrow and a return there is room only for the close.
 const BEFORE: [Row; 3] = [
     (Deed::Borrow, "lent", 0),
     (Deed::GiveBack, "parked", 0),
@@ -27,7 +27,7 @@ fn before() -> &'static [Row] {
     &BEFORE
 }
 
-// Behind the cut there is room again, and the object is still there.
+// After the cut there is room again, and the object is still idle.
 const BEHIND: [Row; 9] = [
     (Deed::Steps, "steps", 4),
     (Deed::Idle, "idle", 1),
@@ -44,7 +44,7 @@ fn behind() -> &'static [Row] {
     &BEHIND
 }
 
-// The first cut gives four entries, behind no others, and leaves none.
+// The first cut returns four entries, before which there are none, and leaves none.
 fn cuts_four<B: Room, R: Wait + Abort>(rt: &R, alloc: Global, pool: &Pool<B>, me: &mut Caller<B>) {
     let segment = cut(rt, alloc, pool, me).expect(rt, "a segment");
     expect_equal(rt, segment.base.first, 0);
@@ -81,7 +81,7 @@ fn one_caller_cuts<B: Room, R: Wait + Abort>(
     is_left(rt, &finished(rt, pool, callers));
 }
 
-// What is left behind the cut: two entries, and an object that is lent.
+// After the cut there are two entries, and a lent object.
 fn is_left(rt: &impl Abort, core: &Core<Item>) {
     expect_equal(rt, core.journal().len(), 2);
     let counts = Counts {
@@ -110,14 +110,14 @@ fn a_cut_makes_room(rt: HostRuntime) {
     one_caller_cuts::<Brand, _>(&rt, rt.alloc(), site, settings, items);
 }
 
-// What a core answers to the input of an entry.
+// Returns the answer of a core to the input of an entry.
 fn answers(rt: &impl Abort, core: &mut Core<u64>, entry: &Entry) -> Answer {
     let value = if entry.input.carries() { Some(0) } else { None };
     let step = core.step(entry.caller, entry.at, entry.input, value);
     step.ok().expect(rt, "an answer").0
 }
 
-// Each entry is answered again as it was.
+// Takes the steps of entries, and compares each answer.
 fn answers_again(rt: &impl Abort, core: &mut Core<u64>, entries: &[Entry]) {
     for entry in entries {
         expect_equal(rt, answers(rt, core, entry), entry.answer);
@@ -128,7 +128,7 @@ fn is_same(one: &Base, other: &Base) -> bool {
     one.head() == other.head() && one.records.as_slice() == other.records.as_slice()
 }
 
-// A new core of numbers.
+// Opens a new core whose values are numbers.
 fn another(rt: &impl Abort, alloc: Global, settings: Settings) -> Core<u64> {
     Core::open(alloc, settings).expect(rt, "a core")
 }
@@ -138,14 +138,14 @@ fn cut_again(rt: &impl Abort, alloc: Global, core: &mut Core<u64>) -> Segment {
     core.cut(alloc).expect(rt, "a segment")
 }
 
-// Takes the steps of a segment, and is cut where it was.
+// Takes the steps of a segment, and cuts the core at the same position.
 fn cuts_again(rt: &impl Abort, alloc: Global, core: &mut Core<u64>, segment: &Segment) {
     answers_again(rt, core, segment.entries.as_slice());
     let again = cut_again(rt, alloc, core);
     assert!(rt; is_same(&again.base, &segment.base), "{again:?}");
 }
 
-// Takes the steps of all segments and is cut where they were, and then takes those that were stored at the end.
+// Takes the steps of all segments, with cuts at the same positions, and then those of the entries stored at the end.
 fn takes_all(
     rt: &impl Abort,
     alloc: Global,
@@ -159,7 +159,7 @@ fn takes_all(
     answers_again(rt, core, stored);
 }
 
-/// What a core of its own counts that takes the same steps.
+/// Returns the counts of a new core that takes the same steps.
 pub fn plays_again(
     rt: &impl Abort,
     alloc: Global,
@@ -176,12 +176,12 @@ const TURNS: [Row; 1] = [(Deed::TakeTurns(500), "done", 500)];
 
 const CUTS: [Row; 1] = [(Deed::Cut(200), "done", 200)];
 
-// Two take turns, and the third cuts.
+// Two callers borrow and return, and the third cuts.
 fn parts() -> Parts<'static> {
     [&TURNS, &TURNS, &CUTS]
 }
 
-// What is left answers and counts as a core that takes the steps of its segments.
+// The pool has the answers and the counts of a core that takes the steps of its segments.
 fn are_one_history(rt: &impl Abort, alloc: Global, core: &Core<Item>, segments: &[Segment]) {
     expect_equal(rt, segments.len(), 200);
     let settings = Settings::default();

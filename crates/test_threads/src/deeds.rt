@@ -1,4 +1,4 @@
-// What a caller of a trial does, and what it is answered, as words with a number.
+// The actions of a caller in a test, and their results, as a word and a number.
 use crate::items::Item;
 use crate::openings::Pool;
 use crate::turns::Flag;
@@ -12,7 +12,8 @@ use std::fmt::Debug;
 use std::process::Abort;
 use std::sync::Wait;
 
-/// A call of a pool, a look at one of its counts, or what a caller does beside others. What is borrowed is held until it is given back.
+/// A call of a pool, a query of one of its counts, or an action in parallel with others. A borrowed object is held until it is
+/// returned.
 #[derive(Clone, Copy, Debug)]
 pub enum Deed {
     Borrow,
@@ -34,13 +35,13 @@ pub enum Deed {
     Destroyed,
     Evicted,
     Reclaimed,
-    /// A look at what is held.
+    /// A query of the object that is held.
     Held,
-    /// The journal has so many entries or more.
+    /// Whether the journal has this number of entries or more.
     StepsAtLeast(u64),
-    /// Looks until it has.
+    /// Waits until it has.
     UntilSteps(u64),
-    /// Looks until an object is lent.
+    /// Waits until an object is lent.
     UntilLent,
     Set(Flag),
     UntilSet(Flag),
@@ -48,20 +49,21 @@ pub enum Deed {
     SetTime(u64),
     /// Borrows, and sets the flag of the result: `Lent` or `TimedOut`.
     BorrowOrTimeOut,
-    /// Borrows and gives back so many times.
+    /// Borrows and returns this number of times.
     TakeTurns(u32),
-    /// Looks so many times whether the counts add up.
+    /// Tests this number of times whether the counts add up.
     Watch(u32),
-    /// Cuts the journal so many times.
+    /// Cuts the journal this number of times.
     Cut(u32),
     /// Cuts the journal if less room than this is left.
     CutBelow(u64),
 }
 
-/// A word for what a call came to, and its number: an object's id, how many objects, or what the factory failed for; 0 where there is none.
+/// A word for the result of a call, and its number: an object's id, a number of objects, or the factory's error; 0 if there is
+/// none.
 pub type Reply = (&'static str, u64);
 
-/// A deed, with the word and the number that it is to be answered.
+/// An action, with the word and the number of its expected result.
 pub type Row = (Deed, &'static str, u64);
 
 fn of_borrow_fault(fault: BorrowFault<u8>) -> Reply {
@@ -115,7 +117,7 @@ fn of_returned(returned: Returned) -> Reply {
     }
 }
 
-/// Borrows an object to hold. What was held before is dropped.
+/// Borrows an object to hold. An object that was held before is dropped.
 pub fn borrows<B: Room, R: Wait>(
     rt: &R,
     pool: &Pool<B>,
@@ -148,7 +150,7 @@ fn touches<B: Room, R: Wait>(
     }
 }
 
-/// Gives back what is held. Where it is refused, it is held on.
+/// Returns the held object. If that fails, it is still held.
 pub fn gives_back<B: Room, R: Wait>(
     rt: &R,
     pool: &Pool<B>,
@@ -167,7 +169,7 @@ pub fn gives_back<B: Room, R: Wait>(
     }
 }
 
-/// Has what is held destroyed. Where that is refused, it is held on.
+/// Invalidates the held object. If that fails, it is still held.
 pub fn invalidates<B: Room, R: Wait>(
     rt: &R,
     pool: &Pool<B>,
@@ -202,7 +204,7 @@ fn fills<B: Room, R: Wait>(rt: &R, pool: &Pool<B>, me: &mut Caller<B>) -> Reply 
     }
 }
 
-// A run is told by how many objects it examined; where it destroyed some, by how many it destroyed of them.
+// The number of a run is that of the objects that it examined; if it destroyed some, that of the destroyed ones.
 fn evicts<B: Room, R: Wait>(rt: &R, pool: &Pool<B>, me: &mut Caller<B>) -> Reply {
     match pool.evict(rt, me) {
         Ok(run) => {
@@ -237,7 +239,7 @@ fn closes<B: Room, R: Wait>(rt: &R, pool: &Pool<B>, me: &mut Caller<B>) -> Reply
     of_count(pool.close(rt, me))
 }
 
-/// Cuts the journal; none where there is no memory.
+/// Cuts the journal. Returns `None` if an allocation fails.
 pub fn cut<B: Room, R: Wait>(
     rt: &R,
     alloc: Global,
@@ -247,7 +249,7 @@ pub fn cut<B: Room, R: Wait>(
     pool.cut(rt, alloc, me).ok()
 }
 
-/// Cuts the journal if less room than this is left, and keeps the segment. The number is how many entries it has.
+/// Cuts the journal if less room than this is left, and stores the segment. The number of the result is that of its entries.
 pub fn cuts_below<B: Room, R: Wait + Abort>(
     rt: &R,
     alloc: Global,
@@ -264,7 +266,7 @@ pub fn cuts_below<B: Room, R: Wait + Abort>(
     ("cut", number)
 }
 
-/// How many entries a copy of the journal has.
+/// Returns the number of entries of a copy of the journal.
 pub fn copied<B: Room, R: Wait + Abort>(
     rt: &R,
     alloc: Global,
@@ -274,12 +276,12 @@ pub fn copied<B: Room, R: Wait + Abort>(
     pool.journal_copy(rt, alloc, me).expect(rt, "a copy").len()
 }
 
-/// What the caller counts.
+/// Returns the counts that the caller observes.
 pub fn counts<B: Room, R: Wait>(rt: &R, pool: &Pool<B>, me: &mut Caller<B>) -> Counts {
     pool.counts(rt, me)
 }
 
-// Whether what is held is awake, and which object it is.
+// Whether the held object is active, and its id.
 fn of_held(held: &Option<Lent<Item>>) -> Reply {
     match held {
         None => ("nothing held", 0),
@@ -293,7 +295,7 @@ fn of_held(held: &Option<Lent<Item>>) -> Reply {
     }
 }
 
-// One of the counts, for a deed that looks at it.
+// The count that an action queries.
 fn of_counts(deed: Deed, counts: Counts) -> Reply {
     match deed {
         Deed::Steps => ("steps", counts.steps),
@@ -308,7 +310,7 @@ fn of_counts(deed: Deed, counts: Counts) -> Reply {
     }
 }
 
-/// Does a deed, and tells what it came to.
+/// Does an action, and returns its result.
 pub fn does<B: Room, R: Wait>(
     rt: &R,
     pool: &Pool<B>,
@@ -333,7 +335,7 @@ pub fn does<B: Room, R: Wait>(
     }
 }
 
-/// Compares what a deed came to with what it was to come to.
+/// Compares the result of an action with the expected one.
 pub fn expects(rt: &impl Abort, deed: Deed, told: Reply, wanted: Reply) {
     let (word, number) = told;
     assert!(rt;
@@ -342,12 +344,12 @@ pub fn expects(rt: &impl Abort, deed: Deed, told: Reply, wanted: Reply) {
     );
 }
 
-/// Compares what was found with what was wanted.
+/// Compares a value with the expected one.
 pub fn expect_equal<T: Copy + PartialEq + Debug>(rt: &impl Abort, found: T, wanted: T) {
     assert_eq!(rt; found, wanted);
 }
 
-/// Does the deeds of rows in turn, and compares what each came to.
+/// Does the actions of rows in turn, and compares each result.
 pub fn goes_through<B: Room, R: Wait + Abort>(
     rt: &R,
     pool: &Pool<B>,

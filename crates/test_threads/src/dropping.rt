@@ -1,4 +1,4 @@
-// A pool, its callers and what it lent are dropped in every order, and no object stays.
+// A pool, its callers and a lent object are dropped in each order, and no object stays.
 ghost use Rattle.std.specs.Prelude.{◌≡◌};
 
 use crate::clocks::TestClock;
@@ -12,7 +12,7 @@ use std::process::Abort;
 use std::sync::Wait;
 use std::sync::atomic::{AtomicU64, Ordering};
 
-/// An object with memory of its own. It is counted as long as it is there.
+/// An object with its own memory. It is counted until it is dropped.
 struct Counted<'a> {
     present: &'a AtomicU64,
     bytes: Vec<u8>,
@@ -136,7 +136,7 @@ fn borrows<'a, B: Room, R: Wait + Abort>(
     pool.borrow(rt, me).ok().expect(rt, "an object")
 }
 
-// Gives an object back.
+// Returns an object to the pool.
 fn gives_back<'a, B: Room, R: Wait + Abort>(
     rt: &R,
     pool: &Counts<'a, B>,
@@ -147,7 +147,7 @@ fn gives_back<'a, B: Room, R: Wait + Abort>(
     assert!(rt; is_taken, "not taken back");
 }
 
-// What the last of the callers holds, who borrowed two objects and gave one back.
+// The last caller borrows two objects and returns one to the pool. The result is the other one.
 fn lends_one<'a, B: Room, R: Wait + Abort>(
     rt: &R,
     pool: &Counts<'a, B>,

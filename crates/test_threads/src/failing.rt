@@ -1,4 +1,4 @@
-// A factory whose calls fail in turn: nothing is left in a call's hands, and each object is destroyed once.
+// A factory whose calls fail in turn: no call leaves an object half-processed, and each object is destroyed once.
 ghost use Rattle.std.specs.Prelude.{◌≡◌};
 
 use crate::clocks::TestClock;
@@ -15,7 +15,7 @@ use std::sync::Wait;
 const ALL_TESTS: &str =
     "testOnCreate = true\ntestOnBorrow = true\ntestOnReturn = true\ntestWhileIdle = true\n";
 
-/// How many calls of the factory can fail in the trial, where none does: 4 and 2 for the first loan, 2 and 2 for the second,
+/// How many calls of the factory can fail in the test, if none does: 4 and 2 for the first loan, 2 and 2 for the second,
 /// 3 for the addition, 3 for the idle test of each of the two objects.
 const CALLS: u64 = 19;
 
@@ -25,7 +25,7 @@ const NONE_LENT: [Row; 2] = [(Deed::Reserved, "reserved", 0), (Deed::Lent, "lent
 
 const NONE_RESERVED: [Row; 1] = [(Deed::Reserved, "reserved", 0)];
 
-// Borrows, and gives back what was lent.
+// Borrows, and returns the lent object.
 fn borrows_and_gives_back<B: Room, R: Wait + Abort>(rt: &R, pool: &Pool<B>, me: &mut Caller<B>) {
     let mut held = None;
     borrows(rt, pool, me, &mut held);
@@ -37,12 +37,12 @@ fn borrows_and_gives_back<B: Room, R: Wait + Abort>(rt: &R, pool: &Pool<B>, me: 
     goes_through(rt, pool, me, &mut held, &NONE_LENT);
 }
 
-// Whether a word tells of an eviction run.
+// Whether a word is the result of an eviction run.
 fn is_run(word: &str) -> bool {
     word == "examined" || word == "all destroyed" || word == "some destroyed"
 }
 
-// Adds an object, goes over the idle ones, and closes the pool.
+// Adds an object, examines the idle ones, and closes the pool.
 fn adds_and_ends<B: Room, R: Wait + Abort>(rt: &R, pool: &Pool<B>, me: &mut Caller<B>) {
     let mut held = None;
     does(rt, pool, me, &mut held, Deed::Add);
@@ -74,7 +74,7 @@ fn lives<B: Room, R: Wait + Abort>(
     adds_and_ends(rt, &pool, &mut me);
 }
 
-// Each object was destroyed once, and the call with this number was made, where there is one.
+// Tests that each object was destroyed once, and that the call with this number was made, if there is one.
 fn has_failed(rt: &impl Abort, record: &Record, number: u64) {
     assert!(rt; record.is_even(), "at {number}");
     assert_eq!(rt; record.calls() < number, number > CALLS, "at {number}");

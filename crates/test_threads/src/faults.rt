@@ -1,4 +1,4 @@
-// What each call is refused for, by one caller of a new pool.
+// The errors of each call, by one caller of a new pool.
 ghost use Rattle.std.specs.Prelude.{◌≡◌};
 
 use crate::clocks::TestClock;
@@ -14,7 +14,7 @@ use std::alloc::Global;
 use std::marker::Brand;
 use std::sync::Wait;
 
-// Opens a pool for so many callers.
+// Opens a pool for this number of callers.
 fn opens<B: Room, R: Wait>(
     rt: &R,
     alloc: Global,

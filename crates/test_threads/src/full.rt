@@ -1,9 +1,9 @@
-// Journals that have little room: what is refused, and what is still finished. The journal's length is looked at throughout.
+// Journals with little room: which calls fail, and which are still completed. The journal's length is tested throughout.
 use crate::deeds::{Deed, Row};
 use crate::items::Failing;
 use crate::solo::tries;
 
-// While an object is lent there is room for its return and for the end alone. Then there is room for the end alone, and at last for
+// While an object is lent there is room only for its return and for the close. Then there is room only for the close, and at last for
 // nothing.
 const LOAN: [Row; 25] = [
     (Deed::Borrow, "lent", 0),
@@ -37,7 +37,7 @@ fn loan() -> &'static [Row] {
     &LOAN
 }
 
-// One entry more leaves room for the beginning of an eviction run.
+// With a limit that is one higher there is room for the start of an eviction run.
 const RUN: [Row; 7] = [
     (Deed::Borrow, "lent", 0),
     (Deed::GiveBack, "parked", 0),
@@ -52,7 +52,7 @@ fn run() -> &'static [Row] {
     &RUN
 }
 
-// An object can be added where none can be borrowed.
+// An object can be added, but none can be borrowed.
 const ONE_ADDITION: [Row; 3] = [
     (Deed::Add, "idle", 0),
     (Deed::Borrow, "full", 0),
@@ -63,14 +63,14 @@ fn one_addition() -> &'static [Row] {
     &ONE_ADDITION
 }
 
-// There is no room even for that.
+// There is no room even to add one.
 const NO_ADDITION: [Row; 2] = [(Deed::Add, "full", 0), (Deed::Steps, "steps", 0)];
 
 fn no_addition() -> &'static [Row] {
     &NO_ADDITION
 }
 
-// A broken object is ended where there is room for nothing else.
+// A broken object can be destroyed, and there is room for nothing else.
 const BROKEN: [Row; 7] = [
     (Deed::Borrow, "lent", 0),
     (Deed::Add, "full", 0),
@@ -85,8 +85,7 @@ fn broken() -> &'static [Row] {
     &BROKEN
 }
 
-// An object that was reclaimed stays with its holder, where there is no room to take it back: three entries more, and there is room for the
-// end alone.
+// A reclaimed object stays with its holder if there is no room to return it: three more entries, and there is room only for the close.
 const RECLAIMED: [Row; 15] = [
     (Deed::Borrow, "lent", 0),
     (Deed::Reclaim, "count", 1),

@@ -1,4 +1,4 @@
-// What runs beside what. Each trial waits for a flag that only another thread sets, and gives up after so many turns.
+// Which work runs in parallel. Each test waits for a flag that only another thread sets, and gives up after a number of turns.
 use crate::beside::{Gated, Parts, tries};
 use crate::deeds::{Deed, Row};
 use crate::items::Failing;
@@ -8,7 +8,7 @@ use std::process::Abort;
 use std::sync::Wait;
 use std::thread::Threads;
 
-// Has three callers go through their parts, where nothing fails.
+// Runs three callers with a factory that never fails.
 fn pass<R: Threads + Wait + Abort + Sync>(rt: &R, alloc: Global, gated: Gated, parts: Parts) {
     tries(rt, alloc, "", Failing::Never, gated, parts);
 }
@@ -33,7 +33,7 @@ fn objects_are_made_side_by_side(rt: HostRuntime) {
     pass(&rt, rt.alloc(), Gated::Making, makes());
 }
 
-// A caller borrows and gives back, and looks at the counts after each.
+// A caller borrows and returns, and reads the counts after each call.
 const LOOKS_AFTER_ITSELF: [Row; 5] = [
     (Deed::Borrow, "lent", 0),
     (Deed::Set(Flag::Begun), "done", 0),
@@ -42,7 +42,7 @@ const LOOKS_AFTER_ITSELF: [Row; 5] = [
     (Deed::StepsAtLeast(4), "done", 0),
 ];
 
-// Another looks once that borrow has returned.
+// Another caller reads them once that borrow has its result.
 const LOOKS_AT_ANOTHER: [Row; 2] = [
     (Deed::UntilSet(Flag::Begun), "done", 0),
     (Deed::StepsAtLeast(2), "done", 0),
@@ -59,7 +59,7 @@ fn counts_know_what_has_returned(rt: HostRuntime) {
 
 const RECLAIMS: [Row; 1] = [(Deed::Reclaim, "count", 0)];
 
-// The clock tells the moment, in a section, once somebody has counted.
+// The clock returns the time, in a critical section, once another caller has read the counts.
 const COUNTS: [Row; 3] = [
     (Deed::UntilSet(Flag::Read), "done", 0),
     (Deed::Steps, "steps", 0),

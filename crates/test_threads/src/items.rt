@@ -1,4 +1,4 @@
-// The objects of the trials, the factory that makes them, and the record of what it did.
+// The objects of the tests, the factory that makes them, and the record of its work.
 ghost use Rattle.std.specs.Prelude.{◌≡◌, true, false};
 
 use crate::turns::Flags;
@@ -7,23 +7,23 @@ use std::alloc::Global;
 use std::process::Abort;
 use std::sync::atomic::{AtomicU64, Ordering};
 
-/// What a make fails for.
+/// The error of a make.
 pub const NOT_MADE: u8 = 7;
 
-/// What an activation fails for.
+/// The error of an activation.
 pub const NOT_ACTIVATED: u8 = 8;
 
-/// What a passivation fails for.
+/// The error of a passivation.
 pub const NOT_PASSIVATED: u8 = 9;
 
-/// An object of a trial.
+/// An object of a test.
 #[derive(Drop)]
 pub struct Item {
     pub id: u64,
     pub awake: bool,
 }
 
-/// The calls of a factory that can fail, or say no.
+/// The calls of a factory that can fail, tests among them.
 #[derive(Clone, Copy, Debug, PartialEq, Eq)]
 pub enum Call {
     Make,
@@ -42,7 +42,7 @@ pub enum Failing {
     Nth(u64),
 }
 
-/// What a factory did: how many of its calls could fail, and what became of each object.
+/// The work of a factory: how many of its calls could fail, and how often each object was made and destroyed.
 #[derive(Drop)]
 pub struct Record {
     calls: AtomicU64,
@@ -57,7 +57,7 @@ struct Row {
 }
 
 impl Record {
-    /// A record of the objects with ids below `ids`.
+    /// Returns a record of the objects with ids below `ids`.
     pub fn new(rt: &impl Abort, alloc: Global, ids: usize) -> Record {
         let mut rows = Vec::new(alloc);
         for _ in 0..ids {
@@ -73,12 +73,12 @@ impl Record {
         }
     }
 
-    /// How many calls there were that can fail.
+    /// Returns how many calls there were that can fail.
     pub fn calls(&self) -> u64 {
         self.calls.load(Ordering::SeqCst)
     }
 
-    /// Whether each object was made at most once, and destroyed as often as it was made.
+    /// Returns whether each object was made at most once, and destroyed as often as it was made.
     pub fn is_even(&self) -> bool {
         self.rows.iter().all(|row| {
             let made = row.made.load(Ordering::SeqCst);
@@ -109,7 +109,7 @@ pub enum Waiting<'a> {
     Testing(&'a Flags),
 }
 
-/// A factory that fails where it is told to, and keeps a record.
+/// A factory that fails in the given calls, and keeps a record.
 #[derive(Drop)]
 pub struct Items<'a> {
     pub record: &'a Record,

@@ -1,4 +1,4 @@
-// A pool's life, by two callers of one thread. The journal's length is looked at after each call.
+// One life of a pool, with two callers in one thread. The journal's length is tested after each call.
 ghost use Rattle.std.specs.Prelude.{◌≡◌};
 
 use crate::clocks::TestClock;
@@ -14,7 +14,7 @@ use std::marker::Brand;
 use std::process::Abort;
 use std::sync::Wait;
 
-// The first caller borrows, touches and gives back; cares for the idle objects, and clears them away.
+// The first caller borrows, notes a use and returns; maintains the idle objects, and clears them.
 const FIRST: [Row; 26] = [
     (Deed::Borrow, "lent", 0),
     (Deed::Steps, "steps", 2),
@@ -48,7 +48,7 @@ fn first() -> &'static [Row] {
     &FIRST
 }
 
-// The second borrows, and finds the object broken.
+// The second caller borrows, and invalidates the object.
 const SECOND: [Row; 4] = [
     (Deed::Borrow, "lent", 2),
     (Deed::Steps, "steps", 24),
@@ -60,7 +60,7 @@ fn second() -> &'static [Row] {
     &SECOND
 }
 
-// The first closes the pool, and borrows no more.
+// The first caller closes the pool, and can borrow no more.
 const END: [Row; 2] = [(Deed::Close, "count", 0), (Deed::Steps, "steps", 27)];
 
 fn end() -> &'static [Row] {
@@ -73,7 +73,7 @@ fn behind_the_end() -> &'static [Row] {
     &BEHIND_THE_END
 }
 
-// Each caller does its part in turn.
+// Runs the rows of each caller in turn.
 fn takes_parts<B: Room, R: Wait + Abort>(
     rt: &R,
     alloc: Global,
@@ -102,7 +102,7 @@ fn lacks_a_caller<'a, B: Room, R: Wait + Abort>(
     }
 }
 
-// What is left of the pool.
+// Tests the core that is left of the pool.
 fn comes_to(rt: &impl Abort, core: &Core<Item>) {
     expect_equal(rt, core.journal().len(), 28);
     let counts = Counts {

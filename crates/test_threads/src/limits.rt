@@ -40,7 +40,7 @@ fn reached() -> &'static [Waking] {
     &REACHED
 }
 
-// Has the callers go through their parts, where nothing fails.
+// Runs the callers with a factory that never fails.
 fn passes<R: Threads + Wait + Abort + Sync>(rt: &R, alloc: Global, settings: &str, parts: Parts) {
     tries(rt, alloc, settings, Failing::Never, Gated::Nothing, parts);
 }
@@ -96,7 +96,7 @@ fn a_close_ends_a_wait_with_a_limit(rt: HostRuntime) {
     ends_each_wait(&rt, rt.alloc(), ending, "closed");
 }
 
-/// What callers 1 and 2 do about the only object, and what caller 0 looks for once it has returned it.
+/// The actions of callers 1 and 2 on the only object, and those of caller 0 once it has returned it.
 #[derive(Clone, Copy)]
 struct Contest {
     rows: &'static [Row],

@@ -11,7 +11,7 @@ use std::sync::atomic::{AtomicU64, Ordering};
 use std::thread;
 use std::thread::Threads;
 
-/// Holds nobody back, and counts who passes, and how many do so at once at most.
+/// Holds no worker back. Counts those that pass, and the most that pass at a time.
 #[derive(Drop)]
 struct Counter {
     passed: AtomicU64,
@@ -75,7 +75,7 @@ impl Gate for Numbers {
     }
 }
 
-/// The answer to a load behind a gate that holds nobody back, and how many passed it.
+/// Runs a load with a gate that holds no worker back. Returns its result, and how often the gate was passed.
 fn answer<R: Threads + Wait + Abort + Sync>(
     rt: &R,
     alloc: Global,
@@ -89,7 +89,7 @@ fn answer<R: Threads + Wait + Abort + Sync>(
     (report, gate.passed.load(Ordering::SeqCst))
 }
 
-/// The report of a load that isn't refused.
+/// Returns the report of a load that succeeds.
 fn report_of<G: Gate, R: Threads + Wait + Abort + Sync>(
     rt: &R,
     alloc: Global,

@@ -1,5 +1,5 @@
-// Journals that are cut where little room is left. The room is the limit less what is stored and what is owed: one entry to close the
-// pool, four for an object that is lent, two for one that is idle.
+// Journals that are cut if little room is left. The room is the limit less the stored and the outstanding entries: one to close the
+// pool, four for a lent object, two for an idle one.
 ghost use Rattle.std.specs.Prelude.{◌≡◌};
 
 use crate::clocks::TestClock;
@@ -16,7 +16,8 @@ use std::marker::Brand;
 use std::process::Abort;
 use std::sync::Wait;
 
-// The room is 6, 0, by a cut 2, 1, still 1 with an object that takes two entries to come back and owes two less, by a cut 4, 0, and by a cut 2.
+// The room is 6; 0; 2 after a cut; 1; still 1 after a return, which has two entries and leaves two fewer outstanding; 4 after a cut; 0; and
+// 2 after a cut.
 const SMALL: [Row; 17] = [
     (Deed::CutBelow(6), "room", 0),
     (Deed::Borrow, "lent", 0),
@@ -53,13 +54,14 @@ fn greatest() -> &'static [Row] {
     &GREATEST
 }
 
-/// Many are kept.
+/// Many objects stay idle.
 const MANY: &str = "minIdle = 20000
 maxIdle = -1
 maxTotal = -1
 ";
 
-// Of a million entries two for each of 20,000 objects are stored, and one that says that they are enough; two for each are owed, and one.
+// The limit is a million entries. Stored are two for each of 20,000 objects, and one that says that they are enough; outstanding are two
+// for each, and one.
 const STOCK: [Row; 3] = [
     (Deed::Fill, "count", 20_000),
     (Deed::CutBelow(919_998), "room", 0),
@@ -70,7 +72,7 @@ fn stock() -> &'static [Row] {
     &STOCK
 }
 
-// Does what a row says, or cuts.
+// Does the action of a row, or a cut.
 fn comes_to<B: Room, R: Wait + Abort>(
     rt: &R,
     alloc: Global,
@@ -86,7 +88,7 @@ fn comes_to<B: Room, R: Wait + Abort>(
     }
 }
 
-// Goes through rows, and gives what was cut.
+// Does the actions of rows, and returns the segments that were cut.
 fn goes_through_cuts<B: Room, R: Wait + Abort>(
     rt: &R,
     alloc: Global,
@@ -103,7 +105,7 @@ fn goes_through_cuts<B: Room, R: Wait + Abort>(
     segments
 }
 
-// What one caller cut and left.
+// Returns the core at the end, and the segments that one caller cut.
 fn lives<B: Room, R: Wait + Abort>(
     rt: &R,
     alloc: Global,
@@ -121,7 +123,8 @@ fn lives<B: Room, R: Wait + Abort>(
     (finished(rt, pool, callers), segments)
 }
 
-// Goes through rows under the settings of a text. What was cut and what is left are one history: a new core that takes its steps counts the same.
+// Does the actions of rows with the settings of a text. The segments and the stored entries are one history: a new core that takes its
+// steps has the same counts.
 fn tries<R: Wait + Abort>(rt: &R, alloc: Global, settings: &str, rows: &[Row]) {
     let site = site(rt, alloc);
     let settings = settings_of(rt, alloc, settings);

@@ -1,4 +1,4 @@
-// Pools as the trials open them.
+// Pools as the tests open them.
 ghost use Rattle.std.specs.Prelude.{◌≡◌};
 
 use crate::clocks::TestClock;
@@ -10,22 +10,22 @@ use std::alloc::Global;
 use std::process::Abort;
 use std::sync::Wait;
 
-/// The number of a pool where it doesn't matter.
+/// The number of a pool, if it does not matter.
 pub const NUMBER: u64 = 5;
 
 pub type Pool<'a, B> = SharedPool<Item, u8, Items<'a>, TestClock<'a>, B>;
 
-/// The table of a new pool.
+/// Returns the cell of a new pool.
 pub fn site(rt: &impl Abort, alloc: Global) -> Site {
     Site::new(alloc).expect(rt, "a site")
 }
 
-/// The settings of a text.
+/// Returns the settings of a text.
 pub fn settings_of(rt: &impl Abort, alloc: Global, text: &str) -> Settings {
     Settings::from_text(alloc, text).expect(rt, "settings")
 }
 
-/// A new pool with this number, and its callers.
+/// Opens a new pool with this number, and returns it with its callers.
 pub fn open<'a, B: Room, R: Wait + Abort>(
     rt: &R,
     alloc: Global,
@@ -41,7 +41,7 @@ pub fn open<'a, B: Room, R: Wait + Abort>(
     Pool::<B>::open(rt, alloc, site, settings, number, callers, items, clock).expect(rt, "a pool")
 }
 
-/// The core of a pool whose callers are all back.
+/// Ends a pool whose callers are all back, and returns its core.
 pub fn finished<B: Room, R: Wait + Abort>(
     rt: &R,
     pool: Pool<B>,

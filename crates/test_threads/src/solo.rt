@@ -29,8 +29,7 @@ fn lives<B: Room, R: Wait + Abort>(
     goes_through(rt, &pool, &mut me, &mut held, rows);
 }
 
-/// Goes through rows over a factory that fails so, under the settings of a text. Answers whether each object that was made was
-/// destroyed once.
+/// Does the actions of rows with this factory and the settings of a text. Returns whether each created object was destroyed once.
 pub fn tries<R: Wait + Abort>(
     rt: &R,
     alloc: Global,

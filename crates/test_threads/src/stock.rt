@@ -1,4 +1,4 @@
-// Objects that are made for stock: added one by one, and up to the number wanted.
+// Objects that are made for the idle queue: added one by one, and up to the number to keep.
 use crate::deeds::Deed;
 use crate::items::{Call, Failing, NOT_MADE, NOT_PASSIVATED};
 use crate::solo::tries;
@@ -39,7 +39,7 @@ fn none_added(rt: HostRuntime) {
     }
 }
 
-// Up to the number wanted, to the last place, and to where a make fails: the third call of the factory that can fail makes the second
+// Up to the number to keep, to the last place, and to a make that fails: the third call of the factory that can fail makes the second
 // object.
 #[test]
 fn filled(rt: HostRuntime) {
@@ -59,14 +59,14 @@ fn filled(rt: HostRuntime) {
     }
 }
 
-/// All are kept, and a run examines them all.
+/// All objects stay idle, and a run examines them all.
 const MANY: &str = "minIdle = 20000
 maxIdle = -1
 maxTotal = -1
 numTestsPerEvictionRun = -1
 ";
 
-// A stock of many is filled, gone over by an eviction run, and cleared.
+// A queue of many objects is filled, examined by an eviction run, and cleared.
 #[test]
 fn stocked_with_many(rt: HostRuntime) {
     let rows = [

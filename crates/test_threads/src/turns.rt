@@ -1,8 +1,8 @@
-// Waiting that gives up.
+// Waits that give up.
 use std::sync::atomic::{AtomicBool, AtomicU64, Ordering};
 use std::thread;
 
-/// How often a trial looks before it gives up.
+/// How often a test reads a flag or the counts before it gives up.
 pub const TURNS: u32 = 1_000_000;
 
 /// The name of a flag that one caller sets and another waits for.
@@ -62,7 +62,7 @@ impl Flags {
         self.named(flag).store(true, Ordering::SeqCst);
     }
 
-    /// Looks at a flag until it is set. Answers whether it was, within the turns.
+    /// Waits until a flag is set. Returns whether it was within the turns.
     pub fn turn_until_set(&self, flag: Flag) -> bool {
         let flag = self.named(flag);
         for _ in 0..TURNS {

@@ -1,4 +1,4 @@
-// Two pools of one kind: an object goes back to its own alone.
+// Two pools of one kind: only its own pool takes an object back.
 ghost use Rattle.std.specs.Prelude.{◌≡◌};
 
 use crate::clocks::TestClock;
@@ -33,7 +33,7 @@ fn opens<'a, B: Room, R: Wait + Abort>(
     (pool, single(rt, callers))
 }
 
-// An object of a pool with the number 5 is offered to another pool, with this number, which refuses it as not lent, or as foreign.
+// An object of a pool with the number 5 is passed to another pool, with this number, which rejects it as not lent, or as foreign.
 fn is_offered<A: Room, B: Room, R: Wait + Abort>(
     rt: &R,
     own: &Pool<A>,

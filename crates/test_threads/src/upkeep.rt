@@ -1,9 +1,9 @@
-// The upkeep of a pool: eviction runs, removals and maintenance.
+// Eviction runs, reclaims and maintenance.
 use crate::deeds::Deed;
 use crate::items::{Call, Failing};
 use crate::solo::tries;
 
-// Two idle objects are examined: they are kept as they lie, kept after a test, and destroyed after one.
+// Two idle objects are examined: they stay idle without a test, stay idle after a test, and are destroyed after one.
 #[test]
 fn evicted(rt: HostRuntime) {
     let untested = Failing::All(Call::Validate);
@@ -31,14 +31,14 @@ fn evicted(rt: HostRuntime) {
     }
 }
 
-/// What is lent is abandoned at once.
+/// A lent object is abandoned at once.
 const FORGETFUL: &str = "minIdle = 3
 [abandoned]
 removeAbandonedOnMaintenance = true
 removeAbandonedTimeoutMillis = 0
 ";
 
-// An abandoned object is reclaimed, and the stock is filled again.
+// An abandoned object is reclaimed, and the idle queue is filled again.
 #[test]
 fn maintained(rt: HostRuntime) {
     let rows = [
@@ -63,7 +63,7 @@ fn closed(rt: HostRuntime) {
     tries(&rt, rt.alloc(), "", Failing::Never, &rows);
 }
 
-// A journal with room for one entry and that of a close.
+// A journal with room for one entry and for the entry of a close.
 #[test]
 fn short_of_room(rt: HostRuntime) {
     let rows = [

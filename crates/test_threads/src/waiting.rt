@@ -1,4 +1,4 @@
-// A borrow that waits is woken: by an object that comes back, by a place that is free again, and by the end of the pool.
+// A borrow that waits is woken: by an object that is returned, by a place that is free again, and by the close of the pool.
 use crate::beside::{Gated, tries};
 use crate::deeds::{Deed, Row};
 use crate::items::Failing;
@@ -7,7 +7,7 @@ use std::process::Abort;
 use std::sync::Wait;
 use std::thread::Threads;
 
-/// One place. What is lent is abandoned at once.
+/// One place. A lent object is abandoned at once.
 const SETTINGS: &str = "maxTotal = 1
 
 [abandoned]

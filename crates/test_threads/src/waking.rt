@@ -1,5 +1,5 @@
-// A borrow that waits is woken by what another caller does with the factory: an object that is made or tested for the queue,
-// and a place that is free again after a failed make.
+// A borrow that waits is woken after another caller's work in the factory: an object is made or tested for the queue, or a place is
+// free again after a failed make.
 use crate::beside::{Gated, tries};
 use crate::deeds::{Deed, Row};
 use crate::items::{Failing, NOT_MADE};
@@ -11,7 +11,7 @@ use std::thread::Threads;
 
 const SETTINGS: &str = "maxTotal = 1\ntestWhileIdle = true\n";
 
-/// What a caller does while another waits for the only place, and what waits at the gate meanwhile.
+/// The action of a caller while another waits for the only place, and what waits at the gate meanwhile.
 #[derive(Clone, Copy)]
 struct Work<'a> {
     rows: &'a [Row],
@@ -19,8 +19,8 @@ struct Work<'a> {
     gated: Gated,
 }
 
-// One works, and waits at the gate with its object in hand, as the journal's last entry but one says; another waits for the place, as the last
-// one says; a third lets that one begin and then opens the gate. Once the other has the object, the journal has three entries more.
+// One caller works, and waits at the gate with the object that it owns, as the journal's last entry but one says. Another waits for the place,
+// as the last one says. A third lets that one begin, and then opens the gate. Once the other has the object, the journal has three more entries.
 fn wakes<R: Threads + Wait + Abort + Sync>(
     rt: &R,
     alloc: Global,

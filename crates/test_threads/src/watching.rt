@@ -1,4 +1,4 @@
-// A third caller counts, while two borrow and give back.
+// A third caller reads the counts, while two borrow and return.
 use crate::beside::{Gated, Parts, tries};
 use crate::deeds::{Deed, Row, expect_equal};
 use crate::items::Failing;
@@ -11,7 +11,7 @@ fn parts() -> Parts<'static> {
     [&TURNS, &TURNS, &LOOKS]
 }
 
-// In all that the third sees, all objects that were made are somewhere, and the steps never fall.
+// All counts that the third caller reads account for all created objects, and the steps never decrease.
 #[test]
 fn counts_add_up_at_every_moment(rt: HostRuntime) {
     let never = Failing::Never;
