@@ -5,12 +5,12 @@ use pool_settings::Settings;
 use pool_stats::Counts;
 use std::alloc::{AllocError, Global};
 
-/// The counts of a pool that takes the steps of the entries, and is cut and opened anew behind each of them.
+/// Takes the steps of the entries on a pool that is cut, and opened again from its base, after each of them. Returns its counts.
 ///
 /// # Errors
 ///
-/// A step is refused or answered otherwise than the entry says, a cut hands out anything but the one entry behind the base that
-/// was, or no pool is opened from what it came to.
+/// A step fails or has another answer than the entry, a cut returns more than the one entry after the base before it, or no pool
+/// opens from the base after it.
 pub fn cut_counts(alloc: Global, settings: Settings, entries: &[Entry]) -> Result<Counts, Fault> {
     let mut core = Core::open(alloc, settings)?;
     for entry in entries {
@@ -19,7 +19,7 @@ pub fn cut_counts(alloc: Global, settings: Settings, entries: &[Entry]) -> Resul
     Ok(core.counts())
 }
 
-// Puts in the place of a pool whose journal is empty the one that goes on behind an entry.
+// Replaces a pool whose journal is empty by the one that is opened after an entry.
 fn go_on(
     alloc: Global,
     settings: Settings,
@@ -32,7 +32,7 @@ fn go_on(
     Ok(())
 }
 
-// Takes the step of an entry, and cuts the journal: it has this entry alone, behind the base that was.
+// Takes the step of an entry, and cuts the journal: it has only this entry, after the base before it.
 fn cut_behind(alloc: Global, core: &mut Core<u64>, entry: &Entry) -> Result<(), Fault> {
     let head = core.base().head();
     let records = Vec::from_slice(alloc, core.base().records.as_slice())?;
@@ -45,7 +45,7 @@ fn cut_behind(alloc: Global, core: &mut Core<u64>, entry: &Entry) -> Result<(), 
     }
 }
 
-/// Takes the step of an entry, which is answered as the entry says.
+/// Takes the step of an entry, and compares the answer with the entry's.
 pub fn take_step(core: &mut Core<u64>, entry: &Entry) -> Result<(), Fault> {
     let value = value_of(entry.input);
     match core.step(entry.caller, entry.at, entry.input, value) {
@@ -55,20 +55,20 @@ pub fn take_step(core: &mut Core<u64>, entry: &Entry) -> Result<(), Fault> {
     }
 }
 
-// Whether a segment has this base and this entry alone.
+// Whether a segment has this base and only this entry.
 fn is_one_entry(segment: &Segment, head: Head, records: &[Record], entry: &Entry) -> bool {
     segment.base.head() == head
         && segment.base.records.as_slice() == records
         && segment.entries.as_slice() == [*entry].as_slice()
 }
 
-// What a pool came to that was just cut: another cut hands out that base.
+// Returns the base of a pool that was just cut, by another cut.
 fn reached(alloc: Global, core: &mut Core<u64>) -> Result<Base, Fault> {
     let segment = core.cut(alloc)?;
     Ok(segment.base)
 }
 
-// A pool that is opened from what another came to, with the values that it kept.
+// Opens a pool from the base of another, with the values that it stores.
 fn opened_from(alloc: Global, settings: Settings, base: Base) -> Result<Core<u64>, Fault> {
     let values = values_of(alloc, &base)?;
     match Core::from_base(alloc, settings, base, values) {
@@ -77,7 +77,7 @@ fn opened_from(alloc: Global, settings: Settings, base: Base) -> Result<Core<u64
     }
 }
 
-/// The values of the idle objects, each its id.
+/// Returns the values of the idle objects: each is the id.
 pub fn values_of(alloc: Global, base: &Base) -> Result<Vec<(u64, u64)>, AllocError> {
     let mut values = Vec::new(alloc);
     for known in base.records.as_slice() {

@@ -6,7 +6,7 @@ use pool_settings::Settings;
 use pool_stats::Counts;
 use std::alloc::Global;
 
-/// The calls by which a pool comes to one that goes on with a segment, in their order.
+/// The calls from a pool that is cut to one that is opened from the base of a segment and takes its steps, in their order.
 #[derive(Clone, Copy)]
 pub enum Call {
     /// `Core::step`, with the entries of a journal.
@@ -15,16 +15,16 @@ pub enum Call {
     Cut,
     /// `read_base`, of the segment's text.
     Read,
-    /// `print_base`, of what the pool came to.
+    /// `print_base`, of the base after the cut.
     Print,
-    /// `Core::from_base`, of what was read.
+    /// `Core::from_base`, of the base that was read.
     Open,
     /// `Core::step`, with the entries of the segment.
     GoOn,
 }
 
 impl Call {
-    /// The call that a word names.
+    /// Returns the call that a word names.
     pub fn named(word: &str) -> Option<Call> {
         match word {
             "step" => Some(Call::Step),
@@ -38,13 +38,12 @@ impl Call {
     }
 }
 
-/// The counts of the pool to which the calls up to the last one lead, from one that takes the steps of the entries to one that goes on
-/// with the segment of which this is the text.
+/// Makes the calls up to `last`, and returns the counts of the last pool. `text` is that of the segment.
 ///
 /// # Errors
 ///
-/// A step is refused or answered otherwise than its entry says, the cut hands out anything but the entries, what they come to isn't
-/// what is read of the segment or isn't printed as it stands there, or no pool is opened from it.
+/// A step fails or has another answer than its entry, the cut returns other entries, the base after them differs from the one that is
+/// read of the segment or from its lines there, or no pool opens from it.
 pub fn opened_counts(
     alloc: Global,
     settings: Settings,
@@ -63,7 +62,7 @@ pub fn opened_counts(
     }
 }
 
-// The counts to which the calls behind the cut lead.
+// Makes the calls after the cut, and returns the counts of the last pool.
 fn counts_behind_cut(
     alloc: Global,
     settings: Settings,
@@ -92,7 +91,7 @@ fn take_steps(core: &mut Core<u64>, entries: &[Entry]) -> Result<(), Fault> {
     Ok(())
 }
 
-// Cuts the journal, which hands out these entries.
+// Cuts the journal, and compares the entries that are cut with these.
 fn take_cut(alloc: Global, core: &mut Core<u64>, entries: &[Entry]) -> Result<(), Fault> {
     let segment = core.cut(alloc)?;
     if segment.entries.as_slice() == entries {
@@ -102,7 +101,7 @@ fn take_cut(alloc: Global, core: &mut Core<u64>, entries: &[Entry]) -> Result<()
     }
 }
 
-// The base with which a text begins, and the length of its lines. It is what the pool came to.
+// Reads the base at the start of a text. Returns it with the length of its lines, if it is the base of the pool.
 fn read(alloc: Global, core: &Core<u64>, text: &[u8]) -> Result<(Base, usize), Fault> {
     let (base, length) = read_base(alloc, text).map_err(|_| Fault::JournalUnread)?;
     let due = core.base();
@@ -113,7 +112,7 @@ fn read(alloc: Global, core: &Core<u64>, text: &[u8]) -> Result<(Base, usize), F
     }
 }
 
-// Prints what a pool came to, whose journal is empty. A text begins so, up to this length.
+// Prints the base of a pool whose journal is empty, and compares it with the first `length` bytes of a text.
 fn print(alloc: Global, core: &Core<u64>, text: &[u8], length: usize) -> Result<(), Fault> {
     if !core.journal().is_empty() {
         return Err(Fault::SegmentDiffers);
@@ -127,13 +126,13 @@ fn print(alloc: Global, core: &Core<u64>, text: &[u8], length: usize) -> Result<
     }
 }
 
-// A pool that goes on from a base, with the id of each idle object for its value.
+// Opens a pool from a base. The value of each idle object is its id.
 fn open(alloc: Global, settings: Settings, base: Base) -> Result<Core<u64>, Fault> {
     let values = values_of(alloc, &base)?;
     Core::from_base(alloc, settings, base, values).map_err(|_| Fault::BaseRefused)
 }
 
-// Takes the steps of the entries that stand behind this length in a text.
+// Takes the steps of the entries in a text after its first `length` bytes.
 fn go_on(alloc: Global, core: &mut Core<u64>, text: &[u8], length: usize) -> Result<(), Fault> {
     let Some(lines) = text.get(length..) else {
         return Err(Fault::JournalUnread);

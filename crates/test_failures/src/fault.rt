@@ -1,20 +1,20 @@
 use std::fmt;
 use std::fmt::Display;
 
-/// Why a life has no good end.
+/// Why a life failed its test.
 #[derive(Clone, Copy, Debug)]
 pub enum Fault {
-    /// A call answered what can't be.
+    /// A call had an impossible result.
     WrongAnswer,
-    /// An object was left in the hands of a call that was refused.
+    /// A call left an object half-processed, or at the end an object is present.
     LeftBehind,
-    /// An object that was lent isn't any more.
+    /// An object that was lent is neither lent nor reclaimed.
     TakenAway,
-    /// A new core gives other answers than the journal has.
+    /// A new core has other answers than the journal.
     AnswersDiffer,
-    /// A new core comes to another base than the journal was cut from.
+    /// A new core has another base than the journal.
     BasesDiffer,
-    /// A new core counts otherwise.
+    /// A new core has other counts.
     CountsDiffer,
     CallerMissing,
     OutOfMemory,

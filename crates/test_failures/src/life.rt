@@ -1,4 +1,4 @@
-// One caller's calls on a pool. A call that wants memory is made again, once it was seen what it left.
+// The calls of one caller on a pool. A call that fails for lack of memory is made again, after the state that it left was checked.
 use crate::TRIES;
 use crate::fault::Fault;
 use crate::parts::{Notes, Part};
@@ -16,10 +16,10 @@ use std::sync::Wait;
 
 pub type Pool<'a, B> = SharedPool<Thing, (), Things, Hands<'a>, B>;
 
-/// How many entries the journal of a pool has memory or room for when the call of a life is made.
+/// The number of entries that a journal has memory or room for when the tested call is made.
 pub const FULL: u64 = 16;
 
-/// What a call came to.
+/// The result of a call.
 #[derive(Clone, Copy, Debug)]
 enum Told {
     Done,
@@ -28,11 +28,11 @@ enum Told {
     Wrong,
 }
 
-/// What a call came to in the end.
+/// The result of a call in the end.
 #[derive(Clone, Copy, Debug, PartialEq, Eq)]
 pub enum End {
     Done,
-    /// There was no room for it.
+    /// The journal had no room for it.
     Refused,
 }
 
@@ -71,14 +71,14 @@ fn told_of_run<A: Drop>(told: Result<A, PoolFault>) -> Told {
     }
 }
 
-/// A caller with what it holds.
+/// A caller with the object that it holds.
 #[derive(Drop)]
 pub struct Life<B: Room> {
     me: Caller<B>,
     held: Option<Lent<Thing>>,
-    /// How many objects it was lent and has not given back, those that were reclaimed since among them.
+    /// How many objects it borrowed and has not returned, reclaimed ones among them.
     loans: u64,
-    /// What was cut from the journal.
+    /// The segment that was cut from the journal.
     segment: Option<Segment>,
 }
 
@@ -92,7 +92,7 @@ impl<B: Room> Life<B> {
         }
     }
 
-    /// Its caller, and what was cut from the journal.
+    /// Returns its caller, and the segment that was cut from the journal.
     pub fn leave(self) -> (Caller<B>, Option<Segment>) {
         let Life {
             me,
@@ -116,7 +116,7 @@ impl<B: Room> Life<B> {
         }
     }
 
-    // What came of a return or an invalidation. One that was refused leaves the object with its holder.
+    // The result of a return or an invalidation. One that failed leaves the object with its holder.
     fn ended(&mut self, ended: Result<Returned, (ReturnFault, Lent<Thing>)>) -> Told {
         match ended {
             Ok(Returned::Gone) => Told::Done,
@@ -161,7 +161,7 @@ impl<B: Room> Life<B> {
         }
     }
 
-    // Cuts the journal. A cut that is refused changes nothing that is counted.
+    // Cuts the journal. A cut that fails changes no count.
     fn cut<R: Wait>(&mut self, rt: &R, alloc: Global, pool: &Pool<B>) -> Told {
         let before = pool.counts(rt, &mut self.me);
         match pool.cut(rt, alloc, &mut self.me) {
@@ -174,7 +174,7 @@ impl<B: Room> Life<B> {
         }
     }
 
-    // Cuts the journal below more room than any has, so that a cut is due. One that is refused changes nothing that is counted.
+    // Cuts the journal if it has less room than the most that there is, so always. A cut that fails changes no count.
     fn cut_below<R: Wait>(&mut self, rt: &R, alloc: Global, pool: &Pool<B>) -> Told {
         let before = pool.counts(rt, &mut self.me);
         match pool.cut_below(rt, alloc, &mut self.me, u64::MAX) {
@@ -212,7 +212,7 @@ impl<B: Room> Life<B> {
         }
     }
 
-    // The stored entries.
+    // Returns the stored entries.
     fn journal<R: Wait>(
         &mut self,
         rt: &R,
@@ -229,7 +229,7 @@ impl<B: Room> Life<B> {
         Err(Fault::OutOfMemory)
     }
 
-    // What a call left: nothing is in its hands, and what was lent is lent or was reclaimed.
+    // Checks the state after a call: no object is half-processed, and each object that was lent is lent or was reclaimed.
     fn look<R: Wait>(&mut self, rt: &R, pool: &Pool<B>) -> Result<(), Fault> {
         let counts = pool.counts(rt, &mut self.me);
         if counts.reserved != 0 {
@@ -241,7 +241,7 @@ impl<B: Room> Life<B> {
         Ok(())
     }
 
-    // What a refused call left: a journal with the answers of a new core, and its counts.
+    // Checks the state after a call that failed: the journal has the answers of a new core, and the pool its counts.
     fn look_back<R: Wait>(
         &mut self,
         rt: &R,
@@ -259,7 +259,7 @@ impl<B: Room> Life<B> {
         }
     }
 
-    /// Makes a call, again where it wants memory. In the end it is done, or there is no room for it.
+    /// Makes a call, again if it fails for lack of memory. In the end it is done, or there is no room for it.
     pub fn call<R: Wait>(
         &mut self,
         rt: &R,
@@ -288,7 +288,7 @@ impl<B: Room> Life<B> {
         Err(Fault::OutOfMemory)
     }
 
-    /// Makes entries until the journal, with all that is owed, can take only so many more.
+    /// Appends entries until the journal, with the outstanding ones, has memory or room for only `spare` more.
     pub fn warm<R: Wait>(
         &mut self,
         rt: &R,

@@ -30,10 +30,10 @@ use std::sync::atomic::{AtomicU64, Ordering};
 use std::{fmt, io};
 use things::{Hands, Thing, Things};
 
-/// How often a call is made that wants memory.
+/// How often a call is tried that fails for lack of memory.
 const TRIES: u32 = 3;
 
-/// The calls, each in the midst of a life.
+/// The calls, each made in the middle of a life.
 const CALLS: [Part; 14] = [
     Part::Borrow,
     Part::GiveBack,
@@ -51,10 +51,10 @@ const CALLS: [Part; 14] = [
     Part::CutBelow,
 ];
 
-/// For how many entries more there is memory or room, at most.
+/// The most entries for which there is memory or room left.
 const MOST_SPARE: u64 = 4;
 
-/// A moment at which an object that was lent at 0 is abandoned.
+/// A time at which an object that was lent at 0 is abandoned.
 const LATE: u64 = 1_000;
 
 /// The number that tells this pool from others.
@@ -92,7 +92,7 @@ fn settings_of(lack: Lack) -> Settings {
     }
 }
 
-// The calls before the one that is tried. It is made where the clock tells the moment.
+// Makes the calls before the one that is tested, and sets the time at which it is made.
 fn prepare<B: Room, R: Wait>(
     rt: &R,
     alloc: Global,
@@ -132,7 +132,7 @@ fn prepare<B: Room, R: Wait>(
     Ok(())
 }
 
-// How many objects were made, as the entries tell that were cut and those that are stored.
+// Returns how many objects were created, by the entries that were cut and those that are stored.
 fn count_made(
     alloc: Global,
     segment: &Option<Segment>,
@@ -149,7 +149,7 @@ fn count_made(
     }
 }
 
-// A new core that takes the same steps comes to the same.
+// Checks that a new core that takes the same steps has the same base and counts.
 fn is_replayed(
     alloc: Global,
     settings: Settings,
@@ -167,7 +167,7 @@ fn is_replayed(
     Ok(())
 }
 
-// A pool in which no object is left, and whose journal has its base, its answers, its counts and its statistics.
+// Checks that no object is left, and that the journal has the base, the answers, the counts and the statistics of the pool.
 fn judge(
     alloc: Global,
     settings: Settings,
@@ -186,7 +186,7 @@ fn judge(
     }
 }
 
-// One life of a pool: a call, where there is memory for so many entries more, and the end.
+// Runs one life of a pool: a call with memory or room for `spare` more entries, and the end.
 fn live<B: Room, R: Wait>(
     rt: &R,
     alloc: Global,
@@ -206,7 +206,7 @@ fn live<B: Room, R: Wait>(
     ))
 }
 
-// The life of a pool with its one caller.
+// Runs the life of a pool with its one caller.
 fn live_with<B: Room, R: Wait>(
     rt: &R,
     alloc: Global,
@@ -231,7 +231,7 @@ fn live_with<B: Room, R: Wait>(
     end
 }
 
-// The pool is finished, and what it left is judged.
+// Ends the pool, and checks its core.
 fn finish<B: Room, R: Wait>(
     rt: &R,
     alloc: Global,
@@ -265,7 +265,7 @@ fn make_calls<B: Room, R: Wait>(
     Ok(end)
 }
 
-// So, on a new site. A pool that finds no memory is opened again.
+// Does so on a new cell. If an allocation of the opening fails, it opens the pool again.
 fn try_life<R: Wait>(
     rt: &R,
     alloc: Global,

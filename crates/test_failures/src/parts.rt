@@ -1,8 +1,8 @@
-// What can be answered that there is no memory.
+// The calls that can fail for lack of memory.
 use std::fmt;
 use std::fmt::Display;
 
-/// A call of the libraries that can be answered so.
+/// A call of the libraries that can fail for lack of memory.
 #[derive(Clone, Copy, Debug, PartialEq, Eq)]
 pub enum Part {
     Site,
@@ -54,7 +54,7 @@ impl Display for Part {
     }
 }
 
-/// What was answered so last.
+/// The last call that failed for lack of memory.
 #[derive(Drop)]
 pub struct Notes {
     pub refused: Option<Part>,

@@ -10,7 +10,7 @@ pub struct Thing {
     is_awake: bool,
 }
 
-/// A factory that never fails, and takes no memory.
+/// A factory that never fails, and allocates nothing.
 #[derive(Drop)]
 pub struct Things;
 
@@ -52,7 +52,7 @@ impl Factory<Thing, ()> for Things {
     }
 }
 
-/// A clock that tells what it is set to.
+/// A clock that returns the time that it is set to.
 #[derive(Drop)]
 pub struct Hands<'a> {
     pub moment: &'a AtomicU64,

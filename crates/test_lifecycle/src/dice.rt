@@ -2,7 +2,7 @@ ghost use Rattle.std.specs.Prelude.{◌<◌};
 
 use pool_journal::{Input, Outcome, When};
 
-/// Numbers that look like chance, and are the same in each run.
+/// Numbers that look random, and are the same in each run.
 #[derive(Drop)]
 pub struct Dice {
     state: u64,
@@ -24,7 +24,7 @@ impl Dice {
         (self.state >> 33) % sides
     }
 
-    /// Most outcomes are good.
+    /// Returns an outcome. Most are good.
     fn outcome(&mut self) -> Outcome {
         match self.roll(12) {
             0 => Outcome::MakeFailed,
@@ -36,7 +36,7 @@ impl Dice {
         }
     }
 
-    /// An input about one of the objects that were drawn last.
+    /// Returns an input about one of the last objects that were created.
     pub fn input(&mut self, at: u64, last: u64) -> Input {
         let id = last.saturating_sub(self.roll(4));
         let outcome = self.outcome();
@@ -52,7 +52,7 @@ impl Dice {
         }
     }
 
-    /// An input that tells no outcome.
+    /// Returns an input without an outcome.
     fn plain_input(&mut self, id: u64) -> Input {
         match self.roll(13) {
             0 => Input::Invalidate { id },
@@ -69,7 +69,7 @@ impl Dice {
         }
     }
 
-    /// A pool is closed now and then.
+    /// Returns a close now and then, otherwise a reclaim for a borrow.
     fn closing(&mut self) -> Input {
         match self.roll(6) {
             0 => Input::Close,

@@ -17,7 +17,7 @@ const END: u64 = 80;
 /// How often a step is tried that fails for lack of memory.
 const TRIES: u64 = 3;
 
-/// A pool, as long as it lives, with what it did before it was opened anew.
+/// A pool, with the segment from before it was opened again.
 #[derive(Drop)]
 pub struct Life {
     before: Option<Segment>,
@@ -27,7 +27,7 @@ pub struct Life {
     closed: bool,
 }
 
-/// The value that an input brings back.
+/// The value that an input carries.
 fn value_of(input: Input) -> Option<u64>
     ensures { is_some result ≡ carries input }
 {
@@ -130,7 +130,7 @@ impl Life {
         }
     }
 
-    /// Ends what was begun with each object. A step that doesn't suit is refused, or finds no room.
+    /// Completes the work on each object. A step that does not apply is refused, or finds no room.
     fn finish_objects(&mut self) {
         for id in 0..self.drawn {
             self.step(

@@ -16,7 +16,7 @@ use std::process::ExitCode;
 /// The limits of the journals.
 const LIMITS: [u64; 4] = [1, 8, 16, 30];
 
-/// How two lives of one kind ended.
+/// Returns how two lives of one kind ended.
 fn told(one: &Life, other: &Life) -> &'static str {
     if !one.is_finished() || !other.is_finished() {
         "something is left"
@@ -27,7 +27,7 @@ fn told(one: &Life, other: &Life) -> &'static str {
     }
 }
 
-/// Lives two lives of one kind, and tells how they ended.
+/// Runs two lives of one kind, and returns how they ended.
 fn verdict(rt: &HostRuntime, limit: u64) -> Result<&'static str, AllocError> {
     let one = Life::lived(rt.alloc(), limit)?;
     let other = Life::lived(rt.alloc(), limit)?;

@@ -6,10 +6,10 @@ use std::alloc::{AllocError, Global};
 /// The value of each object.
 pub const VALUE: u64 = 7;
 
-/// What stands before the text of a base.
+/// The text before that of a base.
 const FRONT: &[u8] = b"a base\n";
 
-/// Cuts a journal, again where memory is wanting.
+/// Cuts a journal, again if an allocation fails.
 pub fn cut_again(alloc: Global, core: &mut Core<u64>) -> Result<Segment, AllocError> {
     match core.cut(alloc) {
         Ok(segment) => Ok(segment),
@@ -17,7 +17,7 @@ pub fn cut_again(alloc: Global, core: &mut Core<u64>) -> Result<Segment, AllocEr
     }
 }
 
-// The values of the idle objects.
+// Returns the values of the idle objects.
 fn values_of(alloc: Global, base: &Base) -> Result<Vec<(u64, u64)>, AllocError> {
     let mut values = Vec::new(alloc);
     for known in base.records.as_slice() {
@@ -39,7 +39,7 @@ fn is_same(one: &Base, other: &Base) -> bool {
     one.head() == other.head() && one.records.as_slice() == other.records.as_slice()
 }
 
-// A text with what stands in front.
+// Returns a new text that begins with `FRONT`.
 fn front_again(alloc: Global) -> Result<Vec<u8>, AllocError> {
     match Vec::from_slice(alloc, FRONT) {
         Ok(text) => Ok(text),
@@ -47,7 +47,7 @@ fn front_again(alloc: Global) -> Result<Vec<u8>, AllocError> {
     }
 }
 
-// The text of what a pool goes on from, behind the front. It is printed again where memory is wanting, behind the text as it was.
+// Returns the text of the base of a pool, after `FRONT`. If an allocation fails, the text is unchanged, and the base is printed again.
 fn text_again(alloc: Global, core: &Core<u64>) -> Result<Vec<u8>, AllocError> {
     let mut text = front_again(alloc)?;
     if !core.journal().is_empty() {
@@ -62,7 +62,7 @@ fn text_again(alloc: Global, core: &Core<u64>) -> Result<Vec<u8>, AllocError> {
     Ok(text)
 }
 
-// Reads the base that is all of a text, again where memory is wanting.
+// Reads the base that is a whole text, again if an allocation fails.
 fn read_again(alloc: Global, text: &[u8]) -> Result<Base, AllocError> {
     let read = match read_base(alloc, text) {
         Err(LineFault::OutOfMemory) => read_base(alloc, text),
@@ -74,7 +74,7 @@ fn read_again(alloc: Global, text: &[u8]) -> Result<Base, AllocError> {
     }
 }
 
-// What a pool goes on from that was just cut, read from its text.
+// Returns the base of a pool that was just cut, read from its text.
 fn base_again(alloc: Global, core: &Core<u64>) -> Result<Base, AllocError> {
     let text = text_again(alloc, core)?;
     let Some(lines) = text.get(FRONT.len()..) else {
@@ -88,8 +88,8 @@ fn base_again(alloc: Global, core: &Core<u64>) -> Result<Base, AllocError> {
     }
 }
 
-/// A pool that goes on from what one has come to that was just cut, as it is read from its text. It is tried again where memory is
-/// wanting, with the base and the values that come back.
+/// Opens a pool from the base of one that was just cut, as it is read from its text. If an allocation fails, it tries again with the
+/// base and the values that were returned.
 pub fn opened_again(
     alloc: Global,
     settings: Settings,

@@ -1,4 +1,4 @@
-// A caller that calls by chance, and writes down what it did.
+// A caller that makes random calls, and marks them.
 use crate::TRIES;
 use crate::dice::Dice;
 use crate::fault::Fault;
@@ -18,22 +18,22 @@ pub type Pool<'a, B> = SharedPool<Thing, (), Fickle<'a>, Ticking, B>;
 /// How many calls each caller makes.
 const CALLS: u32 = 2_000;
 
-/// How many marks a caller makes at most: three a call, one for each object that it still holds, and one for the end.
+/// The most marks of a caller: three for each call, one for each object that it still holds, and one for the close.
 const MARKS: usize = 8_001;
 
-/// The segments that were cut, in their order. Who holds the lock knows that nobody else cuts.
+/// The segments that were cut, in their order. While a caller holds the lock, no other caller cuts.
 pub type Segments = Mutex<Vec<Segment>>;
 
-/// What callers do in a pool that has nothing to lend.
+/// What callers do if the pool has no object for them.
 #[derive(Clone, Copy, PartialEq, Eq)]
 pub enum Manner {
-    /// They are refused. They may hold several objects, and forget some.
+    /// Their borrows fail. They may hold several objects, and forget some.
     Refused,
-    /// They wait. They hold one object at most, and forget none.
+    /// They wait. They hold at most one object, and forget none.
     Waiting,
 }
 
-/// A caller with what it holds, and what it did.
+/// A caller with the objects that it holds, and its work.
 #[derive(Drop)]
 pub struct Player<'a, B: Room> {
     me: Caller<B>,
@@ -49,7 +49,7 @@ pub struct Player<'a, B: Room> {
 }
 
 impl<'a, B: Room> Player<'a, B> {
-    /// It takes all the memory of its own at once.
+    /// Makes a player. It allocates all memory of its own at once.
     pub fn new(
         alloc: Global,
         me: Caller<B>,
@@ -94,7 +94,7 @@ impl<'a, B: Room> Player<'a, B> {
         Err(Fault::Starved)
     }
 
-    // Notes of a call that wanted memory how far it began, which the journal tells.
+    // Marks the first steps of a call that failed for lack of memory, as far as the journal has them.
     fn find_begun(
         &mut self,
         segments: &[Segment],
@@ -114,7 +114,7 @@ impl<'a, B: Room> Player<'a, B> {
         Err(Fault::Untold)
     }
 
-    // A call wanted memory. The journal tells all that was done before, and of this call no more than how it begins.
+    // Checks the journal after a call that failed for lack of memory: it has all earlier calls, and of this call at most its first steps.
     fn look_back<R: Wait>(
         &mut self,
         rt: &R,
@@ -128,7 +128,7 @@ impl<'a, B: Room> Player<'a, B> {
         self.find_begun(&segments, &stored, begun)
     }
 
-    // One of the objects that it holds, by chance.
+    // Takes one of the objects that it holds, at random.
     fn pick(&mut self) -> Option<Lent<Thing>> {
         let count = self.held.len();
         if count == 0 {
@@ -164,7 +164,7 @@ impl<'a, B: Room> Player<'a, B> {
         }
     }
 
-    // What came of a return or an invalidation. It keeps the object where memory was wanting.
+    // The result of a return or an invalidation. The caller keeps the object if an allocation failed.
     fn ended<R: Wait>(
         &mut self,
         rt: &R,
@@ -251,7 +251,7 @@ impl<'a, B: Room> Player<'a, B> {
         }
     }
 
-    // Maintains the pool, which is an eviction run, a removal and a fill.
+    // Maintains the pool: an eviction run, a reclaim and a fill.
     fn maintain<R: Wait>(&mut self, rt: &R, pool: &Pool<B>) -> Result<(), Fault> {
         match pool.maintain(rt, &mut self.me) {
             Ok(()) => {
@@ -271,7 +271,7 @@ impl<'a, B: Room> Player<'a, B> {
         }
     }
 
-    // What came of a removal or a clear, which is told by one mark.
+    // The result of a reclaim or a clear, which has one mark.
     fn sweep<R: Wait>(
         &mut self,
         rt: &R,
@@ -305,7 +305,7 @@ impl<'a, B: Room> Player<'a, B> {
         }
     }
 
-    // Cuts the journal, and keeps what was cut, if there was memory.
+    // Cuts the journal, and stores the segment. Returns false if an allocation failed.
     fn keep_cut<R: Wait>(&mut self, rt: &R, pool: &Pool<B>) -> Result<bool, Fault> {
         let mut segments = self.segments.lock(rt);
         match pool.cut(rt, self.alloc, &mut self.me) {
@@ -325,7 +325,7 @@ impl<'a, B: Room> Player<'a, B> {
         }
     }
 
-    // A call with an object that it holds. With none it borrows one.
+    // Makes a call with an object that it holds. If it holds none, it borrows one.
     fn call_with_one<R: Wait>(&mut self, rt: &R, pool: &Pool<B>) -> Result<(), Fault> {
         let Some(lent) = self.pick() else {
             return self.borrow(rt, pool);
@@ -338,7 +338,7 @@ impl<'a, B: Room> Player<'a, B> {
         }
     }
 
-    // A call that is made seldom. A pool is closed now and then.
+    // Makes a rare call. Now and then it closes the pool.
     fn call_seldom<R: Wait>(&mut self, rt: &R, pool: &Pool<B>) -> Result<(), Fault> {
         match self.dice.roll(3_000) {
             0 => self.close(rt, pool),
@@ -364,7 +364,7 @@ impl<'a, B: Room> Player<'a, B> {
         }
     }
 
-    // Gives back all that it holds.
+    // Returns all objects that it holds to the pool.
     fn give_all_back<R: Wait>(&mut self, rt: &R, pool: &Pool<B>) -> Result<(), Fault> {
         for _ in 0..self.held.len().saturating_add(TRIES as usize) {
             match self.held.pop() {
@@ -379,7 +379,7 @@ impl<'a, B: Room> Player<'a, B> {
         }
     }
 
-    // Makes all its calls, and gives back what it holds. By chance it closes the pool before.
+    // Makes all its calls, closes the pool in one of four runs, and returns the objects that it holds.
     fn make_calls<R: Wait>(&mut self, rt: &R, pool: &Pool<B>) -> Result<(), Fault> {
         for _ in 0..CALLS {
             self.call(rt, pool)?;
@@ -390,7 +390,7 @@ impl<'a, B: Room> Player<'a, B> {
         self.give_all_back(rt, pool)
     }
 
-    /// Plays to the end. One that can't closes the pool, so that nobody waits for what it holds.
+    /// Makes all calls. If one fails its check, it closes the pool, so that no caller waits for an object that it holds.
     pub fn play<R: Wait>(&mut self, rt: &R, pool: &Pool<B>) {
         self.end = self.make_calls(rt, pool);
         if self.end.is_err() {
@@ -398,7 +398,7 @@ impl<'a, B: Room> Player<'a, B> {
         }
     }
 
-    /// Its caller, and what it did.
+    /// Returns its caller and its work.
     pub fn leave(self) -> (Caller<B>, Played) {
         let Player {
             me,

@@ -1,6 +1,6 @@
 ghost use Rattle.std.specs.Prelude.{◌<◌};
 
-/// Numbers that look like chance, and are the same in each run.
+/// Numbers that look random, and are the same in each run.
 #[derive(Drop)]
 pub struct Dice {
     state: u64,
@@ -11,7 +11,7 @@ impl Dice {
         Dice { state: seed }
     }
 
-    /// A number below `sides`.
+    /// Returns a number below `sides`.
     pub fn roll(&mut self, sides: u64) -> u64
         requires { 0 < sides }
         ensures { result < sides }

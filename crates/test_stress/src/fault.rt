@@ -5,15 +5,15 @@ use std::alloc::{AllocError, AllocFailed};
 #[derive(Clone, Copy, Debug)]
 pub enum Fault {
     NotOpened,
-    /// A call was refused for what can't be.
+    /// A call failed with an impossible error.
     Stopped,
-    /// After a call that wanted memory the journal doesn't tell what was done before.
+    /// After a call that failed for lack of memory, the journal does not have the caller's earlier calls.
     Untold,
     CallerMissing,
     NotJudged,
-    /// What has to be found no memory, however often it was tried.
+    /// A call that must succeed found no memory in any try.
     Starved,
-    /// There was no memory to begin with.
+    /// An allocation of the opening failed.
     OutOfMemory,
 }
 

@@ -1,4 +1,4 @@
-// What is found of a pool once all have played. What wants memory is tried again.
+// The check of a pool once all callers are back. A call that fails for lack of memory is tried again.
 use crate::TRIES;
 use crate::again::goes_on;
 use crate::fault::Fault;
@@ -13,21 +13,21 @@ use std::alloc::Global;
 use std::fmt;
 use std::fmt::Display;
 
-/// How many bytes a verdict has at most.
+/// The most bytes that a verdict has.
 const VERDICT: usize = 256;
 
-/// What was found.
+/// The result of the check.
 #[derive(Clone, Copy, Debug)]
 pub enum Verdict {
     Legal,
     Illegal,
-    /// A segment doesn't go on from what those before it came to.
+    /// A segment does not continue those before it.
     BasesDiffer,
-    /// The journal doesn't tell what a caller did.
+    /// The journal does not have the calls of a caller.
     CallsDiffer,
-    /// An object that was made is nowhere.
+    /// A created object is neither idle nor destroyed, and no holder dropped it.
     ObjectsLost,
-    /// An object is still in the hands of a call.
+    /// An object is half-processed.
     ObjectsHeld,
 }
 
@@ -44,7 +44,7 @@ impl Display for Verdict {
     }
 }
 
-/// What a caller did.
+/// The work of a caller.
 #[derive(Drop)]
 pub struct Played {
     pub number: u32,
@@ -71,7 +71,7 @@ fn print_all(entries: &[Entry], text: &mut Vec<u8>) -> Result<(), Fault> {
     Ok(())
 }
 
-// What the engine of `pool check` says of a journal's text.
+// Returns the verdict of the engine of `pool check` on a journal's text.
 fn judge_text(alloc: Global, settings: Settings, text: &[u8]) -> Result<bool, Fault> {
     let mut verdict = Vec::new(alloc);
     verdict.reserve(VERDICT)?;
@@ -81,7 +81,7 @@ fn judge_text(alloc: Global, settings: Settings, text: &[u8]) -> Result<bool, Fa
     })
 }
 
-// The text of a journal of which these segments were cut and these entries are stored.
+// Returns the text of a journal with these segments and these stored entries.
 fn text_of(alloc: Global, segments: &[Segment], stored: &[Entry]) -> Result<Vec<u8>, Fault> {
     let mut text = Vec::new(alloc);
     for segment in segments {
@@ -91,7 +91,7 @@ fn text_of(alloc: Global, segments: &[Segment], stored: &[Entry]) -> Result<Vec<
     Ok(text)
 }
 
-// Whether a pool with these settings gives just the answers of a journal's text.
+// Whether each answer in a journal's text is the one that a pool with these settings gives.
 fn is_legal(alloc: Global, settings: Settings, text: &[u8]) -> Result<bool, Fault> {
     for _ in 0..TRIES {
         match judge_text(alloc, settings, text) {
@@ -102,12 +102,12 @@ fn is_legal(alloc: Global, settings: Settings, text: &[u8]) -> Result<bool, Faul
     Err(Fault::Starved)
 }
 
-// Whether a journal tells what each caller did, in its order.
+// Whether a journal has the calls of each caller, in its order.
 fn tells_all(segments: &[Segment], stored: &[Entry], all: &[Played]) -> bool {
     all.iter().all(|played| tells(segments, stored, played.number, &played.marks))
 }
 
-/// What is found of a pool, which ended so after all this was done and these segments were cut, and of the objects.
+/// Checks a pool that has ended with this core, its segments, the calls of all callers, and the objects.
 pub fn judge(
     alloc: Global,
     settings: Settings,

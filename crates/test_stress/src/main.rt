@@ -36,13 +36,13 @@ const SEEDS: u64 = 20;
 
 const CALLERS: u32 = 4;
 
-/// How many segments there is memory for at most: one for each call that the callers make.
+/// The most segments that there is memory for: one for each call of the callers.
 const CUTS: usize = 8_000;
 
-/// How often something is tried that has to be, where it wants memory.
+/// How often a call that must succeed is tried if it fails for lack of memory.
 const TRIES: u32 = 10_000;
 
-/// A pool that refuses who finds nothing.
+/// A pool in which a borrow fails if there is no object for it.
 fn refusing() -> Settings {
     Settings {
         max_total: 4,
@@ -63,7 +63,7 @@ fn refusing() -> Settings {
     }
 }
 
-/// A pool in which they wait.
+/// A pool in which such a borrow waits.
 fn waiting() -> Settings {
     Settings {
         max_total: 1,
@@ -82,7 +82,7 @@ fn waiting() -> Settings {
     }
 }
 
-// The players with these callers.
+// Makes players with these callers.
 fn players_of<'a, B: Room>(
     alloc: Global,
     callers: Vec<Caller<B>>,
@@ -97,7 +97,7 @@ fn players_of<'a, B: Room>(
     Ok(players)
 }
 
-// The players' callers, and what they did.
+// Collects the players' callers and their work.
 fn leave_all<B: Room>(
     players: Vec<Player<'_, B>>,
     back: &mut Vec<Caller<B>>,
@@ -113,7 +113,7 @@ fn leave_all<B: Room>(
     Ok(())
 }
 
-// All callers play on a pool, which ends with them. What they did is gathered.
+// Runs all callers on a pool, collects their work, and ends the pool.
 fn play_on<B: Room + Send + Sync, R: Threads + Wait + Sync>(
     rt: &R,
     pool: Pool<'_, B>,
@@ -132,7 +132,7 @@ fn play_on<B: Room + Send + Sync, R: Threads + Wait + Sync>(
     pool.finish(rt, back).map_err(|_| Fault::CallerMissing)
 }
 
-// All callers play on one pool. Where it finds no memory to begin with, nobody plays.
+// Runs all callers on one pool. If an allocation of the opening fails, no caller runs.
 fn play<B: Room + Send + Sync, R: Threads + Wait + Sync>(
     rt: &R,
     alloc: Global,
@@ -161,7 +161,7 @@ fn play<B: Room + Send + Sync, R: Threads + Wait + Sync>(
     judge(alloc, settings, &segments, &core, all.as_slice(), tally)
 }
 
-// Plays on a new site.
+// Does so on a new cell.
 fn play_anew<R: Threads + Wait + Sync>(
     rt: &R,
     alloc: Global,
@@ -175,7 +175,7 @@ fn play_anew<R: Threads + Wait + Sync>(
     play::<Brand, R>(rt, alloc, site, settings, seed, manner, &tally, refusals)
 }
 
-// One seed in three has callers that wait.
+// Runs a seed. In one of three the callers wait.
 fn try_seed<R: Threads + Wait + Sync>(
     rt: &R,
     alloc: Global,

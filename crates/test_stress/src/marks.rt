@@ -1,14 +1,14 @@
-// What a caller knows of its calls, and what a journal tells of them.
+// The calls of a caller, as it marks them and as a journal has them.
 use pool_journal::{Answer, Entry, Input, Outcome, Segment, When};
 use std::slice::Iter;
 
-/// A call that began, or what it came to.
+/// A call that began, or its result.
 #[derive(Clone, Copy, Debug, PartialEq, Eq)]
 pub enum Mark {
     Borrows,
-    /// A borrow was given this object.
+    /// A borrow lent this object.
     Lent(u64),
-    /// A borrow was given nothing, as the pool had nothing for it.
+    /// A borrow failed, since the pool had no object for it.
     Denied,
     GivesBack(u64),
     Invalidates(u64),
@@ -22,7 +22,7 @@ pub enum Mark {
     Closes,
 }
 
-// What a borrow came to, by an answer.
+// The result of a borrow, by an answer.
 fn borrow_mark(answer: Answer) -> Option<Mark> {
     match answer {
         Answer::Exhausted | Answer::TimedOut | Answer::Refused(_) => Some(Mark::Denied),
@@ -51,7 +51,7 @@ fn reclaim_mark(on: When) -> Mark {
     }
 }
 
-/// What an entry says of its caller's calls.
+/// Returns the mark that an entry has of its caller's calls.
 fn mark_of(entry: &Entry) -> Option<Mark> {
     match entry.input {
         Input::Borrow { began: _ } => borrow_mark(entry.answer),
@@ -69,7 +69,7 @@ fn mark_of(entry: &Entry) -> Option<Mark> {
     }
 }
 
-// Whether entries tell of the calls of one caller what comes next. What they tell is taken.
+// Whether the entries of one caller have the next of its marks. Those marks are taken.
 fn tells_next(entries: &[Entry], caller: u32, left: &mut Iter<Mark>) -> bool {
     for entry in entries {
         if entry.caller == caller {
@@ -83,7 +83,7 @@ fn tells_next(entries: &[Entry], caller: u32, left: &mut Iter<Mark>) -> bool {
     true
 }
 
-/// Whether a journal, of which these segments were cut and these entries are stored, tells just this of the calls of one caller.
+/// Returns whether a journal with these segments and stored entries has exactly these marks of one caller.
 pub fn tells(segments: &[Segment], stored: &[Entry], caller: u32, marks: &[Mark]) -> bool {
     let mut left = marks.iter();
     for segment in segments {

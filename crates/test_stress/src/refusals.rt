@@ -1,10 +1,10 @@
-// Which calls wanted memory, and how often.
+// Which calls failed for lack of memory, and how often.
 ghost use Rattle.std.specs.Prelude.{◌<◌};
 
 use std::fmt;
 use std::fmt::Display;
 
-/// A call of the pool that can want memory.
+/// A call of the pool that can fail for lack of memory.
 #[derive(Clone, Copy, Debug)]
 pub enum Call {
     Open,
@@ -23,7 +23,7 @@ pub enum Call {
     Cut,
 }
 
-/// All of them, each at its place.
+/// All of them, each at its index.
 pub const CALLS: [Call; 14] = [
     Call::Open,
     Call::Borrow,
@@ -85,7 +85,7 @@ impl Display for Call {
     }
 }
 
-/// How often each call wanted memory.
+/// How often each call failed for lack of memory.
 #[derive(Clone, Copy, Debug)]
 pub struct Refusals {
     counts: [u64; 14],

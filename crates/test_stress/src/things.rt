@@ -6,10 +6,10 @@ use pool_shared::{Clock, Factory};
 use std::sync::atomic::{AtomicU64, Ordering};
 use std::thread;
 
-/// One call of the factory in so many fails.
+/// One in this number of the factory's calls fails.
 const FAILS_OF: u64 = 12;
 
-/// Before one call in so many the thread lets others run.
+/// Before one in this number of calls the thread lets others run.
 const YIELDS_OF: u64 = 50;
 
 /// An object.
@@ -18,7 +18,7 @@ pub struct Thing {
     is_awake: bool,
 }
 
-/// What a factory did.
+/// The work of a factory.
 #[derive(Drop)]
 pub struct Tally {
     calls: AtomicU64,
@@ -35,14 +35,14 @@ impl Tally {
         }
     }
 
-    /// Whether all that were made were destroyed, but for so many.
+    /// Returns whether all created objects were destroyed, except `rest` of them.
     pub fn leaves(&self, rest: u64) -> bool {
         let made = self.made.load(Ordering::SeqCst);
         self.destroyed.load(Ordering::SeqCst).checked_add(rest) == Some(made)
     }
 }
 
-/// A factory whose calls fail by chance, each by its number.
+/// A factory whose calls fail at random, each by its number.
 #[derive(Drop)]
 pub struct Fickle<'a> {
     pub tally: &'a Tally,
@@ -50,7 +50,7 @@ pub struct Fickle<'a> {
 }
 
 impl Fickle<'_> {
-    // Whether a call fails. Now and then the others have their turn before.
+    // Whether a call fails. Now and then other threads run first.
     fn fails(&self) -> bool {
         let call = self.tally.calls.fetch_add(1, Ordering::SeqCst);
         let mut dice = Dice::new(self.seed.wrapping_add(call));
@@ -110,7 +110,7 @@ impl Factory<Thing, ()> for Fickle<'_> {
     }
 }
 
-/// A clock that goes on by a millisecond at each reading.
+/// A clock whose time increases by one millisecond at each reading.
 #[derive(Drop)]
 pub struct Ticking {
     moment: AtomicU64,
