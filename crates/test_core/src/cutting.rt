@@ -9,7 +9,7 @@ use pool_settings::Settings;
 use std::alloc::Global;
 use std::process::Abort;
 
-/// A journal of seven entries, of which an object's way takes four.
+/// A journal limit of seven entries, of which `ONE_WAY` takes four.
 const SEVEN: &str = "journalLimit = 7";
 
 const ONE_WAY: &str = "0 0 borrow 0 = make 0
@@ -21,15 +21,15 @@ const ONE_WAY: &str = "0 0 borrow 0 = make 0
 /// The base before all entries.
 const EMPTY: &str = "pool-journal 2 0 0 open none 0 0 0 0\n";
 
-/// What the four entries of an object's way come to.
+/// The base after the four entries of `ONE_WAY`.
 const ONE_IDLE: &str = "pool-journal 2 4 1 open none 0 0 0 1
 0 idle 3 0 0 0 old
 ";
 
-/// A base behind which there is room for one entry more.
+/// A base with room for one more entry.
 const ALMOST_MOST: &str = "pool-journal 2 9223372036854775806 0 open none 0 0 0 0\n";
 
-/// A base behind which there is none.
+/// A base with room for none.
 const MOST: &str = "pool-journal 2 9223372036854775807 0 open none 0 0 0 0\n";
 
 const NEW: Input = Input::Borrow { began: 0 };
@@ -39,7 +39,7 @@ fn is_same(one: &Base, other: &Base) -> bool {
     one.head() == other.head() && one.records.as_slice() == other.records.as_slice()
 }
 
-/// The base is the one whose lines the text is.
+/// Ends the test unless the base is that of the text.
 pub fn is_base(rt: &impl Abort, alloc: Global, found: &Base, text: &str) {
     let wanted = base_of(rt, alloc, text);
     assert!(rt; is_same(found, &wanted), "{found:?}");
@@ -49,13 +49,13 @@ fn are_same(some: &[Entry], others: &[Entry]) -> bool {
     some == others
 }
 
-// The entries are those whose lines the text is.
+// Ends the test unless the entries are those of the text.
 fn are_entries(rt: &impl Abort, alloc: Global, found: &[Entry], text: &str) {
     let wanted = entries(rt, alloc, text);
     assert!(rt; are_same(found, &wanted));
 }
 
-// Cuts the journal, which gives the base and these entries.
+// Cuts the journal, and compares the base and the entries of the segment.
 fn cuts(rt: &impl Abort, alloc: Global, core: &mut Core<u64>, base: &str, lines: &str) {
     let segment = cut(rt, alloc, core);
     is_base(rt, alloc, &segment.base, base);
@@ -63,7 +63,7 @@ fn cuts(rt: &impl Abort, alloc: Global, core: &mut Core<u64>, base: &str, lines:
     assert!(rt; length(core) == 0);
 }
 
-// A pool from a base that is refused; base and value come back.
+// Opening a pool from this base must fail with this error, and return base and values.
 fn is_refused(
     rt: &impl Abort,
     alloc: Global,
@@ -83,7 +83,7 @@ fn is_refused(
     }
 }
 
-// A pool from a base that may be refused once, for want of memory.
+// Opens a pool from a base, and tries once more if an allocation failed.
 fn is_opened(
     rt: &impl Abort,
     alloc: Global,
@@ -100,7 +100,7 @@ fn is_opened(
     }
 }
 
-// A pool whose journal is cut behind an object's way.
+// A pool whose journal is cut after the entries of `ONE_WAY`.
 fn cut_behind_one_way(rt: &impl Abort, alloc: Global) -> Core<u64> {
     let mut core = opened(rt, alloc, SEVEN);
     play(rt, alloc, &mut core, ONE_WAY);
@@ -117,14 +117,14 @@ fn cut_behind_an_object_s_way(rt: HostRuntime) {
     }
 }
 
-// A second cut gives no entries, behind those that were cut before.
+// A second cut gives no entries, and the base after those of the first.
 #[test]
 fn cut_twice(rt: HostRuntime) {
     let mut core = cut_behind_one_way(&rt, rt.alloc());
     cuts(&rt, rt.alloc(), &mut core, ONE_IDLE, "");
 }
 
-// Each fault in its turn; base and value come back.
+// Fails with each of three errors in turn; base and values are returned each time.
 fn is_refused_thrice(rt: &impl Abort, alloc: Global) -> (Base, Vec<(u64, u64)>) {
     let seven = settings_of(rt, alloc, SEVEN);
     let two = settings_of(rt, alloc, "journalLimit = 2");
@@ -137,7 +137,7 @@ fn is_refused_thrice(rt: &impl Abort, alloc: Global) -> (Base, Vec<(u64, u64)>) 
     is_refused(rt, alloc, no_places, base, values, BaseFault::NotABase)
 }
 
-// A pool behind an object's way takes the object, and is cut.
+// A pool that is opened after `ONE_WAY` lends the idle object, and is cut.
 fn goes_on(rt: &impl Abort, alloc: Global, core: &mut Core<u64>) {
     let taken = "0 0 borrow 0 = take 0\n";
     come_to(rt, counted(core), [4, 1, 0, 0, 1, 0, 0, 0]);
@@ -145,7 +145,7 @@ fn goes_on(rt: &impl Abort, alloc: Global, core: &mut Core<u64>) {
     cuts(rt, alloc, core, ONE_IDLE, taken);
 }
 
-// Refused thrice, and then a pool that goes on.
+// Opening fails three times, and then succeeds with the returned base and values.
 #[test]
 fn opened_from_a_base(rt: HostRuntime) {
     let (base, values) = is_refused_thrice(&rt, rt.alloc());
@@ -173,14 +173,14 @@ fn can_be_closed(rt: &impl Abort, alloc: Global, core: &mut Core<u64>) {
     refuses(rt, core, 0, 0, NEW);
 }
 
-// A base behind which there is room for one entry more.
+// A pool that is opened from a base with room for one more entry.
 #[test]
 fn opened_behind_most_entries(rt: HostRuntime) {
     let mut core = opened_bare(&rt, rt.alloc(), ALMOST_MOST);
     can_be_closed(&rt, rt.alloc(), &mut core);
 }
 
-// A base behind which there is none.
+// Opening from a base with room for no entry fails.
 #[test]
 fn refused_behind_all_entries(rt: HostRuntime) {
     let past = base_of(&rt, rt.alloc(), MOST);

@@ -1,4 +1,4 @@
-// The engines as the tests call them, over readers and writers that pass few bytes at a time, fail, are interrupted, or count.
+// The engines as the tests call them, with readers and writers that pass few bytes at a time, fail, are interrupted, or count their calls.
 mod calls;
 mod counted;
 mod failing;
@@ -34,7 +34,7 @@ pub fn check<R: Source, W: Sink>(
     pool_engines::check(alloc, settings, readers, writer)
 }
 
-/// Tells the statistics of a journal.
+/// Writes the statistics of a journal.
 pub fn stats<R: Source, W: Sink>(
     alloc: Global,
     reader: &mut R,
@@ -43,7 +43,7 @@ pub fn stats<R: Source, W: Sink>(
     pool_engines::stats(alloc, reader, writer)
 }
 
-/// Tells the statistics of a journal of so many objects and entries at most.
+/// Writes the statistics of a journal of at most `limit` objects and entries.
 pub fn stats_of_at_most<R: Source, W: Sink>(
     alloc: Global,
     limit: u64,

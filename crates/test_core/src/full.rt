@@ -1,10 +1,10 @@
-// Journals that have no room for a borrow, and for what else they have.
+// Journals without room for a borrow, which still have room for other entries.
 use crate::playing::{opened, play, refuses};
 use pool_journal::Input;
 use std::alloc::Global;
 use std::process::Abort;
 
-// Plays lines on a new pool, which then refuses a caller's borrow, and plays the next ones.
+// Plays lines on a new pool, then tries a borrow, which must fail as full, and plays the next lines.
 fn refuses_between(
     rt: &impl Abort,
     alloc: Global,
@@ -19,7 +19,7 @@ fn refuses_between(
     play(rt, alloc, &mut core, next);
 }
 
-// A pool of no objects has room for the entry that closes it, and no room for an object's way.
+// A pool without objects has room for its close, and none for the entries of an object.
 #[test]
 fn journal_of_six(rt: HostRuntime) {
     refuses_between(
@@ -32,7 +32,7 @@ fn journal_of_six(rt: HostRuntime) {
     );
 }
 
-// There is room for all the way of one object, whatever is refused beside it.
+// There is room for all entries of one object, also after a borrow that failed.
 #[test]
 fn journal_of_seven(rt: HostRuntime) {
     refuses_between(

@@ -1,4 +1,4 @@
-// A pool that is cut, and opened again from what it came to, answers as one that is not.
+// A pool that is cut, or opened again from the base of a cut, answers as one that is not.
 
 use crate::lives::{Dice, next_input, some_settings};
 use crate::playing::{counted, cut, from_base, given, open, step};
@@ -19,13 +19,13 @@ fn values_of(rt: &impl Abort, alloc: Global, base: &Base) -> Vec<(u64, u64)> {
     values
 }
 
-// What a pool came to: the base of the second of two cuts.
+// The base of a pool's present state: that of the second of two cuts.
 fn reached(rt: &impl Abort, alloc: Global, core: &mut Core<u64>) -> Base {
     drop(cut(rt, alloc, core));
     cut(rt, alloc, core).base
 }
 
-// A pool that goes on from what another came to.
+// Opens a pool from a base, with its values.
 fn opened_from(rt: &impl Abort, alloc: Global, settings: Settings, base: Base) -> Core<u64> {
     let values = values_of(rt, alloc, &base);
     match from_base(alloc, settings, base, values) {
@@ -48,7 +48,7 @@ fn interrupt(rt: &impl Abort, alloc: Global, settings: Settings, core: &mut Core
     }
 }
 
-// What a step came to; none where the journal is full.
+// The answer of a step and the value that it returns; `None` if the journal is full.
 fn stepped(
     rt: &impl Abort,
     core: &mut Core<u64>,
@@ -62,7 +62,7 @@ fn stepped(
     }
 }
 
-// Plays eighty inputs on a pool, and on one that is cut or opened again now and then.
+// Plays eighty inputs on a pool, and on another that is cut or opened again before about two of three inputs.
 fn go_on(
     rt: &impl Abort,
     alloc: Global,
@@ -81,7 +81,7 @@ fn go_on(
     }
 }
 
-// A pool, and one beside it that is interrupted.
+// Plays on a pool, and on a second one that is cut and opened again.
 fn go_on_beside(
     rt: &impl Abort,
     alloc: Global,
@@ -93,7 +93,7 @@ fn go_on_beside(
     go_on(rt, alloc, settings, dice, whole, &mut other);
 }
 
-// Two pools, of which one is interrupted.
+// Plays on two pools with the same settings, of which one is cut and opened again.
 fn both_go_on(rt: &impl Abort, alloc: Global, dice: &mut Dice) {
     let settings = some_settings(dice, 1_000);
     let mut whole = open(rt, alloc, settings);

@@ -1,4 +1,4 @@
-// Many lives of small journals, which are filled to the last entry and then brought to an end.
+// Fills many small journals with pseudo-random steps, and then completes all work that was begun.
 
 use crate::playing::{due_out, length, named, open, refuses, room, step, value_of};
 use pool_core::{Core, StepFault};
@@ -6,7 +6,7 @@ use pool_journal::{Answer, Entry, Input, Outcome, Phase, When};
 use pool_settings::Settings;
 use std::process::Abort;
 
-// Numbers that look random, and are the same each time.
+// Pseudo-random numbers, which are the same in each run.
 #[derive(Drop)]
 pub(crate) struct Dice {
     pub(crate) state: u64,
@@ -22,7 +22,7 @@ impl Dice {
     }
 }
 
-// The phase in which an object begins that is made for an input.
+// The first phase of an object that is created for an input.
 fn begins_as(input: Input) -> Phase {
     match input {
         Input::Borrow { began: _ } => Phase::Readying,
@@ -30,7 +30,7 @@ fn begins_as(input: Input) -> Phase {
     }
 }
 
-// The object that an entry moves, and where it comes to.
+// The object whose phase an entry changes, with the phase after it.
 fn moved(entry: &Entry) -> Option<(u64, Phase)> {
     match entry.answer {
         Answer::Take(id) => Some((id, Phase::Readying)),
@@ -47,7 +47,7 @@ fn moved(entry: &Entry) -> Option<(u64, Phase)> {
     }
 }
 
-// Where the journal leaves an object.
+// The phase of an object after the journal.
 fn phase_in(journal: &[Entry], id: u64) -> Phase {
     let mut phase = Phase::Absent;
     for entry in journal {
@@ -60,7 +60,7 @@ fn phase_in(journal: &[Entry], id: u64) -> Phase {
     phase
 }
 
-// How many objects were made.
+// The number of created objects.
 fn made_in(journal: &[Entry]) -> u64 {
     let mut made = 0u64;
     for entry in journal {
@@ -81,7 +81,7 @@ fn is_closed_in(journal: &[Entry]) -> bool {
     closed
 }
 
-// How many entries an object in this phase may still need.
+// The greatest number of entries that an object in this phase may still need.
 pub(crate) fn needs(phase: Phase) -> u64 {
     match phase {
         Phase::Readying => 5,
@@ -93,7 +93,7 @@ pub(crate) fn needs(phase: Phase) -> u64 {
     }
 }
 
-// How many entries the journal still needs.
+// The number of entries that the journal still needs: those of its present objects, and that of the close.
 fn owed_in(journal: &[Entry]) -> u64 {
     let mut owed = if is_closed_in(journal) { 0 } else { 1 };
     for id in 0..made_in(journal) {
@@ -113,7 +113,7 @@ fn some_outcome(dice: &mut Dice) -> Outcome {
     }
 }
 
-// What brings an object nearer to its end.
+// The input that takes the next step of an object towards its end.
 fn way_on(phase: Phase, id: u64, outcome: Outcome) -> Option<Input> {
     match phase {
         Phase::Readying => Some(Input::Ready { id, outcome }),
@@ -127,7 +127,7 @@ fn way_on(phase: Phase, id: u64, outcome: Outcome) -> Option<Input> {
     }
 }
 
-// Any input, about an object that may be there.
+// Any input, about an object that may be present.
 fn any_input(dice: &mut Dice, at: u64, id: u64) -> Input {
     match dice.roll() % 20 {
         0 => Input::Invalidate { id },
@@ -153,7 +153,7 @@ fn any_input(dice: &mut Dice, at: u64, id: u64) -> Input {
     }
 }
 
-// Something new, or the next part of what was begun.
+// Any input, or the next step of an object.
 pub(crate) fn next_input(dice: &mut Dice, journal: &[Entry], at: u64) -> Input {
     let id = dice.roll() % made_in(journal).saturating_add(1);
     let outcome = some_outcome(dice);
@@ -163,7 +163,7 @@ pub(crate) fn next_input(dice: &mut Dice, journal: &[Entry], at: u64) -> Input {
     }
 }
 
-// The room is what the journal leaves, with all that it still needs.
+// The room is the limit less the stored entries, and less those that are still needed.
 fn agrees(rt: &impl Abort, core: &Core<u64>, limit: u64) {
     let journal = core.journal();
     let taken = owed_in(journal).saturating_add(journal.len() as u64);
@@ -171,7 +171,7 @@ fn agrees(rt: &impl Abort, core: &Core<u64>, limit: u64) {
     assert!(rt; room(core) == limit.saturating_sub(taken));
 }
 
-// A refused step hands its value back, and comes only where there is no room for it and for a whole life.
+// A failed step returns its value. It fails as full only if fewer than the six entries of a new object fit.
 fn is_handed_back(rt: &impl Abort, fault: StepFault<u64>, input: Input, room: u64) {
     match fault {
         StepFault::JournalFull(back) => {
@@ -182,7 +182,7 @@ fn is_handed_back(rt: &impl Abort, fault: StepFault<u64>, input: Input, room: u6
     }
 }
 
-// Takes a step. One that is refused leaves the journal as it was. The answer tells whether it was taken.
+// Takes a step, and returns whether it succeeded. A failed step leaves the journal as it was.
 fn may_step(rt: &impl Abort, core: &mut Core<u64>, at: u64, input: Input) -> bool {
     let before = length(core);
     let left = room(core);
@@ -200,14 +200,14 @@ fn may_step(rt: &impl Abort, core: &mut Core<u64>, at: u64, input: Input) -> boo
     }
 }
 
-// Takes a step for which room and memory are kept.
+// Takes a completing step: its room and memory are set aside, so it must succeed.
 fn must_step(rt: &impl Abort, core: &mut Core<u64>, at: u64, input: Input) {
     let left = room(core);
     assert!(rt; may_step(rt, core, at, input));
     assert!(rt; room(core) >= left);
 }
 
-// Brings an object to its end.
+// Takes all steps that an object still needs.
 fn end(rt: &impl Abort, core: &mut Core<u64>, at: u64, id: u64) {
     for _ in 0..40 {
         if let Some(input) = way_on(phase_in(core.journal(), id), id, Outcome::Good) {
@@ -217,7 +217,7 @@ fn end(rt: &impl Abort, core: &mut Core<u64>, at: u64, id: u64) {
     assert!(rt; phase_in(core.journal(), id) == Phase::Gone);
 }
 
-// Ends all that was begun, and the pool before or after it.
+// Takes all steps that all objects still need, and closes the pool before or after them.
 fn end_all(rt: &impl Abort, core: &mut Core<u64>, at: u64, limit: u64, closes_first: bool) {
     if closes_first && !is_closed_in(core.journal()) {
         must_step(rt, core, at, Input::Close);
@@ -248,7 +248,7 @@ pub(crate) fn some_settings(dice: &mut Dice, limit: u64) -> Settings {
     }
 }
 
-// Takes sixty inputs and brings all to an end. The answer is how many steps were refused.
+// Tries sixty steps, then completes all work. Returns the number of steps that failed.
 fn live(rt: &impl Abort, dice: &mut Dice, mut core: Core<u64>, limit: u64) -> u64 {
     let mut at = 0u64;
     let mut refused = 0u64;
@@ -264,7 +264,7 @@ fn live(rt: &impl Abort, dice: &mut Dice, mut core: Core<u64>, limit: u64) -> u6
     refused
 }
 
-// At most one pool is not opened, for want of memory.
+// At most one pool fails to open, because of an injected failure.
 #[test]
 fn all_that_was_begun_can_end(rt: HostRuntime) {
     let mut dice = Dice { state: 1 };
@@ -283,10 +283,10 @@ fn all_that_was_begun_can_end(rt: HostRuntime) {
     assert!(rt; refused > 1000);
 }
 
-/// A borrow that begins at once.
+/// A borrow that has just begun.
 const NEW: Input = Input::Borrow { began: 0 };
 
-// The room of the opened pool, and of one with an object that is being made ready.
+// Compares the room of the opened pool, and its room with one object in phase readying; `None` if that borrow must fail.
 fn has_room(rt: &impl Abort, core: &mut Core<u64>, opened: u64, with_one: Option<u64>) {
     assert!(rt; room(core) == opened);
     match with_one {

@@ -1,4 +1,4 @@
-// The reference evaluator: short histories with the answer of each step, and the core beside it over steps that look random.
+// The reference evaluator: short histories with the answer of each step, and a comparison with the core over pseudo-random steps.
 mod checks;
 mod comparison;
 mod dice;

@@ -1,4 +1,4 @@
-// What the statistics of journals are at each entry. tests/cases/stats has those of whole journals.
+// The statistics of journals after each entry. tests/cases/stats has those of whole journals.
 use crate::playing::{entries, given};
 use pool_journal::{Answer, Entry, Input, Outcome};
 use pool_stats::{Ended, RunningTally, Statistics};
@@ -26,7 +26,7 @@ const DESTROYED: &str = "0 0 borrow 0 = make 0\n\
     1 8 tested 4 good = destroy\n\
     1 9 ready 5 activatefail = destroy\n";
 
-// Object 0 is lent for 15 milliseconds, and then until a moment before that lending began. Object 1 is still lent.
+// Object 0 is lent for 15 milliseconds, and then until a time before that lending began. Object 1 is still lent.
 const LENT_AGAIN: &str = "0 0 borrow 0 = make 0\n\
     0 10 ready 0 good = lent\n\
     0 25 return 0 = check\n\
@@ -38,7 +38,7 @@ const LENT_AGAIN: &str = "0 0 borrow 0 = make 0\n\
     1 20 return 0 = check\n\
     1 21 park 0 good = parked\n";
 
-/// Statistics, from their numbers in the order of the fields.
+/// The statistics with these numbers, in the order of the fields.
 fn numbers(all: [u64; 9]) -> Statistics {
     let [
         borrowed,
@@ -64,12 +64,12 @@ fn numbers(all: [u64; 9]) -> Statistics {
     }
 }
 
-// The statistics of a journal are these.
+// Ends the test unless the statistics of a journal are the wanted ones.
 fn come_to(rt: &impl Abort, journal: &str, found: Statistics, wanted: Statistics) {
     assert_eq!(rt; found, wanted, "at {journal}");
 }
 
-// Tells a tally one entry more.
+// Passes one more entry to a tally.
 fn tells(rt: &impl Abort, tally: &mut RunningTally, entry: &Entry) {
     if tally.taken() < u64::MAX {
         given(rt, tally.take(entry));
@@ -78,14 +78,14 @@ fn tells(rt: &impl Abort, tally: &mut RunningTally, entry: &Entry) {
     }
 }
 
-// A tally has the statistics of these entries.
+// Ends the test unless a tally has the statistics of these entries.
 fn is_told(rt: &impl Abort, alloc: Global, journal: &str, tally: &RunningTally, told: &[Entry]) {
     let wanted = given(rt, Statistics::of(alloc, told));
     come_to(rt, journal, tally.statistics(), wanted);
     assert_eq!(rt; tally.taken(), told.len() as u64);
 }
 
-// A tally that is told entries one by one has at each of them the statistics of all that it was told.
+// Passes entries to a tally one by one, and compares its statistics after each with those of all entries so far.
 fn told_of(rt: &impl Abort, alloc: Global, journal: &str, entries: &[Entry]) -> Statistics {
     let mut tally = RunningTally::new(alloc);
     let mut told = Vec::new(alloc);

@@ -1,4 +1,4 @@
-// Pools that keep no entries.
+// Steppers: cores that store no entries.
 use crate::cutting::is_base;
 use crate::playing::{
     PLAIN_LIFE, TWO_OBJECTS, base_of, come_to, entries, given, settings_of, value_of,
@@ -10,7 +10,7 @@ use pool_stats::Counts;
 use std::alloc::Global;
 use std::process::Abort;
 
-/// What the four entries of an object's way come to: it was lent at 11 and parked at 16.
+/// The base after the four entries of `PLAIN_LIFE`: the object was lent at 11 and parked at 16.
 const ONE_IDLE: &str = "pool-journal 2 4 1 open none 0 0 0 1
 0 idle 3 16 11 11 old
 ";
@@ -21,7 +21,7 @@ fn opened(rt: &impl Abort, alloc: Global, settings: &str) -> Stepper<u64> {
     Stepper::open(alloc, settings_of(rt, alloc, settings))
 }
 
-// Hands a stepper an input with the value that it carries.
+// Takes a step of a stepper, with the value that the input carries.
 fn step(
     stepper: &mut Stepper<u64>,
     caller: u32,
@@ -31,7 +31,7 @@ fn step(
     stepper.step(caller, at, input, value_of(input))
 }
 
-// How many steps were taken since the last cut.
+// The number of steps since the last cut.
 fn taken(stepper: &Stepper<u64>) -> u64 {
     stepper.taken()
 }
@@ -44,7 +44,7 @@ fn counted(stepper: &Stepper<u64>) -> Counts {
     stepper.counts()
 }
 
-// Takes a step. Where memory is wanting the value comes back, and nothing has changed.
+// Takes a step. If an allocation fails, the value must be returned, and nothing may have changed.
 fn try_step(
     rt: &impl Abort,
     stepper: &mut Stepper<u64>,
@@ -60,7 +60,7 @@ fn try_step(
     None
 }
 
-// Takes a step, and once more where memory is wanting.
+// Takes a step, and tries once more if an allocation failed.
 fn take_step(rt: &impl Abort, stepper: &mut Stepper<u64>, wanted: &Entry) -> (Entry, Option<u64>) {
     if let Some(done) = try_step(rt, stepper, wanted) {
         return done;
@@ -71,7 +71,7 @@ fn take_step(rt: &impl Abort, stepper: &mut Stepper<u64>, wanted: &Entry) -> (En
     }
 }
 
-// Takes the steps of entries, and compares each entry and what was foreseen.
+// Takes the steps of entries, and compares each entry, and the answer that `due` gave before.
 fn takes(rt: &impl Abort, stepper: &mut Stepper<u64>, entries: &[Entry]) {
     for wanted in entries {
         let before = taken(stepper);
@@ -89,7 +89,7 @@ fn plays(rt: &impl Abort, alloc: Global, stepper: &mut Stepper<u64>, lines: &str
     takes(rt, stepper, &wanted);
 }
 
-// A step for which there is no room hands its value back, and is not taken.
+// A step for which there is no room must return its value, and not be taken.
 fn refuses(rt: &impl Abort, stepper: &mut Stepper<u64>, input: Input) {
     let before = taken(stepper);
     match step(stepper, 0, 0, input) {
@@ -107,7 +107,7 @@ fn steps_without_a_journal(rt: HostRuntime) {
     come_to(&rt, counted(&stepper), [9, 1, 0, 1, 2, 0, 0, 0]);
 }
 
-// There is room for all the way of one object, and for no other.
+// There is room for all entries of one object, and for no second object.
 #[test]
 fn room_without_a_journal(rt: HostRuntime) {
     let mut stepper = opened(&rt, rt.alloc(), "journalLimit = 7");
@@ -131,13 +131,13 @@ fn cut(rt: &impl Abort, alloc: Global, stepper: &mut Stepper<u64>) -> Base {
     given(rt, stepper.cut(alloc))
 }
 
-// A cut gives what the entries came to.
+// A cut returns the base after the entries.
 fn cuts(rt: &impl Abort, alloc: Global, stepper: &mut Stepper<u64>) {
     let base = cut(rt, alloc, stepper);
     is_base(rt, alloc, &base, ONE_IDLE);
 }
 
-// Behind the cut no step was taken, the counts go on, and there is room for as many steps again.
+// After a cut the number of steps is zero, the counts go on, and there is room again.
 fn goes_on_behind_a_cut(rt: &impl Abort, alloc: Global, stepper: &mut Stepper<u64>) {
     plays(rt, alloc, stepper, PLAIN_LIFE);
     cuts(rt, alloc, stepper);
@@ -152,7 +152,7 @@ fn cut_without_a_journal(rt: HostRuntime) {
     goes_on_behind_a_cut(&rt, rt.alloc(), &mut stepper);
 }
 
-// A stepper from a base, with a value of an object with this id.
+// Opens a stepper from a base, with a value for this id.
 fn from_base(
     rt: &impl Abort,
     alloc: Global,
@@ -163,12 +163,12 @@ fn from_base(
     Stepper::from_base(alloc, Settings::default(), base, values)
 }
 
-// Whether there is no stepper from a base, with a value of an object with this id.
+// Whether opening a stepper from a base, with a value for this id, fails.
 fn is_refused(rt: &impl Abort, alloc: Global, base: &mut Base, id: u64) -> bool {
     from_base(rt, alloc, base, id).is_err()
 }
 
-// A base that is refused stays as it was, and the values come back.
+// If opening fails, the base stays as it was, and the values are returned.
 #[test]
 fn refused_without_a_journal(rt: HostRuntime) {
     let mut base = base_of(&rt, rt.alloc(), ONE_IDLE);
@@ -181,7 +181,7 @@ fn refused_without_a_journal(rt: HostRuntime) {
     is_base(&rt, rt.alloc(), &base, ONE_IDLE);
 }
 
-// A stepper behind four entries takes the object with its value.
+// A stepper that was opened after four entries lends the idle object with its value.
 fn goes_on(rt: &impl Abort, stepper: &mut Stepper<u64>, next: &[Entry]) {
     for wanted in next {
         let (entry, out) = take_step(rt, stepper, wanted);
@@ -191,7 +191,7 @@ fn goes_on(rt: &impl Abort, stepper: &mut Stepper<u64>, next: &[Entry]) {
     assert!(rt; counted(stepper).steps == 5);
 }
 
-// A stepper from a base goes on as the one that was cut.
+// A stepper that is opened from a base goes on as the one that was cut, also after an opening that failed.
 #[test]
 fn opened_without_a_journal(rt: HostRuntime) {
     let mut base = base_of(&rt, rt.alloc(), ONE_IDLE);

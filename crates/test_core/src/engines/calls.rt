@@ -12,7 +12,7 @@ use std::alloc::Global;
 use std::cell::Cell;
 use std::process::Abort;
 
-/// A line so many times.
+/// The bytes of a line, `times` times.
 fn repeated(rt: &impl Abort, alloc: Global, line: &str, times: usize) -> Vec<u8> {
     let mut bytes = Vec::new(alloc);
     for _ in 0..times {
@@ -22,7 +22,7 @@ fn repeated(rt: &impl Abort, alloc: Global, line: &str, times: usize) -> Vec<u8>
     bytes
 }
 
-/// What is handed to a writer that takes one write and its flush.
+/// The calls of a writer: one write and its flush.
 const ONE_WRITE: Handed = Handed {
     writes: 1,
     flushes: 1,
@@ -30,7 +30,7 @@ const ONE_WRITE: Handed = Handed {
     unflushed: 0,
 };
 
-/// What is handed to one that takes none.
+/// No call.
 const NO_WRITE: Handed = Handed {
     writes: 0,
     flushes: 0,
@@ -38,7 +38,7 @@ const NO_WRITE: Handed = Handed {
     unflushed: 0,
 };
 
-/// What is handed to one that takes four.
+/// Four writes, each with its flush.
 const FOUR_WRITES: Handed = Handed {
     writes: 4,
     flushes: 4,
@@ -46,8 +46,8 @@ const FOUR_WRITES: Handed = Handed {
     unflushed: 0,
 };
 
-/// 130,000 bytes come in two reads. Of the 200,016 bytes that are told of them, 100,836 are told of the
-/// 5,041 lines of the first, and so many as have room wait at a time.
+/// 130,000 bytes come in two reads. The journal has 200,016 bytes, of which 100,836 are those of the 5,041 lines
+/// of the first read. The engine gathers as many as fit its buffer before each write.
 #[test]
 fn bytes_are_gathered(rt: HostRuntime) {
     let script = repeated(&rt, rt.alloc(), "0 0 borrow 0\n", 10_000);
@@ -129,7 +129,7 @@ fn nothing_is_read_after_what_is_no_entry(rt: HostRuntime) {
     is(&rt, found, (Err(not_a_line), 1, 0));
 }
 
-/// What stands once a journal of seven entries is full.
+/// A journal of seven entries, which is full.
 const FULL_OF_CLOSES: &str = "0 0 close = count 0\n\
     0 0 close = nothing\n\
     0 0 close = nothing\n\

@@ -6,20 +6,20 @@ use std::alloc::Global;
 use std::io;
 use std::io::{Read, Write};
 
-/// What a reader was asked.
+/// The calls of a reader.
 #[derive(Clone, Copy, Debug, PartialEq)]
 pub struct Asked {
     /// The reads that a signal didn't interrupt.
     pub reads: u64,
-    /// Those among them that found the end.
+    /// Those of these reads that found the end.
     pub ends: u64,
-    /// The least room that a read was given.
+    /// The length of the shortest buffer.
     pub least_room: usize,
-    /// The most.
+    /// The length of the longest buffer.
     pub most_room: usize,
 }
 
-/// Gives its bytes, and is interrupted so often before each read.
+/// Gives its bytes, and is interrupted `interruptions` times before each read.
 #[derive(Drop)]
 pub struct CountedReader<'a> {
     rest: &'a [u8],
@@ -76,7 +76,7 @@ impl Source for CountedReader<'_> {
     }
 }
 
-/// What a writer was asked.
+/// The calls of a writer.
 #[derive(Clone, Copy, Debug, PartialEq)]
 pub struct Handed {
     /// The writes that a signal didn't interrupt.
@@ -89,7 +89,7 @@ pub struct Handed {
     pub unflushed: usize,
 }
 
-/// Takes all bytes, and is interrupted so often before each write and each flush.
+/// Takes all bytes, and is interrupted `interruptions` times before each write and each flush.
 #[derive(Drop)]
 pub struct CountedWriter {
     bytes: Vec<u8>,
@@ -121,7 +121,7 @@ impl CountedWriter {
         &self.bytes
     }
 
-    /// Whether a signal comes first.
+    /// Returns whether a signal interrupts this call.
     fn is_interrupted(&mut self) -> bool {
         if self.left > 0 {
             self.left -= 1;

@@ -9,7 +9,7 @@ use std::alloc::Global;
 use std::fmt::Debug;
 use std::process::Abort;
 
-/// How many lines end in the bytes.
+/// The number of lines that end within the bytes.
 fn lines_in(bytes: &[u8]) -> usize {
     let mut lines = 0usize;
     for byte in bytes {
@@ -29,12 +29,12 @@ fn first_lines(rt: &impl Abort, alloc: Global, text: &str, count: usize) -> Stri
     lines
 }
 
-/// This was found at bytes.
+/// Ends the test unless `found` is `wanted`, and names the bytes.
 fn is_at_bytes<T: Debug + Drop + PartialEq>(rt: &impl Abort, bytes: &[u8], found: T, wanted: T) {
     assert_eq!(rt; found, wanted, "at {bytes:?}");
 }
 
-/// A reader that gives these bytes in pieces of this size, and then fails.
+/// Runs a script from a reader that gives these bytes in pieces of this size, and then fails.
 fn fails_behind(rt: &impl Abort, alloc: Global, given: &[u8], size: usize) {
     let mut reader = Failing::new(given, size);
     let mut written = Vec::new(alloc);
@@ -55,7 +55,7 @@ fn readers_that_fail_at_each_byte(rt: HostRuntime) {
     }
 }
 
-/// A writer that takes these bytes, and then fails or takes none.
+/// Runs a script with a writer that takes these bytes, and then fails or takes none.
 fn fails_after(rt: &impl Abort, alloc: Global, script: &str, taken: &[u8], fails: bool) {
     let mut writer = Limited::new(alloc, taken.len(), fails);
     let mut rest = script.as_bytes();

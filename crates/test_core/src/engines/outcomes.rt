@@ -1,26 +1,26 @@
-// What the engines come to over bytes in memory, with what they write.
+// Checks that end a test unless an engine returned or wrote what is wanted.
 use crate::engines::stats_of_at_most;
 use pool_engines::EngineFault;
 use std::alloc::Global;
 use std::fmt::Debug;
 use std::process::Abort;
 
-/// This was found.
+/// Ends the test unless `found` is `wanted`.
 pub fn is<T: Debug + Drop + PartialEq>(rt: &impl Abort, found: T, wanted: T) {
     assert_eq!(rt; found, wanted);
 }
 
-/// This was found at a text.
+/// Ends the test unless `found` is `wanted`, and names the text.
 pub fn is_at<T: Debug + Drop + PartialEq>(rt: &impl Abort, text: &str, found: T, wanted: T) {
     assert_eq!(rt; found, wanted, "at {text}");
 }
 
-/// This was written.
+/// Ends the test unless the written bytes are the text.
 pub fn wrote(rt: &impl Abort, written: &[u8], wanted: &str) {
     is(rt, written, wanted.as_bytes());
 }
 
-/// The statistics of a journal of so many objects and entries at most come to this, and this is told.
+/// Compares the result and the written lines of the statistics of a journal, of at most `limit` objects and entries.
 pub fn sums_up(
     rt: &impl Abort,
     alloc: Global,

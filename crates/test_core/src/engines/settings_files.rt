@@ -1,4 +1,4 @@
-// What settings files answer. tests/cases/settings has texts that are refused.
+// Settings files that are read, too long, or not text. tests/cases/settings has texts with errors.
 use crate::engines::outcomes::is;
 use crate::engines::read_settings;
 use crate::engines::streams::{Failing, Pieces};
@@ -10,7 +10,7 @@ use std::process::Abort;
 
 const MOST: usize = 1_048_576;
 
-/// What is told of a file that gives no settings, and `read` of one that does.
+/// The message of a file that is not read, and `read` for one that is.
 fn told<R: Source>(rt: &impl Abort, alloc: Global, reader: &mut R) -> String {
     let told = match read_settings(alloc, reader) {
         Ok(_) => String::from_str(alloc, "read"),
@@ -19,7 +19,7 @@ fn told<R: Source>(rt: &impl Abort, alloc: Global, reader: &mut R) -> String {
     told.expect(rt, "what is told of a file")
 }
 
-/// Whether a file said that there are three objects.
+/// Whether the settings of a file allow three objects.
 pub fn says_three(answer: &Result<Settings, FileFault>) -> bool {
     match answer {
         Ok(settings) => settings.max_total() == 3,
@@ -34,7 +34,7 @@ fn read(rt: &impl Abort, alloc: Global, text: &str) -> Settings {
     }
 }
 
-/// A file of this length that says a number of objects.
+/// A file of this length that sets the number of objects.
 fn file_of(rt: &impl Abort, alloc: Global, length: usize) -> Vec<u8> {
     let line = Vec::from_slice(alloc, b"maxTotal = 3\n");
     let mut bytes = line.expect(rt, "the line of a file");

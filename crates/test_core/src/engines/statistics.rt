@@ -34,7 +34,7 @@ const CLOSED: &str = "0 0 borrow 0 = make 0\n\
 const OF_CLOSED: &str = "borrowed 2\nreturned 2\ncreated 2\ndestroyed 1\nevicted 0\n\
     borrowtestfailed 0\nreclaimed 0\nlongest 2\ntotal 3\n";
 
-// The second segment of a journal that was cut behind four entries.
+// The second segment of a journal that was cut after four entries.
 const SEGMENT: &str = "pool-journal 2 4 1 open none 0 0 0 1\n\
     0 idle 3 0 0 0 old\n\
     0 0 borrow 0 = take 0\n";
@@ -43,19 +43,19 @@ const NO_NUMBER: &str = "0 10 borrow 10 = make 0\n0 11 ready 00 good = lent\n";
 
 const BAD_NUMBER: EngineFault = EngineFault::Line(2, LineFault::BadNumber);
 
-/// Journals of at most so many entries, with what their statistics come to, and what is told.
+/// Limits and journals, with the result of their statistics, and the written lines.
 fn limited_journals() -> &'static [(u64, &'static str, Result<(), EngineFault>, &'static str)] {
     &[
         (4, PLAIN_LIFE, Ok(()), OF_PLAIN_LIFE),
         (3, PLAIN_LIFE, Err(EngineFault::Full(4)), ""),
         (0, PLAIN_LIFE, Err(EngineFault::Full(1)), ""),
         (0, "", Ok(()), OF_NOTHING),
-        // A line is read before there is found to be no room for it.
+        // A line is read before the limit is checked.
         (1, NO_NUMBER, Err(BAD_NUMBER), ""),
     ]
 }
 
-// Where there is one entry too many, nothing is told.
+// If there is one entry too many, nothing is written.
 #[test]
 fn statistics_end_at_their_limit(rt: HostRuntime) {
     for &(limit, journal, ended, told) in limited_journals() {
@@ -63,7 +63,7 @@ fn statistics_end_at_their_limit(rt: HostRuntime) {
     }
 }
 
-// Objects are counted with the entries, and the first line isn't.
+// The limit counts the objects of the base and the entries, not the first line.
 #[test]
 fn statistics_of_a_segment_end_at_their_limit(rt: HostRuntime) {
     for &(limit, ended, told) in &[

@@ -1,4 +1,4 @@
-// Readers and writers that give and take little, fail, are interrupted, or count.
+// Readers and writers that pass few bytes at a time, fail, or never end.
 ghost use Rattle.std.specs.Prelude.{◌≡◌, true, ◌≤◌, length, IfSome};
 
 use pool_engines::{Sink, Source, flush_past_signals, read_past_signals, write_past_signals};
@@ -7,7 +7,7 @@ use std::cell::Cell;
 use std::io;
 use std::io::{Read, Write};
 
-/// Gives its bytes in pieces, and sees how much was written before the second.
+/// Gives its bytes in pieces, and notes how much was written before the second read.
 #[derive(Drop)]
 pub struct Pieces<'a> {
     rest: &'a [u8],
@@ -138,7 +138,7 @@ impl<'a> Failing<'a> {
         self.calls_after
     }
 
-    /// Marks a failure, or that there was one before.
+    /// Notes a failure, and counts the call if there was one before.
     fn fail(&mut self) -> io::Error
         ensures { self.new.has_failed ≡ true }
     {
@@ -149,7 +149,7 @@ impl<'a> Failing<'a> {
         io::ErrorKind::BrokenPipe.into()
     }
 
-    /// Gives some bytes, where there are any.
+    /// Gives some bytes if any are left.
     fn give(&mut self, buf: &mut [u8]) -> Option<usize>
         ensures within { IfSome result (λ count. count ≤ length buf.new) }
         ensures failed { self.new.has_failed ≡ self.old.has_failed }

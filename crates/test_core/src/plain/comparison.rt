@@ -1,4 +1,4 @@
-// The core and the plain evaluator side by side, over steps that look like chance.
+// Compares the core with the reference evaluator over pseudo-random steps.
 ghost use Rattle.std.specs.Prelude.{◌≡◌, ◌<◌, is_some};
 ghost use Rattle.pool_journal.specs.Carrying.{carries};
 
@@ -16,7 +16,7 @@ const STEPS: usize = 400;
 // The counts are compared at each step whose number this divides, and at the end.
 const COUNTED: usize = 20;
 
-// The place of a full journal in the list of what was seen, behind those of the answers.
+// The position of "the journal is full" in the list `seen`, after those of the answers.
 const FULL: usize = 22;
 
 fn value_of(input: Input) -> Option<u64>
@@ -25,7 +25,7 @@ fn value_of(input: Input) -> Option<u64>
     if input.carries() { Some(7) } else { None }
 }
 
-// The place of an answer in the list of what was seen.
+// The position of an answer in the list `seen`.
 fn kind_of(answer: Answer) -> usize
     ensures { result < 22 }
 {
@@ -55,7 +55,7 @@ fn kind_of(answer: Answer) -> usize
     }
 }
 
-// The object that an answer draws.
+// The object that an answer creates.
 fn drawn_by(answer: Answer) -> Option<u64> {
     match answer {
         Answer::Make(id) => Some(id),
@@ -63,7 +63,7 @@ fn drawn_by(answer: Answer) -> Option<u64> {
     }
 }
 
-// The object that an answer tells.
+// The object that an answer names.
 fn told_by(answer: Answer) -> Option<u64> {
     match answer {
         Answer::Take(id)
@@ -76,13 +76,13 @@ fn told_by(answer: Answer) -> Option<u64> {
     }
 }
 
-// Compares the counts of a core with the plain ones.
+// Compares the counts of a core with those of the reference evaluator.
 fn compare_counts(rt: &impl Abort, alloc: Global, core: &Core<u64>) {
     let plain = counts(alloc, core.journal()).expect(rt, "memory");
     expect_equal(rt, core.counts(), plain);
 }
 
-// Hands a core an input with the value that it carries.
+// Takes a step of a core, with the value that the input carries.
 fn step(
     core: &mut Core<u64>,
     at: u64,
@@ -91,7 +91,7 @@ fn step(
     core.step(0, at, input, value_of(input))
 }
 
-// Steps a core, and compares its answer with the plain one. None is given where the journal is full.
+// Takes a step of a core, and compares its answer with that of the reference evaluator. Returns `None` if the journal is full.
 fn step_both(
     rt: &impl Abort,
     alloc: Global,
@@ -111,8 +111,7 @@ fn step_both(
     }
 }
 
-// Steps a core, and compares each answer with the plain one, and now and then the counts. It marks what
-// came.
+// Takes `STEPS` steps of a core, and compares each answer, and the counts after every `COUNTED`th. Marks in `seen` each answer that occurred.
 fn play(
     rt: &impl Abort,
     alloc: Global,
@@ -140,20 +139,20 @@ fn play(
     compare_counts(rt, alloc, core);
 }
 
-// Compares on a new core.
+// Compares over the steps of one seed, on a new core.
 fn compare(rt: &impl Abort, alloc: Global, settings: Settings, seed: u64, seen: &mut [bool; 23]) {
     let mut core = Core::open(alloc, settings).expect(rt, "memory");
     play(rt, alloc, &settings, &mut core, seed, seen);
 }
 
-// Compares over some seeds.
+// Compares over the steps of four seeds.
 fn compare_all(rt: &impl Abort, alloc: Global, settings: Settings, seen: &mut [bool; 23]) {
     for seed in 0..4 {
         compare(rt, alloc, settings, seed, seen);
     }
 }
 
-// Few objects, of which one may be idle.
+// At most two objects, of which one may be idle.
 fn few() -> Settings {
     Settings {
         max_idle: 1,

@@ -1,4 +1,4 @@
-// Steps that look like chance, and are the same in each run.
+// Pseudo-random steps, which are the same in each run.
 ghost use Rattle.std.specs.Prelude.{◌<◌};
 
 use pool_journal::{Input, Outcome, When};
@@ -24,7 +24,7 @@ impl Dice {
         (self.state >> 33) % sides
     }
 
-    // The moment of the next step, in milliseconds; one of 16 is an earlier one.
+    // The time of the next step, in milliseconds; one of 16 goes back by up to 59.
     pub fn moment(&mut self, before: u64) -> u64 {
         if self.roll(16) == 0 {
             before.saturating_sub(self.roll(60))
@@ -33,7 +33,7 @@ impl Dice {
         }
     }
 
-    // Two of three outcomes are good.
+    // Ten of 15 outcomes are good.
     fn outcome(&mut self) -> Outcome {
         match self.roll(15) {
             0 => Outcome::MakeFailed,
@@ -45,7 +45,7 @@ impl Dice {
         }
     }
 
-    // An input, where the object `last` was drawn last and `met` is that of which an answer told.
+    // An input. `last` is the object that was created last, `met` the one that an answer named last.
     pub fn input(&mut self, last: u64, met: u64, at: u64) -> Input {
         match self.roll(7) {
             0 => Input::Borrow {

@@ -6,7 +6,7 @@ use pool_settings::Settings;
 use std::alloc::Global;
 use std::process::Abort;
 
-// A moment, an input, and the answer that is due.
+// A time, an input, and the expected answer.
 type Line = (u64, Input, Answer);
 
 fn borrow(began: u64) -> Input {
@@ -41,7 +41,7 @@ fn tested(id: u64) -> Input {
     }
 }
 
-// Answers each line after those before it, and compares.
+// Evaluates each line after those before it, and compares the answer.
 fn answer_lines(
     rt: &impl Abort,
     alloc: Global,
@@ -63,7 +63,7 @@ fn answer_lines(
     }
 }
 
-// Answers lines after those that come before.
+// Evaluates the lines of `before`, and then `lines` after them.
 fn play(rt: &impl Abort, alloc: Global, settings: Settings, before: &[Line], lines: &[Line]) {
     let mut entries = Vec::new(alloc);
     answer_lines(rt, alloc, &settings, &mut entries, before);
@@ -141,7 +141,7 @@ fn waits_for_a_place(rt: HostRuntime) {
     play(&rt, rt.alloc(), patient, &full, &in_time);
 }
 
-// Two objects come back where `max_idle` is the greatest number of idle ones.
+// Two objects are returned to a pool with this `max_idle`, with these answers when they are parked.
 fn play_returns(rt: &impl Abort, alloc: Global, max_idle: i32, first: Answer, second: Answer) {
     let settings = Settings {
         max_idle,
@@ -276,7 +276,7 @@ fn tests_keep_their_place_in_the_queue(rt: HostRuntime) {
     play(&rt, rt.alloc(), settings, &two_lives(), &lines);
 }
 
-// Answers lines after an object was lent.
+// Evaluates lines after an object was lent.
 fn play_lent(rt: &impl Abort, alloc: Global, settings: Settings, lines: &[Line]) {
     let lent = [(0, borrow(0), Answer::Make(0)), (0, ready(0), Answer::Lent)];
     play(rt, alloc, settings, &lent, lines);
@@ -351,7 +351,7 @@ fn reclaims_nothing_unless_told(rt: HostRuntime) {
     play_lent(&rt, rt.alloc(), Settings::default(), &lines);
 }
 
-// Limits at the ends of their types.
+// Settings at the least and the greatest values of their types.
 #[test]
 fn takes_any_limit(rt: HostRuntime) {
     let least = Settings {
