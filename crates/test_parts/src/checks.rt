@@ -7,7 +7,7 @@ pub fn expect_equal<T: Copy + PartialEq + Debug>(rt: &impl Abort, found: T, want
     assert_eq!(rt; found, wanted);
 }
 
-/// Ends the test unless what was found in a text is what is wanted.
+/// Ends the test unless `found` is `wanted`, and names the text that was read.
 pub fn expect_read<T: Copy + PartialEq + Debug>(
     rt: &impl Abort,
     text: &[u8],

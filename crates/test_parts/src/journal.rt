@@ -1,3 +1,3 @@
-// The lines of journals and of bases: what is read, and how they are printed.
+// Lines of journals and of bases, which are read and printed.
 mod bases;
 mod lines;

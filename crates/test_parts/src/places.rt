@@ -1,4 +1,4 @@
-// Places, and what they consist of: objects under keys, and keys in ascending order of id.
+// Places, and their parts: slots under keys, and the index of keys in ascending order of id.
 mod calls;
 mod index;
 mod lives;

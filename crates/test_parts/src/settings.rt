@@ -1,4 +1,4 @@
-// The values that texts give to settings. tests/cases/settings has the texts that are refused, with what is printed of each.
+// The settings of texts. tests/cases/settings has texts with errors, and the message of each.
 use crate::checks::expect_equal;
 use pool_settings::Settings;
 use std::process::Abort;
@@ -7,7 +7,7 @@ fn read(rt: &(impl AllocGlobal + Abort), text: &str) -> Settings {
     Settings::from_text(rt.alloc(), text).expect(rt, text)
 }
 
-/// The numbers of settings but for the journal's limit, by the alphabet of their keys.
+/// The numbers of settings except the journal limit, in the alphabetical order of their keys.
 fn numbers(settings: &Settings) -> [i64; 8] {
     [
         settings.max_idle() as i64,
@@ -21,7 +21,7 @@ fn numbers(settings: &Settings) -> [i64; 8] {
     ]
 }
 
-/// What is true or false of settings, by the alphabet of their keys.
+/// The settings that are true or false, in the alphabetical order of their keys.
 fn flags(settings: &Settings) -> [bool; 9] {
     [
         settings.abandoned(),
@@ -52,7 +52,7 @@ fn defaults(rt: HostRuntime) {
     expect_equal(&rt, numbers(&read(&rt, "[abandoned]")), DEFAULTS);
 }
 
-/// Each setting at its key, all at values that are no other's.
+/// Every key, none with its default, and each number with a value of its own.
 const EVERY_KEY: &str = "
 blockWhenExhausted = false
 journalLimit = 20
@@ -85,7 +85,7 @@ fn every_key_is_read(rt: HostRuntime) {
     expect_equal(&rt, settings.effective_min_idle(), 3);
 }
 
-/// Of what is true or false each one alone.
+/// Texts with one flag each, and one with the bare section. None has `blockWhenExhausted`.
 const FLAGS_ALONE: [(&str, [bool; 9]); 8] = [
     (
         "lifo = false",

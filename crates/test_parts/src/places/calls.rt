@@ -11,7 +11,7 @@ use pool_places::{Place, PlaceCounts, Places, weight_of_phase};
 use std::alloc::Global;
 use std::process::Abort;
 
-// An object that comes to the pool, in a plain list.
+// Adds a new object to the plain list, which the places are compared with.
 fn come(rt: &impl Abort, plain: &mut Vec<Place<u64>>, id: u64, phase: Phase) {
     let known = Record {
         id,
@@ -26,7 +26,7 @@ fn come(rt: &impl Abort, plain: &mut Vec<Place<u64>>, id: u64, phase: Phase) {
     plain.push(place).expect(rt, "memory");
 }
 
-// What an object in a plain list becomes, as it is chosen, at a moment that is also a place in the queue.
+// Moves an object of the plain list to a next phase, by `choice`, at a time that is also its position in the queue.
 fn turn(place: &mut Place<u64>, choice: u64, moment: u64) {
     let old = place.known.phase;
     let phase = match old {
@@ -61,7 +61,7 @@ fn turn(place: &mut Place<u64>, choice: u64, moment: u64) {
     place.known.is_new = false;
 }
 
-// The same of an object that keeps no value.
+// The same in the places, for an object without a value.
 fn move_on(places: &mut Places<u64>, id: u64, known: Record, choice: u64, moment: u64)
     requires known { record_in (records_in places.old.kept) id ≡ Some known }
     requires before { AllBefore moment (records_in places.old.kept) }
@@ -80,7 +80,7 @@ fn move_on(places: &mut Places<u64>, id: u64, known: Record, choice: u64, moment
     }
 }
 
-// The same of an idle object, whose value comes out.
+// The same in the places, for any object. Returns the value of an idle one.
 fn take(places: &mut Places<u64>, id: u64, known: Record, choice: u64, moment: u64) -> Option<u64>
     requires known { record_in (records_in places.old.kept) id ≡ Some known }
     requires before { AllBefore moment (records_in places.old.kept) }
@@ -107,7 +107,7 @@ fn open(rt: &impl Abort, places: &mut Places<u64>, id: u64, phase: Phase)
     places.open(id, phase);
 }
 
-// Turns one object of a plain list. Gives its id, and the value that it kept.
+// Moves one object of the plain list on. Returns its id, and the value that it had.
 fn turn_one(plain: &mut Vec<Place<u64>>, number: u64, moment: u64) -> Option<(u64, Option<u64>)> {
     let index = (number >> 8) as usize % plain.len().max(1);
     let place = plain.get_mut(index)?;
@@ -120,7 +120,7 @@ fn turn_one(plain: &mut Vec<Place<u64>>, number: u64, moment: u64) -> Option<(u6
     Some((id, value))
 }
 
-// Turns the object in the places, and compares the value that comes out.
+// Moves the object in the places on, and compares the returned value.
 fn go_on(
     rt: &impl Abort,
     places: &mut Places<u64>,
@@ -137,7 +137,7 @@ fn go_on(
     expect_equal(rt, out, value);
 }
 
-// One call, by chance.
+// One pseudo-random call, of the places and of the plain list.
 fn call(
     rt: &impl Abort,
     places: &mut Places<u64>,
@@ -160,7 +160,7 @@ fn call(
     }
 }
 
-// Nothing that is seen changes.
+// Looks for idle and for overdue objects, which changes no answer.
 fn look(places: &mut Places<u64>, number: u64, moment: u64)
     ensures { places.new ≡ places.old }
 {
@@ -172,7 +172,7 @@ fn is_overdue(place: &Place<u64>, at: u64, timeout: u64) -> bool {
     place.known.phase == Phase::Lent && at.saturating_sub(place.known.used) >= timeout
 }
 
-// Whether an object is idle, parked at the position or later, and before the best one.
+// Whether an object is idle, parked at the position or later, and earlier than the best one so far.
 fn is_earlier(known: Record, position: u64, best: Option<Record>) -> bool {
     known.phase == Phase::Idle
         && known.parked >= position
@@ -193,7 +193,7 @@ fn first_from(plain: &[Place<u64>], position: u64) -> Option<u64> {
     Some(first?.id)
 }
 
-// Whether an object is idle, and parked after the best one.
+// Whether an object is idle, and parked later than the best one so far.
 fn is_later(known: Record, best: Option<Record>) -> bool {
     known.phase == Phase::Idle
         && match best {
@@ -213,7 +213,7 @@ fn last_of(plain: &[Place<u64>]) -> Option<u64> {
     Some(last?.id)
 }
 
-// How many lent objects are overdue, and the first of them.
+// The number of overdue objects, and the first of them.
 fn overdue_of(plain: &[Place<u64>], at: u64, timeout: u64) -> (u64, Option<u64>) {
     let mut count = 0u64;
     let mut least = None;
@@ -228,7 +228,7 @@ fn overdue_of(plain: &[Place<u64>], at: u64, timeout: u64) -> (u64, Option<u64>)
     (count, least)
 }
 
-// What is known of an object.
+// The record of an object.
 fn known_of(plain: &[Place<u64>], id: u64) -> Option<Record> {
     for place in plain {
         if place.known.id == id {
@@ -238,7 +238,7 @@ fn known_of(plain: &[Place<u64>], id: u64) -> Option<Record> {
     None
 }
 
-// Counts an object in this phase.
+// Adds an object in this phase to the counts.
 fn count(counts: &mut PlaceCounts, phase: Phase) {
     let number = match phase {
         Phase::Idle => &mut counts.idle,
@@ -268,7 +268,7 @@ fn counts_of(plain: &[Place<u64>]) -> PlaceCounts {
     counts
 }
 
-// Questions about the queue.
+// Compares the answers about the queue.
 pub(crate) fn ask_queue(
     rt: &impl Abort,
     places: &Places<u64>,
@@ -288,7 +288,7 @@ pub(crate) fn ask_queue(
     expect_equal(rt, told, due);
 }
 
-// Questions about lent objects.
+// Compares the answers about overdue objects.
 pub(crate) fn ask_overdue(
     rt: &impl Abort,
     places: &Places<u64>,
@@ -303,7 +303,7 @@ pub(crate) fn ask_overdue(
     expect_equal(rt, told, overdue_of(plain, at, timeout));
 }
 
-// Questions about one object and about all.
+// Compares the record of one object, and all counts.
 pub(crate) fn ask_known(rt: &impl Abort, places: &Places<u64>, plain: &[Place<u64>], id: u64) {
     expect_equal(rt, places.find(id), known_of(plain, id));
     let counts = counts_of(plain);
@@ -312,7 +312,7 @@ pub(crate) fn ask_known(rt: &impl Abort, places: &Places<u64>, plain: &[Place<u6
     expect_equal(rt, numbers, [counts.present, counts.queue]);
 }
 
-// Calls by chance, with so many objects at most, and every question after each call.
+// Pseudo-random calls, with at most `most` objects. Compares all answers after each call.
 fn many_calls(rt: &impl Abort, alloc: Global, calls: u64, most: usize, seed: u64) {
     let mut places = Places::new(alloc);
     let mut plain = Vec::new(alloc);

@@ -17,7 +17,7 @@ fn add(rt: &impl Abort, index: &mut RisingIndex, plain: &mut Vec<Pair>, id: u64,
     index.push(id, key);
 }
 
-// Takes the pair of an id out of a plain list, and gives its key.
+// Removes the pair of an id from a plain list, and returns its key.
 fn take_plain(plain: &mut Vec<Pair>, id: u64) -> Option<usize> {
     for position in 0..plain.len() {
         if plain.get(position)?.id == id {
@@ -27,7 +27,7 @@ fn take_plain(plain: &mut Vec<Pair>, id: u64) -> Option<usize> {
     None
 }
 
-// Takes the pair of an id out of an index if it is there, and gives its key.
+// Removes the pair of an id from an index if it is there, and returns its key.
 fn take_indexed(index: &mut RisingIndex, id: u64) -> Option<usize>
     ensures { (n : ℕ) → IdsBelow n index.old.pairs → IdsBelow n index.new.pairs }
 {
@@ -37,7 +37,7 @@ fn take_indexed(index: &mut RisingIndex, id: u64) -> Option<usize>
     }
 }
 
-// Takes a pair from both if it is there.
+// Removes a pair from both if it is there, and compares the keys.
 fn take(rt: &impl Abort, index: &mut RisingIndex, plain: &mut Vec<Pair>, id: u64)
     ensures { (n : ℕ) → IdsBelow n index.old.pairs → IdsBelow n index.new.pairs }
 {
@@ -48,7 +48,7 @@ fn take(rt: &impl Abort, index: &mut RisingIndex, plain: &mut Vec<Pair>, id: u64
     expect_equal(rt, index.len(), plain.len());
 }
 
-// The index has the pairs of the plain list.
+// Ends the test unless the index has the pairs of the plain list.
 fn has_all(rt: &impl Abort, alloc: Global, index: &RisingIndex, plain: &[Pair]) {
     let pairs: Vec<Pair> = index.walk().collect(alloc).expect(rt, "memory");
     expect_equal(rt, pairs.as_slice(), plain);
@@ -70,7 +70,7 @@ fn each_call_once(rt: HostRuntime) {
     assert!(rt; !index.is_empty());
 }
 
-// Pairs by their positions, before and after those that are gone are swept out.
+// Pairs by their positions, before and after the removed ones are swept out.
 #[test]
 fn by_position(rt: HostRuntime) {
     let mut index = RisingIndex::new(rt.alloc());
@@ -89,7 +89,7 @@ fn by_position(rt: HostRuntime) {
     expect_equal(&rt, told, [three, nine, seven, None]);
 }
 
-// An id may come again once it and all above it are gone.
+// An id may be pushed again after it and all above it were removed.
 #[test]
 fn an_id_twice(rt: HostRuntime) {
     let mut index = RisingIndex::new(rt.alloc());

@@ -85,7 +85,7 @@ fn lend(rt: &impl Abort, places: &mut Places<u64>)
     places.set_phase(0, Phase::Returning);
 }
 
-// Tests the first object, and then gives it up.
+// Tests the first object, and then destroys it.
 fn give_up(rt: &impl Abort, places: &mut Places<u64>)
     requires { records_in places.old.kept
         ≡ record { id = 0; phase = phases.Idle; parked = 3; since = 16; lent = 11; used = 12; is_new = false } ∷ [] }
@@ -98,7 +98,7 @@ fn give_up(rt: &impl Abort, places: &mut Places<u64>)
     places.free(0);
 }
 
-// An object from its opening until its place is free.
+// One object, from its opening until its place is free.
 #[test]
 fn one_life(rt: HostRuntime) {
     let mut places = Places::new(rt.alloc());

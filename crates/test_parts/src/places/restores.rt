@@ -37,7 +37,7 @@ fn value_of(id: u64, phase: Phase) -> Option<u64>
     }
 }
 
-// A record by chance, and its value where it is idle.
+// A pseudo-random record, with a value if it is idle.
 fn some_place(id: u64, number: u64, position: u64) -> Place<u64>
     ensures id { result.known.id ≡ id }
     ensures parked { result.known.parked ≡ position }
@@ -74,7 +74,7 @@ fn is_free(plain: &[Place<u64>], position: u64) -> bool
     true
 }
 
-// Puts an object back into the places and into a plain list.
+// Restores an object into the places and adds it to the plain list.
 fn put_back(
     rt: &impl Abort,
     places: &mut Places<u64>,
@@ -95,7 +95,7 @@ fn put_back(
     plain.push(place).expect(rt, "memory");
 }
 
-// Each object by its position, and none behind them.
+// Compares each object by its position, and that there are no more.
 fn ask_positions(rt: &impl Abort, places: &Places<u64>, plain: &[Place<u64>]) {
     let mut position = 0u64;
     for place in plain {
@@ -105,7 +105,7 @@ fn ask_positions(rt: &impl Abort, places: &Places<u64>, plain: &[Place<u64>]) {
     expect_equal(rt, places.nth(position), None);
 }
 
-// Takes each value, the first parked first.
+// Takes each value, the earliest parked first.
 fn take_all(rt: &impl Abort, places: &mut Places<u64>, count: u64) {
     for _ in 0..count {
         match places.first_idle() {
@@ -116,7 +116,7 @@ fn take_all(rt: &impl Abort, places: &mut Places<u64>, count: u64) {
     expect_equal(rt, places.counts().idle, 0);
 }
 
-// Puts objects back by chance, and asks every question after each.
+// Restores pseudo-random objects, and compares all answers after each.
 fn many_restores(rt: &impl Abort, alloc: Global, count: u64, seed: u64) {
     let mut places = Places::new(alloc);
     let mut plain = Vec::new(alloc);

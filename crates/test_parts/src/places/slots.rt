@@ -5,7 +5,7 @@ use pool_journal::{Phase, Record};
 use pool_slots::Slots;
 use std::process::Abort;
 
-// A record that is told from others by its id.
+// A record that differs from others by its id.
 fn record(id: u64) -> Record {
     Record {
         id,
@@ -70,7 +70,7 @@ fn three_objects(rt: HostRuntime) {
     expect_equal(&rt, [slots.first(), slots.last()], [None, None]);
 }
 
-// An object that comes with its value, before the other of the queue.
+// An object that is inserted with its value, before the other one of the queue.
 #[test]
 fn before_another(rt: HostRuntime) {
     let mut slots = Slots::new(rt.alloc());
