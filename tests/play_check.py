@@ -1,0 +1,337 @@
+#!/usr/bin/env python3
+"""Tests of ./check: in a small repository of its own, with a table of tiny parts, and a command `rt` that proves nothing and notes what it was asked.
+And of the table in tools/parts.py: that it names what is there, and forgets no test.
+
+    play_check.py
+
+Prints each thing that differs, and in the end the line 'N passed, M failed'.
+"""
+
+import collections
+import os
+import pathlib
+import re
+import shutil
+import signal
+import subprocess
+import sys
+import tempfile
+import time
+
+from playing import play_checks
+
+TOP = pathlib.Path(__file__).resolve().parent.parent
+sys.path.append(str(TOP / "tools"))
+
+import sources
+from parts import PARTS, PROOFS
+
+COPIED = ("check", "tools/runner.py", "tools/build.py", "tools/sources.py", "tools/proof_seconds.txt")
+CRATES = {"low": "", "tool": "low", "wrong": "low", "archive staticlib": "low"}
+# Notes each call. `rt ci` builds all, but for what is broken, and leaves libraries without a stamp, but for those that were there.
+RT = """#!/bin/sh
+build() {
+  name=$(basename $1)
+  [ ! -e $1/src/broken ] || { echo "$name is refused"; return 1; }
+  mkdir -p $1/out
+  if [ -e $1/src/main.rt ]; then
+    echo "$2 $(cat $1/src/main.rt)" >$1/out/$name
+  elif [ $2 = alone ] || [ ! -e $1/out/rlib ]; then
+    mkdir -p $1/out/rlib/$name.rlib
+    cp $1/src/lib.rt $1/out/rlib/$name.rlib/format
+    [ $2 != alone ] || echo $name >$1/out/rlib/stamp
+    [ $2$name != alonearchive ] || echo alone >$1/out/libarchive.a
+  fi
+}
+[ $1 != version ] || { echo rattle-kit-0 logic 0; exit; }
+echo rt $1 $(basename $PWD) >>$CALLS
+[ $1 = ci ] || { build $PWD alone; exit; }
+passed=0 failed=0
+for crate in $PWD/crates/*; do
+  rm -f $crate/out/$(basename $crate) $crate/out/lib*.a
+  if build $crate gate; then passed=$((passed + 1)); else failed=$((failed + 1)); fi
+done
+echo "$passed passed, $failed failed"
+exit $failed
+"""
+# Takes some time, so that other parts begin meanwhile.
+STATIC = """import os, sys, time
+import sources
+crate = sys.argv[1]
+calls = open(os.environ["CALLS"], "a", buffering=1)
+print("static", crate, file=calls)
+if not all(map(sources.is_current, sources.below(crate) - {crate})):
+    sys.exit(f"{crate}: a library isn't built of its sources as they are")
+time.sleep(0.3)
+(sources.TOP / "crates" / crate / "out").mkdir(exist_ok=True)
+sources.product(crate).write_text("static")
+sources.note(crate)
+print("built", crate, file=calls)
+"""
+# A part: its name, how many lines it writes, for how long it waits behind each, what it counts (or -), its status, and files that are there.
+SAY = """name=$1 lines=$2 pause=$3 passed=$4 failed=$5 status=$6
+shift 6
+[ $pause != 60 ] || sleep 60 &
+echo begin $name $$ $! >>$CALLS
+for number in $(seq $lines); do
+  echo $name $number
+  sleep $pause
+done
+for file; do echo $name has $(cat $file 2>&1); done
+[ $passed = - ] || echo "$passed passed, $failed failed"
+exit $status
+"""
+HEAD = """from runner import Part
+
+PROOFS = Part("proofs", "the gate", "rt ci")
+PARTS = (
+"""
+GOOD = [
+    ("slow", "goes on for long", "slow 4 0.1 2 0 0"),
+    ("late", "needs a static library", "late 1 0 1 0 0 {archive}", "archive"),
+    ("tool", "needs a program", "tool 1 0 3 0 0 {tool}", "tool"),
+    ("quick", "needs nothing", "quick 1 0 1 0 0"),
+    ("loud", "goes on for long too", "loud 4 0.1 1 0 0"),
+    ("folder", "needs a folder", "folder 1 0 1 0 0 made/here"),
+    ("library", "needs a library", "library 1 0 1 0 0 {low}/low.rlib/format", "low"),
+]
+BAD = [
+    ("failing", "has two that fail", "failing 1 0 1 2 1"),
+    ("status", "has a status alone", "status 1 0 1 0 3"),
+    ("mute", "counts nothing", "mute 1 0 - 0 0"),
+    ("wrong", "needs what can't be built", "wrong 1 0 1 0 0 {wrong}", "wrong"),
+]
+ENDLESS = [("endless", "goes on", "endless 1 60 1 0 0"), ("next", "too", "next 1 60 1 0 0")]
+# A run that takes longer hangs, in seconds.
+LONGEST = 60
+Done = collections.namedtuple("Done", "lines status errors calls")
+
+
+def write(path, text):
+    path.parent.mkdir(parents=True, exist_ok=True)
+    path.write_text(text)
+
+
+class Trial:
+    """A small repository."""
+
+    def __init__(self, folder):
+        self.top, self.calls = folder / "repository", folder / "calls"
+        self.environment = {**os.environ, "CALLS": str(self.calls), "PATH": f"{folder}/bin:{folder}/python:/usr/bin:/bin"}
+        write(folder / "bin/rt", RT)
+        (folder / "bin/rt").chmod(0o755)
+        (folder / "python").mkdir()
+        (folder / "python/python3").symlink_to(sys.executable)
+        for name in COPIED:
+            (self.top / name).parent.mkdir(parents=True, exist_ok=True)
+            shutil.copy(TOP / name, self.top / name)
+        write(self.top / "tools/static.py", STATIC)
+        write(self.top / "tests/say", SAY)
+        write(self.top / "HANDLES", "Handles allowed: none.\n")
+        write(self.top / "crates.txt", "".join(f"{head}: {names}\n" for head, names in CRATES.items()))
+        for head in CRATES:
+            name = head.split()[0]
+            write(self.top / f"crates/{name}/src/{'main' if name in ('tool', 'wrong') else 'lib'}.rt", f"// {name}\n")
+        self.lay_table(GOOD)
+
+    def lay_table(self, rows):
+        """Writes the table of parts."""
+        folders = {"folder": ("made/here",)}
+        parts = [(name, tests, f"sh tests/say {words}", tuple(needs), folders.get(name, ())) for name, tests, words, *needs in rows]
+        write(self.top / "tools/parts.py", HEAD + "".join(f"    Part(*{part!r}),\n" for part in parts) + ")\n")
+
+    def run(self, *words):
+        """Runs ./check with these words."""
+        self.calls.write_text("")
+        command = [self.top / "check", *words]
+        done = subprocess.run(command, cwd="/", env=self.environment, stdin=subprocess.DEVNULL, capture_output=True, text=True, timeout=LONGEST)
+        return Done(done.stdout.splitlines(), done.returncode, done.stderr, self.noted())
+
+    def noted(self):
+        """What `rt`, the builds and the parts have noted, without numbers."""
+        return [re.sub(r"( \d+)* *$", "", line) for line in self.calls.read_text().splitlines()]
+
+    def git(self, *words):
+        """Runs a command of git, and gives what it writes."""
+        command = ["git", "-c", "user.name=x", "-c", "user.email=x", *words]
+        return subprocess.run(command, cwd=self.top, check=True, stdout=subprocess.PIPE, text=True).stdout
+
+
+def shown(done):
+    """The names of the parts whose output is shown, in order."""
+    return [line.split(",")[0].partition(" ")[2] for line in done.lines if ", alone by ./check " in line]
+
+
+def began(done):
+    """What is said to begin, without times."""
+    return [line.partition(", after ")[0] for line in done.lines if ", after " in line]
+
+
+def listing(trial):
+    """The list, and names of no part."""
+    done = trial.run("--list")
+    names = ["proofs", *(name for name, *_ in GOOD)]
+    yield "the list", (names, 0, "", []), ([line.split()[0] for line in done.lines], done.status, done.errors, done.calls)
+    yield "what a part tests", "quick    needs nothing", done.lines[4]
+    done = trial.run("quick", "qick")
+    told = "check: there is no part qick: did you mean quick? ./check --list names them all\n"
+    yield "a name near to another", ([], 2, told, []), done
+    told = "check: there is no part xxxxxxxx: ./check --list names them all\n"
+    yield "another name", ([], 2, told, []), trial.run("xxxxxxxx")
+
+
+def alone(trial):
+    """Parts that are named: alone, in the order of the table, once what they need is built."""
+    done = trial.run("quick")
+    head = ["check: part 1 of 1, quick, after 0:00 min", "check: quick, 0 s, alone by ./check quick"]
+    lines = [*head, "quick 1", "1 passed, 0 failed", "1 passed, 0 failed"]
+    yield "a part that needs nothing", (lines, 0, "", ["begin quick"]), done
+    done = trial.run("folder", "tool", "quick", "tool")
+    order = [call for call in done.calls if call not in ("begin quick", "begin folder")]
+    yield "a program is built first", ["rt lib low", "rt run tool", "begin tool"], order
+    yield "its progress is shown", True, any(line.startswith("tool: 1 of 2 crates, ") for line in done.lines)
+    begin = [line.split(", ")[-1] for line in began(done)]
+    yield "what begins", ["check: build of tool", "folder", "quick", "tool"], sorted(begin)
+    yield "what is shown", (["tool", "quick", "folder"], "5 passed, 0 failed", 0), (shown(done), done.lines[-1], done.status)
+    yield "the program", True, "tool has alone // tool" in done.lines
+    yield "the folder is there", True, (trial.top / "made/here").is_dir()
+    done = trial.run("tool")
+    yield "a program that is built", (["begin tool"], ["check: part 1 of 1, tool"]), (done.calls, began(done))
+
+
+def static(trial):
+    """A static library is built over the libraries that are there, or else with them."""
+    shutil.rmtree(trial.top / "crates/low/out")
+    done = trial.run("late")
+    yield "with its library", (["static archive", "rt lib low", "rt lib archive", "begin late"], 0), (done.calls, done.status)
+    shutil.rmtree(trial.top / "crates/archive/out")
+    done = trial.run("late")
+    yield "over its library", (["static archive", "built archive", "begin late"], 0), (done.calls, done.status)
+
+
+def whole(trial):
+    """All: the gate first, then builds and parts, whose output is shown in one piece and in order."""
+    shutil.rmtree(trial.top / "crates/low/out")
+    done = trial.run()
+    names = [name for name, *_ in GOOD]
+    yield "all: the count", ("14 passed, 0 failed", 0), (done.lines[-1], done.status)
+    yield "all: what is shown", ["proofs", *names], shown(done)
+    yield "all: the gate is first", ("rt ci repository", ["check: part 1 of 8, proofs"]), (done.calls[0], began(done)[:1])
+    yield "all: no other proof", 1, sum(call.startswith("rt ") for call in done.calls)
+    yield "all: the program is the gate's", True, "tool has gate // tool" in done.lines
+    yield "all: each part once", sorted(names), sorted(call.split()[1] for call in done.calls if call.startswith("begin "))
+    yield "all: a part waits for the static library", True, done.calls.index("built archive") < done.calls.index("begin late")
+    if len(os.sched_getaffinity(0)) > 1:
+        yield "all: the others don't", True, done.calls.index("begin slow") < done.calls.index("built archive")
+    for name in "slow", "loud":
+        first = done.lines.index(f"{name} 1")
+        yield f"all: {name} in one piece", [f"{name} {number}" for number in range(1, 5)], done.lines[first : first + 4]
+    done = trial.run("tool", "library", "late")
+    yield "what the gate has left serves", ["late", "library", "tool"], sorted(call.removeprefix("begin ") for call in done.calls)
+    write(trial.top / "crates/low/src/lib.rt", "// another\n")
+    done = trial.run("library", "proofs")
+    yield "the gate by its name", (["proofs", "library"], "5 passed, 0 failed"), (shown(done), done.lines[-1])
+    yield "a library of an earlier gate is removed", True, "library has // another" in done.lines
+    yield "and not built again after the gate", ["rt ci repository", "begin library"], done.calls
+    yield "no commit where parts are named", False, any("commit" in line for line in done.lines)
+
+
+def failing(trial):
+    """Parts that fail, and those that can't run."""
+    write(trial.top / "crates/wrong/src/broken", "")
+    trial.lay_table([*BAD, *GOOD])
+    done = trial.run("quick", *(name for name, *_ in BAD))
+    yield "what fails", ("3 passed, 5 failed", 1), (done.lines[-1], done.status)
+    yield "what failed", "check: what failed, again: ./check failing status mute wrong", done.lines[-2]
+    told = ["status: ended with status 3", "mute: ended with status 0 and without a count", "wrong: not run, since wrong can't be built"]
+    yield "how it ended", told, [line for line in told if line in done.lines]
+    yield "why it can't be built", True, "wrong is refused" in done.lines and "wrong: not built" in done.lines
+    yield "it doesn't run", False, "begin wrong" in done.calls
+    trial.lay_table(GOOD)
+
+
+def committed(trial):
+    """The commit, which only a check of all tells; and a gate that fails, of which nothing is noted."""
+    write(trial.top / ".gitignore", "out/\n__pycache__/\nmade/\n")
+    for words in ["init", "-q"], ["add", "."], ["commit", "-qm", "all"]:
+        trial.git(*words)
+    commit = trial.git("rev-parse", "HEAD").strip()
+    write(trial.top / "crates/tool/src/main.rt", "// another\n")
+    done = trial.run()
+    yield "a change", f"check: commit {commit}-changed", done.lines[0]
+    yield "a gate that fails", ("13 passed, 1 failed", 1), (done.lines[-1], done.status)
+    yield "its programs are taken", True, "tool has gate // another" in done.lines
+    trial.git("commit", "-qam", "another")
+    (trial.top / "crates/wrong/src/broken").rename(trial.top.parent / "broken")
+    done = trial.run("tool")
+    yield "and not for long", ["rt run tool", "begin tool"], done.calls
+    yield "no commit where parts are named", False, any("commit" in line for line in done.lines)
+    trial.git("commit", "-qam", "mended")
+    yield "the commit", f"check: commit {trial.git('rev-parse', 'HEAD').strip()}", trial.run().lines[0]
+
+
+def without_kit(trial):
+    """Without the command `rt` only what is built serves."""
+    (trial.top.parent / "bin/rt").rename(trial.top.parent / "bin/other")
+    done = trial.run("proofs", "tool")
+    told = "proofs: not run, since the Rattle kit's command rt is not on the PATH"
+    yield "without the kit", ("3 passed, 1 failed", 1, True), (done.lines[-1], done.status, told in done.lines)
+    (trial.top.parent / "bin/other").rename(trial.top.parent / "bin/rt")
+
+
+def has_ended(process):
+    """Whether there is no such process any more, or only what its parent hasn't noticed."""
+    try:
+        return (pathlib.Path("/proc") / process / "stat").read_text().rpartition(")")[2].split()[0] == "Z"
+    except OSError:
+        return True
+
+
+def interrupted(trial):
+    """A signal ends all that runs."""
+    trial.lay_table(ENDLESS)
+    signal.signal(signal.SIGINT, signal.default_int_handler)
+    streams = {"stdout": subprocess.PIPE, "stderr": subprocess.PIPE, "text": True}
+    for number in signal.SIGINT, signal.SIGTERM:
+        trial.calls.write_text("")
+        run = subprocess.Popen([trial.top / "check", "endless", "next"], env=trial.environment, **streams)
+        wanted = min(2, len(os.sched_getaffinity(0)))
+        until = time.monotonic() + LONGEST
+        while trial.calls.read_text().count("begin") < wanted and time.monotonic() < until:
+            time.sleep(0.05)
+        run.send_signal(number)
+        output, errors = run.communicate(timeout=LONGEST)
+        yield f"{number.name}: the status", 128 + number, run.returncode
+        yield f"{number.name}: standard error", f"check: ended by {number.name}\n", errors
+        yield f"{number.name}: no count", False, "passed" in output
+        processes = [word for line in trial.calls.read_text().splitlines() for word in line.split()[2:]]
+        left = [process for process in processes if not has_ended(process)]
+        yield f"{number.name}: what has ended", (2 * wanted, []), (len(processes), left)
+    trial.lay_table(GOOD)
+
+
+def table():
+    """The parts of this repository: they have names of their own, run scripts that are there, and run each test."""
+    names = [part.name for part in (PROOFS, *PARTS)]
+    yield "names of their own", len(names), len(set(names))
+    yield "the form of names", [], [name for name in names if not re.fullmatch(r"[a-z]+(-[a-z]+)*", name)]
+    yield "crates", [], [crate for part in PARTS for crate in part.needs if crate not in sources.libraries()]
+    words = [part.words() for part in PARTS]
+    yield "scripts", [], [line[:2] for line in words if line[0] != "python3" or not (TOP / line[1]).is_file()]
+    given = [word for line in words for word in line[2:] if word.startswith(("tests/", "crates/", "bindings/"))]
+    yield "files and folders", [], [word for word in given if not (TOP / word).exists()]
+    scripts = [path for kind in ("check", "count", "play", "refuse") for path in TOP.glob(f"tests/{kind}_*.py")]
+    tests = {f"tests/{path.name}" for path in scripts if "__main__" in path.read_text()}
+    yield "each test is in a part", [], sorted(tests - {line[1] for line in words})
+
+
+def checks():
+    yield from table()
+    with tempfile.TemporaryDirectory() as folder:
+        trial = Trial(pathlib.Path(folder).resolve())
+        for part in listing, alone, static, whole, failing, committed, without_kit, interrupted:
+            yield from part(trial)
+
+
+if __name__ == "__main__":
+    sys.exit(play_checks(checks()))

@@ -1,0 +1,170 @@
+"""The parts of ./check, as it shows them. Those begin first that take longest. `./check --list` tells their names and what they test."""
+
+import sources
+from runner import Part
+
+# Cargo makes this folder under another name first, on which a build beside it may come that lists the files of the Rust crate. So it is there before.
+CARGO = ("bindings/rust/target",)
+# The cases that are scripts with their journals.
+SCRIPTS = " ".join(f"tests/cases/{name}" for name in ("1-life", "3-settings", "4-close", "5-idle", "6-whole", "rows"))
+ROW = "tests/cases/rows/two_objects_fifo"
+
+
+def libraries_of(crate):
+    """The libraries that a crate depends on. Those come first whose builds build others of them too."""
+    return tuple(sorted(sources.below(crate) - {crate}, key=lambda name: (-len(sources.below(name)), name)))
+
+
+PROOFS = Part("proofs", "every proof, every test in Rattle, and that each mutant is rejected", "rt ci")
+
+PARTS = (
+    Part(
+        "copy",
+        "a copy of the example server, made by the commands of its README, is proved",
+        "python3 tests/play_copy.py",
+        libraries_of("example_server"),
+    ),
+    Part("damaged", "damaged journals and segments", "python3 tests/play_damaged.py {pool}", ("pool",)),
+    Part("try", "./try: words, streams, statuses, and a run of the program without proofs", "python3 tests/play_try.py"),
+    Part(
+        "segments",
+        "segments that are checked together, and the memory of that",
+        f"python3 tests/play_segments.py {{pool}} tests/cases/7-cut {SCRIPTS}",
+        ("pool",),
+    ),
+    Part("refused-uses", "each use of the program, with each allocation failing in turn", "python3 tests/refuse_uses.py {pool}", ("pool",)),
+    Part(
+        "refused-run",
+        "a run of a script, with each allocation failing in turn",
+        f"python3 tests/refuse_memory.py ends {{pool}} {ROW}.journal run {ROW}.toml {ROW}.script",
+        ("pool",),
+    ),
+    Part(
+        "refused-load",
+        "a load, with each allocation failing in turn",
+        "python3 tests/refuse_memory.py ends {pool} tests/load/five_rounds.report load tests/load/five_rounds.toml 1 5",
+        ("pool",),
+    ),
+    Part(
+        "refused-lives",
+        "whole lives of pools, with each allocation failing in turn",
+        "python3 tests/refuse_memory.py goes-on {test_lifecycle} crates/test_lifecycle/stdout",
+        ("test_lifecycle",),
+    ),
+    Part(
+        "refused-calls",
+        "each call of a shared pool, with each allocation failing in turn",
+        "python3 tests/refuse_shared.py {test_failures} crates/test_failures/stdout tests/refused_calls",
+        ("test_failures",),
+    ),
+    Part(
+        "refused-at-random",
+        "four threads on one pool, with allocations failing at random",
+        "python3 tests/refuse_chance.py {test_stress} crates/test_stress/stdout 10",
+        ("test_stress",),
+    ),
+    Part(
+        "work",
+        "reads, writes and allocations of the program and of a cut",
+        "python3 tests/count_work.py {pool} {test_counts}",
+        ("pool", "test_counts"),
+    ),
+    Part("sizes", "journals and settings of all sizes", "python3 tests/play_sizes.py {pool}", ("pool",)),
+    Part(
+        "judge",
+        "segments that are checked independently and joined",
+        "python3 tests/play_judge.py {judge} {pool} tests/cases/7-cut",
+        ("judge", "pool"),
+    ),
+    Part("rust", "the Rust crate: its tests, its examples, its binding", "python3 tests/check_rust.py {pool}", ("pool", "zuphinka"), CARGO),
+    Part(
+        "commands",
+        "the commands and journals that the pages show",
+        "python3 tests/play_commands.py {pool}",
+        ("pool", "judge", "journal_picture", "example_archive", "zuphinka"),
+        CARGO,
+    ),
+    Part("c-pool", "the C pool for threads, also with failing allocations", "python3 tests/play_c_pool.py {zuphinka} {pool}", ("pool", "zuphinka")),
+    Part("benchmarks", "bench/peers and bench/soak notice what is wrong", "python3 tests/play_bench.py {pool}", ("pool", "zuphinka"), CARGO),
+    Part("soak", "ten seconds of bench/soak", "python3 bench/soak --seconds 10 --pool {pool}", ("pool", "zuphinka"), CARGO),
+    Part("killed", "runs of the program that are killed", "python3 tests/play_killed.py {pool}", ("pool",)),
+    Part(
+        "cases",
+        "all cases of tests/cases on the program",
+        f"python3 tests/play_cases.py {{pool}} {SCRIPTS} tests/cases/laws tests/cases/settings tests/cases/stats",
+        ("pool",),
+    ),
+    Part(
+        "counts",
+        "the counts of the core and of the reference, and pools that are cut after each entry",
+        f"python3 tests/play_counts.py {{test_counts}} {SCRIPTS}",
+        ("test_counts",),
+    ),
+    Part("program", "arguments, files, statuses and messages of the program", "python3 tests/play_program.py {pool}", ("pool",)),
+    Part("lines", "lines of scripts, journals and bases that break the format", "python3 tests/play_lines.py {pool}", ("pool",)),
+    Part(
+        "examples",
+        "the examples of the settings, and the pictures of the pages",
+        "python3 tests/play_examples.py {pool} {journal_picture}",
+        ("pool", "journal_picture"),
+    ),
+    Part("life", "the table of phases against all journals of the cases", f"python3 tests/check_life.py {SCRIPTS}"),
+    Part("picture", "the pictures of journal_picture", f"python3 tests/check_picture.py {{journal_picture}} {SCRIPTS}", ("journal_picture",)),
+    Part(
+        "archive",
+        "the example of an archive, and its segments",
+        "python3 tests/play_archive.py {example_archive} crates/example_archive/stdout {pool}",
+        ("example_archive", "pool"),
+    ),
+    Part(
+        "bank",
+        "the example over SQLite, its accounts and its journal",
+        "python3 tests/play_bank.py {example_bank} {pool} {journal_picture} 3",
+        ("example_bank", "pool", "journal_picture"),
+    ),
+    Part("terminal", "progress and hints at a terminal", "python3 tests/play_terminal.py {pool}", ("pool",)),
+    Part("builds", "./pool builds exactly what changed", "python3 tests/play_build.py"),
+    Part("parts", "./check itself, on a small repository", "python3 tests/play_check.py"),
+    Part(
+        "readme",
+        "the code that the README and the guide show is compiled code",
+        "python3 tests/check_readme.py README.md crates/example_server bindings/c bindings/rust/examples",
+    ),
+    Part("names", "what the pages name is there", "python3 tests/check_names.py"),
+    Part("tables", "the tables of the pages agree with the sources", "python3 tests/check_tables.py"),
+    Part(
+        "version",
+        "all products have one version",
+        "python3 tests/check_version.py {pool} {judge} {journal_picture}",
+        ("pool", "judge", "journal_picture"),
+    ),
+    Part("eviction", "many objects that are evicted", "python3 tests/play_eviction.py {pool}", ("pool",)),
+    Part("clear", "many objects that are cleared", "python3 tests/play_clear.py {pool}", ("pool",)),
+    Part("c-cases", "the cases on the C library", f"python3 tests/play_library.py cases {{zuphinka}} {SCRIPTS} tests/cases/settings", ("zuphinka",)),
+    Part(
+        "c-segments",
+        "the cases on the C library, with the journal cut",
+        f"python3 tests/play_library.py segments {{zuphinka}} {{pool}} {SCRIPTS}",
+        ("zuphinka", "pool"),
+    ),
+    Part(
+        "c-refused",
+        "the cases on the C library, with each allocation failing in turn",
+        "python3 tests/play_library.py refused {zuphinka} tests/cases/rows",
+        ("zuphinka",),
+    ),
+    Part(
+        "c-programs",
+        "the C examples, the header, and a run under valgrind",
+        "python3 tests/play_library.py programs {zuphinka} tests/cases/rows",
+        ("zuphinka",),
+    ),
+    Part("c-many", "many objects on the C library", "python3 tests/play_library.py many {zuphinka} {pool}", ("zuphinka", "pool")),
+    Part("c-install", "the installed C library, and programs that are built with it", "python3 tests/play_install.py {zuphinka}", ("zuphinka",)),
+    Part(
+        "release",
+        "the archive of a release, unpacked and used without the kit",
+        "python3 tests/play_release.py .",
+        ("pool", "judge", "journal_picture", "zuphinka"),
+    ),
+)
