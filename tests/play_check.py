@@ -164,7 +164,7 @@ def shown(done):
 
 def began(done):
     """What is said to begin, without times."""
-    return [line.partition(", after ")[0] for line in done.lines if ", after " in line]
+    return [line.partition(", after ")[0] for line in done.lines if re.match("check: (part|build) .*, after ", line)]
 
 
 def listing(trial):
@@ -183,7 +183,7 @@ def listing(trial):
 def alone(trial):
     """Parts that are named: alone, in the order of the table, once what they need is built."""
     done = trial.run("quick")
-    head = ["check: part 1 of 1, quick, after 0:00 min", "check: quick, 0 s, alone by ./check quick"]
+    head = ["check: part 1 of 1, quick, after 0:00 min", "check: all parts have ended, after 0:00 min", "check: quick, 0 s, alone by ./check quick"]
     lines = [*head, "quick 1", "1 passed, 0 failed", "1 passed, 0 failed"]
     yield "a part that needs nothing", (lines, 0, "", ["begin quick"]), done
     done = trial.run("folder", "tool", "quick", "tool")

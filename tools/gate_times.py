@@ -1,15 +1,21 @@
 #!/usr/bin/env python3
-"""Runs a command, as the gate, and tells by crate how many processor seconds the prover took in it.
+"""Runs a command, as the gate, and tells by crate how many processor seconds the prover took in it; or puts what it told into a page.
 
-    tools/gate_times.py ./check > check.log
+    tools/gate_times.py ./check > check.log 2>&1
+    tools/gate_times.py --table docs/dev/proving.md check.log
 
 Looks at the system's processes each second, so that it sees all but the last second of each. What the command writes is handed on, and its
 status is the one here; in the end a table is written on standard error: for each crate the processor seconds of its proofs, of its tests' proofs,
 of its must-fail edits and of its compilation, then the edits one by one that took more than the MOST_TOLD seconds.
+
+--table PAGE LOG.. writes that table into a page, in place of what stands between its lines BEGIN and END. The logs have the table, and what ./check
+wrote: the commit, and the times of the whole and of the proofs, where they are there. Above the table stands this machine, and the day of the first
+log. The status is 1, and the page stays as it is, if there are no such lines, no table, a part that failed, or a table of other crates.
 """
 
 import collections
 import dataclasses
+import datetime
 import os
 import pathlib
 import re
@@ -22,6 +28,11 @@ KINDS = ("proofs", "tests", "edits", "compiled")
 TICK = os.sysconf("SC_CLK_TCK")
 # The processor seconds above which an edit is told by its name.
 MOST_TOLD = 45
+HEAD = "| crate | " + " | ".join(KINDS) + " |"
+# The lines of a page between which its table stands.
+BEGIN = "<!-- tools/gate_times.py --table writes what follows. -->"
+END = "<!-- The end of what tools/gate_times.py writes. -->"
+KEPT = "Of the proofs some were kept from earlier runs, and took no time in this one."
 
 
 @dataclasses.dataclass
@@ -94,7 +105,7 @@ def tell(runs):
         sums[run.crate, run.kind] += run.seconds
         sums["all", run.kind] += run.seconds
     crates = re.findall(r"^(\w+)", (TOP / "crates.txt").read_text(), re.M)
-    yield "| crate | " + " | ".join(KINDS) + " |"
+    yield HEAD
     yield "|---|" + "---|" * len(KINDS)
     for crate in [*crates, "all"]:
         yield f"| {crate} | " + " | ".join(f"{sums[crate, kind]:.0f}" for kind in KINDS) + " |"
@@ -102,9 +113,82 @@ def tell(runs):
         yield from dear_edits(crate, [run for run in runs if (run.crate, run.kind) == (crate, "edits")])
 
 
+def rows_of(text):
+    """The rows of the last table in a log: for each crate, and for all, its numbers."""
+    rows = {}
+    for line in text.rpartition(HEAD)[2].splitlines()[2:]:
+        cells = [cell.strip() for cell in line.strip("|").split("|")]
+        if len(cells) != 1 + len(KINDS):
+            break
+        rows[cells[0]] = [int(cell) for cell in cells[1:]]
+    return rows if HEAD in text else {}
+
+
+def fault_of(text, rows):
+    """Why the times of a log are none of a whole check of these crates, if they aren't."""
+    crates = {*re.findall(r"^(\w+)", (TOP / "crates.txt").read_text(), re.M), "all"}
+    failed = re.findall(r"^\d+ passed, ([1-9]\d*) failed$", text, re.M)
+    if not rows:
+        return "no table of tools/gate_times.py"
+    if failed:
+        return f"{failed[-1]} failed"
+    return f"a table of other crates: {', '.join(sorted(crates ^ {*rows}))}" if crates != {*rows} else None
+
+
+def edits_of(crate):
+    """How many must-fail edits a crate has, or all crates."""
+    return len(list(TOP.glob(f"crates/{'*' if crate == 'all' else crate}/must-fail/*.edit")))
+
+
+def cells_of(crate, numbers):
+    """The cells of a crate in the page: its name, and its numbers, where they aren't 0. Behind the one of its edits stands how many it has."""
+    yield crate
+    for kind, number in zip(KINDS, numbers):
+        yield "" if not number else f"{number} ({edits_of(crate)})" if kind == "edits" else str(number)
+
+
+def machine():
+    """This machine's processors."""
+    found = re.search(r"^model name\s*: (.*)$", pathlib.Path("/proc/cpuinfo").read_text(), re.M)
+    return f"{os.cpu_count()} processors" + (f" ({found[1]})" if found else "")
+
+
+def heading(text, day):
+    """What stands above the table: the day, the machine, the commit, and the minutes, as far as the log has them."""
+    commit = re.search(r"^check: commit (\S+)$", text, re.M)
+    whole = re.search(r"^check: all parts have ended, after (\d+:\d\d) min$", text, re.M)
+    proofs = re.search(r"^check: proofs, (\d+) s, ", text, re.M)
+    yield f"{day}, {machine()}" + (f", commit {commit[1]}" if commit else "")
+    if whole:
+        yield f"`./check` took {whole[1]} minutes"
+    if proofs:
+        yield "its part `proofs` took {}:{:02} minutes".format(*divmod(int(proofs[1]), 60))
+
+
+def write_table(page, logs):
+    """Puts the table of the logs into a page."""
+    before, begin, rest = page.read_text().partition(BEGIN + "\n")
+    _, end, after = rest.partition(END + "\n")
+    if not begin or not end:
+        sys.exit(f"{page}: no lines {BEGIN} and {END}")
+    text = "".join(log.read_text(errors="replace") for log in logs)
+    rows = rows_of(text)
+    fault = fault_of(text, rows)
+    if fault:
+        sys.exit(f"{', '.join(map(str, logs))}: {fault}")
+    day = datetime.date.fromtimestamp(logs[0].stat().st_mtime)
+    lines = ["; ".join(heading(text, day)) + ".", *([KEPT] if "the others are kept from earlier runs" in text else []), ""]
+    lines += ["| Crate | " + " | ".join(kind.capitalize() for kind in KINDS) + " |", "|---|" + "---|" * len(KINDS)]
+    lines += ["| " + " | ".join(cells_of(crate, numbers)) + " |" for crate, numbers in rows.items()]
+    page.write_text(before + begin + "\n" + "".join(f"{line}\n" for line in lines) + "\n" + end + after)
+
+
 def main():
     if len(sys.argv) < 2:
         sys.exit(__doc__)
+    if sys.argv[1] == "--table":
+        page, *logs = map(pathlib.Path, sys.argv[2:]) if len(sys.argv) > 3 else sys.exit(__doc__)
+        return write_table(page, logs)
     status, runs = watch(sys.argv[1:])
     for line in tell(runs):
         print(line, file=sys.stderr)

@@ -125,6 +125,7 @@ PARTS = (
     Part("terminal", "progress and hints at a terminal", "python3 tests/play_terminal.py {pool}", ("pool",)),
     Part("builds", "./pool builds exactly what changed", "python3 tests/play_build.py"),
     Part("parts", "./check itself, on a small repository", "python3 tests/play_check.py"),
+    Part("times", "the table of the times of a whole check", "python3 tests/play_times.py"),
     Part(
         "readme",
         "the code that the README and the guide show is compiled code",
