@@ -54,7 +54,7 @@ done
 echo "$passed passed, $failed failed"
 exit $failed
 """
-# Takes some time, so that other parts begin meanwhile.
+# Goes on until a part has begun, if the test says which.
 STATIC = """import os, sys, time
 import sources
 crate = sys.argv[1]
@@ -62,7 +62,10 @@ calls = open(os.environ["CALLS"], "a", buffering=1)
 print("static", crate, file=calls)
 if not all(map(sources.is_current, sources.below(crate) - {crate})):
     sys.exit(f"{crate}: a library isn't built of its sources as they are")
-time.sleep(0.3)
+for _ in range(200):
+    if os.environ["UNTIL"] in open(os.environ["CALLS"]).read():
+        break
+    time.sleep(0.05)
 (sources.TOP / "crates" / crate / "out").mkdir(exist_ok=True)
 sources.product(crate).write_text("static")
 sources.note(crate)
@@ -117,7 +120,7 @@ class Trial:
 
     def __init__(self, folder):
         self.top, self.calls = folder / "repository", folder / "calls"
-        self.environment = {**os.environ, "CALLS": str(self.calls), "PATH": f"{folder}/bin:{folder}/python:/usr/bin:/bin"}
+        self.environment = {**os.environ, "CALLS": str(self.calls), "UNTIL": "", "PATH": f"{folder}/bin:{folder}/python:/usr/bin:/bin"}
         write(folder / "bin/rt", RT)
         (folder / "bin/rt").chmod(0o755)
         (folder / "python").mkdir()
@@ -140,11 +143,11 @@ class Trial:
         parts = [(name, tests, f"sh tests/say {words}", tuple(needs), folders.get(name, ())) for name, tests, words, *needs in rows]
         write(self.top / "tools/parts.py", HEAD + "".join(f"    Part(*{part!r}),\n" for part in parts) + ")\n")
 
-    def run(self, *words):
-        """Runs ./check with these words."""
+    def run(self, *words, until=""):
+        """Runs ./check with these words. A static library isn't built until this is noted."""
         self.calls.write_text("")
-        command = [self.top / "check", *words]
-        done = subprocess.run(command, cwd="/", env=self.environment, stdin=subprocess.DEVNULL, capture_output=True, text=True, timeout=LONGEST)
+        options = {"cwd": "/", "env": self.environment | {"UNTIL": until}, "stdin": subprocess.DEVNULL, "capture_output": True, "text": True}
+        done = subprocess.run([self.top / "check", *words], timeout=LONGEST, **options)
         return Done(done.stdout.splitlines(), done.returncode, done.stderr, self.noted())
 
     def noted(self):
@@ -183,9 +186,10 @@ def listing(trial):
 def alone(trial):
     """Parts that are named: alone, in the order of the table, once what they need is built."""
     done = trial.run("quick")
-    head = ["check: part 1 of 1, quick, after 0:00 min", "check: all parts have ended, after 0:00 min", "check: quick, 0 s, alone by ./check quick"]
+    head = ["check: part 1 of 1, quick, after N:N min", "check: all parts have ended, after N:N min", "check: quick, N s, alone by ./check quick"]
     lines = [*head, "quick 1", "1 passed, 0 failed", "1 passed, 0 failed"]
-    yield "a part that needs nothing", (lines, 0, "", ["begin quick"]), done
+    found = [re.sub(r"\d+:\d\d min", "N:N min", re.sub(r", \d+ s,", ", N s,", line)) for line in done.lines]
+    yield "a part that needs nothing", (lines, 0, "", ["begin quick"]), (found, *done[1:])
     done = trial.run("folder", "tool", "quick", "tool")
     order = [call for call in done.calls if call not in ("begin quick", "begin folder")]
     yield "a program is built first", ["rt lib low", "rt run tool", "begin tool"], order
@@ -212,7 +216,7 @@ def static(trial):
 def whole(trial):
     """All: the gate first, then builds and parts, whose output is shown in one piece and in order."""
     shutil.rmtree(trial.top / "crates/low/out")
-    done = trial.run()
+    done = trial.run(until="begin slow" if len(os.sched_getaffinity(0)) > 1 else "")
     names = [name for name, *_ in GOOD]
     yield "all: the count", ("14 passed, 0 failed", 0), (done.lines[-1], done.status)
     yield "all: what is shown", ["proofs", *names], shown(done)
@@ -220,9 +224,9 @@ def whole(trial):
     yield "all: no other proof", 1, sum(call.startswith("rt ") for call in done.calls)
     yield "all: the program is the gate's", True, "tool has gate // tool" in done.lines
     yield "all: each part once", sorted(names), sorted(call.split()[1] for call in done.calls if call.startswith("begin "))
-    yield "all: a part waits for the static library", True, done.calls.index("built archive") < done.calls.index("begin late")
-    if len(os.sched_getaffinity(0)) > 1:
-        yield "all: the others don't", True, done.calls.index("begin slow") < done.calls.index("built archive")
+    found = [call for call in done.calls if call in ("begin slow", "built archive", "begin late")]
+    wanted = ["begin slow", "built archive", "begin late"] if len(os.sched_getaffinity(0)) > 1 else ["built archive", "begin slow", "begin late"]
+    yield "all: a part waits for the static library, and others don't", wanted, found
     for name in "slow", "loud":
         first = done.lines.index(f"{name} 1")
         yield f"all: {name} in one piece", [f"{name} {number}" for number in range(1, 5)], done.lines[first : first + 4]
@@ -279,12 +283,19 @@ def without_kit(trial):
     (trial.top.parent / "bin/other").rename(trial.top.parent / "bin/rt")
 
 
-def has_ended(process):
-    """Whether there is no such process any more, or only what its parent hasn't noticed."""
+def is_alive(process):
+    """Whether there is such a process, other than one whose parent hasn't noticed that it has ended."""
     try:
-        return (pathlib.Path("/proc") / process / "stat").read_text().rpartition(")")[2].split()[0] == "Z"
+        return (pathlib.Path("/proc") / process / "stat").read_text().rpartition(")")[2].split()[0] != "Z"
     except OSError:
-        return True
+        return False
+
+
+def wait_until(is_so):
+    """Waits until something is so, but not for longer than a run may take."""
+    until = time.monotonic() + LONGEST
+    while not is_so() and time.monotonic() < until:
+        time.sleep(0.05)
 
 
 def interrupted(trial):
@@ -296,17 +307,15 @@ def interrupted(trial):
         trial.calls.write_text("")
         run = subprocess.Popen([trial.top / "check", "endless", "next"], env=trial.environment, **streams)
         wanted = min(2, len(os.sched_getaffinity(0)))
-        until = time.monotonic() + LONGEST
-        while trial.calls.read_text().count("begin") < wanted and time.monotonic() < until:
-            time.sleep(0.05)
+        wait_until(lambda: trial.calls.read_text().count("begin") >= wanted)
         run.send_signal(number)
         output, errors = run.communicate(timeout=LONGEST)
         yield f"{number.name}: the status", 128 + number, run.returncode
         yield f"{number.name}: standard error", f"check: ended by {number.name}\n", errors
         yield f"{number.name}: no count", False, "passed" in output
         processes = [word for line in trial.calls.read_text().splitlines() for word in line.split()[2:]]
-        left = [process for process in processes if not has_ended(process)]
-        yield f"{number.name}: what has ended", (2 * wanted, []), (len(processes), left)
+        wait_until(lambda: not any(map(is_alive, processes)))
+        yield f"{number.name}: what has ended", (2 * wanted, False), (len(processes), any(map(is_alive, processes)))
     trial.lay_table(GOOD)
 
 
