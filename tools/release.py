@@ -7,9 +7,10 @@ The archive has the C library with its headers and its file for pkg-config, the 
 journal_picture, the man page, examples, the licence, a README, and PROVED. That file has what ./check came to, the commit, the kit's line and a
 checksum of each other file, as `sha256sum --check` reads it.
 
---gate FILE names the log of ./check, whose commit must be the one that is checked out, without changes, and in whose last line nothing failed; a check
-of named parts tells no commit, and won't do. Without a log PROVED says that nothing was passed. --output FOLDER gets the archive, else the folder out/. What isn't built of its sources as they
-are is proved and built first. With --programs FOLDER what a clone there has built is taken as it is, and PROVED says that.
+--gate FILE names the log of ./check, whose commit must be the one that is checked out, without changes, and in whose last line nothing failed; a
+check of named parts tells no commit, and won't do. Without a log PROVED says that nothing was passed. --output FOLDER gets the archive, else the
+folder out/. What isn't built of its sources as they are is proved and built first. With --programs FOLDER what a clone there has built is taken as
+it is, and PROVED says that.
 
 The same commit, programs and compiler give the same bytes. Writes the path of the archive. The status is 1, and no archive is there, if something
 is missing or the log isn't one of a full check that passed.
