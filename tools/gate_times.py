@@ -2,7 +2,7 @@
 """Runs a command, as the gate, and tells by crate how many processor seconds the prover took in it; or puts what it told into a page.
 
     tools/gate_times.py ./check > check.log 2>&1
-    tools/gate_times.py --table docs/dev/proving.md check.log
+    tools/gate_times.py --table docs/proving.md check.log
 
 Looks at the system's processes each second, so that it sees all but the last second of each. What the command writes is handed on, and its
 status is the one here; in the end a table is written on standard error: for each crate the processor seconds of its proofs, of its tests' proofs,
