@@ -139,7 +139,7 @@ def picture(text):
         parts.append(f'<rect x="{x}" y="{y}" width="{width(crate):.1f}" height="{HEIGHT}" rx="6" fill="{colour}" stroke="black"/>')
         parts.append(f'<text x="{at[crate]}" y="{middle[crate] + 5}" text-anchor="middle">{crate}</text>')
     for number, ((title, _), colour) in enumerate(zip(groups, COLOURS)):
-        y = MARGIN + 22 * number
+        y = MARGIN / 2 + 22 * number
         parts.append(f'<rect x="{MARGIN}" y="{y}" width="16" height="16" fill="{colour}" stroke="black"/>')
         parts.append(f'<text x="{MARGIN + 24}" y="{y + 13}">{html.escape(title)}</text>')
     return "\n".join([*parts, "</svg>", ""])
