@@ -2,7 +2,7 @@
 use Rattle.std.proofs.Common.{List, [], ◌∷◌, ◌++◌, refl, arith}
 use Rattle.std.specs.Prelude.{pos}
 use Rattle.pool_journal.specs.Latest.{latest}
-use Rattle.pool_journal.specs.Journal.{phase, drawn, present, records, parked, since, lent, used, is_new}
+use Rattle.pool_journal.specs.Base.{phase_from, drawn_from, present_from, records_from, parked_from, since_from, lent_from, used_from, is_new_from}
 use Rattle.pool_journal.specs.declared.entry.Entry.{Entry}
 use Rattle.pool_journal.specs.declared.record.Phase.TheVariants as phases
 use Rattle.pool_journal.specs.declared.input.Input.{Input}
@@ -19,7 +19,7 @@ said input answer = entry_of 0 0 input answer
 
 -- an object is made although none may be present
 one_too_many : AtMostMaxTotal (record defaults { max_total = pos 0 }) (said Add (Make 0) ∷ []) → ⊥
-unfolding present drawn phase latest
+unfolding present_from drawn_from phase_from latest
 one_too_many law = omega (arith, law)
 
 -- an object is parked after the pool was closed
@@ -53,5 +53,5 @@ lent_twice law =
 
 -- an id is allocated that is not the next
 id_left_out : NothingLost (said Add (Make 1) ∷ []) → ⊥
-unfolding records present drawn phase parked since lent used is_new latest
+unfolding records_from present_from drawn_from phase_from parked_from since_from lent_from used_from is_new_from latest
 id_left_out law = absurd (cc law)

@@ -12,9 +12,8 @@ use Rattle.pool_journal.specs.declared.input.Outcome.TheVariants as outcomes
 use Rattle.pool_journal.specs.declared.answer.Answer.{Answer}
 use Rattle.pool_journal.specs.declared.answer.Answer.TheVariants as answers
 use Rattle.pool_settings.specs.declared.settings.Settings.{Settings}
-use Rattle.pool_core.specs.Reply.{park_reply, added_reply, tested_reply}
+use Rattle.pool_core.specs.Reply.{park_reply, added_reply, tested_reply, phase_of, table}
 use Rattle.pool_core.specs.Steps.{keeps_value, Finds}
-use Rattle.pool_core.specs.Table.{phase_of, table}
 use Rattle.pool_core.proofs.Finding.{finds_of}
 
 -- an object keeps a value that the input brings

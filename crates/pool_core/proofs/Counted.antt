@@ -14,7 +14,7 @@ use Rattle.pool_places.specs.declared.place.Place.{Place}
 use Rattle.pool_places.specs.Shelf.{records_in}
 use Rattle.pool_stats.specs.Counts.{is_lent, is_reserved}
 use Rattle.pool_stats.specs.declared.counts.Counts.{Counts}
-use Rattle.pool_core.specs.LawsFrom.{counts_at}
+use Rattle.pool_core.specs.Laws.{counts_at}
 use Rattle.pool_core.specs.Stepper.{base_in}
 use Rattle.pool_core.specs.declared.state.State.{State}
 

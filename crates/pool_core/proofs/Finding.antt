@@ -25,8 +25,7 @@ use Rattle.pool_places.specs.Overdue.{is_lent, is_overdue}
 use Rattle.pool_settings.specs.declared.settings.Settings.{Settings}
 use Rattle.pool_core.specs.Reply.{is_below, has_reached, choice, examined, evicts, forgotten, forgotten_for, full_reply}
 use Rattle.pool_core.specs.Reply.{borrow_reply, ready_reply, lent_reply, park_reply, added_reply, tested_reply, destroyed_reply}
-use Rattle.pool_core.specs.Reply.{add_reply, evict_next_reply, reclaim_next_reply, clear_next_reply}
-use Rattle.pool_core.specs.Table.{phase_of, new_of, table}
+use Rattle.pool_core.specs.Reply.{add_reply, evict_next_reply, reclaim_next_reply, clear_next_reply, phase_of, new_of, table}
 use Rattle.pool_core.specs.Steps.{comes_from, MovesNamed, Finds}
 use Rattle.pool_core.proofs.Queues.{all_filter, all_rising, first_has, last_has}
 

@@ -1,19 +1,28 @@
--- Every legal journal has the safety properties.
+-- Legal entries after a base that a pool can continue from have the safety properties, and so have legal journals.
 use Rattle.std.proofs.Common.{List}
+use Rattle.pool_journal.specs.Base.{empty_base}
+use Rattle.pool_journal.specs.declared.base.Base.{Base}
 use Rattle.pool_journal.specs.declared.entry.Entry.{Entry}
 use Rattle.pool_settings.specs.declared.settings.Settings.{Settings}
-use Rattle.pool_core.specs.Laws.{Laws}
-use Rattle.pool_core.specs.Legal.{IsLegal}
-use Rattle.pool_core.proofs.Counting.{at_most_max_total, nothing_lost}
-use Rattle.pool_core.proofs.Lasting.{closed_parks_none, made_and_gone_once}
-use Rattle.pool_core.proofs.Lending.{lent_in_turn}
+use Rattle.pool_core.specs.Laws.{LawsFrom, Laws}
+use Rattle.pool_core.specs.Legal.{IsLegalFrom, IsLegal}
+use Rattle.pool_core.specs.Openable.{IsRunnable}
+use Rattle.pool_core.proofs.Counting.{at_most_max_total_from, nothing_lost_from}
+use Rattle.pool_core.proofs.Lasting.{closed_parks_none_from, closed_base_parks_none, made_anew, made_and_gone_once_from}
+use Rattle.pool_core.proofs.Lending.{lent_in_turn_from}
+use Rattle.pool_core.proofs.Opening.{empty_is_openable}
+
+pub keeps_laws_from : (S : Settings) (b : Base) (J : List Entry) → IsRunnable S b → IsLegalFrom S b J → LawsFrom S b J
+keeps_laws_from S b J runs legal =
+    record {
+      at_most_max_total = at_most_max_total_from S b J runs legal;
+      closed_parks_none = closed_parks_none_from S b J runs.sound legal;
+      closed_base_parks_none = closed_base_parks_none S b J runs.sound legal;
+      made_and_gone_once = made_and_gone_once_from S b J runs.sound legal;
+      made_anew = made_anew S b J runs.sound legal;
+      lent_in_turn = lent_in_turn_from S b J runs.sound legal;
+      nothing_lost = nothing_lost_from S b J runs legal;
+    }
 
 pub keeps_laws : (S : Settings) (J : List Entry) → IsLegal S J → Laws S J
-keeps_laws S J legal =
-    record {
-      at_most_max_total = at_most_max_total S J legal;
-      closed_parks_none = closed_parks_none S J legal;
-      made_and_gone_once = made_and_gone_once S J legal;
-      lent_in_turn = lent_in_turn S J legal;
-      nothing_lost = nothing_lost S J legal;
-    }
+keeps_laws S J = keeps_laws_from S empty_base J (empty_is_openable S).runnable

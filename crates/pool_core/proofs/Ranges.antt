@@ -1,7 +1,7 @@
 -- How many numbers of a range pass a test.
 use Rattle.std.proofs.Common.{◌≡◌, ◌≢◌, ℕ, zero, suc, ◌+◌, ◌<◌, ◌≤◌, ◌==◌, Bool, true, false, List, []}
 use Rattle.std.proofs.Common.{◌∷◌, ◌++◌, refl, ap, ◌∙◌, arith, zero-add}
-use Rattle.std.specs.Prelude.{not, count_by}
+use Rattle.std.specs.Prelude.{count_by}
 use Rattle.std.specs.List.{range_with_len}
 use Rattle.std.proofs.lemmas.Bool.Decides.{nat_tests}
 use Rattle.std.proofs.lemmas.List.Sums.{sum_by_push}
@@ -50,13 +50,3 @@ one_changed p q i a (suc n) from below same =
         let at : one_if (q a) ≡ one_if (p a) = ap one_if (same a e) in
         let above : a + 1 ≤ i = omega (arith, e, from) in
         omega (arith, count_first p a n, count_first q a n, at, later above)
-
--- the same, if the first holds there
-pub but_one : (p q : ℕ → Bool) (i a n : ℕ) → a ≤ i → i < a + n → p i ≡ true → ((j : ℕ) → j ≢ i → q j ≡ p j)
-    → count_range q a n + one_if (not (q i)) ≡ count_range p a n
-but_one p q i a n from below here same =
-    omega (arith, one_changed p q i a n from below same, ap one_if here, either (q i))
-  where
-    either : (b : Bool) → one_if b + one_if (not b) ≡ 1
-    either true = refl
-    either false = refl

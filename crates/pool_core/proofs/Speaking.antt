@@ -28,8 +28,7 @@ use Rattle.pool_settings.specs.declared.settings.Settings.{Settings}
 use Rattle.pool_core.specs.Legal.{entry_of}
 use Rattle.pool_core.specs.Reply.{is_below, has_reached, choice, examined, evicts, forgotten_for, forgotten, has_room, full_reply}
 use Rattle.pool_core.specs.Reply.{borrow_reply, ready_reply, lent_reply, park_reply, added_reply, tested_reply, destroyed_reply}
-use Rattle.pool_core.specs.Reply.{add_reply, evict_next_reply, reclaim_next_reply, clear_next_reply}
-use Rattle.pool_core.specs.Table.{phase_of, new_of, table}
+use Rattle.pool_core.specs.Reply.{add_reply, evict_next_reply, reclaim_next_reply, clear_next_reply, phase_of, new_of, table}
 use Rattle.pool_core.proofs.Queues.{all_filter, all_idle, first_has, last_has, examined_has}
 
 differs : (i j : ℕ) → j ≢ i → (i == j) ≡ false

@@ -4,7 +4,7 @@ use Rattle.pool_journal.specs.declared.input.Input.{Input}
 use Rattle.pool_journal.specs.declared.answer.Answer.{Answer}
 use Rattle.pool_core.specs.declared.step_fault.StepFault.{StepFault}
 use Rattle.pool_core.specs.declared.step_fault.StepFault.TheVariants.{JournalFull, OutOfMemory}
-use Rattle.pool_core.specs.ReplyFrom.{reply_from}
+use Rattle.pool_core.specs.Reply.{reply_from}
 use Rattle.pool_core.specs.Legal.{entry_due_from}
 use Rattle.pool_core.specs.Fits.{FitsFrom, IsTooLongFrom}
 use Rattle.pool_core.specs.Kept.{Hands}

@@ -1,11 +1,14 @@
--- The safety properties of legal journals.
-use Rattle.std.specs.Prelude.{◌≡◌, ◌≢◌, ℕ, ◌+◌, ◌<◌, ◌≤◌, true, List, take, slice_get, length, Some, ℤ, pos, negsuc, ⊤}
+-- The safety properties of legal entries after a base that a pool can continue from, and of whole legal journals.
+use Rattle.std.specs.Prelude.{◌≡◌, ◌≢◌, ℕ, ◌+◌, ◌<◌, ◌≤◌, true, List, take, slice_get, length, count_by, Some, ℤ, pos, negsuc, ⊤}
+use Rattle.pool_journal.specs.Base.{empty_base, phase_from, present_from, reach}
+use Rattle.pool_journal.specs.Journal.{moves, lends, is_closing}
+use Rattle.pool_journal.specs.Queue.{is_queued}
+use Rattle.pool_journal.specs.declared.base.Base.{Base}
 use Rattle.pool_journal.specs.declared.entry.Entry.{Entry}
 use Rattle.pool_journal.specs.declared.record.Phase.{Phase}
 use Rattle.pool_journal.specs.declared.record.Phase.TheVariants as phases
 use Rattle.pool_journal.specs.declared.answer.Answer.TheVariants as answers
-use Rattle.pool_journal.specs.Journal.{moves, lends, is_closing, phase, present}
-use Rattle.pool_stats.specs.Counts.{counts_of}
+use Rattle.pool_stats.specs.Counts.{is_lent, is_reserved}
 use Rattle.pool_stats.specs.declared.counts.Counts.{Counts}
 use Rattle.pool_settings.specs.declared.settings.Settings.{Settings}
 
@@ -19,12 +22,16 @@ IsWithin (pos limit) n = n ≤ limit
 IsWithin (negsuc _) n = ⊤
 
 -- the number of present objects is within the limit of the settings
-abbrev pub AtMostMaxTotal : Settings → List Entry → Type 0
-AtMostMaxTotal S J = IsWithin S.max_total (length (present J))
+abbrev pub AtMostMaxTotalFrom : Settings → Base → List Entry → Type 0
+AtMostMaxTotalFrom S b J = IsWithin S.max_total (length (present_from b J))
 
 -- after an entry that closes the pool, none moves an object to Idle
 abbrev pub ClosedParksNone : List Entry → Type 0
 ClosedParksNone J = EachTwo J (λ e f. is_closing e.answer e.input ≡ true → (i : ℕ) → moves f ≢ Some (i, phases.Idle))
+
+-- after a base of a closed pool, no entry moves an object to Idle
+abbrev pub ClosedBaseParksNone : Base → List Entry → Type 0
+ClosedBaseParksNone b J = b.closed ≡ true → (k : ℕ) (e : Entry) → slice_get J k ≡ Some e → (i : ℕ) → moves e ≢ Some (i, phases.Idle)
 
 -- each id is made at most once and its place freed at most once, and no entry after that moves it
 pub record MadeAndGoneOnce (J : List Entry) : Type 0 where
@@ -32,29 +39,70 @@ pub record MadeAndGoneOnce (J : List Entry) : Type 0 where
   pub gone_once : EachTwo J (λ e f. (i : ℕ) → moves e ≡ Some (i, phases.Gone) → moves f ≢ Some (i, phases.Gone))
   pub gone_stays : EachTwo J (λ e f. (i : ℕ) (p : Phase) → moves e ≡ Some (i, phases.Gone) → moves f ≢ Some (i, p))
 
--- the entry at position m moves i out of Lent
-pub record LeavesLent (J : List Entry) (i m : ℕ) : Type 0 where
-  pub lent_before : phase i (take m J) ≡ phases.Lent
-  pub not_after : phase i (take (m + 1) J) ≢ phases.Lent
+-- no object that was created before is made again
+abbrev pub MadeAnew : Base → List Entry → Type 0
+MadeAnew b J = (k : ℕ) (e : Entry) → slice_get J k ≡ Some e → (i : ℕ) → e.answer ≡ answers.Make i → b.drawn ≤ i
+
+-- the entry at position m of the entries moves i out of Lent
+pub record LeavesLentFrom (b : Base) (J : List Entry) (i m : ℕ) : Type 0 where
+  pub lent_before : phase_from b i (take m J) ≡ phases.Lent
+  pub not_after : phase_from b i (take (m + 1) J) ≢ phases.Lent
 
 -- between two entries that lend i, another one moves it out of Lent
-abbrev pub LentInTurn : List Entry → Type 0
-LentInTurn J =
+abbrev pub LentInTurnFrom : Base → List Entry → Type 0
+LentInTurnFrom b J =
     (i k l : ℕ) (e f : Entry) → k < l → slice_get J k ≡ Some e → slice_get J l ≡ Some f → lends i e ≡ true → lends i f ≡ true
-    → (m : ℕ) × (k < m) × (m < l) × LeavesLent J i m
+    → (m : ℕ) × (k < m) × (m < l) × LeavesLentFrom b J i m
+
+-- the counts of a base, of all entries before the segment
+abbrev pub counts_at : Base → Counts
+counts_at b =
+    record {
+      steps = b.first;
+      idle = count_by (λ r. is_queued r.phase) b.records;
+      lent = count_by (λ r. is_lent r.phase) b.records;
+      reserved = count_by (λ r. is_reserved r.phase) b.records;
+      created = b.drawn;
+      destroyed = b.destroyed;
+      evicted = b.evicted;
+      reclaimed = b.reclaimed;
+    }
+
+-- the counts after the entries J, which continue the base b
+abbrev pub counts_from : Base → List Entry → Counts
+counts_from b J = counts_at (reach b J)
 
 -- each object that was made is idle, lent or reserved, or was destroyed or reclaimed
 abbrev pub AddsUp : Counts → Type 0
 AddsUp c = c.created ≡ c.idle + c.lent + c.reserved + c.destroyed + c.reclaimed
 
 -- no object is lost
-abbrev pub NothingLost : List Entry → Type 0
-NothingLost J = AddsUp (counts_of J)
+abbrev pub NothingLostFrom : Base → List Entry → Type 0
+NothingLostFrom b J = AddsUp (counts_from b J)
 
--- the safety properties of the legal journals
-pub record Laws (S : Settings) (J : List Entry) : Type 0 where
-  pub at_most_max_total : AtMostMaxTotal S J
+-- the safety properties of legal entries after a base
+pub record LawsFrom (S : Settings) (b : Base) (J : List Entry) : Type 0 where
+  pub at_most_max_total : AtMostMaxTotalFrom S b J
   pub closed_parks_none : ClosedParksNone J
+  pub closed_base_parks_none : ClosedBaseParksNone b J
   pub made_and_gone_once : MadeAndGoneOnce J
-  pub lent_in_turn : LentInTurn J
-  pub nothing_lost : NothingLost J
+  pub made_anew : MadeAnew b J
+  pub lent_in_turn : LentInTurnFrom b J
+  pub nothing_lost : NothingLostFrom b J
+
+-- ---- of whole journals
+
+abbrev pub AtMostMaxTotal : Settings → List Entry → Type 0
+AtMostMaxTotal S J = AtMostMaxTotalFrom S empty_base J
+
+abbrev pub LeavesLent : List Entry → ℕ → ℕ → Type 0
+LeavesLent J i m = LeavesLentFrom empty_base J i m
+
+abbrev pub LentInTurn : List Entry → Type 0
+LentInTurn J = LentInTurnFrom empty_base J
+
+abbrev pub NothingLost : List Entry → Type 0
+NothingLost J = NothingLostFrom empty_base J
+
+abbrev pub Laws : Settings → List Entry → Type 0
+Laws S J = LawsFrom S empty_base J

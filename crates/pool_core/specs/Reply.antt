@@ -1,8 +1,9 @@
--- What the pool answers to an input after a journal.
+-- What the pool answers to an input: the rows of the table of answers, and the table after a base and entries, or a journal.
 use Rattle.std.specs.Prelude.{ℕ, ◌+◌, ◌-◌, Bool, true, false, not, ◌&&◌, ◌||◌, if◌then◌else◌, nat_lt, nat_le, min}
 use Rattle.std.specs.Prelude.{List, [], length, filter, count_by, Option, Some, None, ℤ, pos, negsuc, int_le, int_lt}
 use Rattle.std.specs.Int.{div_ceil}
 use Rattle.std.specs.Option.{option_map, option_or}
+use Rattle.pool_journal.specs.declared.base.Base.{Base}
 use Rattle.pool_journal.specs.declared.entry.Entry.{Entry}
 use Rattle.pool_journal.specs.declared.record.Record.{Record}
 use Rattle.pool_journal.specs.declared.input.Input.{Input}
@@ -18,8 +19,8 @@ use Rattle.pool_journal.specs.declared.answer.Answer.TheVariants as answers
 use Rattle.pool_journal.specs.declared.answer.Cause.TheVariants as causes
 use Rattle.pool_journal.specs.declared.record.Phase.{Phase}
 use Rattle.pool_journal.specs.declared.record.Phase.TheVariants as phases
-use Rattle.pool_journal.specs.Journal.{phase, is_new, drawn, present, records, closed, cursor}
-use Rattle.pool_journal.specs.Queue.{idle_queue, first_of, last_of, queue_length}
+use Rattle.pool_journal.specs.Base.{empty_base, records_from, drawn_from, closed_from, cursor_from}
+use Rattle.pool_journal.specs.Queue.{idle_queue, first_of, last_of, queue_length, record_in}
 use Rattle.pool_places.specs.After.{is_after}
 use Rattle.pool_places.specs.Counts.{is_adding}
 use Rattle.pool_places.specs.Overdue.{overdue}
@@ -184,32 +185,47 @@ abbrev pub clear_next_reply : Option Record → Answer
 clear_next_reply (Some r) = answers.DestroyIdle r.id
 clear_next_reply None = answers.Nothing
 
--- the expected answer
+-- the phase of an object that may not be present
+abbrev pub phase_of : Option Record → Phase
+phase_of None = phases.Absent
+phase_of (Some r) = r.phase
+
+-- whether it is new
+abbrev pub new_of : Option Record → Bool
+new_of None = false
+new_of (Some r) = r.is_new
+
+-- the table of answers: the expected answer in a state, which is the records of the present objects, the next id, whether the
+-- pool is closed, and the cursor
+abbrev pub table : Settings → List Record → ℕ → Bool → Option ℕ → ℕ → Input → Answer
+table S rs next shut cursor at (Borrow began) =
+    if shut then answers.Refused causes.Closed
+    else borrow_reply (choice S.lifo rs) (is_below S.max_total (length rs)) next (full_reply S (at - began))
+table S rs next shut cursor at (Ready i o) = ready_reply (phase_of (record_in rs i)) (new_of (record_in rs i)) o
+table S rs next shut cursor at (GiveBack i) = lent_reply S.abandoned (phase_of (record_in rs i)) answers.Check
+table S rs next shut cursor at (Park i o) = park_reply (phase_of (record_in rs i)) o (has_room S shut rs)
+table S rs next shut cursor at (Invalidate i) = lent_reply S.abandoned (phase_of (record_in rs i)) answers.Destroy
+table S rs next shut cursor at (Use i) = lent_reply S.abandoned (phase_of (record_in rs i)) answers.Noted
+table S rs next shut cursor at Add =
+    if shut then answers.Refused causes.Closed else add_reply (is_below S.max_total (length rs)) next
+table S rs next shut cursor at Fill =
+    if shut || has_enough S rs then answers.Enough else add_reply (is_below S.max_total (length rs)) next
+table S rs next shut cursor at (Added i o) = added_reply (phase_of (record_in rs i)) o (not shut)
+table S rs next shut cursor at Evict =
+    if shut then answers.Refused causes.Closed else answers.Count (tests S.num_tests_per_eviction_run (queue_length rs))
+table S rs next shut cursor at EvictNext = evict_next_reply S (queue_length rs) at (examined cursor rs)
+table S rs next shut cursor at (Tested i o) = tested_reply (phase_of (record_in rs i)) o (not shut)
+table S rs next shut cursor at (Reclaim on) = answers.Count (if reclaims S shut rs on then length (forgotten S at rs) else 0)
+table S rs next shut cursor at ReclaimNext = reclaim_next_reply S.abandoned (first_of (forgotten S at rs))
+table S rs next shut cursor at Clear = answers.Count (length (idle_queue rs))
+table S rs next shut cursor at ClearNext = clear_next_reply (first_of (idle_queue rs))
+table S rs next shut cursor at (Destroyed i) = destroyed_reply (phase_of (record_in rs i))
+table S rs next shut cursor at Close = if shut then answers.Nothing else answers.Count (length (idle_queue rs))
+
+-- the expected answer after the entries J, which continue the base b: the table's, in the state after them
+abbrev pub reply_from : Settings → Base → List Entry → ℕ → Input → Answer
+reply_from S b J at input = table S (records_from b J) (drawn_from b J) (closed_from b J) (cursor_from b J) at input
+
+-- the expected answer after a whole journal
 abbrev pub reply : Settings → List Entry → ℕ → Input → Answer
-reply S J at (Borrow began) =
-    if closed J then answers.Refused causes.Closed
-    else borrow_reply (choice S.lifo (records J)) (is_below S.max_total (length (present J))) (drawn J) (full_reply S (at - began))
-reply S J at (Ready i o) = ready_reply (phase i J) (is_new i J) o
-reply S J at (GiveBack i) = lent_reply S.abandoned (phase i J) answers.Check
-reply S J at (Park i o) = park_reply (phase i J) o (has_room S (closed J) (records J))
-reply S J at (Invalidate i) = lent_reply S.abandoned (phase i J) answers.Destroy
-reply S J at (Use i) = lent_reply S.abandoned (phase i J) answers.Noted
-reply S J at Add =
-    if closed J then answers.Refused causes.Closed
-    else add_reply (is_below S.max_total (length (present J))) (drawn J)
-reply S J at Fill =
-    if closed J || has_enough S (records J) then answers.Enough
-    else add_reply (is_below S.max_total (length (present J))) (drawn J)
-reply S J at (Added i o) = added_reply (phase i J) o (not (closed J))
-reply S J at Evict =
-    if closed J then answers.Refused causes.Closed
-    else answers.Count (tests S.num_tests_per_eviction_run (queue_length (records J)))
-reply S J at EvictNext = evict_next_reply S (queue_length (records J)) at (examined (cursor J) (records J))
-reply S J at (Tested i o) = tested_reply (phase i J) o (not (closed J))
-reply S J at (Reclaim on) =
-    answers.Count (if reclaims S (closed J) (records J) on then length (forgotten S at (records J)) else 0)
-reply S J at ReclaimNext = reclaim_next_reply S.abandoned (first_of (forgotten S at (records J)))
-reply S J at Clear = answers.Count (length (idle_queue (records J)))
-reply S J at ClearNext = clear_next_reply (first_of (idle_queue (records J)))
-reply S J at (Destroyed i) = destroyed_reply (phase i J)
-reply S J at Close = if closed J then answers.Nothing else answers.Count (length (idle_queue (records J)))
+reply S J at input = reply_from S empty_base J at input

@@ -16,7 +16,7 @@ use Rattle.pool_places.specs.Changes.{IsInPhase}
 use Rattle.pool_places.specs.Shelf.{records_in}
 use Rattle.pool_stats.specs.Ended.{ended_after}
 use Rattle.pool_core.specs.Legal.{entry_of}
-use Rattle.pool_core.specs.Table.{table}
+use Rattle.pool_core.specs.Reply.{table}
 use Rattle.pool_core.specs.declared.state.Moment.{Moment}
 use Rattle.pool_core.specs.declared.state.State.{State}
 

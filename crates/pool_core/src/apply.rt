@@ -4,7 +4,7 @@ ghost use Rattle.pool_journal.specs.Journal.{id_of, is_borrow, is_make_answer};
 ghost use Rattle.pool_journal.specs.declared.record.Phase.TheVariants as phases;
 ghost use Rattle.pool_places.specs.Shelf.{records_in};
 ghost use Rattle.pool_stats.specs.Ended.{MayGrow};
-ghost use Rattle.pool_core.specs.Table.{table};
+ghost use Rattle.pool_core.specs.Reply.{table};
 
 use crate::marks::{closes, examined, id_in, next_after};
 use crate::state::{Moment, State};

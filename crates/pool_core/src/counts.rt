@@ -1,6 +1,6 @@
 ghost use Rattle.std.specs.Prelude.{◌≡◌, true};
 ghost use Rattle.std.specs.List.{AllByRecursion};
-ghost use Rattle.pool_core.specs.LawsFrom.{counts_at};
+ghost use Rattle.pool_core.specs.Laws.{counts_at};
 ghost use Rattle.pool_core.specs.Stepper.{base_in};
 ghost use Rattle.pool_journal.specs.Journal.{is_present};
 ghost use Rattle.pool_places.specs.Shelf.{records_in};

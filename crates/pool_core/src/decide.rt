@@ -3,7 +3,7 @@ ghost use Rattle.std.specs.Option.{option_map};
 ghost use Rattle.pool_journal.specs.Queue.{record_in, queue_length, idle_queue, first_of};
 ghost use Rattle.pool_places.specs.Shelf.{records_in};
 ghost use Rattle.pool_core.specs.Reply.{is_below, choice, examined, forgotten, is_scarce, reclaims, has_enough, has_room, tests, lent_reply, add_reply, evict_next_reply, reclaim_next_reply, clear_next_reply};
-ghost use Rattle.pool_core.specs.Table.{phase_of, new_of, table};
+ghost use Rattle.pool_core.specs.Reply.{phase_of, new_of, table};
 
 use crate::answers::{
     add_answer, added_answer, borrow_answer, destroyed_answer, evict_next_answer, lent_answer,
