@@ -1,8 +1,9 @@
 -- Only an object that was reported as ready is lent.
 use Rattle.std.proofs.Common.{◌≡◌, ℕ, ◌||◌, Bool, true, false, if◌then◌else◌, List, length, Option, Some, None, refl}
 use Rattle.std.specs.Prelude.{not, ◌-◌}
-use Rattle.pool_journal.specs.Journal.{phase, drawn, closed, records, present, cursor, is_lent_answer}
-use Rattle.pool_journal.specs.Queue.{idle_queue, first_of, queue_length}
+use Rattle.pool_journal.specs.Base.{empty_base, drawn_from, closed_from, records_from, cursor_from}
+use Rattle.pool_journal.specs.Journal.{is_lent_answer}
+use Rattle.pool_journal.specs.Queue.{idle_queue, first_of, queue_length, record_in}
 use Rattle.pool_journal.specs.declared.record.Record.{Record}
 use Rattle.pool_journal.specs.declared.record.Phase.{Phase}
 use Rattle.pool_journal.specs.declared.record.Phase.TheVariants as phases
@@ -15,7 +16,7 @@ use Rattle.pool_journal.specs.declared.answer.Answer.{Answer}
 use Rattle.pool_journal.specs.declared.answer.Answer.TheVariants as answers
 use Rattle.pool_journal.specs.declared.answer.Cause.TheVariants as causes
 use Rattle.pool_settings.specs.declared.settings.Settings.{Settings}
-use Rattle.pool_core.specs.Reply.{reply, borrow_reply, full_reply, has_reached, choice, is_below, lent_reply, park_reply, returning_reply, has_room, added_reply, adding_reply, tested_reply, testing_reply, destroyed_reply, add_reply, has_enough, evicts, evict_next_reply, examined, reclaim_next_reply, clear_next_reply, forgotten}
+use Rattle.pool_core.specs.Reply.{reply, borrow_reply, full_reply, has_reached, choice, is_below, lent_reply, park_reply, returning_reply, has_room, added_reply, adding_reply, tested_reply, testing_reply, destroyed_reply, add_reply, has_enough, evicts, evict_next_reply, examined, reclaim_next_reply, clear_next_reply, forgotten, phase_of, table}
 
 abbrev pub is_ready : Input → Bool
 is_ready (Ready i o) = true
@@ -86,27 +87,32 @@ clear_next_idle : (o : Option Record) → Idle (clear_next_reply o)
 clear_next_idle (Some r) = refl
 clear_next_idle None = refl
 
+-- an answer of the table lends only an object that was reported as ready
+table_lends : (s : Settings) (rs : List Record) (next : ℕ) (shut : Bool) (cursor : Option ℕ) (at : ℕ) (input : Input) → is_ready input ≡ false
+    → is_lent_answer (table s rs next shut cursor at input) ≡ false
+table_lends s rs next shut cursor at (Borrow began) other =
+    either shut (answers.Refused causes.Closed) (borrow_reply (choice s.lifo rs) (is_below s.max_total (length rs)) next (full_reply s (at - began))) refl
+    (borrow_idle (choice s.lifo rs) (is_below s.max_total (length rs)) next (full_reply s (at - began))
+    (either s.block_when_exhausted (if has_reached s.max_wait_millis (at - began) then answers.TimedOut else answers.Wait) answers.Exhausted (either (has_reached s.max_wait_millis (at - began)) answers.TimedOut answers.Wait refl refl) refl))
+table_lends s rs next shut cursor at (Ready i o) other = absurd (cc other)
+table_lends s rs next shut cursor at (GiveBack i) other = lent_idle s.abandoned (phase_of (record_in rs i)) answers.Check refl
+table_lends s rs next shut cursor at (Park i o) other = park_idle (phase_of (record_in rs i)) o (has_room s shut rs)
+table_lends s rs next shut cursor at (Invalidate i) other = lent_idle s.abandoned (phase_of (record_in rs i)) answers.Destroy refl
+table_lends s rs next shut cursor at (Use i) other = lent_idle s.abandoned (phase_of (record_in rs i)) answers.Noted refl
+table_lends s rs next shut cursor at Add other = either shut (answers.Refused causes.Closed) (add_reply (is_below s.max_total (length rs)) next) refl (add_idle (is_below s.max_total (length rs)) next)
+table_lends s rs next shut cursor at Fill other =
+    either (shut || has_enough s rs) answers.Enough (add_reply (is_below s.max_total (length rs)) next) refl (add_idle (is_below s.max_total (length rs)) next)
+table_lends s rs next shut cursor at (Added i o) other = added_idle (phase_of (record_in rs i)) o (not shut)
+table_lends s rs next shut cursor at Evict other = either shut (answers.Refused causes.Closed) _ refl refl
+table_lends s rs next shut cursor at EvictNext other = evict_next_idle s (queue_length rs) at (examined cursor rs)
+table_lends s rs next shut cursor at (Tested i o) other = tested_idle (phase_of (record_in rs i)) o (not shut)
+table_lends s rs next shut cursor at (Reclaim on) other = refl
+table_lends s rs next shut cursor at ReclaimNext other = reclaim_next_idle s.abandoned (first_of (forgotten s at rs))
+table_lends s rs next shut cursor at Clear other = refl
+table_lends s rs next shut cursor at ClearNext other = clear_next_idle (first_of (idle_queue rs))
+table_lends s rs next shut cursor at (Destroyed i) other = destroyed_idle (phase_of (record_in rs i))
+table_lends s rs next shut cursor at Close other = either shut answers.Nothing _ refl refl
+
 -- an expected answer lends only an object that was reported as ready
 pub lends_ready : (s : Settings) (at : ℕ) (J : List Entry) (input : Input) → is_ready input ≡ false → is_lent_answer (reply s J at input) ≡ false
-lends_ready s at J (Borrow began) other =
-    either (closed J) (answers.Refused causes.Closed) (borrow_reply (choice s.lifo (records J)) (is_below s.max_total (length (present J))) (drawn J) (full_reply s (at - began))) refl
-    (borrow_idle (choice s.lifo (records J)) (is_below s.max_total (length (present J))) (drawn J) (full_reply s (at - began))
-    (either s.block_when_exhausted (if has_reached s.max_wait_millis (at - began) then answers.TimedOut else answers.Wait) answers.Exhausted (either (has_reached s.max_wait_millis (at - began)) answers.TimedOut answers.Wait refl refl) refl))
-lends_ready s at J (Ready i o) other = absurd (cc other)
-lends_ready s at J (GiveBack i) other = lent_idle s.abandoned (phase i J) answers.Check refl
-lends_ready s at J (Park i o) other = park_idle (phase i J) o (has_room s (closed J) (records J))
-lends_ready s at J (Invalidate i) other = lent_idle s.abandoned (phase i J) answers.Destroy refl
-lends_ready s at J (Use i) other = lent_idle s.abandoned (phase i J) answers.Noted refl
-lends_ready s at J Add other = either (closed J) (answers.Refused causes.Closed) (add_reply (is_below s.max_total (length (present J))) (drawn J)) refl (add_idle (is_below s.max_total (length (present J))) (drawn J))
-lends_ready s at J Fill other =
-    either (closed J || has_enough s (records J)) answers.Enough (add_reply (is_below s.max_total (length (present J))) (drawn J)) refl (add_idle (is_below s.max_total (length (present J))) (drawn J))
-lends_ready s at J (Added i o) other = added_idle (phase i J) o (not (closed J))
-lends_ready s at J Evict other = either (closed J) (answers.Refused causes.Closed) _ refl refl
-lends_ready s at J EvictNext other = evict_next_idle s (queue_length (records J)) at (examined (cursor J) (records J))
-lends_ready s at J (Tested i o) other = tested_idle (phase i J) o (not (closed J))
-lends_ready s at J (Reclaim on) other = refl
-lends_ready s at J ReclaimNext other = reclaim_next_idle s.abandoned (first_of (forgotten s at (records J)))
-lends_ready s at J Clear other = refl
-lends_ready s at J ClearNext other = clear_next_idle (first_of (idle_queue (records J)))
-lends_ready s at J (Destroyed i) other = destroyed_idle (phase i J)
-lends_ready s at J Close other = either (closed J) answers.Nothing _ refl refl
+lends_ready s at J input = table_lends s (records_from empty_base J) (drawn_from empty_base J) (closed_from empty_base J) (cursor_from empty_base J) at input

@@ -4,7 +4,7 @@ use Rattle.pool_journal.specs.declared.input.Input.TheVariants.{Reclaim, Reclaim
 use Rattle.pool_journal.specs.declared.input.When.{When}
 use Rattle.pool_journal.specs.declared.answer.Answer.{Answer}
 use Rattle.pool_journal.specs.declared.answer.Answer.TheVariants as answers
-use Rattle.pool_journal.specs.Journal.{records}
+use Rattle.pool_journal.specs.Base.{empty_base, records_from}
 use Rattle.pool_journal.specs.Queue.{first_of}
 use Rattle.pool_journal.specs.declared.record.Record.{Record}
 use Rattle.pool_settings.specs.declared.settings.Settings.{Settings}
@@ -52,7 +52,7 @@ takes_none false o is = refl
 
 -- a ReclaimNext failed that would have reclaimed nothing
 none_there : (s : Settings) (at : ℕ) (me : Standing) → finishes (reply s me.seen at ReclaimNext) ReclaimNext ≡ false → reply s me.seen at ReclaimNext ≡ answers.Nothing
-none_there s at me unfinished = takes_none s.abandoned (first_of (forgotten s at (records me.seen))) unfinished
+none_there s at me unfinished = takes_none s.abandoned (first_of (forgotten s at (records_from empty_base me.seen))) unfinished
 
 pub stops_full : {T : Type 0} (s : Settings) (f : StepFault T) (out : Option T) (b c : Standing) → f ≡ JournalFull out → Refuses s ReclaimNext None f b c → IsStopped s faults.JournalFull c
 stops_full s f out b c is refuses = let full = full_for s ReclaimNext f out b c is refuses in (full.0, full.1, none_there s full.0 c full.1.unfinished)

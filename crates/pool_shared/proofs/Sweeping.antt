@@ -1,12 +1,14 @@
 -- The trace of a sweep over idle objects.
-use Rattle.std.proofs.Common.{◌≡◌, ℕ, zero, suc, ◌+◌, ◌-◌, ◌<◌, Bool, true, false, true≢false, if◌then◌else◌, List, [], ◌∷◌, length, Option, None, Some, Result, Ok, Err, refl, sym, ◌∙◌, subst, arith}
-use Rattle.pool_journal.specs.Journal.{closed, records}
+use Rattle.std.proofs.Common.{◌≡◌, ℕ, zero, suc, ◌+◌, ◌-◌, ◌<◌, Bool, true, false, true≢false, if◌then◌else◌, List, [], ◌∷◌, length, Option, None, Some, Result, Ok, Err, refl, ap, sym, ◌∙◌, subst, arith}
+use Rattle.pool_journal.specs.Base.{empty_base, records_from, closed_from}
+use Rattle.pool_journal.specs.Journal.{closed}
 use Rattle.pool_journal.specs.Queue.{idle_queue, first_of}
 use Rattle.pool_journal.specs.declared.record.Record.{Record}
 use Rattle.pool_journal.specs.declared.input.Input.{Input}
 use Rattle.pool_journal.specs.declared.input.Input.TheVariants.{Clear, ClearNext, Close, Destroyed}
 use Rattle.pool_journal.specs.declared.answer.Answer.{Answer}
 use Rattle.pool_journal.specs.declared.answer.Answer.TheVariants as answers
+use Rattle.pool_journal.proofs.FromEmpty.{records-from-empty, closed-from-empty}
 use Rattle.pool_settings.specs.declared.settings.Settings.{Settings}
 use Rattle.pool_core.specs.declared.step_fault.StepFault.{StepFault}
 use Rattle.pool_core.specs.declared.step_fault.StepFault.TheVariants.{JournalFull, OutOfMemory}
@@ -64,7 +66,9 @@ stops (Some r) is = absurd (true≢false is)
 
 -- a ClearNext that isn't completing finds none
 pub none_idle : (s : Settings) (at : ℕ) (me : Standing) → finishes (reply s me.seen at ClearNext) ClearNext ≡ false → NoneIdle me
-none_idle s at me unfinished = none_first (idle_queue (records me.seen)) (stops (first_of (idle_queue (records me.seen))) unfinished)
+none_idle s at me unfinished =
+    ap idle_queue (records-from-empty me.seen)
+    ∙ none_first (idle_queue (records_from empty_base me.seen)) (stops (first_of (idle_queue (records_from empty_base me.seen))) unfinished)
 
 shut : (b : Bool) (n : ℕ) → finishes (if b then answers.Nothing else answers.Count n) Close ≡ false → b ≡ true
 shut true n is = refl
@@ -72,7 +76,8 @@ shut false n is = absurd (true≢false is)
 
 -- a Close that isn't completing finds the pool closed
 pub was_closed : (s : Settings) (at : ℕ) (me : Standing) → finishes (reply s me.seen at Close) Close ≡ false → closed me.seen ≡ true
-was_closed s at me unfinished = shut (closed me.seen) (length (idle_queue (records me.seen))) unfinished
+was_closed s at me unfinished =
+    closed-from-empty me.seen ∙ shut (closed_from empty_base me.seen) (length (idle_queue (records_from empty_base me.seen))) unfinished
 
 -- a sweep whose next critical section failed, when it would have found no object
 stopped : (s : Settings) (first : Input) (count left taken : ℕ) (f : PoolFault) (a b c : Standing) → 0 < left → Goes_on first (sweeps count 0) a b (sweeps left taken)

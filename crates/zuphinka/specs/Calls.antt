@@ -14,7 +14,7 @@ use Rattle.pool_core.specs.Fits.{FitsFrom, IsTooLongFrom, owed_from, limit_from}
 use Rattle.pool_core.specs.Kept.{KeepsIdleFrom}
 use Rattle.pool_core.specs.Legal.{IsLegalFrom, entry_due_from}
 use Rattle.pool_core.specs.Pool.{Pool}
-use Rattle.pool_core.specs.ReplyFrom.{reply_from}
+use Rattle.pool_core.specs.Reply.{reply_from}
 use Rattle.pool_core.specs.Steps.{keeps_value}
 use Rattle.zuphinka.specs.Codes.{input_of, reply_of}
 use Rattle.zuphinka.specs.Lines.{TextTo, entry_line, base_line}

@@ -1,8 +1,7 @@
 -- What C is told of the counts.
 use Rattle.std.specs.Prelude.{◌≡◌, ℕ, ◌+◌}
 use Rattle.pool_stats.specs.declared.counts.Counts.{Counts}
-use Rattle.pool_core.specs.Laws.{AddsUp, IsWithin}
-use Rattle.pool_core.specs.LawsFrom.{counts_from}
+use Rattle.pool_core.specs.Laws.{AddsUp, IsWithin, counts_from}
 use Rattle.pool_core.specs.Pool.{Pool}
 use Rattle.zuphinka.specs.declared.tally.Tally.{Tally}
 

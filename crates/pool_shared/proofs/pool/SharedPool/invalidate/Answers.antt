@@ -7,12 +7,12 @@ use Rattle.pool_shared.proofs.pool.SharedPool.invalidate.Goals as goal
 pub returns-in-Err-JournalFull-clause-row : goal.returns-in-Err-JournalFull-clause-row
 returns-in-Err-JournalFull-clause-row g c =
     let pool : c.args.lent.pool ≡ c.args.self.now.number = search rules in
-    full_row g.B.Room.settings c.args.self.now.number c.args.lent _ _ _ _ (ap refusal c.in-Err-JournalFull.field-0-is) pool c.in-Err-JournalFull.ensures.refused
+    full_row g.B.Room.settings c.args.self.now.number c.args.lent _ _ _ _ (ap refusal c.in-Err-JournalFull.field-0-is) pool c.in-Err-JournalFull.ensures.goes.legal c.in-Err-JournalFull.ensures.refused
 
 pub returns-in-Err-OutOfMemory-clause-row : goal.returns-in-Err-OutOfMemory-clause-row
 returns-in-Err-OutOfMemory-clause-row g c =
     let pool : c.args.lent.pool ≡ c.args.self.now.number = search rules in
-    short_row g.B.Room.settings c.args.self.now.number c.args.lent _ _ _ _ (ap refusal c.in-Err-OutOfMemory.field-0-is) pool c.in-Err-OutOfMemory.ensures.refused
+    short_row g.B.Room.settings c.args.self.now.number c.args.lent _ _ _ _ (ap refusal c.in-Err-OutOfMemory.field-0-is) pool c.in-Err-OutOfMemory.ensures.goes.legal c.in-Err-OutOfMemory.ensures.refused
 
 pub returns-then-lent-self-clause-goes : goal.returns-then-lent-self-clause-goes
 returns-then-lent-self-clause-goes g c = untouched g.B.Room.table g.B.Room.settings _ c.me.inside.number _ c.args.me.now c.me.invariant c.me.view_is
