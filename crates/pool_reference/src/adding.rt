@@ -1,7 +1,8 @@
-ghost use Rattle.std.specs.Prelude.{◌≡◌, ℕ, IfOk, length};
-ghost use Rattle.pool_journal.specs.Journal.{drawn, present};
+ghost use Rattle.std.specs.Prelude.{◌≡◌, ℕ, IfOk};
+ghost use Rattle.pool_journal.specs.Journal.{drawn};
 ghost use Rattle.pool_journal.specs.declared.input.Input.TheVariants as inputs;
-ghost use Rattle.pool_core.specs.Reply.{is_below, add_reply, has_enough, reply};
+ghost use Rattle.pool_core.specs.Reply.{is_below, add_reply, has_enough};
+ghost use Rattle.pool_reference.specs.Told.{told};
 
 use crate::limits::is_below_limit;
 use crate::marks::is_closed;
@@ -36,7 +37,7 @@ pub fn reply_to_add(
     settings: &Settings,
     entries: &[Entry],
 ) -> Result<Answer, AllocError>
-    ensures { (at : ℕ) → IfOk result (λ a. a ≡ reply settings.now entries.now at inputs.Add) }
+    ensures { (at : ℕ) → IfOk result (λ a. a ≡ told settings.now entries.now at inputs.Add) }
 {
     if is_closed(entries) {
         return Ok(Answer::Refused(Cause::Closed));
@@ -51,7 +52,7 @@ pub fn reply_to_fill(
     settings: &Settings,
     entries: &[Entry],
 ) -> Result<Answer, AllocError>
-    ensures { (at : ℕ) → IfOk result (λ a. a ≡ reply settings.now entries.now at inputs.Fill) }
+    ensures { (at : ℕ) → IfOk result (λ a. a ≡ told settings.now entries.now at inputs.Fill) }
 {
     let known = records_of(alloc, entries)?;
     if is_closed(entries) || is_filled(settings, &known) {

@@ -2,7 +2,8 @@ ghost use Rattle.std.specs.Prelude.{◌≡◌, IfOk, if◌then◌else◌};
 ghost use Rattle.std.specs.Option.{option_map};
 ghost use Rattle.pool_journal.specs.Queue.{first_of, last_of};
 ghost use Rattle.pool_journal.specs.declared.input.Input.TheVariants as inputs;
-ghost use Rattle.pool_core.specs.Reply.{full_reply, reply};
+ghost use Rattle.pool_core.specs.Reply.{full_reply};
+ghost use Rattle.pool_reference.specs.Told.{told};
 
 use crate::limits::{is_below_limit, is_waited};
 use crate::marks::is_closed;
@@ -47,7 +48,7 @@ pub fn reply_to_borrow(
     at: u64,
     began: u64,
 ) -> Result<Answer, AllocError>
-    ensures { IfOk result (λ a. a ≡ reply settings.now entries.now at (inputs.Borrow began)) }
+    ensures { IfOk result (λ a. a ≡ told settings.now entries.now at (inputs.Borrow began)) }
 {
     if is_closed(entries) {
         return Ok(Answer::Refused(Cause::Closed));

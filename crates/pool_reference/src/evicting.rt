@@ -1,6 +1,7 @@
 ghost use Rattle.std.specs.Prelude.{◌≡◌, ℕ, IfOk};
 ghost use Rattle.pool_journal.specs.declared.input.Input.TheVariants as inputs;
-ghost use Rattle.pool_core.specs.Reply.{evicts, reply};
+ghost use Rattle.pool_core.specs.Reply.{evicts};
+ghost use Rattle.pool_reference.specs.Told.{told};
 
 use crate::limits::{count_tests, is_exceeded};
 use crate::marks::{cursor_of, is_closed};
@@ -27,7 +28,7 @@ pub fn reply_to_evict(
     settings: &Settings,
     entries: &[Entry],
 ) -> Result<Answer, AllocError>
-    ensures { (at : ℕ) → IfOk result (λ a. a ≡ reply settings.now entries.now at inputs.Evict) }
+    ensures { (at : ℕ) → IfOk result (λ a. a ≡ told settings.now entries.now at inputs.Evict) }
 {
     if is_closed(entries) {
         return Ok(Answer::Refused(Cause::Closed));
@@ -44,7 +45,7 @@ pub fn reply_to_evict_next(
     entries: &[Entry],
     at: u64,
 ) -> Result<Answer, AllocError>
-    ensures { IfOk result (λ a. a ≡ reply settings.now entries.now at inputs.EvictNext) }
+    ensures { IfOk result (λ a. a ≡ told settings.now entries.now at inputs.EvictNext) }
 {
     let known = records_of(alloc, entries)?;
     let queue = idle_queue_of(alloc, &known)?;
