@@ -13,7 +13,7 @@ use Rattle.crossbeam_utils.specs.Register.{Turns, TurnsAt}
 use Rattle.crossbeam_utils.specs.Seq.{Knows, Versioned, HasRead, Fresh, Gathered, IsValidRead, idle}
 use Rattle.crossbeam_utils.proofs.SeqKeeps.{peeks, puts}
 use Rattle.pool_history.specs.Cell.{after_look, compared}
-use Rattle.pool_history.specs.Rule.{Kept, beginner}
+use Rattle.pool_history.specs.CellInvariant.{HasCellInvariant, beginner}
 use Rattle.pool_history.specs.declared.room.View.{View}
 
 -- the pass that stores has found the next word so
@@ -26,15 +26,15 @@ module _ (at k found : ℕ) (old new : List ℕ) (before : Stage (List ℕ)) (is
 
 -- its look keeps the rule: a word that is the new one already counts as stored
 pub compares : (slots id : ℕ) (me : Me (List ℕ) (Doing (List ℕ) View)) (at k : ℕ) (old new : List ℕ) → me.0.stage ≡ Writing at old new k → k < 8
-    → Allows (Versioned (λ x. x) 8 Kept) slots id me (k + 1) (λ x. x) (compared (step slots (k + 1) 0 0 none) me)
+    → Allows (Versioned (λ x. x) 8 HasCellInvariant) slots id me (k + 1) (λ x. x) (compared (step slots (k + 1) 0 0 none) me)
 compares slots id me at k old new is inside s rule wide here small =
     let x : ℕ = get_or s.words (k + 1) 0 in
     dite (ℕ_discrete x (get_or new k 0))
     (λ same.
-    let p = puts (λ x. x) 8 Kept slots id me at k old new x is inside same s rule wide here small in
+    let p = puts (λ x. x) 8 HasCellInvariant slots id me at k old new x is inside same s rule wide here small in
     (p.0, p.1, p.2, p.3, (p.4.0, p.4.1 at old new k is ∙ sym (told_same at k x old new me.0.stage is same))))
     (λ other.
-    let p = peeks (λ x. x) 8 Kept slots id me k inside s rule wide here small in
+    let p = peeks (λ x. x) 8 HasCellInvariant slots id me k inside s rule wide here small in
     let stays : p.0.stage ≡ Writing at old new k = (subst (λ (z : Stage (List ℕ)). Fresh (λ y. x ≡ get_or y ((k + 1) - 1) 0) z p.0.stage) is p.4.1).0 in
     (p.0, p.1, p.2, p.3, (p.4.0, stays ∙ sym (told_other at k x old new me.0.stage is other))))
 
@@ -50,18 +50,18 @@ whole tells version again words v w first last even read gathered checked long i
     subst (λ (z : List ℕ). tells v z z w) same c.2
 
 -- a pass that stays so may turn as before
-pub turns_still : (tells : View → List ℕ → List ℕ → View → Type 0) (f : List ℕ → List ℕ) (pass pass' : ℕ) (v v' : View) → pass' ≡ pass → v' ≡ v → Turns Kept pass v f tells → Turns Kept pass' v' f tells
-turns_still tells f pass pass' v v' same stays turns = subst (λ (z : ℕ × View). Turns Kept z.0 z.1 f tells) (λ i. (sym same i, sym stays i)) turns
+pub turns_still : (tells : View → List ℕ → List ℕ → View → Type 0) (f : List ℕ → List ℕ) (pass pass' : ℕ) (v v' : View) → pass' ≡ pass → v' ≡ v → Turns HasCellInvariant pass v f tells → Turns HasCellInvariant pass' v' f tells
+turns_still tells f pass pass' v v' same stays turns = subst (λ (z : ℕ × View). Turns HasCellInvariant z.0 z.1 f tells) (λ i. (sym same i, sym stays i)) turns
 
 -- the same at one value
-pub turns_there : (tells : View → List ℕ → List ℕ → View → Type 0) (pass pass' : ℕ) (v v' : View) (old new : List ℕ) → pass' ≡ pass → v' ≡ v → TurnsAt Kept pass v old new tells → TurnsAt Kept pass' v' old new tells
-turns_there tells pass pass' v v' old new same stays turns = subst (λ (z : ℕ × View). TurnsAt Kept z.0 z.1 old new tells) (λ i. (sym same i, sym stays i)) turns
+pub turns_there : (tells : View → List ℕ → List ℕ → View → Type 0) (pass pass' : ℕ) (v v' : View) (old new : List ℕ) → pass' ≡ pass → v' ≡ v → TurnsAt HasCellInvariant pass v old new tells → TurnsAt HasCellInvariant pass' v' old new tells
+turns_there tells pass pass' v v' old new same stays turns = subst (λ (z : ℕ × View). TurnsAt HasCellInvariant z.0 z.1 old new tells) (λ i. (sym same i, sym stays i)) turns
 
 abbrev zeros : List ℕ
 zeros = 0 ∷ 0 ∷ 0 ∷ 0 ∷ 0 ∷ 0 ∷ 0 ∷ 0 ∷ []
 
 -- the new cell
-pub begun : (homes : List (Option (List ℕ))) → Kept zeros (beginner ∷ []) → Versioned (λ x. x) 8 Kept record { words = 0 ∷ zeros; homes = homes; views = idle beginner ∷ [] }
+pub begun : (homes : List (Option (List ℕ))) → HasCellInvariant zeros (beginner ∷ []) → Versioned (λ x. x) 8 HasCellInvariant record { words = 0 ∷ zeros; homes = homes; views = idle beginner ∷ [] }
 begun homes begins =
     record {
       value = zeros;

@@ -1,7 +1,7 @@
-pub mod Tended
-pub mod Rule
-pub mod Standings
-pub mod Ends
+pub mod Ownership
+pub mod CellInvariant
+pub mod CallerStates
+pub mod Finish
 pub mod Stored
 pub mod Answers
 pub mod Cell

@@ -3,10 +3,10 @@ ghost use Rattle.std.specs.Prelude.{◌≡◌, ◌+◌, ◌%◌, ◌^◌, ◌<�
 ghost use Rattle.crossbeam_utils.specs.Register.{Forks, Merges, Turns, TurnsAt};
 ghost use Rattle.crossbeam_utils.specs.Seq.{cell_view, Gathered, HasRead, IsSamePass, Stays};
 ghost use Rattle.crossbeam_utils.specs.declared.atomic.seq_cell.Stage.TheVariants.{Writing};
-ghost use Rattle.pool_history.specs.Rule.{Kept, beginner};
+ghost use Rattle.pool_history.specs.CellInvariant.{HasCellInvariant, beginner};
 
 use crate::plays::{Checks, Compares, Cut, Glue, Locks, Peeks, Publishes, Puts, Reads};
-use crate::room::{OneHistory, Seen, View};
+use crate::room::{CountsPass, HistoryProtocol, View};
 use atomic_table::{Join, Split, Table};
 use crossbeam_utils::Backoff;
 use crossbeam_utils::atomic::seq_cell::{Doing, Versions};
@@ -20,20 +20,20 @@ const WORDS: usize = 8;
 /// Eight words that one pass at a time stores and others read whole.
 #[derive(Drop)]
 pub struct Cell {
-    pub table: Table<[u64; 8], Doing<[u64; 8], View>, (), Versions<OneHistory, 8>, Global>,
+    pub table: Table<[u64; 8], Doing<[u64; 8], View>, (), Versions<HistoryProtocol, 8>, Global>,
     ghost wide: { table.shared.table_id.words ≡ 9 },
 }
 
 /// A new cell with its keeper's pass.
-pub fn begin(alloc: Global) -> Result<(Cell, Seen), AllocError>
+pub fn begin(alloc: Global) -> Result<(Cell, CountsPass), AllocError>
     ensures { IfOk result (λ c. (c.1.table_id ≡ c.0.table.shared.table_id) × (cell_view c.1 ≡ beginner)) }
 {
-    let (table, keeper) = Table::of_words(alloc, &[0, 0, 0, 0, 0, 0, 0, 0, 0], &())?;
-    Ok((Cell { table }, keeper))
+    let (table, authority) = Table::of_words(alloc, &[0, 0, 0, 0, 0, 0, 0, 0, 0], &())?;
+    Ok((Cell { table }, authority))
 }
 
 /// Reads the version.
-fn version_of(cell: &Cell, pass: &mut Seen) -> u64
+fn version_of(cell: &Cell, pass: &mut CountsPass) -> u64
     requires { pass.old.table_id ≡ cell.now.table.shared.table_id }
     ensures stays { Stays pass.old pass.new }
     ensures read { HasRead result pass.new.me.0.stage }
@@ -42,7 +42,7 @@ fn version_of(cell: &Cell, pass: &mut Seen) -> u64
 }
 
 /// Reads the words, one by one.
-fn gather(cell: &Cell, pass: &mut Seen) -> [u64; 8]
+fn gather(cell: &Cell, pass: &mut CountsPass) -> [u64; 8]
     requires { pass.old.table_id ≡ cell.now.table.shared.table_id }
     ensures { Stays pass.old pass.new × (length result ≡ 8) × Gathered (λ words. words) 8 result pass.old.me.0.stage pass.new.me.0.stage }
 {
@@ -54,9 +54,13 @@ fn gather(cell: &Cell, pass: &mut Seen) -> [u64; 8]
 }
 
 /// Loads the words that are stored. It looks again until no store came between.
-pub fn load<M: Outcome<[u64; 8], View>, R: Wait>(rt: &R, cell: &Cell, pass: &mut Seen) -> [u64; 8]
+pub fn load<M: Outcome<[u64; 8], View>, R: Wait>(
+    rt: &R,
+    cell: &Cell,
+    pass: &mut CountsPass,
+) -> [u64; 8]
     requires cell { pass.old.table_id ≡ cell.now.table.shared.table_id }
-    requires turns { Turns Kept pass.old.id (cell_view pass.old) (λ words. words) M.then }
+    requires turns { Turns HasCellInvariant pass.old.id (cell_view pass.old) (λ words. words) M.then }
     ensures same { IsSamePass pass.old pass.new }
     ensures view { M.then (cell_view pass.old) result result (cell_view pass.new) }
 {
@@ -75,7 +79,7 @@ pub fn load<M: Outcome<[u64; 8], View>, R: Wait>(rt: &R, cell: &Cell, pass: &mut
 }
 
 /// Makes the version odd, if it is this even one still. The answer is the version that it was.
-fn lock(cell: &Cell, pass: &mut Seen, version: u64, words: &[u64; 8]) -> u64
+fn lock(cell: &Cell, pass: &mut CountsPass, version: u64, words: &[u64; 8]) -> u64
     requires cell { pass.old.table_id ≡ cell.now.table.shared.table_id }
     requires even { version % 2 ≡ 0 }
     requires small { version + 1 < 2 ^ 64 }
@@ -87,7 +91,7 @@ fn lock(cell: &Cell, pass: &mut Seen, version: u64, words: &[u64; 8]) -> u64
 }
 
 /// Takes the cell to store words. The answer is the version, which is odd then. After 2^63 stores it waits for ever.
-fn take<R: Wait>(rt: &R, cell: &Cell, pass: &mut Seen, words: [u64; 8]) -> u64
+fn take<R: Wait>(rt: &R, cell: &Cell, pass: &mut CountsPass, words: [u64; 8]) -> u64
     requires { pass.old.table_id ≡ cell.now.table.shared.table_id }
     ensures stays { Stays pass.old pass.new }
     ensures taken { (old : _) × (pass.new.me.0.stage ≡ Writing result old words 0) }
@@ -107,7 +111,7 @@ fn take<R: Wait>(rt: &R, cell: &Cell, pass: &mut Seen, words: [u64; 8]) -> u64
 }
 
 /// Stores a word, if it differs from what is stored.
-fn put(cell: &Cell, pass: &mut Seen, i: usize, word: u64)
+fn put(cell: &Cell, pass: &mut CountsPass, i: usize, word: u64)
     requires cell { pass.old.table_id ≡ cell.now.table.shared.table_id }
     requires inside { i < 8 }
     requires next { (version : ℕ) × (old : List ℕ) × (words : List ℕ) × (pass.old.me.0.stage ≡ Writing version old words i) × (word ≡ slice_index words i) }
@@ -122,9 +126,14 @@ fn put(cell: &Cell, pass: &mut Seen, i: usize, word: u64)
 }
 
 /// Stores those of the words that differ from what is stored, and gives the cell up.
-fn publish<M: Outcome<[u64; 8], View>>(cell: &Cell, pass: &mut Seen, version: u64, words: [u64; 8])
+fn publish<M: Outcome<[u64; 8], View>>(
+    cell: &Cell,
+    pass: &mut CountsPass,
+    version: u64,
+    words: [u64; 8],
+)
     requires cell { pass.old.table_id ≡ cell.now.table.shared.table_id }
-    requires taken { (old : _) × (pass.old.me.0.stage ≡ Writing version old words 0) × TurnsAt Kept pass.old.id (cell_view pass.old) old words M.then }
+    requires taken { (old : _) × (pass.old.me.0.stage ≡ Writing version old words 0) × TurnsAt HasCellInvariant pass.old.id (cell_view pass.old) old words M.then }
     requires small { version + 1 < 2 ^ 64 }
     ensures same { IsSamePass pass.old pass.new }
     ensures view { (old : _) × M.then (cell_view pass.old) old words (cell_view pass.new) }
@@ -140,11 +149,11 @@ fn publish<M: Outcome<[u64; 8], View>>(cell: &Cell, pass: &mut Seen, version: u6
 pub fn store_words<M: Outcome<[u64; 8], View>, R: Wait>(
     rt: &R,
     cell: &Cell,
-    pass: &mut Seen,
+    pass: &mut CountsPass,
     words: [u64; 8],
 )
     requires cell { pass.old.table_id ≡ cell.now.table.shared.table_id }
-    requires turns { Turns Kept pass.old.id (cell_view pass.old) (λ _. words) M.then }
+    requires turns { Turns HasCellInvariant pass.old.id (cell_view pass.old) (λ _. words) M.then }
     ensures same { IsSamePass pass.old pass.new }
     ensures view { (old : _) × M.then (cell_view pass.old) old words (cell_view pass.new) }
 {
@@ -153,9 +162,9 @@ pub fn store_words<M: Outcome<[u64; 8], View>, R: Wait>(
 }
 
 /// Splits what a pass knows: some of it goes to a new one.
-pub fn split<M: Split<View>>(cell: &Cell, pass: &mut Seen) -> Seen
+pub fn split<M: Split<View>>(cell: &Cell, pass: &mut CountsPass) -> CountsPass
     requires cell { pass.old.table_id ≡ cell.now.table.shared.table_id }
-    requires forks { Forks Kept pass.old.id (cell_view pass.old) (M.left (cell_view pass.old)) (M.right (cell_view pass.old)) }
+    requires forks { Forks HasCellInvariant pass.old.id (cell_view pass.old) (M.left (cell_view pass.old)) (M.right (cell_view pass.old)) }
     ensures same { IsSamePass pass.old pass.new }
     ensures view { cell_view pass.new ≡ M.left (cell_view pass.old) }
     ensures given { (result.table_id ≡ pass.old.table_id) × (cell_view result ≡ M.right (cell_view pass.old)) × (result.me.1 ≡ []) }
@@ -164,10 +173,10 @@ pub fn split<M: Split<View>>(cell: &Cell, pass: &mut Seen) -> Seen
 }
 
 /// Joins to a pass what another one knows.
-pub fn join<M: Join<View>>(cell: &Cell, pass: &mut Seen, other: Seen)
+pub fn join<M: Join<View>>(cell: &Cell, pass: &mut CountsPass, other: CountsPass)
     requires cell { pass.old.table_id ≡ cell.now.table.shared.table_id }
     requires other { (other.table_id ≡ pass.old.table_id) × (other.me.1 ≡ []) }
-    requires merges { Merges Kept pass.old.id (cell_view pass.old) other.id (cell_view other) (M.both (cell_view pass.old) (cell_view other)) M.spent }
+    requires merges { Merges HasCellInvariant pass.old.id (cell_view pass.old) other.id (cell_view other) (M.both (cell_view pass.old) (cell_view other)) M.spent }
     ensures same { IsSamePass pass.old pass.new }
     ensures view { cell_view pass.new ≡ M.both (cell_view pass.old) (cell_view other) }
 {

@@ -7,7 +7,7 @@ use Rattle.std.proofs.lemmas.List.Sums.{fold-append}
 use Rattle.std.proofs.Math.Nat.{mul-add}
 use Rattle.std.proofs.lemmas.Option.{slice_get-map, slice_get_within, slice_get-get_or, get_or_from_slice_get}
 use Rattle.pool_settings.specs.declared.settings.Settings.{Settings}
-use Rattle.pool_history.specs.Standings.{Standing}
+use Rattle.pool_history.specs.CallerStates.{CallerState}
 use Rattle.pool_engines.specs.declared.load_fault.LoadFault.{LoadFault}
 use Rattle.pool_engines.specs.declared.load_fault.LoadFault.TheVariants as stops
 use Rattle.pool_load.specs.Workers.{IsOutcome, Works, AllWorked}
@@ -25,19 +25,19 @@ mapped_from {X} {Y} f xs i y at = by_element (slice_get xs i) refl (sym (slice_g
     by_element None none is = absurd (cc is)
     by_element (Some x) some is = record { x = x; at = some; is = cc is }
 
-module _ {H W : Type 0} (before : H → Standing) (rounds : H → ℕ) (caller : W → Standing) (outcome : W → Result ℕ LoadFault) (s : Settings) (n : ℕ) where
+module _ {H W : Type 0} (before : H → CallerState) (rounds : H → ℕ) (caller : W → CallerState) (outcome : W → Result ℕ LoadFault) (s : Settings) (n : ℕ) where
   -- the thread at each index kept the promise of its handle
   abbrev pub AllKept : List H → List W → Type 0
   AllKept hs ws = (i : ℕ) (d : W) → i < length hs
       → (h : H) × (h ≡ slice_index_or hs i h) × Works s (rounds h) (outcome (slice_index_or ws i d)) (before h) (caller (slice_index_or ws i d))
 
-  pub joined : (hs : List H) (cs : List Standing) (ws : List W) → map before hs ≡ cs → map rounds hs ≡ map (λ (c : Standing). n) cs → length ws ≡ length hs → AllKept hs ws
+  pub joined : (hs : List H) (cs : List CallerState) (ws : List W) → map before hs ≡ cs → map rounds hs ≡ map (λ (c : CallerState). n) cs → length ws ≡ length hs → AllKept hs ws
       → AllWorked s n cs (map caller ws) (map outcome ws)
   joined hs cs ws from each long kept =
       let same : length hs ≡ length cs = sym (length-map hs before) ∙ ap length from in
       record { callers = length-map ws caller ∙ long ∙ same; results = length-map ws outcome ∙ long ∙ same; each = at }
     where
-      at : (i : ℕ) (b a : Standing) (o : Result ℕ LoadFault) → slice_get cs i ≡ Some b → slice_get (map caller ws) i ≡ Some a → slice_get (map outcome ws) i ≡ Some o → Works s n o b a
+      at : (i : ℕ) (b a : CallerState) (o : Result ℕ LoadFault) → slice_get cs i ≡ Some b → slice_get (map caller ws) i ≡ Some a → slice_get (map outcome ws) i ≡ Some o → Works s n o b a
       at i b a o at_b at_a at_o =
           let began = mapped_from before hs i b (ap (λ l. slice_get l i) from ∙ at_b) in
           let ended = mapped_from caller ws i a at_a in
@@ -48,12 +48,12 @@ module _ {H W : Type 0} (before : H → Standing) (rounds : H → ℕ) (caller :
           let worker : slice_index_or ws i ended.x ≡ ended.x = get_or_from_slice_get ws i ended.x ended.x ended.at in
           let counts : Some (rounds began.x) ≡ Some n =
           sym (slice_get-map rounds hs i ∙ ap (option_map rounds) began.at) ∙ ap (λ (l : List ℕ). slice_get l i) each
-          ∙ slice_get-map (λ (c : Standing). n) cs i ∙ ap (option_map (λ (c : Standing). n)) at_b in
+          ∙ slice_get-map (λ (c : CallerState). n) cs i ∙ ap (option_map (λ (c : CallerState). n)) at_b in
           let count : rounds k.0 ≡ n = ap rounds handle ∙ cc counts in
           let w = subst (λ (w : W). Works s (rounds k.0) (outcome w) (before k.0) (caller w)) worker k.2 in
           let r = subst (λ (m : ℕ). Works s m (outcome ended.x) (before k.0) (caller ended.x)) count w in
-          let h = subst (λ (c : Standing). Works s n (outcome ended.x) c (caller ended.x)) (ap before handle ∙ began.is) r in
-          let c = subst (λ (c : Standing). Works s n (outcome ended.x) b c) ended.is h in
+          let h = subst (λ (c : CallerState). Works s n (outcome ended.x) c (caller ended.x)) (ap before handle ∙ began.is) r in
+          let c = subst (λ (c : CallerState). Works s n (outcome ended.x) b c) ended.is h in
           subst (λ (x : Result ℕ LoadFault). Works s n x b a) (ap outcome (sym same) ∙ gave.is) c
 
 pub outcomes_more : {W : Type 0} (outcome : W → Result ℕ LoadFault) (ws : List W) (w : W) (fs : List ℕ) (f : ℕ) → map outcome ws ≡ map Ok fs → outcome w ≡ Ok f
@@ -64,7 +64,7 @@ pub sum_more : (fs : List ℕ) (f : ℕ) → sum (fs ++ f ∷ []) ≡ sum fs + f
 sum_more fs f = fold-append (λ (a b : ℕ). a + b) 0 fs (f ∷ [])
 
 -- at most this many borrows of a worker in the list were refused
-pub no_more : {W : Type 0} (caller : W → Standing) (outcome : W → Result ℕ LoadFault) (s : Settings) (most : ℕ) (ws : List W) (i : ℕ) (w : W) (f : ℕ)
+pub no_more : {W : Type 0} (caller : W → CallerState) (outcome : W → Result ℕ LoadFault) (s : Settings) (most : ℕ) (ws : List W) (i : ℕ) (w : W) (f : ℕ)
     → ((i : ℕ) (d : W) → i < length ws → IsOutcome s most (outcome (slice_index_or ws i d)) (caller (slice_index_or ws i d)))
     → i < length ws → w ≡ slice_index_or ws i w → outcome w ≡ Ok f → f ≤ most
 no_more caller outcome s most ws i w f each lt here is =
@@ -75,13 +75,13 @@ bound_more ws w most n f so_far here =
     let long = length-append ws (w ∷ []) in
     rw long (rw mul-add (omega (arith, so_far, here)))
 
-outcome_up : (s : Settings) (rounds most : ℕ) (o : Result ℕ LoadFault) (me : Standing) → rounds ≤ most → IsOutcome s rounds o me → IsOutcome s most o me
+outcome_up : (s : Settings) (rounds most : ℕ) (o : Result ℕ LoadFault) (me : CallerState) → rounds ≤ most → IsOutcome s rounds o me → IsOutcome s most o me
 outcome_up s rounds most (Ok f) me up is = omega (arith, up, is)
 outcome_up s rounds most (Err stops.NoThread) me up is = tt
 outcome_up s rounds most (Err _) me up is = is
 
 -- each outcome is one of this number of rounds, even if more are allowed
-pub outcomes_within : {W : Type 0} (caller : W → Standing) (outcome : W → Result ℕ LoadFault) (s : Settings) (rounds most : ℕ) (before : List Standing) (ws : List W) → AllWorked s rounds before (map caller ws) (map outcome ws) → rounds ≤ most
+pub outcomes_within : {W : Type 0} (caller : W → CallerState) (outcome : W → Result ℕ LoadFault) (s : Settings) (rounds most : ℕ) (before : List CallerState) (ws : List W) → AllWorked s rounds before (map caller ws) (map outcome ws) → rounds ≤ most
     → (i : ℕ) (d : W) → i < length ws → IsOutcome s most (outcome (slice_index_or ws i d)) (caller (slice_index_or ws i d))
 outcomes_within caller outcome s rounds most before ws worked up i d lt =
     let w = slice_index_or ws i d in

@@ -14,7 +14,7 @@ use Rattle.pool_journal.specs.declared.answer.Answer.TheVariants as answers
 use Rattle.pool_settings.specs.declared.settings.Settings.{Settings}
 use Rattle.pool_stats.specs.Answers.{count_answers}
 use Rattle.pool_core.specs.Legal.{IsLegal}
-use Rattle.pool_history.specs.Rule.{own, AllBelow}
+use Rattle.pool_history.specs.CellInvariant.{entries_with_number, AllBelow}
 use Rattle.pool_shared.specs.Walks.{walked, AllDue}
 use Rattle.pool_shared.specs.Borrows as borrows
 use Rattle.pool_shared.specs.Returns as returns
@@ -57,11 +57,11 @@ ordered_parts : (xs ys : List Entry) → AllOrdered (xs ++ ys) → AllOrdered xs
 ordered_parts [] ys all = (tt, all)
 ordered_parts (x ∷ xs) ys all = let p = ordered_parts xs ys all.1 in ((all.0, p.0), p.1)
 
-ordered_own : (n : ℕ) (es : List Entry) → AllOrdered es → AllOrdered (own n es)
+ordered_own : (n : ℕ) (es : List Entry) → AllOrdered es → AllOrdered (entries_with_number n es)
 ordered_own n [] all = tt
 ordered_own n (e ∷ es) all = by_test (e.caller == n) (ordered_own n es all.1)
   where
-    by_test : (b : Bool) → AllOrdered (own n es) → AllOrdered (if b then (e ∷ own n es) else own n es)
+    by_test : (b : Bool) → AllOrdered (entries_with_number n es) → AllOrdered (if b then (e ∷ entries_with_number n es) else entries_with_number n es)
     by_test true rest = (all.0, rest)
     by_test false rest = rest
 
@@ -224,10 +224,10 @@ sum_but_one c b g (suc n) = by_test (c == n) refl (sum_but_one c b g n).0 (sum_b
         let here : (if c == n then b else 0) ≡ 0 = ap (λ (t : Bool). if t then b else 0) is in
         ((λ le. let so_far = past (omega (arith, le)) in omega (arith, so_far, here)), (λ lt. let so_far = below (other_number c n is lt) in omega (arith, so_far, here)))
 
-own_lends : (n : ℕ) (e : Entry) (es : List Entry) → lent_in (own n (e ∷ es)) ≡ (if e.caller == n then lent_by e else 0) + lent_in (own n es)
+own_lends : (n : ℕ) (e : Entry) (es : List Entry) → lent_in (entries_with_number n (e ∷ es)) ≡ (if e.caller == n then lent_by e else 0) + lent_in (entries_with_number n es)
 own_lends n e es = by_test (e.caller == n)
   where
-    by_test : (b : Bool) → lent_in (if b then (e ∷ own n es) else own n es) ≡ (if b then lent_by e else 0) + lent_in (own n es)
+    by_test : (b : Bool) → lent_in (if b then (e ∷ entries_with_number n es) else entries_with_number n es) ≡ (if b then lent_by e else 0) + lent_in (entries_with_number n es)
     by_test true = refl
     by_test false = omega arith
 
@@ -235,12 +235,12 @@ zeros : (n : ℕ) → sum_to (λ k. 0) n ≡ 0
 zeros zero = refl
 zeros (suc n) = let rest = zeros n in omega (arith, rest)
 
-all_lends : (n : ℕ) (es : List Entry) → AllBelow n es → lent_in es ≡ sum_to (λ k. lent_in (own k es)) n
+all_lends : (n : ℕ) (es : List Entry) → AllBelow n es → lent_in es ≡ sum_to (λ k. lent_in (entries_with_number k es)) n
 all_lends n [] below = sym (zeros n)
 all_lends n (e ∷ es) below =
     let rest = all_lends n es below.1 in
-    let split = sum_same (λ k. lent_in (own k (e ∷ es))) (λ k. (if e.caller == k then lent_by e else 0) + lent_in (own k es)) n (λ k lt. own_lends k e es) in
-    let one = (sum_but_one e.caller (lent_by e) (λ k. lent_in (own k es)) n).1 below.0 in
+    let split = sum_same (λ k. lent_in (entries_with_number k (e ∷ es))) (λ k. (if e.caller == k then lent_by e else 0) + lent_in (entries_with_number k es)) n (λ k lt. own_lends k e es) in
+    let one = (sum_but_one e.caller (lent_by e) (λ k. lent_in (entries_with_number k es)) n).1 below.0 in
     omega (arith, rest, split, one)
 
 -- the sum from the first element on
@@ -277,9 +277,9 @@ all_rounds s workers rounds refused r load =
     let one : workers + 1 ≡ suc workers = omega arith in
     let lent = all_lends (suc workers) J (subst (λ n. AllBelow n J) one load.below) in
     let row = load.closed.row in
-    let last : row.es ≡ own workers J = sym row.made ∙ load.closed.made in
-    let none = none_lent (own workers J) (ordered_own workers J all) (subst NoneReady last (close_none clears.begins row.es row.due)) in
-    let each = pairs (λ w. lent_in (own w J)) (λ w. slice_index load.refusals w) rounds workers (λ w lt. worked_lends s rounds (slice_index load.refusals w) (own w J) (ordered_own w J all) (load.worked w lt)) in
+    let last : row.es ≡ entries_with_number workers J = sym row.made ∙ load.closed.appended in
+    let none = none_lent (entries_with_number workers J) (ordered_own workers J all) (subst NoneReady last (close_none clears.begins row.es row.due)) in
+    let each = pairs (λ w. lent_in (entries_with_number w J)) (λ w. slice_index load.refusals w) rounds workers (λ w lt. worked_lends s rounds (slice_index load.refusals w) (entries_with_number w J) (ordered_own w J all) (load.worked w lt)) in
     let sums : refused ≡ sum_to (λ w. slice_index load.refusals w) workers =
     load.all ∙ sum_total load.refusals ∙ total_at load.refusals ∙ ap (λ n. sum_to (λ w. slice_index load.refusals w) n) load.each in
     let told : r.stats.borrowed ≡ lent_in J = ap (λ t. t.borrowed) load.told ∙ lent_counted J in

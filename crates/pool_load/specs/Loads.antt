@@ -5,8 +5,8 @@ use Rattle.pool_settings.specs.declared.settings.Settings.{Settings}
 use Rattle.pool_stats.specs.Statistics.{statistics_of}
 use Rattle.pool_stats.specs.declared.statistics.Statistics.{Statistics}
 use Rattle.pool_core.specs.Legal.{IsLegal}
-use Rattle.pool_history.specs.Rule.{own, AllBelow, Begins}
-use Rattle.pool_history.specs.Standings.{Standing, Goes, newcomer_at}
+use Rattle.pool_history.specs.CellInvariant.{entries_with_number, AllBelow, IsPrefix}
+use Rattle.pool_history.specs.CallerStates.{CallerState, Advances, newcomer_at}
 use Rattle.pool_shared.specs.Clears.{CloseRow}
 use Rattle.pool_engines.specs.declared.load_fault.LoadFault.{LoadFault}
 use Rattle.pool_engines.specs.declared.load_fault.LoadFault.TheVariants.{WorkerCount, RoundCount}
@@ -25,10 +25,10 @@ pub record IsInRange (workers rounds : ℕ) : Type 0 where
 -- ends
 pub record OnlyCloses (s : Settings) (n : ℕ) (journal : List Entry) : Type 0 where
   pub taken : ℕ
-  pub after : Standing
-  pub goes : Goes s (newcomer_at n) after
-  pub made : after.made ≡ own n journal
-  pub seen : Begins after.seen journal
+  pub after : CallerState
+  pub goes : Advances s (newcomer_at n) after
+  pub appended : after.appended ≡ entries_with_number n journal
+  pub observed : IsPrefix after.observed journal
   pub row : CloseRow s (Ok taken) (newcomer_at n) after
 
 -- there is one legal history: in it each worker made its rounds, the last caller closed the pool, and there are no other entries.
@@ -39,7 +39,7 @@ pub record IsLoad (s : Settings) (workers rounds refused : ℕ) (stats : Statist
   pub below : AllBelow (workers + 1) journal
   pub refusals : List ℕ
   pub each : length refusals ≡ workers
-  pub worked : (w : ℕ) → w < workers → IsWorked s rounds (slice_index refusals w) (own w journal)
+  pub worked : (w : ℕ) → w < workers → IsWorked s rounds (slice_index refusals w) (entries_with_number w journal)
   pub closed : OnlyCloses s workers journal
   pub all : refused ≡ sum refusals
   pub told : stats ≡ statistics_of journal

@@ -7,7 +7,7 @@ use Rattle.pool_journal.specs.declared.answer.Answer.TheVariants as answers
 use Rattle.pool_journal.specs.declared.answer.Cause.TheVariants as causes
 use Rattle.pool_settings.specs.declared.settings.Settings.{Settings}
 use Rattle.pool_core.specs.Legal.{IsLegal}
-use Rattle.pool_history.specs.Standings.{Standing}
+use Rattle.pool_history.specs.CallerStates.{CallerState}
 use Rattle.pool_lock.specs.Sections.{IsFullFor}
 use Rattle.pool_shared.specs.declared.faults.BorrowFault.{BorrowFault}
 use Rattle.pool_shared.specs.declared.faults.BorrowFault.TheVariants as faults
@@ -68,11 +68,11 @@ abbrev pub IsWorked : Settings → ℕ → ℕ → List Entry → Type 0
 IsWorked s zero f es = (f ≡ 0) × (es ≡ [])
 IsWorked s (suc r) f es = (xs : List Entry) × (ys : List Entry) × (g : ℕ) × (h : ℕ) × (es ≡ xs ++ ys) × (f ≡ g + h) × Round s g xs × IsWorked s r h ys
 
-abbrev pub MakesRound : Settings → ℕ → Standing → Standing → Type 0
-MakesRound s f before after = (es : List Entry) × (after.made ≡ before.made ++ es) × Round s f es
+abbrev pub MakesRound : Settings → ℕ → CallerState → CallerState → Type 0
+MakesRound s f before after = (es : List Entry) × (after.appended ≡ before.appended ++ es) × Round s f es
 
-abbrev pub MakesRounds : Settings → ℕ → ℕ → Standing → Standing → Type 0
-MakesRounds s r f before after = (es : List Entry) × (after.made ≡ before.made ++ es) × IsWorked s r f es
+abbrev pub MakesRounds : Settings → ℕ → ℕ → CallerState → CallerState → Type 0
+MakesRounds s r f before after = (es : List Entry) × (after.appended ≡ before.appended ++ es) × IsWorked s r f es
 
 -- an error that isn't a lack of room or memory
 abbrev pub IsOwn : {E : Type 0} → BorrowFault E → Type 0
@@ -87,13 +87,13 @@ StopsFor OutOfMemory faults.OutOfMemory = Unit {0}
 StopsFor _ _ = ⊥
 
 -- after a legal history that is observed, an expected entry doesn't fit
-pub record IsFull (s : Settings) (me : Standing) : Type 0 where
-  pub legal : IsLegal s me.seen
+pub record IsFull (s : Settings) (me : CallerState) : Type 0 where
+  pub legal : IsLegal s me.observed
   pub input : Input
   pub full : IsFullFor s input me
 
 -- why a caller stopped in its rounds
-abbrev pub Stops : Settings → LoadFault → Standing → Type 0
+abbrev pub Stops : Settings → LoadFault → CallerState → Type 0
 Stops s JournalFull me = IsFull s me
 Stops s OutOfMemory me = Unit {0}
 Stops s _ me = ⊥

@@ -1,6 +1,6 @@
 // Many workers at once, and the statistics of their history.
 ghost use Rattle.std.specs.Prelude.{◌≡◌, ◌+◌, ◌*◌, ℕ, Ok, IfOk, IfErr, OnOk};
-ghost use Rattle.pool_history.specs.Standings.{Goes};
+ghost use Rattle.pool_history.specs.CallerStates.{Advances};
 ghost use Rattle.pool_shared.specs.Clears.{CloseRow};
 ghost use Rattle.pool_load.specs.Workers.{StopsLoad};
 ghost use Rattle.pool_load.specs.Loads.{IsInRange, IsLoad, IsLoadFault};
@@ -117,7 +117,7 @@ fn load_on<B: Room + Send + Sync, G: Gate, R: Threads + Wait + Sync>(
 
 /// The last caller closes the pool.
 fn close<B: Room, R: Wait>(rt: &R, pool: &IdPool<B>, last: &mut Caller<B>) -> Result<(), LoadFault>
-    ensures goes { Goes B.settings last.old last.new }
+    ensures goes { Advances B.settings last.old last.new }
     ensures row { IfOk result (λ u. (taken : ℕ) × CloseRow B.settings (Ok taken) last.old last.new) }
     ensures stops { IfErr result (StopsLoad B.settings) }
 {

@@ -29,7 +29,7 @@ fn round<T: Drop, E: Drop, F: Factory<T, E> + Drop, C: Clock + Drop, B: Room, G:
 ) -> Result<u64, LoadFault>
     ensures most { IfOk result (λ n. n ≤ 1) }
     ensures number { me.new.number ≡ me.old.number }
-    ensures uncut { me.new.cuts ≡ me.old.cuts }
+    ensures uncut { me.new.cut_count ≡ me.old.cut_count }
     ensures row { IfOk result (λ n. MakesRound B.settings n me.old me.new) }
     ensures stops { IfErr result (λ fault. Stops B.settings fault me.new) }
 {
@@ -66,7 +66,7 @@ pub fn work<T: Drop, E: Drop, F: Factory<T, E> + Drop, C: Clock + Drop, B: Room,
     rounds: u64,
 ) -> Result<u64, LoadFault>
     ensures number { me.new.number ≡ me.old.number }
-    ensures uncut { me.new.cuts ≡ me.old.cuts }
+    ensures uncut { me.new.cut_count ≡ me.old.cut_count }
     ensures most { IfOk result (λ n. n ≤ rounds) }
     ensures rows { IfOk result (λ n. MakesRounds B.settings rounds n me.old me.new) }
     ensures stops { IfErr result (λ fault. Stops B.settings fault me.new) }

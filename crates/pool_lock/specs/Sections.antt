@@ -22,102 +22,102 @@ use Rattle.pool_core.specs.Legal.{IsLegal, entry_of, entry_due}
 use Rattle.pool_core.specs.Pool.{Pool}
 use Rattle.pool_core.specs.Reply.{reply}
 use Rattle.pool_history.specs.declared.room.View.{View}
-use Rattle.pool_history.specs.Rule.{keeper}
-use Rattle.pool_history.specs.Standings.{Standing}
-use Rattle.pool_history.specs.Stored.{IsBehind}
-use Rattle.pool_history.specs.Tended.{IsTended, CanReady, CanPark, CanAdd, CanTest}
+use Rattle.pool_history.specs.CellInvariant.{authority}
+use Rattle.pool_history.specs.CallerStates.{CallerState}
+use Rattle.pool_history.specs.Stored.{IsStoredSegment}
+use Rattle.pool_history.specs.Ownership.{IsOwnerRespecting, IsReadyOutcome, IsParkOutcome, IsAddOutcome, IsTestOutcome}
 
 -- each value that is kept is so
 abbrev pub AllKept : {T : Type 0} → (T → Type 0) → List (Place T) → Type 0
 AllKept {T} P ps = (i : ℕ) (v : T) → value_in ps i ≡ Some v → P v
 
 -- the keeper's pass is of this cell, and knows the whole history, which is legal and tended and keeps the laws, and which the core's journal ends, behind the last cut; each kept value is passive
-pub record IsDesk {T : Type 0} (table : TableId) (s : Settings) (callers : ℕ) (P : T → Type 0) (id : TableId) (core : Pool T) (v : View) : Type 0 where
+pub record LockInvariant {T : Type 0} (table : TableId) (s : Settings) (callers : ℕ) (P : T → Type 0) (id : TableId) (core : Pool T) (v : View) : Type 0 where
   pub here : id ≡ table
   pub settings : core.settings ≡ s
-  pub knows : v ≡ keeper s v.all callers v.cut_at []
-  pub ends : IsBehind v.cut_at v.all core.base core.journal
-  pub legal : IsLegal s v.all
-  pub tended : IsTended v.all
-  pub laws : Laws s v.all
+  pub knows : v ≡ authority s v.history callers v.cut_positions []
+  pub ends : IsStoredSegment v.cut_positions v.history core.base core.journal
+  pub legal : IsLegal s v.history
+  pub owner_respecting : IsOwnerRespecting v.history
+  pub laws : Laws s v.history
   pub kept : AllKept P core.places
 
 -- the caller's last entry brought the object to this phase; it made it, or didn't
-pub record HasInHand (me : Standing) (i : ℕ) (p : Phase) (new : Bool) : Type 0 where
-  pub made : List Entry
+pub record OwnsObject (me : CallerState) (i : ℕ) (p : Phase) (new : Bool) : Type 0 where
+  pub appended : List Entry
   pub e : Entry
-  pub last : me.made ≡ made ++ e ∷ []
+  pub last : me.appended ≡ appended ++ e ∷ []
   pub moved : moves e ≡ Some (i, p)
   pub is_new : is_make_answer e.answer ≡ new
 
 -- who may go on with an object: the caller whose last entry brought it to where it is
-abbrev pub MayAsk : Standing → Input → Type 0
-MayAsk me (Ready i o) = (new : Bool) × HasInHand me i phases.Readying new × CanReady new o
-MayAsk me (Park i o) = (new : Bool) × HasInHand me i phases.Returning new × CanPark o
-MayAsk me (Added i o) = (new : Bool) × HasInHand me i phases.Adding new × CanAdd o
-MayAsk me (Tested i o) = (new : Bool) × HasInHand me i phases.Testing new × CanTest o
-MayAsk me (Destroyed i) = (new : Bool) × HasInHand me i phases.Destroying new
-MayAsk me _ = Unit {0}
+abbrev pub IsPermitted : CallerState → Input → Type 0
+IsPermitted me (Ready i o) = (new : Bool) × OwnsObject me i phases.Readying new × IsReadyOutcome new o
+IsPermitted me (Park i o) = (new : Bool) × OwnsObject me i phases.Returning new × IsParkOutcome o
+IsPermitted me (Added i o) = (new : Bool) × OwnsObject me i phases.Adding new × IsAddOutcome o
+IsPermitted me (Tested i o) = (new : Bool) × OwnsObject me i phases.Testing new × IsTestOutcome o
+IsPermitted me (Destroyed i) = (new : Bool) × OwnsObject me i phases.Destroying new
+IsPermitted me _ = Unit {0}
 
 -- an input that goes on with an object
-abbrev pub goes_on : Input → Bool
-goes_on (Ready i o) = true
-goes_on (Park i o) = true
-goes_on (Added i o) = true
-goes_on (Tested i o) = true
-goes_on (Destroyed i) = true
-goes_on _ = false
+abbrev pub continues_object : Input → Bool
+continues_object (Ready i o) = true
+continues_object (Park i o) = true
+continues_object (Added i o) = true
+continues_object (Tested i o) = true
+continues_object (Destroyed i) = true
+continues_object _ = false
 
 -- the entry was made, and ends what is seen
-pub record MakesIt (e : Entry) (before after : Standing) : Type 0 where
-  pub more : after.made ≡ before.made ++ e ∷ []
+pub record AppendsEntry (e : Entry) (before after : CallerState) : Type 0 where
+  pub more : after.appended ≡ before.appended ++ e ∷ []
   pub found : List Entry
-  pub ends : after.seen ≡ found ++ e ∷ []
+  pub ends : after.observed ≡ found ++ e ∷ []
 
 -- so was one entry with this answer
-abbrev pub Makes : Input → Answer → Standing → Standing → Type 0
-Makes input a before after = (at : ℕ) × MakesIt (entry_of before.number at input a) before after
+abbrev pub AppendsAnswer : Input → Answer → CallerState → CallerState → Type 0
+AppendsAnswer input a before after = (at : ℕ) × AppendsEntry (entry_of before.number at input a) before after
 
 -- what comes out with an answer: a passive value with those that take one, nothing where it is kept, and else what was handed in
-abbrev pub Gets : {T : Type 0} → (T → Type 0) → Answer → Option T → Option T → Type 0
-Gets P (answers.Take i) handed out = IsSomeAnd out P
-Gets P (answers.Test i) handed out = IsSomeAnd out P
-Gets P (answers.DestroyIdle i) handed out = IsSomeAnd out P
-Gets P answers.Parked handed out = out ≡ None
-Gets P answers.Kept handed out = out ≡ None
-Gets P _ handed out = out ≡ handed
+abbrev pub ReturnsValue : {T : Type 0} → (T → Type 0) → Answer → Option T → Option T → Type 0
+ReturnsValue P (answers.Take i) handed out = IsSomeAnd out P
+ReturnsValue P (answers.Test i) handed out = IsSomeAnd out P
+ReturnsValue P (answers.DestroyIdle i) handed out = IsSomeAnd out P
+ReturnsValue P answers.Parked handed out = out ≡ None
+ReturnsValue P answers.Kept handed out = out ≡ None
+ReturnsValue P _ handed out = out ≡ handed
 
 -- a section was refused at this moment: the entry that was due then, after what is seen, finishes nothing, and the stored entries (those behind the last cut) are so with it
-pub record IsRefusedAt (Are : Settings → Base → List Entry → Type 0) (s : Settings) (input : Input) (me : Standing) (at : ℕ) : Type 0 where
-  pub unfinished : finishes (reply s me.seen at input) input ≡ false
+pub record IsFailedStep (Are : Settings → Base → List Entry → Type 0) (s : Settings) (input : Input) (me : CallerState) (at : ℕ) : Type 0 where
+  pub unfinished : finishes (reply s me.observed at input) input ≡ false
   pub base : Base
   pub stored : List Entry
-  pub ends : IsBehind me.cut_at me.seen base stored
-  pub are : Are s base (stored ++ entry_due s me.seen me.number at input ∷ [])
+  pub ends : IsStoredSegment me.cut_positions me.observed base stored
+  pub are : Are s base (stored ++ entry_due s me.observed me.number at input ∷ [])
 
 -- the entry that was due at this moment doesn't fit
-abbrev pub LacksRoom : Settings → Input → Standing → ℕ → Type 0
-LacksRoom = IsRefusedAt IsTooLongFrom
+abbrev pub LacksRoom : Settings → Input → CallerState → ℕ → Type 0
+LacksRoom = IsFailedStep IsTooLongFrom
 
 -- the entry that was due at this moment fits, so that it was memory that was wanting
-abbrev pub LacksMemory : Settings → Input → Standing → ℕ → Type 0
-LacksMemory = IsRefusedAt FitsFrom
+abbrev pub LacksMemory : Settings → Input → CallerState → ℕ → Type 0
+LacksMemory = IsFailedStep FitsFrom
 
-abbrev pub IsFullFor : Settings → Input → Standing → Type 0
+abbrev pub IsFullFor : Settings → Input → CallerState → Type 0
 IsFullFor s input me = (at : ℕ) × LacksRoom s input me at
 
-abbrev pub IsShortFor : Settings → Input → Standing → Type 0
+abbrev pub IsShortFor : Settings → Input → CallerState → Type 0
 IsShortFor s input me = (at : ℕ) × LacksMemory s input me at
 
 -- the fault is the one that happened, and what was handed in comes back
-abbrev pub IsWhy : {T : Type 0} → Settings → Input → Option T → StepFault T → Standing → Type 0
+abbrev pub IsWhy : {T : Type 0} → Settings → Input → Option T → StepFault T → CallerState → Type 0
 IsWhy s input handed (JournalFull out) me = IsFullFor s input me × (out ≡ handed)
 IsWhy s input handed (OutOfMemory out) me = IsShortFor s input me × (out ≡ handed)
 
 -- a section was refused, and nothing was made
-pub record Refuses {T : Type 0} (s : Settings) (input : Input) (handed : Option T) (f : StepFault T) (before after : Standing) : Type 0 where
-  pub same : after.made ≡ before.made
-  pub why : IsWhy s input handed f after
+pub record Refuses {T : Type 0} (s : Settings) (input : Input) (handed : Option T) (f : StepFault T) (before after : CallerState) : Type 0 where
+  pub same : after.appended ≡ before.appended
+  pub error : IsWhy s input handed f after
 
 -- the history has one entry more: the answer to this caller's input, at some moment
 abbrev pub AppendsOne : ℕ → Input → Answer → List Entry → List Entry → Type 0

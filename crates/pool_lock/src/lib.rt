@@ -2,9 +2,9 @@
 #![tactic(auto)]
 
 mod clock;
-mod desk;
 mod factory;
+mod locked_pool;
 
 pub use clock::Clock;
-pub use desk::Desk;
 pub use factory::Factory;
+pub use locked_pool::LockedPool;

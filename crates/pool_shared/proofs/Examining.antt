@@ -11,9 +11,9 @@ use Rattle.pool_core.specs.declared.step_fault.StepFault.TheVariants.{JournalFul
 use Rattle.pool_core.specs.Finishing.{finishes}
 use Rattle.pool_core.specs.Legal.{entry_of}
 use Rattle.pool_core.specs.Reply.{reply}
-use Rattle.pool_history.specs.Standings.{Standing}
-use Rattle.pool_history.specs.Tended.{CanTest}
-use Rattle.pool_lock.specs.Sections.{Makes, Refuses}
+use Rattle.pool_history.specs.CallerStates.{CallerState}
+use Rattle.pool_history.specs.Ownership.{IsTestOutcome}
+use Rattle.pool_lock.specs.Sections.{AppendsAnswer, Refuses}
 use Rattle.pool_shared.specs.declared.evicting.EvictRun.{EvictRun}
 use Rattle.pool_shared.specs.declared.evicting.Fate.{Fate}
 use Rattle.pool_shared.specs.declared.evicting.Fate.TheVariants as fates
@@ -26,15 +26,15 @@ use Rattle.pool_shared.proofs.Walking.{walk_one, walk_on}
 use Rattle.pool_shared.proofs.Rowing.{row_at, row_stopped, full_for, short_for}
 
 -- one entry, whose answer is known
-step : (from to : Stage) (input : Input) (x a : Answer) (b c : Standing) → x ≡ a → Makes input x b c
+step : (from to : Stage) (input : Input) (x a : Answer) (b c : CallerState) → x ≡ a → AppendsAnswer input x b c
     → ((n at : ℕ) → evicts.Due from (entry_of n at input a)) → ((n at : ℕ) → evicts.next from (entry_of n at input a) ≡ to) → Goes_on from b c to
-step from to input x a b c is made due comes = walk_one evicts.Due evicts.next from to input a b c (subst (λ y. Makes input y b c) is made) due comes
+step from to input x a b c is made due comes = walk_one evicts.Due evicts.next from to input a b c (subst (λ y. AppendsAnswer input y b c) is made) due comes
 
-onward : (from mid to : Stage) (a b c : Standing) → Goes_on from a b mid → Goes_on mid b c to → Goes_on from a c to
+onward : (from mid to : Stage) (a b c : CallerState) → Goes_on from a b mid → Goes_on mid b c to → Goes_on from a c to
 onward from mid to a b c = walk_on evicts.Due evicts.next from mid to a b c
 
 -- an object is destroyed after its test
-pub rejected : (i left : ℕ) (run : EvictRun) (o : Outcome) (x : Answer) (a b c : Standing) → CanTest o → x ≡ answers.Destroy → Makes (Tested i o) x a b → Makes (Destroyed i) answers.Freed b c
+pub rejected : (i left : ℕ) (run : EvictRun) (o : Outcome) (x : Answer) (a b c : CallerState) → IsTestOutcome o → x ≡ answers.Destroy → AppendsAnswer (Tested i o) x a b → AppendsAnswer (Destroyed i) answers.Freed b c
     → Goes_on (tests i left run) a c (examines left (one_gone run))
 rejected i left run o x a b c can is made freed =
     onward (tests i left run) (destroys i left run) (examines left (one_gone run)) a b c
@@ -42,7 +42,7 @@ rejected i left run o x a b c can is made freed =
     (step (destroys i left run) (examines left (one_gone run)) (Destroyed i) answers.Freed answers.Freed b c refl freed (λ n at. refl) (λ n at. refl))
 
 -- an object is destroyed without a test
-pub destroyed_idle : (i left : ℕ) (run : EvictRun) (x : Answer) (a b c : Standing) → 0 < left → x ≡ answers.DestroyIdle i → Makes EvictNext x a b → Makes (Destroyed i) answers.Freed b c
+pub destroyed_idle : (i left : ℕ) (run : EvictRun) (x : Answer) (a b c : CallerState) → 0 < left → x ≡ answers.DestroyIdle i → AppendsAnswer EvictNext x a b → AppendsAnswer (Destroyed i) answers.Freed b c
     → Goes_on (examines left run) a c (examines (left - 1) (one_gone (one_more run)))
 destroyed_idle i left run x a b c some is made freed =
     let at = destroys i (left - 1) (one_more run) in
@@ -51,7 +51,7 @@ destroyed_idle i left run x a b c some is made freed =
     (step at (examines (left - 1) (one_gone (one_more run))) (Destroyed i) answers.Freed answers.Freed b c refl freed (λ n at. refl) (λ n at. refl))
 
 -- an object is tested
-pub tested_idle : (i left : ℕ) (run : EvictRun) (fate : Fate) (x : Answer) (a b c : Standing) → 0 < left → x ≡ answers.Test i → Makes EvictNext x a b
+pub tested_idle : (i left : ℕ) (run : EvictRun) (fate : Fate) (x : Answer) (a b c : CallerState) → 0 < left → x ≡ answers.Test i → AppendsAnswer EvictNext x a b
     → Goes_on (tests i (left - 1) (one_more run)) b c (after_test (left - 1) (one_more run) fate) → Goes_on (examines left run) a c (after_one left run (Some fate))
 tested_idle i left run fate x a b c some is made w =
     let at = tests i (left - 1) (one_more run) in
@@ -66,7 +66,7 @@ fared_destroyed run fates.Kept = omega arith
 fared_destroyed run fates.Destroyed = omega arith
 
 -- a run that examined one object more
-pub one_examined : (count left : ℕ) (run more : EvictRun) (fate : Fate) (o : Option Fate) (a b c : Standing) → o ≡ Some fate → more ≡ fared (one_more run) fate → Goes_on (examines count none_yet) a b (examines left run)
+pub one_examined : (count left : ℕ) (run more : EvictRun) (fate : Fate) (o : Option Fate) (a b c : CallerState) → o ≡ Some fate → more ≡ fared (one_more run) fate → Goes_on (examines count none_yet) a b (examines left run)
     → Goes_on (examines left run) b c (after_one left run o) → Goes_on (examines count none_yet) a c (examines (left - 1) more)
 one_examined count left run more fate o a b c is counted w one =
     let next : Goes_on (examines left run) b c (examines (left - 1) (fared (one_more run) fate)) = subst (λ x. Goes_on (examines left run) b c (after_one left run x)) is one in
@@ -77,26 +77,26 @@ spared (answers.DestroyIdle i) is = absurd (true≢false is)
 spared _ is = tt
 
 -- an EvictNext failed
-pub stops_full : {T : Type 0} (s : Settings) (f : StepFault T) (out : Option T) (b c : Standing) → f ≡ JournalFull out → Refuses s EvictNext None f b c → IsStopped s faults.JournalFull c
-stops_full s f out b c is refuses = let full = full_for s EvictNext f out b c is refuses in (full.0, full.1, spared (reply s c.seen full.0 EvictNext) full.1.unfinished)
+pub stops_full : {T : Type 0} (s : Settings) (f : StepFault T) (out : Option T) (b c : CallerState) → f ≡ JournalFull out → Refuses s EvictNext None f b c → IsStopped s faults.JournalFull c
+stops_full s f out b c is refuses = let full = full_for s EvictNext f out b c is refuses in (full.0, full.1, spared (reply s c.observed full.0 EvictNext) full.1.unfinished)
 
-pub stops_short : {T : Type 0} (s : Settings) (f : StepFault T) (out : Option T) (b c : Standing) → f ≡ OutOfMemory out → Refuses s EvictNext None f b c → IsStopped s faults.OutOfMemory c
-stops_short s f out b c is refuses = let short = short_for s EvictNext f out b c is refuses in (short.0, short.1, spared (reply s c.seen short.0 EvictNext) short.1.unfinished)
+pub stops_short : {T : Type 0} (s : Settings) (f : StepFault T) (out : Option T) (b c : CallerState) → f ≡ OutOfMemory out → Refuses s EvictNext None f b c → IsStopped s faults.OutOfMemory c
+stops_short s f out b c is refuses = let short = short_for s EvictNext f out b c is refuses in (short.0, short.1, spared (reply s c.observed short.0 EvictNext) short.1.unfinished)
 
 -- a run that stopped with an error
-pub stopped : (s : Settings) (count left : ℕ) (run : EvictRun) (f : PoolFault) (a b c : Standing) → 0 < left → Goes_on (examines count none_yet) a b (examines left run) → c.made ≡ b.made → IsStopped s f c
+pub stopped : (s : Settings) (count left : ℕ) (run : EvictRun) (f : PoolFault) (a b c : CallerState) → 0 < left → Goes_on (examines count none_yet) a b (examines left run) → c.appended ≡ b.appended → IsStopped s f c
     → EvictsFrom s (examines count none_yet) (Err f) a c
 stopped s count left run f a b c some w same room =
     let more : left ≡ suc (left - 1) = omega (arith, some) in
     row_stopped evicts.Due evicts.next (EvictEnds s) (examines count none_yet) (examines (suc (left - 1)) run) (Err f) a b c (subst (λ k. Goes_on (examines count none_yet) a b (examines k run)) more w) same room
 
 -- a run over all of its objects
-pub all_examined : (s : Settings) (count left : ℕ) (run : EvictRun) (a b : Standing) → left ≡ 0 → Goes_on (examines count none_yet) a b (examines left run) → EndsWithMade b → EvictsFrom s (examines count none_yet) (Ok run) a b
+pub all_examined : (s : Settings) (count left : ℕ) (run : EvictRun) (a b : CallerState) → left ≡ 0 → Goes_on (examines count none_yet) a b (examines left run) → EndsWithMade b → EvictsFrom s (examines count none_yet) (Ok run) a b
 all_examined s count left run a b none w ends =
     row_at evicts.Due evicts.next (EvictEnds s) (examines count none_yet) (examines 0 run) (Ok run) a b (subst (λ k. Goes_on (examines count none_yet) a b (examines k run)) none w) (refl, ends)
 
 -- a run that found no more objects
-pub out_of_objects : (s : Settings) (count left : ℕ) (run : EvictRun) (o : Option Fate) (a b c : Standing) → o ≡ None → Goes_on (examines count none_yet) a b (examines left run) → Goes_on (examines left run) b c (after_one left run o) → EndsWithMade c
+pub out_of_objects : (s : Settings) (count left : ℕ) (run : EvictRun) (o : Option Fate) (a b c : CallerState) → o ≡ None → Goes_on (examines count none_yet) a b (examines left run) → Goes_on (examines left run) b c (after_one left run o) → EndsWithMade c
     → EvictsFrom s (examines count none_yet) (Ok run) a c
 out_of_objects s count left run o a b c is w one ends =
     let none : Goes_on (examines left run) b c (through run) = subst (λ x. Goes_on (examines left run) b c (after_one left run x)) is one in

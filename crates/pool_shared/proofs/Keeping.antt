@@ -12,11 +12,11 @@ use Rattle.pool_core.specs.Laws.{AtMostMaxTotal}
 use Rattle.pool_core.specs.Legal.{IsLegal, entry_of}
 use Rattle.pool_core.proofs.Lawful.{keeps_laws}
 use Rattle.pool_history.specs.declared.room.View.{View}
-use Rattle.pool_history.specs.Standings.{Standing, Goes, IsCaller}
-use Rattle.pool_history.proofs.Tending.{at_seam, last_here}
+use Rattle.pool_history.specs.CallerStates.{CallerState, Advances, CallerInvariant}
+use Rattle.pool_history.proofs.Ownership.{at_seam, last_here}
 use Rattle.pool_shared.specs.declared.faults.BorrowFault.{BorrowFault}
 use Rattle.pool_shared.specs.declared.lent.Lent.{Lent}
-use Rattle.pool_lock.proofs.Sections.{standing}
+use Rattle.pool_lock.proofs.Sections.{state_of}
 use Rattle.pool_shared.specs.Borrows.{Stage, Finishes}
 use Rattle.pool_shared.specs.Promises.{IsAlone}
 use Rattle.pool_shared.specs.Walks.{Ends}
@@ -28,11 +28,11 @@ front_has [] rest k x at = absurd (cc at)
 front_has (y ∷ ys) rest zero x at = (at, omega arith)
 front_has (y ∷ ys) rest (suc k) x at = let later = front_has ys rest k x at in (later.0, omega (arith, later.1))
 
-pub alone : (s : Settings) (i : ℕ) (me : Standing) → IsLegal s me.seen → Ends (Ready i Good) is_lent me → IsAlone i me
+pub alone : (s : Settings) (i : ℕ) (me : CallerState) → IsLegal s me.observed → Ends (Ready i Good) is_lent me → IsAlone i me
 alone s i me legal ends =
     let e = entry_of me.number ends.at (Ready i Good) is_lent in
     let there : lends i e ≡ true = eq-eqb i i refl in
-    let laws = keeps_laws s me.seen legal in
+    let laws = keeps_laws s me.observed legal in
     record {
       by = ends;
       lent = subst (λ J. phase i J ≡ phases.Lent) (sym ends.last_seen) (last_here i phases.Lent ends.found e refl).is_in;
@@ -44,14 +44,14 @@ alone s i me legal ends =
     }
 
 -- a borrow that lends
-pub alone_of : {T E : Type 0} (s : Settings) (number began : ℕ) (from : Stage) (r : Result (Lent T) (BorrowFault E)) (before after : Standing) → Goes s before after → Finishes s number began from r before after → IfOk r (λ l. IsAlone l.id after)
+pub alone_of : {T E : Type 0} (s : Settings) (number began : ℕ) (from : Stage) (r : Result (Lent T) (BorrowFault E)) (before after : CallerState) → Advances s before after → Finishes s number began from r before after → IfOk r (λ l. IsAlone l.id after)
 alone_of s number began from (Ok l) before after goes made = alone s l.id after goes.legal made.leaves
 alone_of s number began from (Err f) before after goes made = tt
 
 -- in the observed history the number of present objects is within the limit of the settings
-pub within : (s : Settings) (before after : Standing) → Goes s before after → AtMostMaxTotal s after.seen
-within s before after goes = (keeps_laws s after.seen goes.legal).at_most_max_total
+pub within : (s : Settings) (before after : CallerState) → Advances s before after → AtMostMaxTotal s after.observed
+within s before after goes = (keeps_laws s after.observed goes.legal).at_most_max_total
 
 -- a caller without a step
-pub untouched : (table : TableId) (s : Settings) (id : TableId) (n : ℕ) (v : View) (me : Standing) → IsCaller table s id n v → standing n v ≡ me → Goes s me me
-untouched table s id n v me known is = subst (λ (t : Standing). Goes s t t) is (goes_self s (standing n v) record { legal = known.legal; tended = known.tended; all = known.all })
+pub untouched : (table : TableId) (s : Settings) (id : TableId) (n : ℕ) (v : View) (me : CallerState) → CallerInvariant table s id n v → state_of n v ≡ me → Advances s me me
+untouched table s id n v me known is = subst (λ (t : CallerState). Advances s t t) is (goes_self s (state_of n v) record { legal = known.legal; owner_respecting = known.owner_respecting; all = known.all })

@@ -5,7 +5,7 @@ use Rattle.pool_journal.specs.declared.input.When.TheVariants as times
 use Rattle.pool_journal.specs.declared.answer.Answer.{Answer}
 use Rattle.pool_journal.specs.declared.answer.Answer.TheVariants as answers
 use Rattle.pool_settings.specs.declared.settings.Settings.{Settings}
-use Rattle.pool_history.specs.Standings.{Standing}
+use Rattle.pool_history.specs.CallerStates.{CallerState}
 use Rattle.pool_shared.specs.declared.faults.BorrowFault.{BorrowFault}
 use Rattle.pool_shared.specs.declared.faults.BorrowFault.TheVariants as faults
 use Rattle.pool_shared.specs.declared.faults.PoolFault.{PoolFault}
@@ -55,14 +55,14 @@ module _ (s : Settings) (began : ℕ) where
   goes_too (removals.refused a) e due = absurd due
 
   -- a borrow whose removal has a trace
-  along : (r : Result ℕ PoolFault) (a b : Standing) (row : ReclaimRow s times.Borrow r a b) → Goes_on s began removes a b (as_borrow (walked removals.next removals.begins row.es))
+  along : (r : Result ℕ PoolFault) (a b : CallerState) (row : ReclaimRow s times.Borrow r a b) → Goes_on s began removes a b (as_borrow (walked removals.next removals.begins row.es))
   unfolding as_borrow
   along r a b row =
       let to = walked removals.next removals.begins row.es in
       walk_along (removals.Due times.Borrow) removals.next (borrows.Due s began) borrows.next as_borrow due_too goes_too removals.begins to a b
       (walk_of (removals.Due times.Borrow) removals.next (ReclaimEnds s times.Borrow) removals.begins r a b row)
 
-  over : (st : removals.Stage) (n : ℕ) (me : Standing) → ReclaimEnds s times.Borrow st (Ok n) me → as_borrow st ≡ asks
+  over : (st : removals.Stage) (n : ℕ) (me : CallerState) → ReclaimEnds s times.Borrow st (Ok n) me → as_borrow st ≡ asks
   unfolding as_borrow
   over (removals.through taken) n me ends = refl
   over (removals.reclaims zero taken) n me ends = refl
@@ -70,10 +70,10 @@ module _ (s : Settings) (began : ℕ) where
   over _ n me ends = absurd ends
 
   -- a removal that is complete
-  pub removed : (n : ℕ) (a b : Standing) → ReclaimRow s times.Borrow (Ok n) a b → Goes_on s began removes a b asks
+  pub removed : (n : ℕ) (a b : CallerState) → ReclaimRow s times.Borrow (Ok n) a b → Goes_on s began removes a b asks
   removed n a b row = subst (λ st. Goes_on s began removes a b st) (over (walked removals.next removals.begins row.es) n b row.ends) (along (Ok n) a b row)
 
-  full_there : (T E : Type 0) (number : ℕ) (st : removals.Stage) (me : Standing) → ReclaimEnds s times.Borrow st (Err pool_faults.JournalFull) me
+  full_there : (T E : Type 0) (number : ℕ) (st : removals.Stage) (me : CallerState) → ReclaimEnds s times.Borrow st (Err pool_faults.JournalFull) me
       → IsResult {T = T} {E = E} number (as_borrow st) (Err faults.JournalFull) × Leaves {T = T} {E = E} s began (as_borrow st) (Err faults.JournalFull) me
   unfolding as_borrow
   full_there T E number removals.begins me ends = (tt, ends)
@@ -81,7 +81,7 @@ module _ (s : Settings) (began : ℕ) where
   full_there T E number (removals.reclaims (suc left) taken) me ends = (tt, (ends.0, ends.1))
   full_there T E number _ me ends = absurd ends
 
-  short_there : (T E : Type 0) (number : ℕ) (st : removals.Stage) (me : Standing) → ReclaimEnds s times.Borrow st (Err pool_faults.OutOfMemory) me
+  short_there : (T E : Type 0) (number : ℕ) (st : removals.Stage) (me : CallerState) → ReclaimEnds s times.Borrow st (Err pool_faults.OutOfMemory) me
       → IsResult {T = T} {E = E} number (as_borrow st) (Err faults.OutOfMemory) × Leaves {T = T} {E = E} s began (as_borrow st) (Err faults.OutOfMemory) me
   unfolding as_borrow
   short_there T E number removals.begins me ends = (tt, ends)
@@ -90,14 +90,14 @@ module _ (s : Settings) (began : ℕ) where
   short_there T E number _ me ends = absurd ends
 
   -- a removal that failed
-  pub removal_full : {T E : Type 0} (number : ℕ) (f : PoolFault) (a b : Standing) → f ≡ pool_faults.JournalFull → ReclaimRow s times.Borrow (Err f) a b → Finishes {T = T} {E = E} s number began removes (Err faults.JournalFull) a b
+  pub removal_full : {T E : Type 0} (number : ℕ) (f : PoolFault) (a b : CallerState) → f ≡ pool_faults.JournalFull → ReclaimRow s times.Borrow (Err f) a b → Finishes {T = T} {E = E} s number began removes (Err faults.JournalFull) a b
   removal_full {T} {E} number f a b is made =
       let row : ReclaimRow s times.Borrow (Err pool_faults.JournalFull) a b = subst (λ x. ReclaimRow s times.Borrow (Err x) a b) is made in
       let to = walked removals.next removals.begins row.es in
       let why = full_there T E number to b row.ends in
       finishes s number began removes (as_borrow to) (Err faults.JournalFull) a b (along (Err pool_faults.JournalFull) a b row) why.0 why.1
 
-  pub removal_short : {T E : Type 0} (number : ℕ) (f : PoolFault) (a b : Standing) → f ≡ pool_faults.OutOfMemory → ReclaimRow s times.Borrow (Err f) a b → Finishes {T = T} {E = E} s number began removes (Err faults.OutOfMemory) a b
+  pub removal_short : {T E : Type 0} (number : ℕ) (f : PoolFault) (a b : CallerState) → f ≡ pool_faults.OutOfMemory → ReclaimRow s times.Borrow (Err f) a b → Finishes {T = T} {E = E} s number began removes (Err faults.OutOfMemory) a b
   removal_short {T} {E} number f a b is made =
       let row : ReclaimRow s times.Borrow (Err pool_faults.OutOfMemory) a b = subst (λ x. ReclaimRow s times.Borrow (Err x) a b) is made in
       let to = walked removals.next removals.begins row.es in
@@ -105,7 +105,7 @@ module _ (s : Settings) (began : ℕ) where
       finishes s number began removes (as_borrow to) (Err faults.OutOfMemory) a b (along (Err pool_faults.OutOfMemory) a b row) why.0 why.1
 
 -- a borrow that asks after its removal
-pub asks_then : {T E : Type 0} (s : Settings) (number began : ℕ) (r : Result (Lent T) (BorrowFault E)) (a b c : Standing) → s.remove_abandoned_on_borrow ≡ true → Goes_on s began removes a b asks → Finishes s number began asks r b c
+pub asks_then : {T E : Type 0} (s : Settings) (number began : ℕ) (r : Result (Lent T) (BorrowFault E)) (a b c : CallerState) → s.remove_abandoned_on_borrow ≡ true → Goes_on s began removes a b asks → Finishes s number began asks r b c
     → Finishes s number began (start s) r a c
 asks_then s number began r a b c set w f =
     let from : start s ≡ removes = ap (λ (x : Bool). if x then removes else asks) set in

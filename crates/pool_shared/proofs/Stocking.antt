@@ -13,13 +13,13 @@ use Rattle.pool_settings.specs.declared.settings.Settings.{Settings}
 use Rattle.pool_core.specs.declared.step_fault.StepFault.{StepFault}
 use Rattle.pool_core.specs.declared.step_fault.StepFault.TheVariants.{JournalFull, OutOfMemory}
 use Rattle.pool_core.specs.Legal.{entry_of}
-use Rattle.pool_history.specs.Rule.{own}
-use Rattle.pool_history.specs.Standings.{Standing, Goes}
+use Rattle.pool_history.specs.CellInvariant.{entries_with_number}
+use Rattle.pool_history.specs.CallerStates.{CallerState, Advances}
 use Rattle.pool_shared.specs.declared.faults.Addition.{Addition}
 use Rattle.pool_shared.specs.declared.faults.Addition.TheVariants as additions
 use Rattle.pool_shared.specs.declared.faults.AddFault.{AddFault}
 use Rattle.pool_shared.specs.declared.faults.AddFault.TheVariants as faults
-use Rattle.pool_lock.specs.Sections.{HasInHand, Makes, Refuses}
+use Rattle.pool_lock.specs.Sections.{OwnsObject, AppendsAnswer, Refuses}
 use Rattle.pool_shared.specs.Walks.{walked, AllDue, EndsWithMade}
 use Rattle.pool_shared.specs.Adds as addition
 use Rattle.pool_shared.specs.Adds.{makes, ending, Leaves, IsStocked}
@@ -28,7 +28,7 @@ use Rattle.pool_shared.specs.Fills.{Stage, asks, adds, adding, through, failed, 
 use Rattle.pool_shared.proofs.Walking.{walk_none, walk_one, walk_on}
 use Rattle.pool_shared.proofs.Rowing.{full_for, short_for}
 
-stocked_leaves : {E : Type 0} (s : Settings) (input : Input) (r : Result Addition (AddFault E)) (me : Standing) → IsStocked r → EndsWithMade me → Leaves s input r me
+stocked_leaves : {E : Type 0} (s : Settings) (input : Input) (r : Result Addition (AddFault E)) (me : CallerState) → IsStocked r → EndsWithMade me → Leaves s input r me
 stocked_leaves s input (Ok a) me is ends = ends
 stocked_leaves s input (Err faults.Closed) me is ends = absurd is
 stocked_leaves s input (Err (faults.MakeFailed f)) me is ends = ends
@@ -38,18 +38,18 @@ stocked_leaves s input (Err faults.JournalFull) me is ends = absurd is
 stocked_leaves s input (Err faults.OutOfMemory) me is ends = absurd is
 
 -- the pool was closed before the new object could become idle
-pub shut_out : (s : Settings) (i : ℕ) (a : Answer) (before mid after : Standing) → a ≡ answers.Destroy → Makes (Added i outcomes.Good) a before mid → Makes (Destroyed i) answers.Freed mid after
+pub shut_out : (s : Settings) (i : ℕ) (a : Answer) (before mid after : CallerState) → a ≡ answers.Destroy → AppendsAnswer (Added i outcomes.Good) a before mid → AppendsAnswer (Destroyed i) answers.Freed mid after
     → addition.Goes_on s (makes i) before after (addition.gone outcomes.Good)
 shut_out s i a before mid after is made freed =
     walk_on (addition.Due s) addition.next (makes i) (addition.destroys i outcomes.Good) (addition.gone outcomes.Good) before mid after
-    (walk_one (addition.Due s) addition.next (makes i) (addition.destroys i outcomes.Good) (Added i outcomes.Good) answers.Destroy before mid (subst (λ b. Makes (Added i outcomes.Good) b before mid) is made) (λ n at. (refl, tt)) (λ n at. refl))
+    (walk_one (addition.Due s) addition.next (makes i) (addition.destroys i outcomes.Good) (Added i outcomes.Good) answers.Destroy before mid (subst (λ b. AppendsAnswer (Added i outcomes.Good) b before mid) is made) (λ n at. (refl, tt)) (λ n at. refl))
     (walk_one (addition.Due s) addition.next (addition.destroys i outcomes.Good) (addition.gone outcomes.Good) (Destroyed i) answers.Freed mid after freed (λ n at. refl) (λ n at. refl))
 
 -- the caller then owns it, and has to destroy it
-pub has_shut_out : (i : ℕ) (a : Answer) (before after : Standing) → a ≡ answers.Destroy → Makes (Added i outcomes.Good) a before after → (new : Bool) × HasInHand after i phases.Destroying new
+pub has_shut_out : (i : ℕ) (a : Answer) (before after : CallerState) → a ≡ answers.Destroy → AppendsAnswer (Added i outcomes.Good) a before after → (new : Bool) × OwnsObject after i phases.Destroying new
 has_shut_out i a before after is made =
-    let m : Makes (Added i outcomes.Good) answers.Destroy before after = subst (λ b. Makes (Added i outcomes.Good) b before after) is made in
-    (false, record { made = before.made; e = entry_of before.number m.0 (Added i outcomes.Good) answers.Destroy; last = m.1.more; moved = refl; is_new = refl })
+    let m : AppendsAnswer (Added i outcomes.Good) answers.Destroy before after = subst (λ b. AppendsAnswer (Added i outcomes.Good) b before after) is made in
+    (false, record { appended = before.appended; e = entry_of before.number m.0 (Added i outcomes.Good) answers.Destroy; last = m.1.more; moved = refl; is_new = refl })
 
 -- an addition within a fill
 module _ (s : Settings) (n : ℕ) where
@@ -61,12 +61,12 @@ module _ (s : Settings) (n : ℕ) where
   within (addition.destroys i o) (e ∷ es) due = let r = within (addition.next (addition.destroys i o) e) es due.1 in (r.0, (due.0, r.1))
   within _ (e ∷ es) due = absurd due.0
 
-  walk_within : (from to : addition.Stage) (before after : Standing) → addition.Goes_on s from before after to → Goes_on s (adding n from) before after (adding n to)
+  walk_within : (from to : addition.Stage) (before after : CallerState) → addition.Goes_on s from before after to → Goes_on s (adding n from) before after (adding n to)
   walk_within from to before after w =
       let r = within from w.es w.due in
       record { es = w.es; made = w.made; due = r.1; comes = r.0 ∙ ap (adding n) w.comes }
 
-  turn_made : {E : Type 0} (r : Result Addition (AddFault E)) (before after : Standing) → IsStocked r → Goes_on s (asks n) before after (adding n (ending r)) → EndsWithMade after → Turns s n r before after
+  turn_made : {E : Type 0} (r : Result Addition (AddFault E)) (before after : CallerState) → IsStocked r → Goes_on s (asks n) before after (adding n (ending r)) → EndsWithMade after → Turns s n r before after
   turn_made (Ok additions.Idle) before after is w ends = (w, ends)
   turn_made (Ok additions.Destroyed) before after is w ends = (w, ends)
   turn_made (Ok additions.NoPlace) before after is w ends = absurd is
@@ -78,21 +78,21 @@ module _ (s : Settings) (n : ℕ) where
   turn_made (Err faults.OutOfMemory) before after is w ends = absurd is
 
   -- a turn of a fill that found a place
-  pub turned : {E : Type 0} (i : ℕ) (a : Answer) (r : Result Addition (AddFault E)) (before mid after : Standing) → a ≡ answers.Make i → Makes Fill a before mid
+  pub turned : {E : Type 0} (i : ℕ) (a : Answer) (r : Result Addition (AddFault E)) (before mid after : CallerState) → a ≡ answers.Make i → AppendsAnswer Fill a before mid
       → IsStocked r → addition.Goes_on s (makes i) mid after (ending r) → EndsWithMade after → Turns s n r before after
   turned i a r before mid after is made stocked w ends =
       turn_made r before after stocked
       (walk_on (fills.Due s) fills.next (asks n) (adds n (makes i)) (adding n (ending r)) before mid after
-      (walk_one (fills.Due s) fills.next (asks n) (adds n (makes i)) Fill (answers.Make i) before mid (subst (λ b. Makes Fill b before mid) is made) (λ m at. refl) (λ m at. refl))
+      (walk_one (fills.Due s) fills.next (asks n) (adds n (makes i)) Fill (answers.Make i) before mid (subst (λ b. AppendsAnswer Fill b before mid) is made) (λ m at. refl) (λ m at. refl))
       (walk_within (makes i) (ending r) mid after w)) ends
 
   -- a turn that failed for lack of room
-  pub full_turn : {T E : Type 0} (f : StepFault T) (out : Option T) (before after : Standing) → f ≡ JournalFull out → Refuses s Fill None f before after → Turns {E = E} s n (Err faults.JournalFull) before after
+  pub full_turn : {T E : Type 0} (f : StepFault T) (out : Option T) (before after : CallerState) → f ≡ JournalFull out → Refuses s Fill None f before after → Turns {E = E} s n (Err faults.JournalFull) before after
   full_turn f out before after is refuses =
       record { to = asks n; made = walk_none (fills.Due s) fills.next (asks n) before after refuses.same; ends = tt; leaves = full_for s Fill f out before after is refuses }
 
   -- the same for lack of memory
-  pub short_turn : {T E : Type 0} (f : StepFault T) (out : Option T) (before after : Standing) → f ≡ OutOfMemory out → Refuses s Fill None f before after → Turns {E = E} s n (Err faults.OutOfMemory) before after
+  pub short_turn : {T E : Type 0} (f : StepFault T) (out : Option T) (before after : CallerState) → f ≡ OutOfMemory out → Refuses s Fill None f before after → Turns {E = E} s n (Err faults.OutOfMemory) before after
   short_turn f out before after is refuses =
       record { to = asks n; made = walk_none (fills.Due s) fills.next (asks n) before after refuses.same; ends = tt; leaves = short_for s Fill f out before after is refuses }
 
@@ -132,32 +132,32 @@ reached_walked stage [] = omega arith
 reached_walked stage (e ∷ es) = omega (arith, reached_next stage e, reached_walked (fills.next stage e) es)
 
 -- a fill has parked at most one object per entry that it appended
-pub few_parked : (s : Settings) (n : ℕ) (first now : Standing) → Goes_on s (asks 0) first now (asks n) → n ≤ length now.made
+pub few_parked : (s : Settings) (n : ℕ) (first now : CallerState) → Goes_on s (asks 0) first now (asks n) → n ≤ length now.appended
 unfolding reached
 few_parked s n first now w =
     let parked : reached (walked fills.next (asks 0) w.es) ≡ n = ap reached w.comes in
-    omega (arith, parked, reached_walked (asks 0) w.es, ap length w.made, length-append first.made w.es)
+    omega (arith, parked, reached_walked (asks 0) w.es, ap length w.made, length-append first.appended w.es)
 
-own_within : (n : ℕ) (J : List Entry) → length (own n J) ≤ length J
+own_within : (n : ℕ) (J : List Entry) → length (entries_with_number n J) ≤ length J
 own_within n J = omega (arith, length-filter_both (λ (e : Entry). e.caller == n) (λ e. not (e.caller == n)) (λ e. refl) J)
 
 -- the entries that a caller has appended, and one more, are fewer than 2^64
-pub few_made : (s : Settings) (input : Input) (a : Answer) (before after : Standing) → Makes input a before after → Goes s before after → length after.seen < 2 ^ 64 → length before.made + 1 < 2 ^ 64
+pub few_made : (s : Settings) (input : Input) (a : Answer) (before after : CallerState) → AppendsAnswer input a before after → Advances s before after → length after.observed < 2 ^ 64 → length before.appended + 1 < 2 ^ 64
 few_made s input a before after made goes few =
     let e = entry_of before.number made.0 input a in
-    let mine : length after.made ≤ length after.seen = subst (λ l. length l ≤ length after.seen) (sym goes.all) (own_within after.number after.seen) in
-    omega (arith, mine, few, ap length made.1.more, length-append before.made (e ∷ []))
+    let mine : length after.appended ≤ length after.observed = subst (λ l. length l ≤ length after.observed) (sym goes.all) (own_within after.number after.observed) in
+    omega (arith, mine, few, ap length made.1.more, length-append before.appended (e ∷ []))
 
 pub either_way : {A E : Type 0} (r : Result A E) (n : ℕ) → n + 1 < 2 ^ 64 → OnOk r (n + 1 < 2 ^ 64)
 either_way (Ok a) n few = few
 either_way (Err f) n few = tt
 
 -- the invariant of a fill that has parked this many: the number that it returns
-abbrev pub IsFilling : Settings → ℕ → Standing → Standing → Type 0
+abbrev pub IsFilling : Settings → ℕ → CallerState → CallerState → Type 0
 IsFilling s told first now = (n : ℕ) × (told ≡ n) × Goes_on s (asks 0) first now (asks n)
 
 -- a fill after one more turn
-module _ (s : Settings) (n told : ℕ) (first now after : Standing) (telling : told ≡ n) (w : Goes_on s (asks 0) first now (asks n)) where
+module _ (s : Settings) (n told : ℕ) (first now after : CallerState) (telling : told ≡ n) (w : Goes_on s (asks 0) first now (asks n)) where
   further : (to : Stage) → Goes_on s (asks n) now after to → Goes_on s (asks 0) first after to
   further to more = walk_on (fills.Due s) fills.next (asks 0) (asks n) to first now after w more
 

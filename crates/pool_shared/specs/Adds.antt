@@ -9,7 +9,7 @@ use Rattle.pool_journal.specs.declared.answer.Answer.{Answer}
 use Rattle.pool_journal.specs.declared.answer.Answer.TheVariants as answers
 use Rattle.pool_journal.specs.declared.answer.Cause.TheVariants as causes
 use Rattle.pool_settings.specs.declared.settings.Settings.{Settings}
-use Rattle.pool_history.specs.Standings.{Standing}
+use Rattle.pool_history.specs.CallerStates.{CallerState}
 use Rattle.pool_lock.specs.Sections.{IsFullFor, IsShortFor}
 use Rattle.pool_shared.specs.declared.faults.Addition.{Addition}
 use Rattle.pool_shared.specs.declared.faults.Addition.TheVariants as additions
@@ -64,7 +64,7 @@ Due s (makes i) e = IsMade s i e.input
 Due s (destroys i o) e = e.input ≡ Destroyed i
 Due s _ e = ⊥
 
-abbrev pub Goes_on : Settings → Stage → Standing → Standing → Stage → Type 0
+abbrev pub Goes_on : Settings → Stage → CallerState → CallerState → Stage → Type 0
 Goes_on s from before after to = Walks (Due s) next from before after to
 
 -- the stage of an addition in which nothing failed
@@ -85,13 +85,13 @@ ending (Err faults.OutOfMemory) = asks
 
 -- what is observed then: the last entry at the end, or, if the critical section failed, a journal in which its entry doesn't fit,
 -- or does, as the error says
-abbrev pub Leaves : {A E : Type 0} → Settings → Input → Result A (AddFault E) → Standing → Type 0
+abbrev pub Leaves : {A E : Type 0} → Settings → Input → Result A (AddFault E) → CallerState → Type 0
 Leaves s input (Err faults.JournalFull) me = IsFullFor s input me
 Leaves s input (Err faults.OutOfMemory) me = IsShortFor s input me
 Leaves s input _ me = EndsWithMade me
 
 -- the trace of an addition
-abbrev pub AddRow : {E : Type 0} → Settings → Result Addition (AddFault E) → Standing → Standing → Type 0
+abbrev pub AddRow : {E : Type 0} → Settings → Result Addition (AddFault E) → CallerState → CallerState → Type 0
 AddRow s result before after = Goes_on s asks before after (ending result) × Leaves s Add result after
 
 -- the factory's errors are from the calls that they report

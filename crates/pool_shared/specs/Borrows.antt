@@ -10,13 +10,13 @@ use Rattle.pool_journal.specs.declared.answer.Answer.{Answer}
 use Rattle.pool_journal.specs.declared.answer.Answer.TheVariants as answers
 use Rattle.pool_journal.specs.declared.answer.Cause.TheVariants as causes
 use Rattle.pool_settings.specs.declared.settings.Settings.{Settings}
-use Rattle.pool_history.specs.Standings.{Standing}
+use Rattle.pool_history.specs.CallerStates.{CallerState}
 use Rattle.pool_shared.specs.declared.faults.BorrowFault.{BorrowFault}
 use Rattle.pool_shared.specs.declared.faults.BorrowFault.TheVariants as faults
 use Rattle.pool_shared.specs.declared.lent.Lent.{Lent}
 use Rattle.pool_shared.specs.declared.borrowing.Unready.{Unready}
 use Rattle.pool_shared.specs.declared.borrowing.Unready.TheVariants as unready
-use Rattle.pool_history.specs.Answers.{IsAnswerTo}
+use Rattle.pool_history.specs.Answers.{IsPossibleAnswer}
 use Rattle.pool_lock.specs.Sections.{IsFullFor, IsShortFor}
 use Rattle.pool_shared.specs.Walks.{walked, AllDue, Walks, Ends, EndsWithMade}
 
@@ -94,7 +94,7 @@ Due s began (readies i new) e = IsReady s i new e.input
 Due s began (destroys i new o) e = e.input ≡ Destroyed i
 Due s began _ e = ⊥
 
-abbrev pub Goes_on : Settings → ℕ → Stage → Standing → Standing → Stage → Type 0
+abbrev pub Goes_on : Settings → ℕ → Stage → CallerState → CallerState → Stage → Type 0
 Goes_on s began from before after to = Walks (Due s began) next from before after to
 
 -- a critical section failed
@@ -119,7 +119,7 @@ IsResult number asks (Err f) = IsRoomFault f
 IsResult number _ _ = ⊥
 
 -- the next critical section failed for this reason
-abbrev pub IsRefusedThere : (Settings → Input → Standing → Type 0) → Settings → ℕ → Stage → Standing → Type 0
+abbrev pub IsRefusedThere : (Settings → Input → CallerState → Type 0) → Settings → ℕ → Stage → CallerState → Type 0
 IsRefusedThere Why s began removes me = Why s (Reclaim times.Borrow) me
 IsRefusedThere Why s began (reclaims left) me = Why s ReclaimNext me
 IsRefusedThere Why s began asks me = Why s (Borrow began) me
@@ -127,16 +127,16 @@ IsRefusedThere Why s began _ me = ⊥
 
 -- what is observed then: the last entry at the end, which lends the object if there is one, or, if a critical section failed, a
 -- journal in which its entry doesn't fit, or does, as the error says
-abbrev pub Leaves : {T E : Type 0} → Settings → ℕ → Stage → Result (Lent T) (BorrowFault E) → Standing → Type 0
+abbrev pub Leaves : {T E : Type 0} → Settings → ℕ → Stage → Result (Lent T) (BorrowFault E) → CallerState → Type 0
 Leaves s began stage (Ok l) me = Ends (Ready l.id outcomes.Good) answers.Lent me
 Leaves s began stage (Err faults.JournalFull) me = IsRefusedThere IsFullFor s began stage me
 Leaves s began stage (Err faults.OutOfMemory) me = IsRefusedThere IsShortFor s began stage me
 Leaves s began stage (Err _) me = EndsWithMade me
 
 -- the trace of a borrow from one stage to its result
-pub record Finishes {T E : Type 0} (s : Settings) (number began : ℕ) (from : Stage) (result : Result (Lent T) (BorrowFault E)) (before after : Standing) : Type 0 where
+pub record Finishes {T E : Type 0} (s : Settings) (number began : ℕ) (from : Stage) (result : Result (Lent T) (BorrowFault E)) (before after : CallerState) : Type 0 where
   pub es : List Entry
-  pub made : after.made ≡ before.made ++ es
+  pub made : after.appended ≡ before.appended ++ es
   pub due : AllDue (Due s began) next from es
   pub ends : IsResult number (walked next from es) result
   pub leaves : Leaves s began (walked next from es) result after
@@ -146,7 +146,7 @@ abbrev pub start : Settings → Stage
 start s = if s.remove_abandoned_on_borrow then removes else asks
 
 -- the trace of a whole borrow
-abbrev pub BorrowRow : {T E : Type 0} → Settings → ℕ → Result (Lent T) (BorrowFault E) → Standing → Standing → Type 0
+abbrev pub BorrowRow : {T E : Type 0} → Settings → ℕ → Result (Lent T) (BorrowFault E) → CallerState → CallerState → Type 0
 BorrowRow s number result before after = (began : ℕ) × Finishes s number began (start s) result before after
 
 -- the value is active, and valid if that was tested
@@ -168,7 +168,7 @@ IsWhyUnready s activate unready.Test = s.test_on_borrow ≡ true
 -- an object was found, or the borrow ends with another answer than `Wait`
 abbrev pub IsFound : Answer → Type 0
 IsFound answers.Wait = ⊥
-IsFound a = IsAnswerTo (Borrow 0) a
+IsFound a = IsPossibleAnswer (Borrow 0) a
 
 -- the stage of a borrow that took an object
 abbrev pub taken_to : {T : Type 0} → ℕ → Option (Lent T) → Stage

@@ -8,7 +8,7 @@ use Rattle.pool_journal.specs.declared.answer.Answer.TheVariants as answers
 use Rattle.pool_journal.specs.Journal.{closed, records}
 use Rattle.pool_journal.specs.Queue.{idle_queue}
 use Rattle.pool_settings.specs.declared.settings.Settings.{Settings}
-use Rattle.pool_history.specs.Standings.{Standing}
+use Rattle.pool_history.specs.CallerStates.{CallerState}
 use Rattle.pool_lock.specs.Sections.{LacksRoom, LacksMemory}
 use Rattle.pool_shared.specs.declared.faults.PoolFault.{PoolFault}
 use Rattle.pool_shared.specs.declared.faults.PoolFault.TheVariants as faults
@@ -45,21 +45,21 @@ Due first (sweeps left taken) e = (0 < left) × (e.input ≡ ClearNext)
 Due first (destroys i left taken) e = e.input ≡ Destroyed i
 Due first _ e = ⊥
 
-abbrev pub Goes_on : Input → Stage → Standing → Standing → Stage → Type 0
+abbrev pub Goes_on : Input → Stage → CallerState → CallerState → Stage → Type 0
 Goes_on first from before after to = Walks (Due first) next from before after to
 
 -- no object is idle
-abbrev pub NoneIdle : Standing → Type 0
-NoneIdle me = idle_queue (records me.seen) ≡ []
+abbrev pub NoneIdle : CallerState → Type 0
+NoneIdle me = idle_queue (records me.observed) ≡ []
 
 -- the next critical section failed at this time, with this error
-abbrev pub IsRoomFaultAt : Settings → Input → PoolFault → Standing → ℕ → Type 0
+abbrev pub IsRoomFaultAt : Settings → Input → PoolFault → CallerState → ℕ → Type 0
 IsRoomFaultAt s input faults.JournalFull me at = LacksRoom s input me at
 IsRoomFaultAt s input faults.OutOfMemory me at = LacksMemory s input me at
 IsRoomFaultAt s input faults.Closed me at = ⊥
 
 -- it failed so at some time
-abbrev pub IsRoomFault : Settings → Input → PoolFault → Standing → Type 0
+abbrev pub IsRoomFault : Settings → Input → PoolFault → CallerState → Type 0
 IsRoomFault s input f me = (at : ℕ) × IsRoomFaultAt s input f me at
 
 -- a sweep at this stage is complete
@@ -69,13 +69,13 @@ IsOver (sweeps left taken) n = (left ≡ 0) × (n ≡ taken)
 IsOver _ n = ⊥
 
 -- a sweep of up to this many objects: it is complete, or a critical section failed
-abbrev pub Sweeps : Settings → Input → ℕ → Result ℕ (ℕ × PoolFault) → Standing → Standing → Type 0
+abbrev pub Sweeps : Settings → Input → ℕ → Result ℕ (ℕ × PoolFault) → CallerState → CallerState → Type 0
 Sweeps s first count (Ok n) before after = (to : Stage) × Goes_on first (sweeps count 0) before after to × IsOver to n
 Sweeps s first count (Err (n, f)) before after =
     (left : ℕ) × Goes_on first (sweeps count 0) before after (sweeps (suc left) n) × IsRoomFault s ClearNext f after × NoneIdle after
 
 -- the result of a clear at this stage, and what is observed then
-abbrev pub ClearEnds : Settings → Stage → Result ℕ PoolFault → Standing → Type 0
+abbrev pub ClearEnds : Settings → Stage → Result ℕ PoolFault → CallerState → Type 0
 ClearEnds s (through taken) (Ok n) me = (n ≡ taken) × EndsWithMade me
 ClearEnds s (sweeps zero taken) (Ok n) me = (n ≡ taken) × EndsWithMade me
 ClearEnds s begins (Err f) me = IsRoomFault s Clear f me
@@ -83,22 +83,22 @@ ClearEnds s (sweeps (suc left) taken) (Err f) me = IsRoomFault s ClearNext f me 
 ClearEnds s _ _ me = ⊥
 
 -- the same for a close: a ClearNext that fails ends it, since no object is idle then, and the first close never fails
-abbrev pub CloseEnds : Settings → Stage → Result ℕ PoolFault → Standing → Type 0
+abbrev pub CloseEnds : Settings → Stage → Result ℕ PoolFault → CallerState → Type 0
 CloseEnds s (through taken) (Ok n) me = (n ≡ taken) × EndsWithMade me
 CloseEnds s (sweeps zero taken) (Ok n) me = (n ≡ taken) × EndsWithMade me
 CloseEnds s (sweeps (suc left) taken) (Ok n) me = (n ≡ taken) × ((f : PoolFault) × IsRoomFault s ClearNext f me) × NoneIdle me
-CloseEnds s begins (Err f) me = IsRoomFault s Close f me × (closed me.seen ≡ true)
+CloseEnds s begins (Err f) me = IsRoomFault s Close f me × (closed me.observed ≡ true)
 CloseEnds s _ _ me = ⊥
 
 -- the trace of a clear
-pub record ClearRow (s : Settings) (result : Result ℕ PoolFault) (before after : Standing) : Type 0 where
+pub record ClearRow (s : Settings) (result : Result ℕ PoolFault) (before after : CallerState) : Type 0 where
   pub es : List Entry
-  pub made : after.made ≡ before.made ++ es
+  pub made : after.appended ≡ before.appended ++ es
   pub due : AllDue (Due Clear) next begins es
   pub ends : ClearEnds s (walked next begins es) result after
 
-pub record CloseRow (s : Settings) (result : Result ℕ PoolFault) (before after : Standing) : Type 0 where
+pub record CloseRow (s : Settings) (result : Result ℕ PoolFault) (before after : CallerState) : Type 0 where
   pub es : List Entry
-  pub made : after.made ≡ before.made ++ es
+  pub made : after.appended ≡ before.appended ++ es
   pub due : AllDue (Due Close) next begins es
   pub ends : CloseEnds s (walked next begins es) result after

@@ -10,8 +10,8 @@ use Rattle.pool_journal.specs.declared.answer.Answer.TheVariants as answers
 use Rattle.pool_journal.specs.declared.answer.Cause.TheVariants as causes
 use Rattle.pool_settings.specs.declared.settings.Settings.{Settings}
 use Rattle.pool_core.specs.Reply.{reply}
-use Rattle.pool_history.specs.Standings.{Standing}
-use Rattle.pool_history.specs.Tended.{CanTest}
+use Rattle.pool_history.specs.CallerStates.{CallerState}
+use Rattle.pool_history.specs.Ownership.{IsTestOutcome}
 use Rattle.pool_shared.specs.declared.evicting.EvictRun.{EvictRun}
 use Rattle.pool_shared.specs.declared.evicting.Fate.{Fate}
 use Rattle.pool_shared.specs.declared.evicting.Fate.TheVariants as fates
@@ -69,7 +69,7 @@ next stage e = stage
 
 -- the outcome of a test is reported
 abbrev pub IsTest : ℕ → Input → Type 0
-IsTest i (Tested j o) = (j ≡ i) × CanTest o
+IsTest i (Tested j o) = (j ≡ i) × IsTestOutcome o
 IsTest i _ = ⊥
 
 -- the next input
@@ -80,7 +80,7 @@ Due (tests i left run) e = IsTest i e.input
 Due (destroys i left run) e = e.input ≡ Destroyed i
 Due _ e = ⊥
 
-abbrev pub Goes_on : Stage → Standing → Standing → Stage → Type 0
+abbrev pub Goes_on : Stage → CallerState → CallerState → Stage → Type 0
 Goes_on from before after to = Walks Due next from before after to
 
 -- an EvictNext with this answer destroys nothing
@@ -89,11 +89,11 @@ IsSpared (answers.DestroyIdle i) = ⊥
 IsSpared a = Unit {0}
 
 -- an EvictNext failed at a time at which it would have destroyed nothing
-abbrev pub IsStopped : Settings → PoolFault → Standing → Type 0
-IsStopped s f me = (at : ℕ) × IsRoomFaultAt s EvictNext f me at × IsSpared (reply s me.seen at EvictNext)
+abbrev pub IsStopped : Settings → PoolFault → CallerState → Type 0
+IsStopped s f me = (at : ℕ) × IsRoomFaultAt s EvictNext f me at × IsSpared (reply s me.observed at EvictNext)
 
 -- the result of an eviction run at this stage, and what is observed then
-abbrev pub EvictEnds : Settings → Stage → Result EvictRun PoolFault → Standing → Type 0
+abbrev pub EvictEnds : Settings → Stage → Result EvictRun PoolFault → CallerState → Type 0
 EvictEnds s closed (Err faults.Closed) me = EndsWithMade me
 EvictEnds s (through run) (Ok r) me = (r ≡ run) × EndsWithMade me
 EvictEnds s (examines zero run) (Ok r) me = (r ≡ run) × EndsWithMade me
@@ -102,11 +102,11 @@ EvictEnds s (examines (suc left) run) (Err f) me = IsStopped s f me
 EvictEnds s _ _ me = ⊥
 
 -- the trace of an eviction run from one stage to its result
-abbrev pub EvictsFrom : Settings → Stage → Result EvictRun PoolFault → Standing → Standing → Type 0
+abbrev pub EvictsFrom : Settings → Stage → Result EvictRun PoolFault → CallerState → CallerState → Type 0
 EvictsFrom s from result before after = Row Due next (EvictEnds s) from result before after
 
 -- the trace of a whole eviction run
-abbrev pub EvictRow : Settings → Result EvictRun PoolFault → Standing → Standing → Type 0
+abbrev pub EvictRow : Settings → Result EvictRun PoolFault → CallerState → CallerState → Type 0
 EvictRow s result before after = EvictsFrom s begins result before after
 
 -- the counts of a run, with this fate of the last object that it examined
@@ -126,7 +126,7 @@ after_one left run None = through run
 -- how a test fails
 abbrev pub IsFailedTest : Outcome → Type 0
 IsFailedTest outcomes.Good = ⊥
-IsFailedTest o = CanTest o
+IsFailedTest o = IsTestOutcome o
 
 -- how a value fails that is activated and tested
 abbrev pub IsUnfit : Outcome → Type 0

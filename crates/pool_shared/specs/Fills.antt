@@ -7,7 +7,7 @@ use Rattle.pool_journal.specs.declared.input.Outcome.TheVariants as outcomes
 use Rattle.pool_journal.specs.declared.answer.Answer.{Answer}
 use Rattle.pool_journal.specs.declared.answer.Answer.TheVariants as answers
 use Rattle.pool_settings.specs.declared.settings.Settings.{Settings}
-use Rattle.pool_history.specs.Standings.{Standing}
+use Rattle.pool_history.specs.CallerStates.{CallerState}
 use Rattle.pool_shared.specs.declared.faults.Addition.{Addition}
 use Rattle.pool_shared.specs.declared.faults.Addition.TheVariants as additions
 use Rattle.pool_shared.specs.declared.faults.AddFault.{AddFault}
@@ -50,7 +50,7 @@ Due s (asks n) e = e.input ≡ Fill
 Due s (adds n stage) e = addition.Due s stage e
 Due s _ e = ⊥
 
-abbrev pub Goes_on : Settings → Stage → Standing → Standing → Stage → Type 0
+abbrev pub Goes_on : Settings → Stage → CallerState → CallerState → Stage → Type 0
 Goes_on s from before after to = Walks (Due s) next from before after to
 
 -- a critical section failed
@@ -74,14 +74,14 @@ IsResult (asks n) (Err f) = IsRoomFault f
 IsResult _ _ = ⊥
 
 -- the trace of a fill from one stage to its result
-pub record Finishes {E : Type 0} (s : Settings) (from : Stage) (result : Result ℕ (AddFault E)) (before after : Standing) : Type 0 where
+pub record Finishes {E : Type 0} (s : Settings) (from : Stage) (result : Result ℕ (AddFault E)) (before after : CallerState) : Type 0 where
   pub to : Stage
   pub made : Goes_on s from before after to
   pub ends : IsResult to result
   pub leaves : Leaves s Fill result after
 
 -- the trace of a whole fill
-abbrev pub FillRow : {E : Type 0} → Settings → Result ℕ (AddFault E) → Standing → Standing → Type 0
+abbrev pub FillRow : {E : Type 0} → Settings → Result ℕ (AddFault E) → CallerState → CallerState → Type 0
 FillRow s result before after = Finishes s (asks 0) result before after
 
 -- the stage of a fill after one turn: there was no place, or none was missing, or it continues
@@ -91,6 +91,6 @@ turned n additions.Destroyed = asks n
 turned n additions.NoPlace = through n
 
 -- the trace of one turn of a fill
-abbrev pub Turns : {E : Type 0} → Settings → ℕ → Result Addition (AddFault E) → Standing → Standing → Type 0
+abbrev pub Turns : {E : Type 0} → Settings → ℕ → Result Addition (AddFault E) → CallerState → CallerState → Type 0
 Turns s n (Ok a) before after = Goes_on s (asks n) before after (turned n a) × EndsWithMade after
 Turns s n (Err f) before after = Finishes s (asks n) (Err f) before after

@@ -2,7 +2,7 @@
 use Rattle.std.specs.Prelude.{◌≡◌, ℕ, Result, Ok, Err}
 use Rattle.pool_journal.specs.declared.input.When.TheVariants as times
 use Rattle.pool_settings.specs.declared.settings.Settings.{Settings}
-use Rattle.pool_history.specs.Standings.{Standing, Goes}
+use Rattle.pool_history.specs.CallerStates.{CallerState, Advances}
 use Rattle.pool_shared.specs.declared.evicting.EvictRun.{EvictRun}
 use Rattle.pool_shared.specs.declared.faults.AddFault.{AddFault}
 use Rattle.pool_shared.specs.declared.faults.AddFault.TheVariants as faults
@@ -19,24 +19,24 @@ told pool_faults.JournalFull = faults.JournalFull
 told pool_faults.OutOfMemory = faults.OutOfMemory
 
 -- an eviction run succeeded
-pub record HasEvicted (s : Settings) (before after : Standing) : Type 0 where
+pub record HasEvicted (s : Settings) (before after : CallerState) : Type 0 where
   pub run : EvictRun
-  pub goes : Goes s before after
+  pub goes : Advances s before after
   pub row : EvictRow s (Ok run) before after
 
 -- a removal of abandoned objects succeeded
-pub record HasReclaimed (s : Settings) (before after : Standing) : Type 0 where
+pub record HasReclaimed (s : Settings) (before after : CallerState) : Type 0 where
   pub taken : ℕ
-  pub goes : Goes s before after
+  pub goes : Advances s before after
   pub row : ReclaimRow s times.Maintain (Ok taken) before after
 
 -- how maintenance fails: the eviction run, the removal after it or the fill after both is the first that fails
-pub data Fails {E : Type 0} (s : Settings) (f : AddFault E) (before after : Standing) : Type 0 where
+pub data Fails {E : Type 0} (s : Settings) (f : AddFault E) (before after : CallerState) : Type 0 where
   in_evicting : (g : PoolFault) → f ≡ told g → EvictRow s (Err g) before after → Fails s f before after
-  in_reclaiming : (g : PoolFault) (mid : Standing) → f ≡ told g → HasEvicted s before mid → ReclaimRow s times.Maintain (Err g) mid after → Fails s f before after
-  in_filling : (mid later : Standing) → HasEvicted s before mid → HasReclaimed s mid later → FillRow s (Err f) later after → Fails s f before after
+  in_reclaiming : (g : PoolFault) (mid : CallerState) → f ≡ told g → HasEvicted s before mid → ReclaimRow s times.Maintain (Err g) mid after → Fails s f before after
+  in_filling : (mid later : CallerState) → HasEvicted s before mid → HasReclaimed s mid later → FillRow s (Err f) later after → Fails s f before after
 
 -- the trace of whole maintenance: an eviction run, a removal and a fill, or these up to the first error
-abbrev pub MaintainRow : {U E : Type 0} → Settings → Result U (AddFault E) → Standing → Standing → Type 0
-MaintainRow {U} {E} s (Ok u) before after = (mid : Standing) × (later : Standing) × (n : ℕ) × HasEvicted s before mid × HasReclaimed s mid later × FillRow {E = E} s (Ok n) later after
+abbrev pub MaintainRow : {U E : Type 0} → Settings → Result U (AddFault E) → CallerState → CallerState → Type 0
+MaintainRow {U} {E} s (Ok u) before after = (mid : CallerState) × (later : CallerState) × (n : ℕ) × HasEvicted s before mid × HasReclaimed s mid later × FillRow {E = E} s (Ok n) later after
 MaintainRow s (Err f) before after = Fails s f before after

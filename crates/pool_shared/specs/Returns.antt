@@ -11,7 +11,7 @@ use Rattle.pool_journal.specs.declared.answer.Answer.TheVariants as answers
 use Rattle.pool_journal.specs.declared.answer.Cause.TheVariants as causes
 use Rattle.pool_journal.specs.declared.record.Phase.TheVariants as phases
 use Rattle.pool_settings.specs.declared.settings.Settings.{Settings}
-use Rattle.pool_history.specs.Standings.{Standing}
+use Rattle.pool_history.specs.CallerStates.{CallerState}
 use Rattle.pool_lock.specs.Sections.{IsFullFor, IsShortFor}
 use Rattle.pool_shared.specs.declared.faults.ReturnFault.{ReturnFault}
 use Rattle.pool_shared.specs.declared.faults.ReturnFault.TheVariants as faults
@@ -61,7 +61,7 @@ Due s i checks e = IsCheck s i e.input
 Due s i destroys e = e.input ≡ Destroyed i
 Due s i _ e = ⊥
 
-abbrev pub Goes_on : Settings → ℕ → Stage → Standing → Standing → Stage → Type 0
+abbrev pub Goes_on : Settings → ℕ → Stage → CallerState → CallerState → Stage → Type 0
 Goes_on s i from before after to = Walks (Due s i) next from before after to
 
 -- the result of a return at this stage; if it returns the object, that critical section failed
@@ -73,20 +73,20 @@ IsResult gives (Err (faults.OutOfMemory, l)) = Unit {0}
 IsResult _ _ = ⊥
 
 -- what is observed then: the last entry at the end, or, if the critical section failed, a journal in which the object isn't lent
-abbrev pub Leaves : {T : Type 0} → Settings → ℕ → Result Returned (ReturnFault × Lent T) → Standing → Type 0
-Leaves s i (Err (faults.JournalFull, l)) me = IsFullFor s (GiveBack i) me × (phase i me.seen ≢ phases.Lent)
-Leaves s i (Err (faults.OutOfMemory, l)) me = IsShortFor s (GiveBack i) me × (phase i me.seen ≢ phases.Lent)
+abbrev pub Leaves : {T : Type 0} → Settings → ℕ → Result Returned (ReturnFault × Lent T) → CallerState → Type 0
+Leaves s i (Err (faults.JournalFull, l)) me = IsFullFor s (GiveBack i) me × (phase i me.observed ≢ phases.Lent)
+Leaves s i (Err (faults.OutOfMemory, l)) me = IsShortFor s (GiveBack i) me × (phase i me.observed ≢ phases.Lent)
 Leaves s i _ me = EndsWithMade me
 
 -- the trace of a return from one stage to its result
-pub record Finishes {T : Type 0} (s : Settings) (i : ℕ) (from : Stage) (result : Result Returned (ReturnFault × Lent T)) (before after : Standing) : Type 0 where
+pub record Finishes {T : Type 0} (s : Settings) (i : ℕ) (from : Stage) (result : Result Returned (ReturnFault × Lent T)) (before after : CallerState) : Type 0 where
   pub es : List Entry
-  pub made : after.made ≡ before.made ++ es
+  pub made : after.appended ≡ before.appended ++ es
   pub due : AllDue (Due s i) next from es
   pub ends : IsResult (walked next from es) result
   pub leaves : Leaves s i result after
 
 -- the trace of a whole return; it is empty exactly if the object is of another pool
-abbrev pub ReturnRow : {T : Type 0} → Settings → ℕ → Lent T → Result Returned (ReturnFault × Lent T) → Standing → Standing → Type 0
+abbrev pub ReturnRow : {T : Type 0} → Settings → ℕ → Lent T → Result Returned (ReturnFault × Lent T) → CallerState → CallerState → Type 0
 ReturnRow s number l (Err (faults.ForeignObject, m)) before after = (l.pool ≢ number) × (after ≡ before)
 ReturnRow s number l result before after = (l.pool ≡ number) × Finishes s l.id gives result before after

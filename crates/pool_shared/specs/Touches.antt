@@ -4,18 +4,18 @@ use Rattle.pool_journal.specs.declared.input.Input.TheVariants.{Use}
 use Rattle.pool_journal.specs.declared.answer.Answer.TheVariants as answers
 use Rattle.pool_journal.specs.declared.answer.Cause.TheVariants as causes
 use Rattle.pool_settings.specs.declared.settings.Settings.{Settings}
-use Rattle.pool_history.specs.Standings.{Standing}
+use Rattle.pool_history.specs.CallerStates.{CallerState}
 use Rattle.pool_shared.specs.declared.faults.ReturnFault.{ReturnFault}
 use Rattle.pool_shared.specs.declared.faults.ReturnFault.TheVariants as faults
 use Rattle.pool_shared.specs.declared.faults.Touched.{Touched}
 use Rattle.pool_shared.specs.declared.faults.Touched.TheVariants as touched
-use Rattle.pool_lock.specs.Sections.{Makes, IsFullFor, IsShortFor}
+use Rattle.pool_lock.specs.Sections.{AppendsAnswer, IsFullFor, IsShortFor}
 
 -- one entry, or none if the object is of another pool or the critical section failed
-abbrev pub TouchRow : Settings → ℕ → ℕ → ℕ → Result Touched ReturnFault → Standing → Standing → Type 0
-TouchRow s number pool i (Ok touched.Noted) before after = (pool ≡ number) × Makes (Use i) answers.Noted before after
-TouchRow s number pool i (Ok touched.Gone) before after = (pool ≡ number) × Makes (Use i) answers.Gone before after
+abbrev pub TouchRow : Settings → ℕ → ℕ → ℕ → Result Touched ReturnFault → CallerState → CallerState → Type 0
+TouchRow s number pool i (Ok touched.Noted) before after = (pool ≡ number) × AppendsAnswer (Use i) answers.Noted before after
+TouchRow s number pool i (Ok touched.Gone) before after = (pool ≡ number) × AppendsAnswer (Use i) answers.Gone before after
 TouchRow s number pool i (Err faults.ForeignObject) before after = (pool ≢ number) × (after ≡ before)
-TouchRow s number pool i (Err faults.NotLent) before after = (pool ≡ number) × Makes (Use i) (answers.Refused causes.NotLent) before after
-TouchRow s number pool i (Err faults.JournalFull) before after = (pool ≡ number) × (after.made ≡ before.made) × IsFullFor s (Use i) after
-TouchRow s number pool i (Err faults.OutOfMemory) before after = (pool ≡ number) × (after.made ≡ before.made) × IsShortFor s (Use i) after
+TouchRow s number pool i (Err faults.NotLent) before after = (pool ≡ number) × AppendsAnswer (Use i) (answers.Refused causes.NotLent) before after
+TouchRow s number pool i (Err faults.JournalFull) before after = (pool ≡ number) × (after.appended ≡ before.appended) × IsFullFor s (Use i) after
+TouchRow s number pool i (Err faults.OutOfMemory) before after = (pool ≡ number) × (after.appended ≡ before.appended) × IsShortFor s (Use i) after

@@ -4,7 +4,7 @@ use Rattle.pool_journal.specs.declared.entry.Entry.{Entry}
 use Rattle.pool_journal.specs.declared.input.Input.{Input}
 use Rattle.pool_journal.specs.declared.answer.Answer.{Answer}
 use Rattle.pool_core.specs.Legal.{entry_of}
-use Rattle.pool_history.specs.Standings.{Standing}
+use Rattle.pool_history.specs.CallerStates.{CallerState}
 
 -- the stage of an operation after its entries
 abbrev pub walked : {A : Type 0} → (A → Entry → A) → A → List Entry → A
@@ -17,19 +17,19 @@ AllDue Due next stage [] = Unit {0}
 AllDue Due next stage (e ∷ es) = Due stage e × AllDue Due next (next stage e) es
 
 -- the caller appended entries that lead from one stage to another, and no others
-pub record Walks {A : Type 0} (Due : A → Entry → Type 0) (next : A → Entry → A) (from : A) (before after : Standing) (to : A) : Type 0 where
+pub record Walks {A : Type 0} (Due : A → Entry → Type 0) (next : A → Entry → A) (from : A) (before after : CallerState) (to : A) : Type 0 where
   pub es : List Entry
-  pub made : after.made ≡ before.made ++ es
+  pub made : after.appended ≡ before.appended ++ es
   pub due : AllDue Due next from es
   pub comes : walked next from es ≡ to
 
 -- the last entry that the caller appended is at the end of what it has observed
-pub record Ends (input : Input) (a : Answer) (me : Standing) : Type 0 where
+pub record Ends (input : Input) (a : Answer) (me : CallerState) : Type 0 where
   pub at : ℕ
   pub made : List Entry
   pub found : List Entry
-  pub last_made : me.made ≡ made ++ entry_of me.number at input a ∷ []
-  pub last_seen : me.seen ≡ found ++ entry_of me.number at input a ∷ []
+  pub last_made : me.appended ≡ made ++ entry_of me.number at input a ∷ []
+  pub last_seen : me.observed ≡ found ++ entry_of me.number at input a ∷ []
 
-abbrev pub EndsWithMade : Standing → Type 0
+abbrev pub EndsWithMade : CallerState → Type 0
 EndsWithMade me = (input : Input) × (a : Answer) × Ends input a me

@@ -2,8 +2,8 @@
 ghost use Rattle.std.specs.Prelude.{◌≡◌, true, OnOk, IfErr};
 ghost use Rattle.pool_journal.specs.declared.input.Outcome.TheVariants as outcomes;
 ghost use Rattle.pool_journal.specs.declared.record.Phase.TheVariants as phases;
-ghost use Rattle.pool_history.specs.Standings.{Goes};
-ghost use Rattle.pool_lock.specs.Sections.{HasInHand};
+ghost use Rattle.pool_history.specs.CallerStates.{Advances};
+ghost use Rattle.pool_lock.specs.Sections.{OwnsObject};
 ghost use Rattle.pool_shared.specs.Walks.{EndsWithMade};
 ghost use Rattle.pool_shared.specs.Adds.{makes, gone, shelved, ending, Goes_on, AddRow, IsAddFaultFrom, IsWhyUnfit, IsFailure, IsPlaced, IsStocked};
 
@@ -45,9 +45,9 @@ impl<T: Drop, E: Drop, F: Factory<T, E> + Drop, C: Clock + Drop, B: Room> Shared
 
     // Destroys a new object that can't become idle.
     fn reject<R: Wait>(&self, rt: &R, me: &mut Caller<B>, id: u64, outcome: Outcome, value: T)
-        requires hand { (new : _) × HasInHand me.old id phases.Adding new }
+        requires hand { (new : _) × OwnsObject me.old id phases.Adding new }
         requires outcome { IsFailure B.settings outcome }
-        ensures goes { Goes B.settings me.old me.new }
+        ensures goes { Advances B.settings me.old me.new }
         ensures walk { Goes_on B.settings (makes id) me.old me.new (gone outcome) }
         ensures ends { EndsWithMade me.new }
     {
@@ -61,9 +61,9 @@ impl<T: Drop, E: Drop, F: Factory<T, E> + Drop, C: Clock + Drop, B: Room> Shared
 
     // Makes a passive new object idle if the pool is open, and destroys it otherwise.
     fn shelve<R: Wait>(&self, rt: &R, me: &mut Caller<B>, id: u64, value: T) -> Addition
-        requires hand { (new : _) × HasInHand me.old id phases.Adding new }
+        requires hand { (new : _) × OwnsObject me.old id phases.Adding new }
         requires passive { F.passive value }
-        ensures goes { Goes B.settings me.old me.new }
+        ensures goes { Advances B.settings me.old me.new }
         ensures placed { IsPlaced result }
         ensures walk { Goes_on B.settings (makes id) me.old me.new (shelved result) }
         ensures ends { EndsWithMade me.new }
@@ -91,8 +91,8 @@ impl<T: Drop, E: Drop, F: Factory<T, E> + Drop, C: Clock + Drop, B: Room> Shared
         id: u64,
         made: T,
     ) -> Result<Addition, AddFault<E>>
-        requires hand { (new : _) × HasInHand me.old id phases.Adding new }
-        ensures goes { Goes B.settings me.old me.new }
+        requires hand { (new : _) × OwnsObject me.old id phases.Adding new }
+        ensures goes { Advances B.settings me.old me.new }
         ensures made { IsStocked result }
         ensures walk { Goes_on B.settings (makes id) me.old me.new (ending result) }
         ensures ends { EndsWithMade me.new }
@@ -119,8 +119,8 @@ impl<T: Drop, E: Drop, F: Factory<T, E> + Drop, C: Clock + Drop, B: Room> Shared
         me: &mut Caller<B>,
         id: u64,
     ) -> Result<Addition, AddFault<E>>
-        requires hand { (new : _) × HasInHand me.old id phases.Adding new }
-        ensures goes { Goes B.settings me.old me.new }
+        requires hand { (new : _) × OwnsObject me.old id phases.Adding new }
+        ensures goes { Advances B.settings me.old me.new }
         ensures made { IsStocked result }
         ensures walk { Goes_on B.settings (makes id) me.old me.new (ending result) }
         ensures ends { EndsWithMade me.new }
@@ -149,7 +149,7 @@ impl<T: Drop, E: Drop, F: Factory<T, E> + Drop, C: Clock + Drop, B: Room> Shared
     /// `Closed`. `MakeFailed`, `CreateTestFailed` and `PassivateFailed`, whichever comes first; the place is then free
     /// again. `JournalFull` and `OutOfMemory`, before there is an object.
     pub fn add<R: Wait>(&self, rt: &R, me: &mut Caller<B>) -> Result<Addition, AddFault<E>>
-        ensures goes { Goes B.settings me.old me.new }
+        ensures goes { Advances B.settings me.old me.new }
         ensures row { AddRow B.settings result me.old me.new }
         ensures fault { IfErr result (IsAddFaultFrom F.from_make F.from_passivate) }
     {

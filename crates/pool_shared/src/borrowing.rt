@@ -6,9 +6,9 @@ ghost use Rattle.pool_journal.specs.declared.answer.Answer.TheVariants as answer
 ghost use Rattle.pool_journal.specs.declared.input.Input.TheVariants as inputs;
 ghost use Rattle.pool_journal.specs.declared.input.Outcome.TheVariants as outcomes;
 ghost use Rattle.pool_core.specs.Laws.{AtMostMaxTotal};
-ghost use Rattle.pool_history.specs.Standings.{Goes};
-ghost use Rattle.pool_history.specs.Answers.{IsAnswerTo};
-ghost use Rattle.pool_lock.specs.Sections.{HasInHand, MayAsk, Makes, Gets, IsWhy, goes_on};
+ghost use Rattle.pool_history.specs.CallerStates.{Advances};
+ghost use Rattle.pool_history.specs.Answers.{IsPossibleAnswer};
+ghost use Rattle.pool_lock.specs.Sections.{OwnsObject, IsPermitted, AppendsAnswer, ReturnsValue, IsWhy, continues_object};
 ghost use Rattle.pool_shared.specs.Promises.{IsAlone};
 ghost use Rattle.pool_shared.specs.Walks.{Ends};
 ghost use Rattle.pool_shared.specs.Borrows.{removes, asks, readies, lent, after_asking, after_destroying, Goes_on, Finishes, BorrowRow, IsLentWell, IsFaultFrom, IsWhyUnready, IsFound, taken_to, IsFailure};
@@ -18,7 +18,7 @@ use crate::lent::Lent;
 use crate::pool::SharedPool;
 use crate::spinning::{lock, wait};
 use pool_core::StepFault;
-use pool_lock::{Clock, Desk, Factory};
+use pool_lock::{Clock, Factory, LockedPool};
 use pool_history::{Caller, Room};
 use pool_journal::{Answer, Cause, Input, Outcome, When};
 use std::sync::{MutexGuard, Wait};
@@ -39,12 +39,12 @@ impl<T: Drop, E: Drop, F: Factory<T, E> + Drop, C: Clock + Drop, B: Room> Shared
 > {
     // A critical section in which the caller continues its object. It never fails.
     pub(crate) fn carry_on<R: Wait>(&self, rt: &R, me: &mut Caller<B>, input: Input) -> Answer
-        requires may { MayAsk me.old input }
-        requires on { goes_on input ≡ true }
+        requires may { IsPermitted me.old input }
+        requires on { continues_object input ≡ true }
         requires empty { carries input ≡ false }
-        ensures goes { Goes B.settings me.old me.new }
-        ensures asked { IsAnswerTo input result }
-        ensures made { Makes input result me.old me.new }
+        ensures goes { Advances B.settings me.old me.new }
+        ensures asked { IsPossibleAnswer input result }
+        ensures made { AppendsAnswer input result me.old me.new }
         ensures ends { Ends input result me.new }
     {
         match self.ask(rt, me, input, None) {
@@ -58,18 +58,18 @@ impl<T: Drop, E: Drop, F: Factory<T, E> + Drop, C: Clock + Drop, B: Room> Shared
     fn wait<'a, R: Wait>(
         &self,
         rt: &R,
-        desk: MutexGuard<'a, Desk<T, E, F, B>>,
+        locked_pool: MutexGuard<'a, LockedPool<T, E, F, B>>,
         began: u64,
-    ) -> MutexGuard<'a, Desk<T, E, F, B>> {
+    ) -> MutexGuard<'a, LockedPool<T, E, F, B>> {
         if self.settings.max_wait_millis >= 0 {
-            return self.changed.wait(rt, desk);
+            return self.changed.wait(rt, locked_pool);
         }
-        let mut desk = desk;
+        let mut locked_pool = locked_pool;
         for _ in rt.forever() {
-            if !desk.would_wait(began) {
-                return desk;
+            if !locked_pool.would_wait(began) {
+                return locked_pool;
             }
-            desk = wait(rt, &self.changed, desk);
+            locked_pool = wait(rt, &self.changed, locked_pool);
         }
         unreachable!()
     }
@@ -81,20 +81,20 @@ impl<T: Drop, E: Drop, F: Factory<T, E> + Drop, C: Clock + Drop, B: Room> Shared
         me: &mut Caller<B>,
         began: u64,
     ) -> Result<(Answer, Option<T>), StepFault<T>>
-        ensures goes { Goes B.settings me.old me.new }
+        ensures goes { Advances B.settings me.old me.new }
         ensures found { IfOk result (λ r. IsFound r.0) }
         ensures walk { IfOk result (λ r. Goes_on B.settings began asks me.old me.new (after_asking r.0)) }
         ensures ends { IfOk result (λ r. Ends (inputs.Borrow began) r.0 me.new) }
-        ensures out { IfOk result (λ r. Gets F.passive r.0 None r.1) }
+        ensures out { IfOk result (λ r. ReturnsValue F.passive r.0 None r.1) }
         ensures none { IfErr result (λ f. Goes_on B.settings began asks me.old me.new asks) }
         ensures refused { IfErr result (λ f. IsWhy B.settings (inputs.Borrow began) None f me.new) }
     {
         let input = Input::Borrow { began };
-        let mut desk = lock(rt, &self.desk);
+        let mut locked_pool = lock(rt, &self.locked_pool);
         for _ in rt.forever() {
-            match desk.step(rt, &self.cell, &self.clock, me, input, None) {
+            match locked_pool.step(rt, &self.cell, &self.clock, me, input, None) {
                 Ok((answer, out)) => match answer {
-                    Answer::Wait => desk = self.wait(rt, desk, began),
+                    Answer::Wait => locked_pool = self.wait(rt, locked_pool, began),
                     found => return Ok((found, out)),
                 },
                 Err(fault) => return Err(fault),
@@ -122,9 +122,9 @@ impl<T: Drop, E: Drop, F: Factory<T, E> + Drop, C: Clock + Drop, B: Room> Shared
 
     // Frees the place of a destroyed object, and notifies the waiting threads.
     pub(crate) fn give_up<R: Wait>(&self, rt: &R, me: &mut Caller<B>, id: u64)
-        requires { (new : Bool) × HasInHand me.old id phases.Destroying new }
-        ensures goes { Goes B.settings me.old me.new }
-        ensures made { Makes (inputs.Destroyed id) answers.Freed me.old me.new }
+        requires { (new : Bool) × OwnsObject me.old id phases.Destroying new }
+        ensures goes { Advances B.settings me.old me.new }
+        ensures made { AppendsAnswer (inputs.Destroyed id) answers.Freed me.old me.new }
         ensures ends { Ends (inputs.Destroyed id) answers.Freed me.new }
     {
         match self.carry_on(rt, me, Input::Destroyed { id }) {
@@ -135,9 +135,9 @@ impl<T: Drop, E: Drop, F: Factory<T, E> + Drop, C: Clock + Drop, B: Room> Shared
 
     // Destroys the value of an object, and frees its place.
     pub(crate) fn destroy_held<R: Wait>(&self, rt: &R, me: &mut Caller<B>, id: u64, value: T)
-        requires { (new : Bool) × HasInHand me.old id phases.Destroying new }
-        ensures goes { Goes B.settings me.old me.new }
-        ensures made { Makes (inputs.Destroyed id) answers.Freed me.old me.new }
+        requires { (new : Bool) × OwnsObject me.old id phases.Destroying new }
+        ensures goes { Advances B.settings me.old me.new }
+        ensures made { AppendsAnswer (inputs.Destroyed id) answers.Freed me.old me.new }
         ensures ends { Ends (inputs.Destroyed id) answers.Freed me.new }
     {
         self.factory.destroy(value);
@@ -146,8 +146,8 @@ impl<T: Drop, E: Drop, F: Factory<T, E> + Drop, C: Clock + Drop, B: Room> Shared
 
     // Destroys an object that was not made ready.
     fn fail<R: Wait>(&self, rt: &R, me: &mut Caller<B>, id: u64, outcome: Outcome, value: T)
-        requires { (new : Bool) × HasInHand me.old id phases.Readying new × IsFailure B.settings new outcome }
-        ensures goes { Goes B.settings me.old me.new }
+        requires { (new : Bool) × OwnsObject me.old id phases.Readying new × IsFailure B.settings new outcome }
+        ensures goes { Advances B.settings me.old me.new }
         ensures walk { (began : ℕ) (new : Bool) → IsFailure B.settings new outcome → Goes_on B.settings began (readies id new) me.old me.new (after_destroying new outcome) }
         ensures ends { Ends (inputs.Destroyed id) answers.Freed me.new }
     {
@@ -161,8 +161,8 @@ impl<T: Drop, E: Drop, F: Factory<T, E> + Drop, C: Clock + Drop, B: Room> Shared
 
     // Lends a ready object.
     fn lend<R: Wait>(&self, rt: &R, me: &mut Caller<B>, id: u64, value: T) -> Lent<T>
-        requires hand { (new : Bool) × HasInHand me.old id phases.Readying new }
-        ensures goes { Goes B.settings me.old me.new }
+        requires hand { (new : Bool) × OwnsObject me.old id phases.Readying new }
+        ensures goes { Advances B.settings me.old me.new }
         ensures walk { (began : ℕ) (new : Bool) → Goes_on B.settings began (readies id new) me.old me.new (lent id) }
         ensures ends { Ends (inputs.Ready id outcomes.Good) answers.Lent me.new }
         ensures lent { result ≡ record { pool = self.now.number; id = id; value = value } }
@@ -180,8 +180,8 @@ impl<T: Drop, E: Drop, F: Factory<T, E> + Drop, C: Clock + Drop, B: Room> Shared
 
     // Lends an object that was idle, or destroys it.
     fn lend_taken<R: Wait>(&self, rt: &R, me: &mut Caller<B>, id: u64, value: T) -> Option<Lent<T>>
-        requires hand { HasInHand me.old id phases.Readying false }
-        ensures goes { Goes B.settings me.old me.new }
+        requires hand { OwnsObject me.old id phases.Readying false }
+        ensures goes { Advances B.settings me.old me.new }
         ensures walk { (began : ℕ) → Goes_on B.settings began (readies id false) me.old me.new (taken_to id result) }
         ensures lent { IfSome result (λ l. (l.pool ≡ self.now.number) × (l.id ≡ id) × IsLentWell B.settings F.active F.valid l.value) }
         ensures ends { IfSome result (λ l. Ends (inputs.Ready l.id outcomes.Good) answers.Lent me.new) }
@@ -207,8 +207,8 @@ impl<T: Drop, E: Drop, F: Factory<T, E> + Drop, C: Clock + Drop, B: Room> Shared
         me: &mut Caller<B>,
         id: u64,
     ) -> Result<Lent<T>, BorrowFault<E>>
-        requires hand { HasInHand me.old id phases.Readying true }
-        ensures goes { Goes B.settings me.old me.new }
+        requires hand { OwnsObject me.old id phases.Readying true }
+        ensures goes { Advances B.settings me.old me.new }
         ensures row { (began : ℕ) → Finishes B.settings self.now.number began (readies id true) result me.old me.new }
         ensures lent { IfOk result (λ l. IsLentWell B.settings F.active F.valid l.value) }
         ensures fault { IfErr result (IsFaultFrom F.from_make F.from_activate) }
@@ -236,8 +236,8 @@ impl<T: Drop, E: Drop, F: Factory<T, E> + Drop, C: Clock + Drop, B: Room> Shared
         id: u64,
         made: T,
     ) -> Result<Lent<T>, BorrowFault<E>>
-        requires hand { HasInHand me.old id phases.Readying true }
-        ensures goes { Goes B.settings me.old me.new }
+        requires hand { OwnsObject me.old id phases.Readying true }
+        ensures goes { Advances B.settings me.old me.new }
         ensures row { (began : ℕ) → Finishes B.settings self.now.number began (readies id true) result me.old me.new }
         ensures lent { IfOk result (λ l. IsLentWell B.settings F.active F.valid l.value) }
         ensures fault { IfErr result (IsFaultFrom F.from_make F.from_activate) }
@@ -267,7 +267,7 @@ impl<T: Drop, E: Drop, F: Factory<T, E> + Drop, C: Clock + Drop, B: Room> Shared
         me: &mut Caller<B>,
         began: u64,
     ) -> Option<Result<Lent<T>, BorrowFault<E>>>
-        ensures goes { Goes B.settings me.old me.new }
+        ensures goes { Advances B.settings me.old me.new }
         ensures row { IfSome result (λ r. Finishes B.settings self.now.number began asks r me.old me.new) }
         ensures again { IfNone result (Goes_on B.settings began asks me.old me.new asks) }
         ensures lent { IfSome result (λ r. IfOk r (λ l. IsLentWell B.settings F.active F.valid l.value)) }
@@ -295,7 +295,7 @@ impl<T: Drop, E: Drop, F: Factory<T, E> + Drop, C: Clock + Drop, B: Room> Shared
         me: &mut Caller<B>,
         began: u64,
     ) -> Result<Lent<T>, BorrowFault<E>>
-        ensures goes { Goes B.settings me.old me.new }
+        ensures goes { Advances B.settings me.old me.new }
         ensures row { Finishes B.settings self.now.number began asks result me.old me.new }
         ensures lent { IfOk result (λ l. IsLentWell B.settings F.active F.valid l.value) }
         ensures fault { IfErr result (IsFaultFrom F.from_make F.from_activate) }
@@ -311,7 +311,7 @@ impl<T: Drop, E: Drop, F: Factory<T, E> + Drop, C: Clock + Drop, B: Room> Shared
 
     // Reclaims abandoned objects, if a borrow begins with that.
     fn remove<R: Wait>(&self, rt: &R, me: &mut Caller<B>) -> Result<(), BorrowFault<E>>
-        ensures goes { Goes B.settings me.old me.new }
+        ensures goes { Advances B.settings me.old me.new }
         ensures walk { OnOk result ((began : ℕ) → Goes_on B.settings began removes me.old me.new asks) }
         ensures row { IfErr result (λ f. (number began : ℕ) → Finishes {T = T} B.settings number began removes (Err f) me.old me.new) }
         ensures fault { IfErr result (IsFaultFrom F.from_make F.from_activate) }
@@ -327,10 +327,10 @@ impl<T: Drop, E: Drop, F: Factory<T, E> + Drop, C: Clock + Drop, B: Room> Shared
     /// Lends an object: an idle one, or a new one if there is a free place. No other caller holds it, and at most
     /// `maxTotal` objects are present.
     pub fn borrow<R: Wait>(&self, rt: &R, me: &mut Caller<B>) -> Result<Lent<T>, BorrowFault<E>>
-        ensures goes { Goes B.settings me.old me.new }
+        ensures goes { Advances B.settings me.old me.new }
         ensures row { BorrowRow B.settings self.now.number result me.old me.new }
         ensures alone { IfOk result (λ l. IsAlone l.id me.new) }
-        ensures within { AtMostMaxTotal B.settings me.new.seen }
+        ensures within { AtMostMaxTotal B.settings me.new.observed }
         ensures lent { IfOk result (λ l. IsLentWell B.settings F.active F.valid l.value) }
         ensures fault { IfErr result (IsFaultFrom F.from_make F.from_activate) }
     {

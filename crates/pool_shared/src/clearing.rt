@@ -1,7 +1,7 @@
 // A clear and a close, in critical sections.
 ghost use Rattle.std.specs.Prelude.{◌≡◌, ℕ, IfOk};
 ghost use Rattle.pool_journal.specs.declared.input.Input.TheVariants as inputs;
-ghost use Rattle.pool_history.specs.Standings.{Goes, Knows};
+ghost use Rattle.pool_history.specs.CallerStates.{Advances, IsConsistent};
 ghost use Rattle.pool_shared.specs.Walks.{EndsWithMade};
 ghost use Rattle.pool_shared.specs.Clears.{Sweeps, ClearRow, CloseRow};
 
@@ -27,9 +27,9 @@ impl<T: Drop, E: Drop, F: Factory<T, E> + Drop, C: Clock + Drop, B: Room> Shared
         me: &mut Caller<B>,
         count: u64,
     ) -> Result<u64, (u64, PoolFault)>
-        requires knows { Knows B.settings me.old }
+        requires knows { IsConsistent B.settings me.old }
         requires ended { EndsWithMade me.old }
-        ensures goes { Goes B.settings me.old me.new }
+        ensures goes { Advances B.settings me.old me.new }
         ensures walk { (first : inputs.the_data) → Sweeps B.settings first count result me.old me.new }
         ensures ends { IfOk result (λ n. EndsWithMade me.new) }
     {
@@ -49,7 +49,7 @@ impl<T: Drop, E: Drop, F: Factory<T, E> + Drop, C: Clock + Drop, B: Room> Shared
 
     /// Destroys the idle objects. Returns how many.
     pub fn clear<R: Wait>(&self, rt: &R, me: &mut Caller<B>) -> Result<u64, PoolFault>
-        ensures goes { Goes B.settings me.old me.new }
+        ensures goes { Advances B.settings me.old me.new }
         ensures row { ClearRow B.settings result me.old me.new }
     {
         match self.ask_plainly(rt, me, Input::Clear) {
@@ -65,7 +65,7 @@ impl<T: Drop, E: Drop, F: Factory<T, E> + Drop, C: Clock + Drop, B: Room> Shared
 
     /// Closes the pool, and destroys the idle objects. Returns how many.
     pub fn close<R: Wait>(&self, rt: &R, me: &mut Caller<B>) -> Result<u64, PoolFault>
-        ensures goes { Goes B.settings me.old me.new }
+        ensures goes { Advances B.settings me.old me.new }
         ensures row { CloseRow B.settings result me.old me.new }
     {
         match self.ask_plainly(rt, me, Input::Close) {

@@ -1,8 +1,8 @@
 // An eviction run, in critical sections.
 ghost use Rattle.std.specs.Prelude.{◌≡◌, ◌<◌, ℕ, IfOk, OnOk, IfErr, OnErr};
 ghost use Rattle.pool_journal.specs.declared.record.Phase.TheVariants as phases;
-ghost use Rattle.pool_history.specs.Standings.{Goes, Knows};
-ghost use Rattle.pool_lock.specs.Sections.{HasInHand};
+ghost use Rattle.pool_history.specs.CallerStates.{Advances, IsConsistent};
+ghost use Rattle.pool_lock.specs.Sections.{OwnsObject};
 ghost use Rattle.pool_shared.specs.Walks.{EndsWithMade};
 ghost use Rattle.pool_shared.specs.declared.evicting.EvictRun.{EvictRun};
 ghost use Rattle.pool_shared.specs.declared.evicting.Fate.TheVariants as fates;
@@ -86,9 +86,9 @@ impl<T: Drop, E: Drop, F: Factory<T, E> + Drop, C: Clock + Drop, B: Room> Shared
 
     // Destroys an object that failed its test.
     fn fail_test<R: Wait>(&self, rt: &R, me: &mut Caller<B>, id: u64, outcome: Outcome, value: T)
-        requires hand { (new : _) × HasInHand me.old id phases.Testing new }
+        requires hand { (new : _) × OwnsObject me.old id phases.Testing new }
         requires outcome { IsFailedTest outcome }
-        ensures goes { Goes B.settings me.old me.new }
+        ensures goes { Advances B.settings me.old me.new }
         ensures walk { (left : ℕ) (run : EvictRun) → Goes_on (tests id left run) me.old me.new (after_test left run fates.Destroyed) }
         ensures ends { EndsWithMade me.new }
     {
@@ -102,9 +102,9 @@ impl<T: Drop, E: Drop, F: Factory<T, E> + Drop, C: Clock + Drop, B: Room> Shared
 
     // Makes an object that passed its test idle again if the pool is still open, and destroys it otherwise.
     fn keep<R: Wait>(&self, rt: &R, me: &mut Caller<B>, id: u64, value: T) -> Fate
-        requires hand { (new : _) × HasInHand me.old id phases.Testing new }
+        requires hand { (new : _) × OwnsObject me.old id phases.Testing new }
         requires passive { F.passive value }
-        ensures goes { Goes B.settings me.old me.new }
+        ensures goes { Advances B.settings me.old me.new }
         ensures walk { (left : ℕ) (run : EvictRun) → Goes_on (tests id left run) me.old me.new (after_test left run result) }
         ensures ends { EndsWithMade me.new }
     {
@@ -125,8 +125,8 @@ impl<T: Drop, E: Drop, F: Factory<T, E> + Drop, C: Clock + Drop, B: Room> Shared
 
     // Tests an object.
     fn test<R: Wait>(&self, rt: &R, me: &mut Caller<B>, id: u64, value: T) -> Fate
-        requires hand { (new : _) × HasInHand me.old id phases.Testing new }
-        ensures goes { Goes B.settings me.old me.new }
+        requires hand { (new : _) × OwnsObject me.old id phases.Testing new }
+        ensures goes { Advances B.settings me.old me.new }
         ensures walk { (left : ℕ) (run : EvictRun) → Goes_on (tests id left run) me.old me.new (after_test left run result) }
         ensures ends { EndsWithMade me.new }
     {
@@ -142,10 +142,10 @@ impl<T: Drop, E: Drop, F: Factory<T, E> + Drop, C: Clock + Drop, B: Room> Shared
 
     // Examines the next idle object, if there is one.
     fn examine_next<R: Wait>(&self, rt: &R, me: &mut Caller<B>) -> Result<Option<Fate>, PoolFault>
-        ensures goes { Goes B.settings me.old me.new }
+        ensures goes { Advances B.settings me.old me.new }
         ensures walk { IfOk result (λ fate. (left : ℕ) (run : EvictRun) → 0 < left → Goes_on (examines left run) me.old me.new (after_one left run fate)) }
         ensures ends { OnOk result (EndsWithMade me.new) }
-        ensures same { OnErr result (me.new.made ≡ me.old.made) }
+        ensures same { OnErr result (me.new.appended ≡ me.old.appended) }
         ensures refused { IfErr result (λ f. IsStopped B.settings f me.new) }
     {
         match self.ask(rt, me, Input::EvictNext, None) {
@@ -169,9 +169,9 @@ impl<T: Drop, E: Drop, F: Factory<T, E> + Drop, C: Clock + Drop, B: Room> Shared
         me: &mut Caller<B>,
         count: u64,
     ) -> Result<EvictRun, PoolFault>
-        requires knows { Knows B.settings me.old }
+        requires knows { IsConsistent B.settings me.old }
         requires ended { EndsWithMade me.old }
-        ensures goes { Goes B.settings me.old me.new }
+        ensures goes { Advances B.settings me.old me.new }
         ensures row { EvictsFrom B.settings (examines count none_yet) result me.old me.new }
     {
         let mut run = EvictRun {
@@ -196,7 +196,7 @@ impl<T: Drop, E: Drop, F: Factory<T, E> + Drop, C: Clock + Drop, B: Room> Shared
     /// `Closed`, if the pool is closed; `JournalFull` and `OutOfMemory`, also in the middle: what was done before
     /// remains.
     pub fn evict<R: Wait>(&self, rt: &R, me: &mut Caller<B>) -> Result<EvictRun, PoolFault>
-        ensures goes { Goes B.settings me.old me.new }
+        ensures goes { Advances B.settings me.old me.new }
         ensures row { EvictRow B.settings result me.old me.new }
     {
         match self.ask_plainly(rt, me, Input::Evict) {

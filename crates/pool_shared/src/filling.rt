@@ -1,6 +1,6 @@
 // A fill of the idle queue, in critical sections.
 ghost use Rattle.std.specs.Prelude.{ℕ, ◌+◌, ◌<◌, ◌^◌, length, OnOk, IfErr};
-ghost use Rattle.pool_history.specs.Standings.{Goes};
+ghost use Rattle.pool_history.specs.CallerStates.{Advances};
 ghost use Rattle.pool_shared.specs.Adds.{IsAddFaultFrom};
 ghost use Rattle.pool_shared.specs.Fills.{Turns, FillRow};
 
@@ -20,9 +20,9 @@ impl<T: Drop, E: Drop, F: Factory<T, E> + Drop, C: Clock + Drop, B: Room> Shared
 > {
     // One turn of a fill. The result is `NoPlace` if there is no place or no object is missing.
     fn add_missing<R: Wait>(&self, rt: &R, me: &mut Caller<B>) -> Result<Addition, AddFault<E>>
-        ensures goes { Goes B.settings me.old me.new }
+        ensures goes { Advances B.settings me.old me.new }
         ensures turn { (n : ℕ) → Turns B.settings n result me.old me.new }
-        ensures few { OnOk result (length me.old.made + 1 < 2 ^ 64) }
+        ensures few { OnOk result (length me.old.appended + 1 < 2 ^ 64) }
         ensures fault { IfErr result (IsAddFaultFrom F.from_make F.from_passivate) }
     {
         match self.ask_plainly(rt, me, Input::Fill) {
@@ -44,7 +44,7 @@ impl<T: Drop, E: Drop, F: Factory<T, E> + Drop, C: Clock + Drop, B: Room> Shared
     /// again. `JournalFull` and `OutOfMemory`, between two objects. What was parked before remains. It is never
     /// `Closed`.
     pub fn fill<R: Wait>(&self, rt: &R, me: &mut Caller<B>) -> Result<u64, AddFault<E>>
-        ensures goes { Goes B.settings me.old me.new }
+        ensures goes { Advances B.settings me.old me.new }
         ensures row { FillRow B.settings result me.old me.new }
         ensures fault { IfErr result (IsAddFaultFrom F.from_make F.from_passivate) }
     {

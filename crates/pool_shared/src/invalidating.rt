@@ -1,6 +1,6 @@
 // An invalidation, in critical sections.
 ghost use Rattle.std.specs.Prelude.{◌≡◌, IfErr};
-ghost use Rattle.pool_history.specs.Standings.{Goes};
+ghost use Rattle.pool_history.specs.CallerStates.{Advances};
 ghost use Rattle.pool_shared.specs.Invalidates.{InvalidateRow};
 
 use crate::faults::{NoRoom, ReturnFault, Returned};
@@ -31,7 +31,7 @@ impl<T: Drop, E: Drop, F: Factory<T, E> + Drop, C: Clock + Drop, B: Room> Shared
         me: &mut Caller<B>,
         lent: Lent<T>,
     ) -> Result<Returned, (ReturnFault, Lent<T>)>
-        ensures goes { Goes B.settings me.old me.new }
+        ensures goes { Advances B.settings me.old me.new }
         ensures row { InvalidateRow B.settings self.now.number lent result me.old me.new }
         ensures back { IfErr result (λ r. r.1 ≡ lent) }
     {

@@ -1,6 +1,6 @@
 // Maintenance: an eviction run, a removal and a fill.
 ghost use Rattle.std.specs.Prelude.{IfErr};
-ghost use Rattle.pool_history.specs.Standings.{Goes};
+ghost use Rattle.pool_history.specs.CallerStates.{Advances};
 ghost use Rattle.pool_shared.specs.Adds.{IsAddFaultFrom};
 ghost use Rattle.pool_shared.specs.Maintains.{MaintainRow};
 
@@ -39,7 +39,7 @@ impl<T: Drop, E: Drop, F: Factory<T, E> + Drop, C: Clock + Drop, B: Room> Shared
     /// The first error of the three ends it, and what was done before remains: `Closed`, `JournalFull` and
     /// `OutOfMemory` of each, and those of an object that the fill made.
     pub fn maintain<R: Wait>(&self, rt: &R, me: &mut Caller<B>) -> Result<(), AddFault<E>>
-        ensures goes { Goes B.settings me.old me.new }
+        ensures goes { Advances B.settings me.old me.new }
         ensures row { MaintainRow B.settings result me.old me.new }
         ensures fault { IfErr result (IsAddFaultFrom F.from_make F.from_passivate) }
     {

@@ -2,7 +2,7 @@
 ghost use Rattle.std.specs.Prelude.{◌≡◌};
 ghost use Rattle.pool_journal.specs.declared.input.When.{When};
 ghost use Rattle.pool_journal.specs.declared.input.When.TheVariants as times;
-ghost use Rattle.pool_history.specs.Standings.{Goes, Knows};
+ghost use Rattle.pool_history.specs.CallerStates.{Advances, IsConsistent};
 ghost use Rattle.pool_shared.specs.Walks.{EndsWithMade};
 ghost use Rattle.pool_shared.specs.Reclaims.{reclaims, ReclaimsFrom, ReclaimRow};
 
@@ -27,9 +27,9 @@ impl<T: Drop, E: Drop, F: Factory<T, E> + Drop, C: Clock + Drop, B: Room> Shared
         me: &mut Caller<B>,
         count: u64,
     ) -> Result<u64, PoolFault>
-        requires knows { Knows B.settings me.old }
+        requires knows { IsConsistent B.settings me.old }
         requires ended { EndsWithMade me.old }
-        ensures goes { Goes B.settings me.old me.new }
+        ensures goes { Advances B.settings me.old me.new }
         ensures row { (time : When) → ReclaimsFrom B.settings time (reclaims count 0) result me.old me.new }
     {
         for taken in 0..count {
@@ -51,7 +51,7 @@ impl<T: Drop, E: Drop, F: Factory<T, E> + Drop, C: Clock + Drop, B: Room> Shared
         me: &mut Caller<B>,
         on: When,
     ) -> Result<u64, PoolFault>
-        ensures goes { Goes B.settings me.old me.new }
+        ensures goes { Advances B.settings me.old me.new }
         ensures row { ReclaimRow B.settings on result me.old me.new }
     {
         match self.ask_plainly(rt, me, Input::Reclaim { on }) {
@@ -68,7 +68,7 @@ impl<T: Drop, E: Drop, F: Factory<T, E> + Drop, C: Clock + Drop, B: Room> Shared
     ///
     /// `JournalFull` and `OutOfMemory`, also in the middle: what was done before remains.
     pub fn reclaim<R: Wait>(&self, rt: &R, me: &mut Caller<B>) -> Result<u64, PoolFault>
-        ensures goes { Goes B.settings me.old me.new }
+        ensures goes { Advances B.settings me.old me.new }
         ensures row { ReclaimRow B.settings times.Maintain result me.old me.new }
     {
         self.reclaim_on(rt, me, When::Maintain)

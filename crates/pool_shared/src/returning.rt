@@ -4,8 +4,8 @@ ghost use Rattle.pool_journal.specs.declared.answer.Answer.TheVariants as answer
 ghost use Rattle.pool_journal.specs.declared.input.Input.TheVariants as inputs;
 ghost use Rattle.pool_journal.specs.declared.input.Outcome.TheVariants as outcomes;
 ghost use Rattle.pool_journal.specs.declared.record.Phase.TheVariants as phases;
-ghost use Rattle.pool_history.specs.Standings.{Goes};
-ghost use Rattle.pool_lock.specs.Sections.{HasInHand};
+ghost use Rattle.pool_history.specs.CallerStates.{Advances};
+ghost use Rattle.pool_lock.specs.Sections.{OwnsObject};
 ghost use Rattle.pool_shared.specs.Walks.{EndsWithMade};
 ghost use Rattle.pool_shared.specs.Returns.{checks, done, MayComeOut, Goes_on, ReturnRow};
 ghost use Rattle.pool_shared.specs.declared.faults.Returned.TheVariants as returned;
@@ -27,9 +27,9 @@ impl<T: Drop, E: Drop, F: Factory<T, E> + Drop, C: Clock + Drop, B: Room> Shared
 > {
     // Destroys a returned object that did not pass its check.
     fn discard<R: Wait>(&self, rt: &R, me: &mut Caller<B>, id: u64, outcome: Outcome, value: T)
-        requires hand { (new : _) × HasInHand me.old id phases.Returning new }
+        requires hand { (new : _) × OwnsObject me.old id phases.Returning new }
         requires outcome { (outcome ≢ outcomes.Good) × MayComeOut B.settings outcome }
-        ensures goes { Goes B.settings me.old me.new }
+        ensures goes { Advances B.settings me.old me.new }
         ensures walk { Goes_on B.settings id checks me.old me.new (done returned.Destroyed) }
         ensures ends { EndsWithMade me.new }
     {
@@ -43,9 +43,9 @@ impl<T: Drop, E: Drop, F: Factory<T, E> + Drop, C: Clock + Drop, B: Room> Shared
 
     // Makes a passive object idle if there is room for it, and destroys it otherwise.
     fn park<R: Wait>(&self, rt: &R, me: &mut Caller<B>, id: u64, value: T) -> Returned
-        requires hand { (new : _) × HasInHand me.old id phases.Returning new }
+        requires hand { (new : _) × OwnsObject me.old id phases.Returning new }
         requires passive { F.passive value }
-        ensures goes { Goes B.settings me.old me.new }
+        ensures goes { Advances B.settings me.old me.new }
         ensures walk { Goes_on B.settings id checks me.old me.new (done result) }
         ensures ends { EndsWithMade me.new }
     {
@@ -66,8 +66,8 @@ impl<T: Drop, E: Drop, F: Factory<T, E> + Drop, C: Clock + Drop, B: Room> Shared
 
     // Checks a returned object.
     fn check<R: Wait>(&self, rt: &R, me: &mut Caller<B>, id: u64, value: T) -> Returned
-        requires hand { (new : _) × HasInHand me.old id phases.Returning new }
-        ensures goes { Goes B.settings me.old me.new }
+        requires hand { (new : _) × OwnsObject me.old id phases.Returning new }
+        ensures goes { Advances B.settings me.old me.new }
         ensures walk { Goes_on B.settings id checks me.old me.new (done result) }
         ensures ends { EndsWithMade me.new }
     {
@@ -92,7 +92,7 @@ impl<T: Drop, E: Drop, F: Factory<T, E> + Drop, C: Clock + Drop, B: Room> Shared
         me: &mut Caller<B>,
         lent: Lent<T>,
     ) -> Result<Returned, (ReturnFault, Lent<T>)>
-        ensures goes { Goes B.settings me.old me.new }
+        ensures goes { Advances B.settings me.old me.new }
         ensures row { ReturnRow B.settings self.now.number lent result me.old me.new }
         ensures back { IfErr result (λ r. r.1 ≡ lent) }
     {

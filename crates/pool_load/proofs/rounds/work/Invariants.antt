@@ -3,4 +3,4 @@ use Rattle.pool_load.specs.Rounds.{MakesRounds}
 use Rattle.pool_load.proofs.rounds.work.Given as goal
 
 abbrev pub invariant-loop-done : goal.invariant-loop-done
-invariant-loop-done g l = (l.me.number ≡ l.initial.me.number) × (l.me.cuts ≡ l.initial.me.cuts) × (l.refused ≤ l.done) × MakesRounds g.B.Room.settings l.done l.refused l.initial.me l.me
+invariant-loop-done g l = (l.me.number ≡ l.initial.me.number) × (l.me.cut_count ≡ l.initial.me.cut_count) × (l.refused ≤ l.done) × MakesRounds g.B.Room.settings l.done l.refused l.initial.me l.me

@@ -1,12 +1,12 @@
 use Rattle.std.proofs.Common.{◌≡◌, ℕ, ◌+◌, ◌≤◌}
-use Rattle.pool_history.specs.Standings.{Goes}
+use Rattle.pool_history.specs.CallerStates.{Advances}
 use Rattle.pool_shared.specs.Evicts.{examines, none_yet, Goes_on}
 use Rattle.pool_shared.specs.Walks.{EndsWithMade}
 use Rattle.pool_shared.proofs.pool.SharedPool.examine.Given as goal
 
 abbrev pub invariant-loop-taken : goal.invariant-loop-taken
 invariant-loop-taken g l = record {
-  goes : Goes g.B.Room.settings l.initial.me l.me;
+  goes : Advances g.B.Room.settings l.initial.me l.me;
   ends : EndsWithMade l.me;
   examined : l.run.examined ≡ l._taken;
   destroyed : l.run.destroyed ≤ l._taken;
