@@ -1,4 +1,4 @@
--- What looks at the words of the cell tell, and that a new cell keeps its rule.
+-- What reads of the words of the cell show; and the cell invariant holds of a new cell.
 use Rattle.std.proofs.Common.{◌≡◌, ◌≢◌, ℕ, ◌+◌, ◌-◌, ◌%◌, ◌<◌, if◌then◌else◌, List, [], ◌∷◌, zero, suc, length, get_or, refl, sym, ap, ◌∙◌, subst, eq-eqb, ne_eqb, arith}
 use Rattle.std.proofs.lemmas.List.{ext_get_or}
 use mathlib.Core.Logic.{dite}
@@ -16,7 +16,7 @@ use Rattle.pool_history.specs.Cell.{after_look, compared}
 use Rattle.pool_history.specs.CellInvariant.{HasCellInvariant, beginner}
 use Rattle.pool_history.specs.declared.room.View.{View}
 
--- the pass that stores has found the next word so
+-- the pass that stores has read the next word
 module _ (at k found : ℕ) (old new : List ℕ) (before : Stage (List ℕ)) (is : before ≡ Writing at old new k) where
   told_same : found ≡ get_or new k 0 → after_look found before ≡ Writing at old new (k + 1)
   told_same same = ap (after_look found) is ∙ ap (λ b. if b then Writing at old new (k + 1) else Writing at old new k) (eq-eqb found (get_or new k 0) same)
@@ -24,7 +24,7 @@ module _ (at k found : ℕ) (old new : List ℕ) (before : Stage (List ℕ)) (is
   pub told_other : found ≢ get_or new k 0 → after_look found before ≡ Writing at old new k
   told_other other = ap (after_look found) is ∙ ap (λ b. if b then Writing at old new (k + 1) else Writing at old new k) (ne_eqb found (get_or new k 0) other)
 
--- its look keeps the rule: a word that is the new one already counts as stored
+-- its read preserves the invariant: a word that is already the new one counts as stored
 pub compares : (slots id : ℕ) (me : Me (List ℕ) (Doing (List ℕ) View)) (at k : ℕ) (old new : List ℕ) → me.0.stage ≡ Writing at old new k → k < 8
     → Allows (Versioned (λ x. x) 8 HasCellInvariant) slots id me (k + 1) (λ x. x) (compared (step slots (k + 1) 0 0 none) me)
 compares slots id me at k old new is inside s rule wide here small =
@@ -38,7 +38,7 @@ compares slots id me at k old new is inside s rule wide here small =
     let stays : p.0.stage ≡ Writing at old new k = (subst (λ (z : Stage (List ℕ)). Fresh (λ y. x ≡ get_or y ((k + 1) - 1) 0) z p.0.stage) is p.4.1).0 in
     (p.0, p.1, p.2, p.3, (p.4.0, stays ∙ sym (told_other at k x old new me.0.stage is other))))
 
--- the version was read, then the words, and the version again: where it is the same, no store came between
+-- the version was read, then the words, and the version again: if it is the same, no store came between
 pub whole : (tells : View → List ℕ → List ℕ → View → Type 0) (version again : ℕ) (words : List ℕ) (v w : View) (first last : Stage (List ℕ)) → version % 2 ≡ 0 → HasRead version first
     → Gathered (λ x. x) 8 words first last → IsValidRead (λ x. length x ≡ 8) tells v again w last → length words ≡ 8 → again ≡ version → tells v words words w
 whole tells version again words v w first last even read gathered checked long is =
@@ -49,7 +49,7 @@ whole tells version again words v w first last even read gathered checked long i
     let same : x ≡ words = ext_get_or 0 x words (c.1 ∙ sym long) (λ i inside. sym ((g.2 c.0).1 i (subst (λ (z : ℕ). i < z) c.1 inside))) in
     subst (λ (z : List ℕ). tells v z z w) same c.2
 
--- a pass that stays so may turn as before
+-- a pass with the same view may take the same steps
 pub turns_still : (tells : View → List ℕ → List ℕ → View → Type 0) (f : List ℕ → List ℕ) (pass pass' : ℕ) (v v' : View) → pass' ≡ pass → v' ≡ v → Turns HasCellInvariant pass v f tells → Turns HasCellInvariant pass' v' f tells
 turns_still tells f pass pass' v v' same stays turns = subst (λ (z : ℕ × View). Turns HasCellInvariant z.0 z.1 f tells) (λ i. (sym same i, sym stays i)) turns
 

@@ -1,4 +1,4 @@
--- What can be answered to an input in a history of callers that keep to what they hold.
+-- The possible answers to an input in an owner-respecting history.
 use Rattle.pool_journal.specs.declared.input.Input.{Input}
 use Rattle.pool_journal.specs.declared.input.Input.TheVariants.{Borrow, Ready, GiveBack, Park, Invalidate, Use, Add, Fill, Added, Evict, EvictNext, Tested, Reclaim, ReclaimNext, Clear, ClearNext, Destroyed, Close}
 use Rattle.pool_journal.specs.declared.input.Outcome.TheVariants as outcomes
@@ -6,7 +6,7 @@ use Rattle.pool_journal.specs.declared.answer.Answer.{Answer}
 use Rattle.pool_journal.specs.declared.answer.Answer.TheVariants as answers
 use Rattle.pool_journal.specs.declared.answer.Cause.TheVariants as causes
 
--- what can be answered
+-- the answer to this input is a possible one
 abbrev pub IsPossibleAnswer : Input → Answer → Type 0
 IsPossibleAnswer (Borrow began) (answers.Take i) = Unit {0}
 IsPossibleAnswer (Borrow began) (answers.Make i) = Unit {0}

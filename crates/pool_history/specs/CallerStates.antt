@@ -1,4 +1,4 @@
--- What contracts see of a caller, and what a caller always knows.
+-- The model of a caller, and its invariant.
 use Rattle.std.specs.Prelude.{◌≡◌, ℕ, ◌+◌, List, [], ◌∷◌}
 use Rattle.atomic_table.specs.Seated.{TableId}
 use Rattle.pool_journal.specs.declared.entry.Entry.{Entry}
@@ -9,8 +9,8 @@ use Rattle.pool_history.specs.declared.room.Fragment.{Fragment}
 use Rattle.pool_history.specs.declared.room.View.{View}
 use Rattle.pool_history.specs.CellInvariant.{entries_with_number, fragments_only, fragment, IsPrefix}
 
--- a caller: its number, what it has seen, what its calls made, how often they cut the journal, and where it saw that the journal was cut, by
--- whomever
+-- the state of a caller: its number, the entries that it has observed and those that it has appended, its number of cuts, and the positions of
+-- all cuts that it has observed
 pub record CallerState : Type 0 where
   pub number : ℕ
   pub observed : List Entry
@@ -34,7 +34,7 @@ abbrev pub cut_positions_in : List Fragment → List ℕ
 cut_positions_in [] = []
 cut_positions_in (h ∷ hs) = h.cut_positions
 
--- a caller's pass is of this cell, and knows a legal and tended history, in which what the caller made stands, and no more under its number
+-- the invariant of a caller: its pass is of this cell, and has one fragment, which has observed a legal and owner-respecting history; its own entries are exactly those with its number
 pub record CallerInvariant (table : TableId) (s : Settings) (id : TableId) (number : ℕ) (v : View) : Type 0 where
   pub here : id ≡ table
   pub knows : v ≡ fragments_only (fragment s number (observed_in v.fragments) (appended_in v.fragments) (cut_count_in v.fragments) (cut_positions_in v.fragments) ∷ [])
@@ -42,7 +42,7 @@ pub record CallerInvariant (table : TableId) (s : Settings) (id : TableId) (numb
   pub owner_respecting : IsOwnerRespecting (observed_in v.fragments)
   pub all : appended_in v.fragments ≡ entries_with_number number (observed_in v.fragments)
 
--- a caller has seen a legal and tended history, which begins with what it had seen and in which nobody was refused as one who doesn't hold an object; it is the same caller, what it made is all that stands there under its number, and it cut the journal no more often
+-- the same caller has observed a legal and owner-respecting history that extends what it had observed, and in which no entry has the answer Refused NotHeld or Refused BadOutcome; its own entries are exactly those with its number, and its number of cuts is unchanged
 pub record Advances (s : Settings) (before after : CallerState) : Type 0 where
   pub number : after.number ≡ before.number
   pub later : IsPrefix before.observed after.observed
@@ -53,18 +53,20 @@ pub record Advances (s : Settings) (before after : CallerState) : Type 0 where
   pub uncut : after.cut_count ≡ before.cut_count
   pub later_cuts : IsPrefix before.cut_positions after.cut_positions
 
--- what is seen is a legal and tended history, in which what the caller made is all that stands under its number
+-- a caller has observed a legal and owner-respecting history, and its own entries are exactly those with its number
 pub record IsConsistent (s : Settings) (me : CallerState) : Type 0 where
   pub legal : IsLegal s me.observed
   pub owner_respecting : IsOwnerRespecting me.observed
   pub all : me.appended ≡ entries_with_number me.number me.observed
 
+-- a new caller has observed nothing and appended nothing
 abbrev pub newcomer_at : ℕ → CallerState
 newcomer_at n = record { number = n; observed = []; appended = []; cut_count = 0; cut_positions = [] }
 
--- a caller that cut the journal once more
+-- the caller has cut the journal once more
 abbrev pub having_cut : CallerState → CallerState
 having_cut c = record { number = c.number; observed = c.observed; appended = c.appended; cut_count = c.cut_count + 1; cut_positions = c.cut_positions }
 
+-- the fragment of a caller in this state
 abbrev pub fragment_of : Settings → CallerState → Fragment
 fragment_of s c = fragment s c.number c.observed c.appended c.cut_count c.cut_positions

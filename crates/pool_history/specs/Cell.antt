@@ -1,4 +1,4 @@
--- What the pass that stores the words learns by a look at one of them.
+-- What the pass that stores the words learns from reading one of them.
 use Rattle.std.specs.Prelude.{◌≡◌, ℕ, ◌+◌, ◌==◌, List, slice_index, if◌then◌else◌}
 use Rattle.atomic_table.specs.Table.{Me, Step}
 use Rattle.crossbeam_utils.specs.declared.atomic.seq_cell.Doing.{Doing}
@@ -7,7 +7,7 @@ use Rattle.crossbeam_utils.specs.declared.atomic.seq_cell.Stage.TheVariants.{Wri
 use Rattle.crossbeam_utils.specs.Seq.{IsSameView}
 use Rattle.pool_history.specs.declared.room.View.{View}
 
--- the next word was found so: if it is the new one already, one more is stored
+-- the stage after the next word was read: if it is already the new one, one more word is stored
 abbrev pub after_look : ℕ → Stage (List ℕ) → Stage (List ℕ)
 after_look found (Writing at old new k) = if found == slice_index new k then Writing at old new (k + 1) else Writing at old new k
 after_look found stage = stage

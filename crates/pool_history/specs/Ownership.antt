@@ -1,4 +1,4 @@
--- Who goes on with an object, and with which outcomes.
+-- Which caller continues an object, and with which outcomes.
 use Rattle.std.specs.Prelude.{◌≡◌, ◌≢◌, ℕ, ◌==◌, Bool, false, List, take, slice_get, Option, Some, None, IsSomeAnd}
 use Rattle.pool_journal.specs.Latest.{latest, said_if}
 use Rattle.pool_journal.specs.Journal.{Move, moves, phase, is_new}
@@ -21,37 +21,37 @@ told_mover i (Some (j, p)) x = said_if (j == i) x
 unfoldable pub last_move : ℕ → List Entry → Option Entry
 last_move i J = latest (λ e. told_mover i (moves e) (Some e)) None J
 
--- n moved i last, and it is in this phase
+-- caller n owns object i, which it moved last, and which is in this phase
 abbrev pub IsOwnedBy : List Entry → ℕ → ℕ → Phase → Type 0
 IsOwnedBy J n i p = IsSomeAnd (last_move i J) (λ e. e.caller ≡ n) × (phase i J ≡ p)
 
--- how readying an object can come out, which was made for that or not
+-- readying an object, a new one or not, can have this outcome
 abbrev pub IsReadyOutcome : Bool → Outcome → Type 0
 IsReadyOutcome new outcomes.PassivateFailed = ⊥
 IsReadyOutcome false outcomes.MakeFailed = ⊥
 IsReadyOutcome false outcomes.CreateTestFailed = ⊥
 IsReadyOutcome new o = Unit {0}
 
--- how checking a returned object can come out
+-- checking a returned object can have this outcome
 abbrev pub IsParkOutcome : Outcome → Type 0
 IsParkOutcome outcomes.Good = Unit {0}
 IsParkOutcome outcomes.TestFailed = Unit {0}
 IsParkOutcome outcomes.PassivateFailed = Unit {0}
 IsParkOutcome o = ⊥
 
--- how making an object for the idle list can come out
+-- making an object for the idle queue can have this outcome
 abbrev pub IsAddOutcome : Outcome → Type 0
 IsAddOutcome outcomes.ActivateFailed = ⊥
 IsAddOutcome outcomes.TestFailed = ⊥
 IsAddOutcome o = Unit {0}
 
--- how testing an idle object can come out
+-- testing an idle object can have this outcome
 abbrev pub IsTestOutcome : Outcome → Type 0
 IsTestOutcome outcomes.MakeFailed = ⊥
 IsTestOutcome outcomes.CreateTestFailed = ⊥
 IsTestOutcome o = Unit {0}
 
--- an input that goes on with an object comes from who moved it last, finds it in the phase that it needs, and reports an outcome that can be
+-- an input that continues an object comes from the caller that owns it, finds it in the phase that it needs, and reports an outcome that is possible there
 abbrev pub IsOwnerRespectingAfter : List Entry → ℕ → Input → Type 0
 IsOwnerRespectingAfter J n (Ready i o) = IsOwnedBy J n i phases.Readying × IsReadyOutcome (is_new i J) o
 IsOwnerRespectingAfter J n (Park i o) = IsOwnedBy J n i phases.Returning × IsParkOutcome o
@@ -60,10 +60,10 @@ IsOwnerRespectingAfter J n (Tested i o) = IsOwnedBy J n i phases.Testing × IsTe
 IsOwnerRespectingAfter J n (Destroyed i) = IsOwnedBy J n i phases.Destroying
 IsOwnerRespectingAfter J n _ = Unit {0}
 
--- each entry comes from who may make it
+-- each entry of a journal respects the owners of objects after the entries before it
 abbrev pub IsOwnerRespecting : List Entry → Type 0
 IsOwnerRespecting J = (k : ℕ) (e : Entry) → slice_get J k ≡ Some e → IsOwnerRespectingAfter (take k J) e.caller e.input
 
--- no entry answers that its caller doesn't hold the object, or that the outcome can't be
+-- no entry has the answer Refused NotHeld or Refused BadOutcome
 abbrev pub NoneMisused : List Entry → Type 0
 NoneMisused J = (k : ℕ) (e : Entry) → slice_get J k ≡ Some e → (e.answer ≢ answers.Refused causes.NotHeld) × (e.answer ≢ answers.Refused causes.BadOutcome)

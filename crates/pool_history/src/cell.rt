@@ -1,4 +1,4 @@
-// The moves of the cell, each as what it does to the views of passes: a step says by its outcome what it makes of them.
+// The steps on the cell, each with its effect on the views of passes, which the outcome of the step states.
 ghost use Rattle.std.specs.Prelude.{◌≡◌, ◌+◌, ◌%◌, ◌^◌, ◌<◌, ℕ, List, [], ◌∷◌, length, slice_index, IfOk};
 ghost use Rattle.crossbeam_utils.specs.Register.{Forks, Merges, Turns, TurnsAt};
 ghost use Rattle.crossbeam_utils.specs.Seq.{cell_view, Gathered, HasRead, IsSamePass, Stays};
@@ -14,17 +14,21 @@ use crossbeam_utils::rule::Outcome;
 use std::alloc::{AllocError, Global};
 use std::sync::Wait;
 
-/// How many words a value has. They lie behind the version, which is odd while a pass stores them.
+/// The number of words of a value. They follow the version, which is odd while a pass stores them.
 const WORDS: usize = 8;
 
-/// Eight words that one pass at a time stores and others read whole.
+/// Eight words, which one pass at a time stores and the others read whole.
 #[derive(Drop)]
 pub struct Cell {
     pub table: Table<[u64; 8], Doing<[u64; 8], View>, (), Versions<HistoryProtocol, 8>, Global>,
     ghost wide: { table.shared.table_id.words ≡ 9 },
 }
 
-/// A new cell with its keeper's pass.
+/// Makes a new cell, and returns it with its authoritative pass.
+///
+/// # Errors
+///
+/// There is no memory for it.
 pub fn begin(alloc: Global) -> Result<(Cell, CountsPass), AllocError>
     ensures { IfOk result (λ c. (c.1.table_id ≡ c.0.table.shared.table_id) × (cell_view c.1 ≡ beginner)) }
 {
@@ -32,7 +36,7 @@ pub fn begin(alloc: Global) -> Result<(Cell, CountsPass), AllocError>
     Ok((Cell { table }, authority))
 }
 
-/// Reads the version.
+/// Returns the version.
 fn version_of(cell: &Cell, pass: &mut CountsPass) -> u64
     requires { pass.old.table_id ≡ cell.now.table.shared.table_id }
     ensures stays { Stays pass.old pass.new }
@@ -41,7 +45,7 @@ fn version_of(cell: &Cell, pass: &mut CountsPass) -> u64
     cell.table.shared.load::<Reads>(pass, 0)
 }
 
-/// Reads the words, one by one.
+/// Returns the words, which it reads one by one.
 fn gather(cell: &Cell, pass: &mut CountsPass) -> [u64; 8]
     requires { pass.old.table_id ≡ cell.now.table.shared.table_id }
     ensures { Stays pass.old pass.new × (length result ≡ 8) × Gathered (λ words. words) 8 result pass.old.me.0.stage pass.new.me.0.stage }
@@ -53,7 +57,7 @@ fn gather(cell: &Cell, pass: &mut CountsPass) -> [u64; 8]
     words
 }
 
-/// Loads the words that are stored. It looks again until no store came between.
+/// Returns the stored words. It reads them again until no store came between.
 pub fn load<M: Outcome<[u64; 8], View>, R: Wait>(
     rt: &R,
     cell: &Cell,
@@ -78,7 +82,7 @@ pub fn load<M: Outcome<[u64; 8], View>, R: Wait>(
     unreachable!()
 }
 
-/// Makes the version odd, if it is this even one still. The answer is the version that it was.
+/// Makes the version odd, if it is still this even one. Returns the version that it was.
 fn lock(cell: &Cell, pass: &mut CountsPass, version: u64, words: &[u64; 8]) -> u64
     requires cell { pass.old.table_id ≡ cell.now.table.shared.table_id }
     requires even { version % 2 ≡ 0 }
@@ -90,7 +94,7 @@ fn lock(cell: &Cell, pass: &mut CountsPass, version: u64, words: &[u64; 8]) -> u
     shared.compare_exchange_with::<Locks>(pass, 0, version, version + 1, words)
 }
 
-/// Takes the cell to store words. The answer is the version, which is odd then. After 2^63 stores it waits for ever.
+/// Takes the cell to store words. Returns the version, which is then odd. After 2^63 stores it waits forever.
 fn take<R: Wait>(rt: &R, cell: &Cell, pass: &mut CountsPass, words: [u64; 8]) -> u64
     requires { pass.old.table_id ≡ cell.now.table.shared.table_id }
     ensures stays { Stays pass.old pass.new }
@@ -110,7 +114,7 @@ fn take<R: Wait>(rt: &R, cell: &Cell, pass: &mut CountsPass, words: [u64; 8]) ->
     unreachable!()
 }
 
-/// Stores a word, if it differs from what is stored.
+/// Stores a word, if it differs from the stored one.
 fn put(cell: &Cell, pass: &mut CountsPass, i: usize, word: u64)
     requires cell { pass.old.table_id ≡ cell.now.table.shared.table_id }
     requires inside { i < 8 }
@@ -125,7 +129,7 @@ fn put(cell: &Cell, pass: &mut CountsPass, i: usize, word: u64)
     }
 }
 
-/// Stores those of the words that differ from what is stored, and gives the cell up.
+/// Stores those of the words that differ from the stored ones, and releases the cell.
 fn publish<M: Outcome<[u64; 8], View>>(
     cell: &Cell,
     pass: &mut CountsPass,
@@ -145,7 +149,7 @@ fn publish<M: Outcome<[u64; 8], View>>(
     shared.store::<Publishes<M>>(pass, 0, version + 1);
 }
 
-/// Stores words in place of those that are stored.
+/// Stores words in place of the stored ones.
 pub fn store_words<M: Outcome<[u64; 8], View>, R: Wait>(
     rt: &R,
     cell: &Cell,
@@ -161,7 +165,7 @@ pub fn store_words<M: Outcome<[u64; 8], View>, R: Wait>(
     publish::<M>(cell, pass, version, words);
 }
 
-/// Splits what a pass knows: some of it goes to a new one.
+/// Splits the view of a pass, and returns a new pass with the part that it loses.
 pub fn split<M: Split<View>>(cell: &Cell, pass: &mut CountsPass) -> CountsPass
     requires cell { pass.old.table_id ≡ cell.now.table.shared.table_id }
     requires forks { Forks HasCellInvariant pass.old.id (cell_view pass.old) (M.left (cell_view pass.old)) (M.right (cell_view pass.old)) }
@@ -172,7 +176,7 @@ pub fn split<M: Split<View>>(cell: &Cell, pass: &mut CountsPass) -> CountsPass
     cell.table.shared.split_seat::<Cut<M>>(pass)
 }
 
-/// Joins to a pass what another one knows.
+/// Joins the view of another pass to that of a pass.
 pub fn join<M: Join<View>>(cell: &Cell, pass: &mut CountsPass, other: CountsPass)
     requires cell { pass.old.table_id ≡ cell.now.table.shared.table_id }
     requires other { (other.table_id ≡ pass.old.table_id) × (other.me.1 ≡ []) }

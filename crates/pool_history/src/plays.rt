@@ -1,4 +1,4 @@
-// What each step on a word of the cell tells.
+// The facts that each step on a word of the cell shows.
 ghost use Rattle.std.specs.Prelude.{◌≡◌};
 ghost use Rattle.crossbeam_utils.specs.Seq.{doing, idle, looked, peeked, checked, locked, wrote, published};
 ghost use Rattle.pool_history.specs.Cell.{compared};
@@ -9,21 +9,21 @@ use crossbeam_utils::atomic::seq_cell::Doing;
 use crossbeam_utils::rule::Outcome;
 use std::marker::PhantomData;
 
-/// A look at the version.
+/// A read of the version.
 pub struct Reads;
 
 impl Play<[u64; 8], Doing<[u64; 8], View>> for Reads {
     ghost then = { looked };
 }
 
-/// A look at a word of the value.
+/// A read of a word of the value.
 pub struct Peeks;
 
 impl Play<[u64; 8], Doing<[u64; 8], View>> for Peeks {
     ghost then = { peeked (λ words. words) };
 }
 
-/// A second look at the version, which tells whether the words between belong together.
+/// A second read of the version, which shows whether the words that were read between belong together.
 pub struct Checks<M> {
     of: PhantomData<M>,
 }
@@ -32,28 +32,28 @@ impl<M: Outcome<[u64; 8], View>> Play<[u64; 8], Doing<[u64; 8], View>> for Check
     ghost then = { checked (λ words. words) 8 M.then };
 }
 
-/// The version gets odd.
+/// A step that makes the version odd.
 pub struct Locks;
 
 impl Play<[u64; 8], Doing<[u64; 8], View>> for Locks {
     ghost then = { locked (λ words. words) 8 };
 }
 
-/// A look at a word of the value by the pass that stores: it need not be stored if it is what it is to be.
+/// A read of a word of the value by the pass that stores: a word that is already the new one need not be stored.
 pub struct Compares;
 
 impl Play<[u64; 8], Doing<[u64; 8], View>> for Compares {
     ghost then = { compared };
 }
 
-/// A word is stored.
+/// A store of a word.
 pub struct Puts;
 
 impl Play<[u64; 8], Doing<[u64; 8], View>> for Puts {
     ghost then = { wrote };
 }
 
-/// The version gets even, with all words stored.
+/// A step that makes the version even, once all words are stored.
 pub struct Publishes<M> {
     of: PhantomData<M>,
 }
@@ -62,7 +62,7 @@ impl<M: Outcome<[u64; 8], View>> Play<[u64; 8], Doing<[u64; 8], View>> for Publi
     ghost then = { published M.then };
 }
 
-/// A pass is split.
+/// A split of a pass.
 pub struct Cut<M> {
     of: PhantomData<M>,
 }
@@ -73,7 +73,7 @@ impl<M: Split<View>> Split<Doing<[u64; 8], View>> for Cut<M> {
     ghost right = { λ d. idle (M.right d.client) };
 }
 
-/// A pass takes in another.
+/// A join of two passes.
 pub struct Glue<M> {
     of: PhantomData<M>,
 }

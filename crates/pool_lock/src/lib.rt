@@ -1,4 +1,4 @@
-//! What lies under a shared pool's lock: the core with the pass that knows its journal, and one section of a call.
+//! The state that the lock of a shared pool protects: the core and the authoritative pass; and the critical sections.
 #![tactic(auto)]
 
 mod clock;

@@ -3,7 +3,7 @@ use Rattle.std.proofs.lemmas.List.{length_push}
 use Rattle.pool_history.specs.CallerStates.{newcomer_at}
 use Rattle.pool_history.proofs.opening.add_callers.Goals as goal
 
--- each element of a list with one more is that of its place
+-- each element of a list with one more is that of its position
 each_push : {X : Type 0} (f : ℕ → X) (xs : List X) (y : X) → f (length xs) ≡ y → ((k : ℕ) → k < length xs → slice_get xs k ≡ Some (f k))
     → (k : ℕ) → k < length xs + 1 → slice_get (xs ++ y ∷ []) k ≡ Some (f k)
 each_push f [] y is each zero small = ap Some (sym is)
