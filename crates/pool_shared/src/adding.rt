@@ -9,9 +9,9 @@ ghost use Rattle.pool_shared.specs.Adds.{makes, gone, shelved, ending, Goes_on, 
 
 use crate::faults::{AddFault, Addition, NoRoom};
 use crate::pool::SharedPool;
-use pool_lock::{Clock, Factory};
 use pool_history::{Caller, Room};
 use pool_journal::{Answer, Cause, Input, Outcome};
+use pool_lock::{Clock, Factory};
 use std::sync::Wait;
 
 /// Why a new object can't become idle.

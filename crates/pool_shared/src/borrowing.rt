@@ -18,9 +18,9 @@ use crate::lent::Lent;
 use crate::pool::SharedPool;
 use crate::spinning::{lock, wait};
 use pool_core::StepFault;
-use pool_lock::{Clock, Factory, LockedPool};
 use pool_history::{Caller, Room};
 use pool_journal::{Answer, Cause, Input, Outcome, When};
+use pool_lock::{Clock, Factory, LockedPool};
 use std::sync::{MutexGuard, Wait};
 
 /// Why an object was not made ready.

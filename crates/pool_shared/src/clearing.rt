@@ -8,9 +8,9 @@ ghost use Rattle.pool_shared.specs.Clears.{Sweeps, ClearRow, CloseRow};
 use crate::faults::{NoRoom, PoolFault};
 use crate::pool::SharedPool;
 use pool_core::StepFault;
-use pool_lock::{Clock, Factory};
 use pool_history::{Caller, Room};
 use pool_journal::{Answer, Input};
+use pool_lock::{Clock, Factory};
 use std::sync::Wait;
 
 impl<T: Drop, E: Drop, F: Factory<T, E> + Drop, C: Clock + Drop, B: Room> SharedPool<

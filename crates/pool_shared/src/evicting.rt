@@ -11,9 +11,9 @@ ghost use Rattle.pool_shared.specs.Evicts.{examines, tests, none_yet, one_more, 
 use crate::faults::{NoRoom, PoolFault};
 use crate::pool::SharedPool;
 use pool_core::StepFault;
-use pool_lock::{Clock, Factory};
 use pool_history::{Caller, Room};
 use pool_journal::{Answer, Cause, Input, Outcome};
+use pool_lock::{Clock, Factory};
 use std::sync::Wait;
 
 /// How many objects an eviction run examined, and how many of them it destroyed.

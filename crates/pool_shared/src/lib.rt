@@ -22,5 +22,5 @@ pub use faults::{
 };
 pub use lent::Lent;
 pub use pool::SharedPool;
-pub use pool_lock::{Clock, Factory};
 pub use pool_history::{Caller, Room, Site};
+pub use pool_lock::{Clock, Factory};

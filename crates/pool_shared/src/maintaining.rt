@@ -6,8 +6,8 @@ ghost use Rattle.pool_shared.specs.Maintains.{MaintainRow};
 
 use crate::faults::{AddFault, PoolFault};
 use crate::pool::SharedPool;
-use pool_lock::{Clock, Factory};
 use pool_history::{Caller, Room};
+use pool_lock::{Clock, Factory};
 use std::sync::Wait;
 
 impl<E> From<PoolFault> for AddFault<E> {

@@ -8,9 +8,9 @@ ghost use Rattle.pool_shared.specs.Reclaims.{reclaims, ReclaimsFrom, ReclaimRow}
 
 use crate::faults::{NoRoom, PoolFault};
 use crate::pool::SharedPool;
-use pool_lock::{Clock, Factory};
 use pool_history::{Caller, Room};
 use pool_journal::{Answer, Input, When};
+use pool_lock::{Clock, Factory};
 use std::sync::Wait;
 
 impl<T: Drop, E: Drop, F: Factory<T, E> + Drop, C: Clock + Drop, B: Room> SharedPool<

@@ -13,9 +13,9 @@ ghost use Rattle.pool_shared.specs.declared.faults.Returned.TheVariants as retur
 use crate::faults::{NoRoom, ReturnFault, Returned};
 use crate::lent::Lent;
 use crate::pool::SharedPool;
-use pool_lock::{Clock, Factory};
 use pool_history::{Caller, Room};
 use pool_journal::{Answer, Cause, Input, Outcome};
+use pool_lock::{Clock, Factory};
 use std::sync::Wait;
 
 impl<T: Drop, E: Drop, F: Factory<T, E> + Drop, C: Clock + Drop, B: Room> SharedPool<
