@@ -32,7 +32,7 @@ abbrev pub is_below : ℤ → ℕ → Bool
 is_below (pos limit) n = nat_lt n limit
 is_below (negsuc _) n = true
 
--- as long as a limit; a negative limit is no limit
+-- at least a limit; a negative limit is no limit
 abbrev pub has_reached : ℤ → ℕ → Bool
 has_reached (pos limit) t = nat_le limit t
 has_reached (negsuc _) t = false

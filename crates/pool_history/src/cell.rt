@@ -94,7 +94,7 @@ fn lock(cell: &Cell, pass: &mut CountsPass, version: u64, words: &[u64; 8]) -> u
     shared.compare_exchange_with::<Locks>(pass, 0, version, version + 1, words)
 }
 
-/// Takes the cell to store words. Returns the version, which is then odd. After 2^63 stores it waits forever.
+/// Takes the cell to store words. Returns the version, which is then odd. After 2^63 - 1 stores it waits forever.
 fn take<R: Wait>(rt: &R, cell: &Cell, pass: &mut CountsPass, words: [u64; 8]) -> u64
     requires { pass.old.table_id ≡ cell.now.table.shared.table_id }
     ensures stays { Stays pass.old pass.new }

@@ -99,7 +99,7 @@ pub record IsFailedStep (Are : Settings → Base → List Entry → Type 0) (s :
 abbrev pub LacksRoom : Settings → Input → CallerState → ℕ → Type 0
 LacksRoom = IsFailedStep IsTooLongFrom
 
--- the entry expected at this time fits, so an allocation failed
+-- the entry expected at this time fits
 abbrev pub LacksMemory : Settings → Input → CallerState → ℕ → Type 0
 LacksMemory = IsFailedStep FitsFrom
 

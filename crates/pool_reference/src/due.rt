@@ -47,8 +47,11 @@ fn reply_by_scan(
     }
 }
 
-/// The answer that is due to an input at the moment `at`, in milliseconds, after a journal. It is
-/// refused only where memory is.
+/// Returns the expected answer to `input` at time `at` (milliseconds) after a journal.
+///
+/// # Errors
+///
+/// An allocation failed.
 pub fn reply(
     alloc: Global,
     settings: &Settings,

@@ -17,7 +17,7 @@ const ILLEGAL: u8 = 1;
 /// How many files are kept open until they are read.
 const MOST_OPEN: usize = 500;
 
-/// The number of files checked in parallel for each processor. With more than one, no processor waits for the longest file.
+/// The number of files checked in parallel for each processor. With more than one, no processor waits long for the longest file.
 const FILES_PER_PROCESSOR: usize = 4;
 
 /// Checks the journal in these files, in their order. The status is 1 if it is not legal.
@@ -39,8 +39,8 @@ pub fn check_journal<'a, R: Threads + Sync>(
     }
 }
 
-/// Returns the number of files to check in parallel, or `None` if they are checked in turn: if there is only one file or one
-/// processor, or if a file is not regular, since it can be read only once.
+/// Returns the number of files to check in parallel, or `None` if they are checked in turn: if there is only one file, if there is
+/// one processor or their number is unknown, or if a file is not regular, since it can be read only once.
 fn width<R: Threads>(threads: &R, rt: &HostRuntime, paths: &[&str]) -> Option<usize> {
     let processors = thread::available_parallelism(threads).ok()?.get();
     if paths.len() < 2 || processors < 2 {

@@ -81,7 +81,8 @@ fn line_of(rt: &HostRuntime, path: &str, number: u64) -> Option<Vec<u8>> {
     Some(line)
 }
 
-/// Returns the first of the files whose lines cannot be read with this error. Several are read again, for a person only.
+/// Returns the first of the files whose lines cannot be read with this error. If there are several, it
+/// reads them again, and only at a terminal.
 pub(crate) fn first_faulty<'a>(
     rt: &HostRuntime,
     paths: &[&'a str],

@@ -16,7 +16,8 @@ pub(crate) enum LineKind {
     CarriageReturn,
 }
 
-/// Returns the kind of the line that the bytes begin with. Only a line alone is found to end with a carriage return.
+/// Returns the kind of the line that the bytes begin with. `CarriageReturn` is found
+/// only if the bytes are that one line.
 pub(crate) fn kind_of(bytes: &[u8]) -> Option<LineKind>
     ensures { result ≡ Spec.kind_of bytes.now }
 {

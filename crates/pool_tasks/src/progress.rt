@@ -66,7 +66,7 @@ impl<'a> Progress<'a> {
         }
     }
 
-    /// Notes that a message is printed `passed` seconds after the beginning, unless another thread has printed one since.
+    /// Returns whether this thread is to print: notes the time `passed`, in seconds, unless another thread has printed since.
     fn is_first_to_tell(&self, told: u64, passed: u64) -> bool {
         self.told
             .compare_exchange(told, passed, Ordering::SeqCst, Ordering::SeqCst)
