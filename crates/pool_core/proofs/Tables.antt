@@ -50,7 +50,7 @@ asks_from {A} b J rs next reaches i F absent gone = by_record (record_in rs i) r
         ap (λ (k : Record). F k.phase k.is_new) (sym at.is)
 
 -- the same for a query of a lent object
-lent_from_is : (S : Settings) (b : Base) (J : List Entry) (rs : List Record) (next : ℕ) → ReachesFrom b J rs next → (i : ℕ) (a : Answer)
+pub lent_from_is : (S : Settings) (b : Base) (J : List Entry) (rs : List Record) (next : ℕ) → ReachesFrom b J rs next → (i : ℕ) (a : Answer)
     → lent_reply S.abandoned (phase_from b i J) a ≡ lent_reply S.abandoned (phase_of (record_in rs i)) a
 lent_from_is S b J rs next reaches i a =
     asks_from b J rs next reaches i (λ p new. lent_reply S.abandoned p a) (λ new. refl) (λ new. gone S.abandoned)
