@@ -198,15 +198,16 @@ class Work:
             self.running[part.name] = Command(part.words())
 
     def collect_build(self, crate):
-        """Shows how far a build is, by the lines that begin with the crate's name; and once it has ended in vain, all of it."""
-        command = self.building[crate]
+        """Shows how far a build is, by the lines that begin with the crate's name; and once it has ended in vain, its other lines."""
+        command, head = self.building[crate], f"{crate}: "
         has_ended = command.has_ended()
-        print("".join(line for line in command.new_lines() if line.startswith(f"{crate}: ")), end="")
+        print("".join(line for line in command.new_lines() if line.startswith(head)), end="")
         if not has_ended:
             return
         del self.building[crate]
         if command.process.returncode:
-            print(f"{command.text()}{crate}: not built")
+            others = [line for line in command.text().splitlines(keepends=True) if not line.startswith(head)]
+            print(f"{''.join(others)}{head}not built")
             self.lose(crate)
         else:
             self.built.add(crate)
