@@ -1,6 +1,6 @@
 #!/usr/bin/env python3
-"""Tests of what ./pool, tools/build.py and tools/sources.py build again, and what not: in a small repository of its own, with a command `rt` that
-proves nothing and notes what it was asked to build.
+"""Tests of what ./pool, tools/build.py and tools/sources.py build again, and what not: in a small repository of its own, with a kit that proves nothing
+and notes what it was asked to build.
 
     play_build.py
 
@@ -15,8 +15,10 @@ import subprocess
 import sys
 import tempfile
 
+from fake_kit import lay_kit
+
 TOP = pathlib.Path(__file__).resolve().parent.parent
-COPIED = ("pool", "tools/build.py", "tools/sources.py", "tools/proof_seconds.txt")
+COPIED = ("pool", "tools/build.py", "tools/kit.py", "tools/sources.py", "tools/proof_seconds.txt")
 # pool stands on right and left, which stand on low, and on alone; archive is a static library; other is a program of its own.
 CRATES = {
     "low": "",
@@ -28,31 +30,9 @@ CRATES = {
     "archive staticlib": "low",
 }
 KIT = "rattle-kit-0 logic 0"
-RT = """#!/usr/bin/env python3
-import os, pathlib, shutil, subprocess, sys
-if sys.argv[1] == "version":
-    print(pathlib.Path(os.environ["KIT_LINE"]).read_text(), end="")
-    sys.exit()
-crate = pathlib.Path.cwd()
-with open(os.environ["CALLS"], "a") as calls:
-    print(crate.name, *sys.argv[1:], os.nice(0), file=calls)
-rlib = crate / "out/rlib"
-shutil.rmtree(rlib, ignore_errors=True)
-lines = (crate.parent.parent / "crates.txt").read_text()
-built = [library for library in crate.parent.iterdir() if (library / "out/rlib/stamp").exists()]
-if any((crate / "src").glob("broken")) or len(built) != len(lines.splitlines()) - 1:
-    sys.exit(f"{crate.name} is refused")
-subprocess.run(["sh", "-c", os.environ.get("MEANWHILE", ""), "sh", crate.name])
-if sys.argv[1] == "run":
-    (crate / "out").mkdir(exist_ok=True)
-    (crate / "out" / crate.name).write_text('#!/bin/sh\\necho "$@"; cat; exit 7\\n')
-    (crate / "out" / crate.name).chmod(0o755)
-    sys.exit(7)
-(rlib / f"{crate.name}.rlib").mkdir(parents=True)
-(rlib / f"{crate.name}.rlib/format").write_text("")
-(rlib / "stamp").write_text(crate.name)
-if " staticlib:" in lines and crate.name == "archive":
-    (crate / "out/libarchive.a").write_text("")
+RT = """#!/bin/sh
+[ $1 = version ] && exec cat "$KIT_LINE"
+[ $1 = doc ] && exec echo "$(dirname "$0")/../GUIDE.md"
 """
 # The lines that tell how far a build is.
 FAR = re.compile(r"\w+: (proves and builds|\d+ of \d+ crates, \d+:\d\d of about) ")
@@ -70,11 +50,8 @@ class Trial:
         self.environment = {**self.without_rt, "PATH": f"{folder}/bin:{self.without_rt['PATH']}"}
 
     def lay_out(self):
-        """Writes the repository and the command `rt`."""
-        write(self.folder / "bin/rt", RT)
-        (self.folder / "bin/rt").chmod(0o755)
-        (self.folder / "python").mkdir()
-        (self.folder / "python/python3").symlink_to(sys.executable)
+        """Writes the repository and the kit."""
+        lay_kit(self.folder, RT)
         write(self.folder / "kit", KIT + "\n")
         for name in COPIED:
             (self.top / name).parent.mkdir(parents=True, exist_ok=True)
@@ -101,8 +78,8 @@ class Trial:
         return subprocess.run(words, cwd=self.folder, env=environment, input=given, capture_output=True, text=True)
 
     def built(self):
-        """The crates that `rt` was asked to build, each once."""
-        return [line.split()[0] for line in self.calls.read_text().splitlines()]
+        """The crates that the kit was asked to build, each once."""
+        return [line.split()[1] for line in self.calls.read_text().splitlines()]
 
     def expect_built(self, what, crates, top=None):
         """Runs the program, which builds these crates and no others, and then gives its arguments, input and status."""
@@ -133,12 +110,12 @@ def touch_first(trial):
     trial.expect_built("at first", ["low", "left", "right", "alone", "pool"])
     calls = [line.split() for line in trial.calls.read_text().splitlines()]
     most, own = os.cpu_count(), os.nice(0)
-    trial.expect("the last to be built", "pool run", " ".join(calls[-1][:2]))
-    for name, *words in calls:
+    trial.expect("the last to be built", "program pool", " ".join(calls[-1][:2]))
+    for _, name, *words in calls:
         if name in ("low", "alone"):
-            jobs, nice = int(words[2]), int(words[3]) - own
+            jobs, nice = int(words[1]), int(words[2]) - own
             trial.expect(f"{name}: the jobs of {words}", True, 1 <= jobs <= most)
-            trial.expect(f"{name}: how nice", 0 if name == "low" else min(5, 19 - own), nice)
+            trial.expect(f"{name}: how nice", 0 if name == "low" else min(3, 19 - own), nice)
 
 
 def unchanged(trial):
@@ -244,30 +221,43 @@ def archive(trial):
     trial.expect_built("the program's crate then", ["left", "pool"])
 
 
+def left_by_gate(trial, crate, text):
+    """Lays a library where the gate leaves it."""
+    write(trial.top / f"crates/{crate}/out/rlib/{crate}.rlib/interface/format", text)
+
+
 def gate(trial):
-    """What the gate has built is noted, but for crates that were edited meanwhile, and libraries that it put back."""
+    """What the gate has built is taken over and noted, but for crates that were edited meanwhile, and libraries of the kit's other commands."""
     sources, sums = trial.top / "tools/sources.py", trial.folder / "sums"
     for name in "other", "pool":
         add(trial.top / f"crates/{name}/src/main.rt")
+    add(trial.top / "crates/alone/src/lib.rt")
     sums.write_text(trial.run(sources).stdout)
     program = trial.top / "crates/pool/out/pool"
     write(program, program.read_text() + "# of the gate\n")
     write(trial.top / "crates/other/out/other", "")
+    left_by_gate(trial, "alone", "of the gate")
     add(trial.top / "crates/other/src/main.rt")
     trial.run(sources, "--built", sums)
     trial.expect_built("what the gate has built", [])
     trial.run(trial.top / "tools/build.py", "other")
     trial.expect("what was edited while the gate ran", ["other"], trial.built())
-    (trial.top / "crates/alone/out/rlib/stamp").unlink()
-    sums.write_text(trial.run(sources).stdout)
-    trial.run(sources, "--built", sums)
+    library = trial.top / "crates/alone/out/statements/alone.rlib/interface/format"
+    trial.expect("a library of the gate", "of the gate", library.read_text())
     add(trial.top / "crates/pool/src/main.rt")
-    trial.expect_built("a library of the gate's, over which nothing can be built", ["alone", "pool"])
-    add(trial.top / "crates/low/src/lib.rt")
+    trial.expect_built("over a library of the gate", ["pool"])
+    add(trial.top / "crates/alone/src/lib.rt")
+    left_by_gate(trial, "alone", "of another command")
+    write(trial.top / "crates/alone/out/rlib/stamp", "")
     sums.write_text(trial.run(sources).stdout)
     trial.run(sources, "--built", sums)
-    trial.run(trial.top / "tools/build.py", "archive")
-    trial.expect("a library that was put back", ["low", "archive"], trial.built())
+    trial.expect("a library of another command", "of the gate", library.read_text())
+    add(trial.top / "crates/pool/src/main.rt")
+    trial.expect_built("where the gate has put back such a library", ["alone", "pool"])
+    left_by_gate(trial, "low", "of a gate that failed")
+    trial.run(sources, "--left")
+    add(trial.top / "crates/pool/src/main.rt")
+    trial.expect_built("a library of a gate that failed", ["low", "pool"])
 
 
 def main():

@@ -18,6 +18,7 @@ import sys
 import tempfile
 import time
 
+from fake_kit import lay_kit
 from playing import play_checks
 
 TOP = pathlib.Path(__file__).resolve().parent.parent
@@ -26,50 +27,37 @@ sys.path.append(str(TOP / "tools"))
 import sources
 from parts import PARTS, PROOFS
 
-COPIED = ("check", "tools/runner.py", "tools/build.py", "tools/sources.py", "tools/proof_seconds.txt")
+COPIED = ("check", "tools/runner.py", "tools/build.py", "tools/kit.py", "tools/sources.py", "tools/proof_seconds.txt")
 CRATES = {"low": "", "tool": "low", "wrong": "low", "archive staticlib": "low"}
-# Notes each call. `rt ci` builds all, but for what is broken, and leaves libraries without a stamp, but for those that were there.
+# Notes each call. `rt ci` builds all, but for what is broken: programs, and libraries where there is none with a stamp.
 RT = """#!/bin/sh
-build() {
-  name=$(basename $1)
-  [ ! -e $1/src/broken ] || { echo "$name is refused"; return 1; }
-  mkdir -p $1/out
-  if [ -e $1/src/main.rt ]; then
-    echo "$2 $(cat $1/src/main.rt)" >$1/out/$name
-  elif [ $2 = alone ] || [ ! -e $1/out/rlib ]; then
-    mkdir -p $1/out/rlib/$name.rlib
-    cp $1/src/lib.rt $1/out/rlib/$name.rlib/format
-    [ $2 != alone ] || echo $name >$1/out/rlib/stamp
-    [ $2$name != alonearchive ] || echo alone >$1/out/libarchive.a
-  fi
-}
 [ $1 != version ] || { echo rattle-kit-0 logic 0; exit; }
+[ $1 != doc ] || { echo "$(dirname "$0")/../GUIDE.md"; exit; }
 echo rt $1 $(basename $PWD) >>$CALLS
-[ $1 = ci ] || { build $PWD alone; exit; }
 passed=0 failed=0
 for crate in $PWD/crates/*; do
-  rm -f $crate/out/$(basename $crate) $crate/out/lib*.a
-  if build $crate gate; then passed=$((passed + 1)); else failed=$((failed + 1)); fi
+  name=$(basename $crate)
+  rm -f $crate/out/$name $crate/out/lib*.a
+  if [ -e $crate/src/broken ]; then
+    echo "$name is refused"
+    failed=$((failed + 1))
+    continue
+  elif [ -e $crate/src/main.rt ]; then
+    mkdir -p $crate/out
+    echo "# gate $(cat $crate/src/main.rt)" >$crate/out/$name
+  elif [ $name != archive ] && [ ! -e $crate/out/rlib ]; then
+    mkdir -p $crate/out/rlib/$name.rlib/interface
+    cp $crate/src/lib.rt $crate/out/rlib/$name.rlib/interface/format
+  fi
+  passed=$((passed + 1))
 done
 echo "$passed passed, $failed failed"
 exit $failed
 """
-# Goes on until a part has begun, if the test says which.
-STATIC = """import os, sys, time
-import sources
-crate = sys.argv[1]
-calls = open(os.environ["CALLS"], "a", buffering=1)
-print("static", crate, file=calls)
-if not all(map(sources.is_current, sources.below(crate) - {crate})):
-    sys.exit(f"{crate}: a library isn't built of its sources as they are")
-for _ in range(200):
-    if os.environ["UNTIL"] in open(os.environ["CALLS"]).read():
-        break
-    time.sleep(0.05)
-(sources.TOP / "crates" / crate / "out").mkdir(exist_ok=True)
-sources.product(crate).write_text("static")
-sources.note(crate)
-print("built", crate, file=calls)
+# A build of the static library waits until a part has begun, if the test says which, and notes its end.
+MEANWHILE = """[ $1 = archive ] || exit 0
+until grep -q "$UNTIL" $CALLS; do sleep 0.05; done
+echo built archive >>$CALLS
 """
 # A part: its name, how many lines it writes, for how long it waits behind each, what it counts (or -), its status, and files that are there.
 SAY = """name=$1 lines=$2 pause=$3 passed=$4 failed=$5 status=$6
@@ -96,7 +84,7 @@ GOOD = [
     ("quick", "needs nothing", "quick 1 0 1 0 0"),
     ("loud", "goes on for long too", "loud 4 0.1 1 0 0"),
     ("folder", "needs a folder", "folder 1 0 1 0 0 made/here"),
-    ("library", "needs a library", "library 1 0 1 0 0 {low}/low.rlib/format", "low"),
+    ("library", "needs a library", "library 1 0 1 0 0 {low}/interface/format", "low"),
 ]
 BAD = [
     ("failing", "has two that fail", "failing 1 0 1 2 1"),
@@ -120,15 +108,12 @@ class Trial:
 
     def __init__(self, folder):
         self.top, self.calls = folder / "repository", folder / "calls"
-        self.environment = {**os.environ, "CALLS": str(self.calls), "UNTIL": "", "PATH": f"{folder}/bin:{folder}/python:/usr/bin:/bin"}
-        write(folder / "bin/rt", RT)
-        (folder / "bin/rt").chmod(0o755)
-        (folder / "python").mkdir()
-        (folder / "python/python3").symlink_to(sys.executable)
+        path = f"{folder}/bin:{folder}/python:/usr/bin:/bin"
+        self.environment = {**os.environ, "CALLS": str(self.calls), "MEANWHILE": MEANWHILE, "UNTIL": "", "PATH": path}
+        lay_kit(folder, RT)
         for name in COPIED:
             (self.top / name).parent.mkdir(parents=True, exist_ok=True)
             shutil.copy(TOP / name, self.top / name)
-        write(self.top / "tools/static.py", STATIC)
         write(self.top / "tests/say", SAY)
         write(self.top / "HANDLES", "Handles allowed: none.\n")
         write(self.top / "crates.txt", "".join(f"{head}: {names}\n" for head, names in CRATES.items()))
@@ -151,8 +136,8 @@ class Trial:
         return Done(done.stdout.splitlines(), done.returncode, done.stderr, self.noted())
 
     def noted(self):
-        """What `rt`, the builds and the parts have noted, without numbers."""
-        return [re.sub(r"( \d+)* *$", "", line) for line in self.calls.read_text().splitlines()]
+        """What `rt`, the builds and the parts have noted, without numbers and words for the kit."""
+        return [re.sub(r"( --\w+| \d+)* *$", "", line) for line in self.calls.read_text().splitlines()]
 
     def git(self, *words):
         """Runs a command of git, and gives what it writes."""
@@ -192,12 +177,12 @@ def alone(trial):
     yield "a part that needs nothing", (lines, 0, "", ["begin quick"]), (found, *done[1:])
     done = trial.run("folder", "tool", "quick", "tool")
     order = [call for call in done.calls if call not in ("begin quick", "begin folder")]
-    yield "a program is built first", ["rt lib low", "rt run tool", "begin tool"], order
+    yield "a program is built first", ["library low", "program tool", "begin tool"], order
     yield "its progress is shown", True, any(line.startswith("tool: 1 of 2 crates, ") for line in done.lines)
     begin = [line.split(", ")[-1] for line in began(done)]
     yield "what begins", ["check: build of tool", "folder", "quick", "tool"], sorted(begin)
     yield "what is shown", (["tool", "quick", "folder"], "5 passed, 0 failed", 0), (shown(done), done.lines[-1], done.status)
-    yield "the program", True, "tool has alone // tool" in done.lines
+    yield "the program", True, any(re.fullmatch("tool has .* # alone // tool", line) for line in done.lines)
     yield "the folder is there", True, (trial.top / "made/here").is_dir()
     done = trial.run("tool")
     yield "a program that is built", (["begin tool"], ["check: part 1 of 1, tool"]), (done.calls, began(done))
@@ -207,10 +192,10 @@ def static(trial):
     """A static library is built over the libraries that are there, or else with them."""
     shutil.rmtree(trial.top / "crates/low/out")
     done = trial.run("late")
-    yield "with its library", (["static archive", "rt lib low", "rt lib archive", "begin late"], 0), (done.calls, done.status)
+    yield "with its library", (["library low", "archive archive", "built archive", "begin late"], 0), (done.calls, done.status)
     shutil.rmtree(trial.top / "crates/archive/out")
     done = trial.run("late")
-    yield "over its library", (["static archive", "built archive", "begin late"], 0), (done.calls, done.status)
+    yield "over its library", (["archive archive", "built archive", "begin late"], 0), (done.calls, done.status)
 
 
 def whole(trial):
@@ -221,8 +206,9 @@ def whole(trial):
     yield "all: the count", ("14 passed, 0 failed", 0), (done.lines[-1], done.status)
     yield "all: what is shown", ["proofs", *names], shown(done)
     yield "all: the gate is first", ("rt ci repository", ["check: part 1 of 8, proofs"]), (done.calls[0], began(done)[:1])
-    yield "all: no other proof", 1, sum(call.startswith("rt ") for call in done.calls)
-    yield "all: the program is the gate's", True, "tool has gate // tool" in done.lines
+    proofs = [call for call in done.calls if not call.startswith("begin ")]
+    yield "all: no other proof", ["rt ci repository", "archive archive", "built archive"], proofs
+    yield "all: the program is the gate's", True, "tool has # gate // tool" in done.lines
     yield "all: each part once", sorted(names), sorted(call.split()[1] for call in done.calls if call.startswith("begin "))
     found = [call for call in done.calls if call in ("begin slow", "built archive", "begin late")]
     wanted = ["begin slow", "built archive", "begin late"] if len(os.sched_getaffinity(0)) > 1 else ["built archive", "begin slow", "begin late"]
@@ -264,11 +250,11 @@ def committed(trial):
     done = trial.run()
     yield "a change", f"check: commit {commit}-changed", done.lines[0]
     yield "a gate that fails", ("13 passed, 1 failed", 1), (done.lines[-1], done.status)
-    yield "its programs are taken", True, "tool has gate // another" in done.lines
+    yield "its programs are taken", True, "tool has # gate // another" in done.lines
     trial.git("commit", "-qam", "another")
     (trial.top / "crates/wrong/src/broken").rename(trial.top.parent / "broken")
     done = trial.run("tool")
-    yield "and not for long", ["rt run tool", "begin tool"], done.calls
+    yield "and not for long", ["program tool", "begin tool"], done.calls
     yield "no commit where parts are named", False, any("commit" in line for line in done.lines)
     trial.git("commit", "-qam", "mended")
     yield "the commit", f"check: commit {trial.git('rev-parse', 'HEAD').strip()}", trial.run().lines[0]

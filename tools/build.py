@@ -7,9 +7,8 @@ Prints on standard error which crates it builds, how many are done, how long it 
 build only if the build failed, and the status is then 1. It passes over crates that are built of their sources as they are (tools/sources.py), and
 prints nothing if all are.
 
-Each crate is built in a room of its own, a folder with the crate and the libraries below it: `rt` locks the folders of the crates that it reads, so
-in one place two crates that depend on a third would wait for each other. A build on which a longer chain of crates waits comes first: it has the
-processors that it can use, the next one what is left, and so on. tools/proof_seconds.txt has the times from which the length of a chain follows.
+A build on which a longer chain of crates waits comes first: it has a job for each processor, the next one half as many, and so on, and less priority.
+tools/proof_seconds.txt has the times from which the length of a chain follows. tools/kit.py builds one crate.
 """
 
 import fcntl
@@ -27,6 +26,7 @@ import sources
 from sources import TOP, below, libraries
 
 SECONDS = pathlib.Path(__file__).resolve().parent / "proof_seconds.txt"
+KIT = pathlib.Path(__file__).resolve().parent / "kit.py"
 # How many bytes of code and proofs take about a second, for a crate of which no seconds are known.
 BYTES = 400
 # For how long to wait before looking again, and before saying again how long it has been, in seconds.
@@ -34,9 +34,7 @@ PAUSE, REMIND = 0.2, 60
 # The part of a proof that one processor does alone, and the part of all processors that is at work on average.
 ALONE, AT_WORK = 1 / 3, 3 / 4
 # By how much nicer a build is for each one beside it that a longer chain waits for, and the most that it may be.
-NICER, NICEST = 5, 19
-# How many of the longest chains have all processors. The others have half of them.
-WIDE = 2
+NICER, NICEST = 3, 19
 # The memory that each job beside the first may take, in bytes.
 EACH_JOB = 1_500_000_000
 
@@ -83,35 +81,6 @@ def free_memory():
     return 0
 
 
-def linked(name, room):
-    """Puts a crate into a room, by links to its files. What was kept of its proofs is left out: who reads it needs none."""
-    shutil.copytree(TOP / "crates" / name, room / "crates" / name, copy_function=os.link, ignore=shutil.ignore_patterns("incremental"))
-
-
-class Room:
-    """A folder in which one crate is built."""
-
-    def __init__(self, rooms, crate, libraries):
-        self.top = pathlib.Path(rooms) / crate
-        self.own = self.top / "crates" / crate / "out"
-        self.out = TOP / "crates" / crate / "out"
-        crates = [*libraries, crate]
-        for name in crates:
-            linked(name, self.top)
-        lines = sources.declared()
-        (self.top / "crates.txt").write_text("".join("{}:{}\n".format(*lines[name]) for name in crates))
-        os.link(TOP / "HANDLES", self.top / "HANDLES")
-        shutil.rmtree(self.own, ignore_errors=True)
-        if self.out.exists():
-            self.out.rename(self.own)
-
-    def leave(self):
-        """Takes back what is built, and what was kept of the proofs."""
-        if self.own.exists():
-            self.own.rename(self.out)
-        shutil.rmtree(self.top)
-
-
 def held(program):
     """Waits until nobody works in the folders of a program's crates, and keeps others out until this ends, as `rt` does."""
     for crate in sorted(below(program)):
@@ -126,12 +95,11 @@ def held(program):
 class Work:
     """What is to be built, what is being built, and since when."""
 
-    def __init__(self, program, rooms):
+    def __init__(self, program):
         self.program = program
-        self.rooms = rooms
-        wanted = sorted(crate for crate in below(program) if not is_built(crate, program))
+        wanted = sorted(crate for crate in below(program) if not sources.is_current(crate))
         self.sums = {crate: sources.sum_of_sources(crate) for crate in wanted}
-        self.waiting = {crate: {name for name in libraries()[crate] if name in wanted} for crate in wanted}
+        self.waiting = {crate: below(crate).intersection(wanted) - {crate} for crate in wanted}
         self.ways = longest_ways(wanted)
         self.total = len(wanted)
         self.minutes = minutes_for(wanted)
@@ -152,27 +120,15 @@ class Work:
         so_far = f"{len(self.done)} of {self.total} crates, {minutes}:{seconds:02} of about {self.minutes} min"
         print(f"{self.program}: {so_far}: {names}", file=sys.stderr, flush=True)
 
-    def words(self, crate, jobs):
-        """The command that builds a crate."""
-        if not sources.is_program(crate):
-            return ["rt", "lib", "--jobs", str(jobs)]
-        # A program that is given no input ends at once, with a status of its own, so that to run it builds it.
-        sources.product(crate).unlink(missing_ok=True)
-        return ["rt", "run", "--jobs", str(jobs)]
-
-    def has_built(self, crate, status):
-        """Whether a build that ended with this status did what it should."""
-        return sources.product(crate).exists() if sources.is_program(crate) else status == 0
-
     def left(self, crate):
         """The most processor seconds that are left of the longest chain from this crate up: a build takes at least one in each second."""
         began = self.running[crate][0] if crate in self.running else time.monotonic()
         return self.ways[crate] - min(seconds(crate), time.monotonic() - began)
 
     def jobs(self, rank):
-        """How many jobs a build gets, as far as there is memory, while longer chains wait for this number of other builds."""
-        most = processors() if rank < WIDE else max(1, processors() // 2)
-        return max(1, min(most, 1 + free_memory() // EACH_JOB))
+        """How many jobs a build gets, as far as there is memory, while longer chains wait for this number of other builds: as many as there are
+        processors, or half of what the build before it gets. A build with more jobs takes more processor seconds."""
+        return max(1, min(processors() >> rank, 1 + free_memory() // EACH_JOB))
 
     def start(self):
         """Starts each build whose libraries are built, and returns whether there was one."""
@@ -181,19 +137,17 @@ class Work:
             rank = sum(self.left(other) > self.left(crate) for other in self.running)
             del self.waiting[crate]
             log = tempfile.TemporaryFile("w+")
-            words, room = self.words(crate, self.jobs(rank)), Room(self.rooms, crate, below(crate) - {crate})
             nicer = ["nice", "-n", str(min(NICER * rank, NICEST))]
-            started = subprocess.Popen([*nicer, *words], cwd=room.own.parent, stdin=subprocess.DEVNULL, stdout=log, stderr=log)
-            self.running[crate] = time.monotonic(), started, log, room
+            words = [*nicer, sys.executable, KIT, crate, str(self.jobs(rank))]
+            self.running[crate] = time.monotonic(), subprocess.Popen(words, stdin=subprocess.DEVNULL, stdout=log, stderr=log), log
         return bool(ready)
 
     def collect(self):
         """Collects the builds that have ended, and returns whether one has."""
         ended = [crate for crate, (_, started, *_) in self.running.items() if started.poll() is not None]
         for crate in ended:
-            _, started, log, room = self.running.pop(crate)
-            room.leave()
-            if not self.has_built(crate, started.returncode):
+            _, started, log = self.running.pop(crate)
+            if started.returncode:
                 log.seek(0)
                 sys.stderr.write(log.read())
                 sys.exit(f"{self.program}: {crate} can't be built")
@@ -201,11 +155,10 @@ class Work:
         return bool(ended)
 
     def stop(self):
-        """Stops the builds that run, keeps what they have proved, and notes what is built, except crates that were edited meanwhile."""
-        for _, started, _, room in self.running.values():
+        """Stops the builds that run, and notes what is built, except crates that were edited meanwhile."""
+        for _, started, _ in self.running.values():
             started.terminate()
             started.wait()
-            room.leave()
         self.running.clear()
         sources.sum_of_sources.cache_clear()
         for crate in self.done:
@@ -225,26 +178,19 @@ class Work:
             time.sleep(PAUSE)
 
 
-def is_built(crate, program):
-    """Whether a crate needs no build: one that others are built over must be such that `rt` doesn't prove it again."""
-    return sources.is_current(crate) and (crate == program or sources.has_stamp(crate))
-
-
 def build(program):
     """Builds a program or a static library, where it isn't built of its sources as they are."""
     if not shutil.which("rt"):
         sys.exit(f"{program}: the Rattle kit's command rt is not on the PATH, and proves and builds it")
     held(program)
-    (TOP / "out").mkdir(exist_ok=True)
-    with tempfile.TemporaryDirectory(dir=TOP / "out") as rooms:
-        # Another run may have built it meanwhile.
-        if sources.is_current(program):
-            return
-        work = Work(program, rooms)
-        try:
-            work.run()
-        finally:
-            work.stop()
+    # Another run may have built it meanwhile.
+    if sources.is_current(program):
+        return
+    work = Work(program)
+    try:
+        work.run()
+    finally:
+        work.stop()
 
 
 def main():

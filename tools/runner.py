@@ -154,13 +154,6 @@ def is_ready(crate, gate):
     return sources.is_current(crate)
 
 
-def build_words(crate):
-    """The command that builds a crate. A static library is built over the libraries that the gate has left, if it left them."""
-    if sources.is_static(crate):
-        return ["sh", "-c", "python3 tools/static.py $0 || python3 tools/build.py $0", crate]
-    return ["python3", "tools/build.py", crate]
-
-
 class Work:
     """Parts that wait, the crates that are to be built for them, and what runs."""
 
@@ -187,7 +180,7 @@ class Work:
         if self.unbuilt and not self.building and self.has_room():
             crate = self.unbuilt.pop(0)
             self.progress.say(f"build of {crate}")
-            self.building[crate] = Command(build_words(crate))
+            self.building[crate] = Command(["python3", "tools/build.py", crate])
         for part in [part for part in self.waiting if self.built.issuperset(part.needs)]:
             if not self.has_room():
                 break

@@ -3,10 +3,11 @@
 below it, their lines of crates.txt, HANDLES, and the kit by its line of `rt version`. Times, other files and other crates don't count.
 
     tools/sources.py               writes the kit's line, and the checksum of each crate's sources
-    tools/sources.py --built FILE  notes what `rt ci` has just built of each crate whose checksum is still that in FILE
+    tools/sources.py --built FILE  takes over what `rt ci` has built of each crate whose checksum is still that in FILE, and notes it
+    tools/sources.py --left        takes over the libraries of an `rt ci` that failed, and notes nothing
 
-A note is kept in out/built/, and holds for a copy of the whole folder too. `rt ci` leaves programs, and libraries without a stamp. Those with one
-it puts back as they were before it, so they keep their notes; static libraries it leaves none.
+A note is kept in out/built/, and holds for a copy of the whole folder too. `rt ci` leaves programs, no static libraries, and libraries that have only
+their statements, which are taken over. Libraries with a stamp are of the kit's other commands.
 """
 
 import functools
@@ -55,12 +56,17 @@ def is_program(crate):
     return (TOP / "crates" / crate / "src" / "main.rt").exists()
 
 
+def library(crate):
+    """The folder of a library for crates above it. The kit keeps its own in out/rlib/."""
+    return TOP / "crates" / crate / "out" / "statements" / f"{crate}.rlib"
+
+
 def product(crate):
-    """What a build of the crate leaves: a program, an archive, or the folder of a library for crates above it."""
+    """What a build of the crate leaves: a program, an archive, or the folder of a library."""
     out = TOP / "crates" / crate / "out"
     if is_program(crate):
         return out / crate
-    return out / f"lib{crate}.a" if is_static(crate) else out / "rlib"
+    return out / f"lib{crate}.a" if is_static(crate) else library(crate)
 
 
 @functools.cache
@@ -95,18 +101,11 @@ def sum_of_sources(crate):
     return hashlib.sha256("\n".join(parts).encode()).hexdigest()
 
 
-def has_stamp(crate):
-    """Whether a library is one over which `rt` builds others without proving it again."""
-    return (product(crate) / "stamp").is_file()
-
-
 def sum_of_product(crate):
-    """The checksum of what is built, or nothing where it isn't there. Of a library with a stamp, which is a checksum, that will do."""
+    """The checksum of what is built, or nothing where it isn't there."""
     built = product(crate)
     if built.is_file():
         return sum_of_files([built], built.parent)
-    if has_stamp(crate):
-        return sum_of_files([built / "stamp"], built)
     return sum_of_files(files_of(built), built) if any(built.glob("*/*")) else None
 
 
@@ -130,6 +129,19 @@ def is_current(crate):
     return noted[1:] == wanted[1:] and (kit() is None or noted[0] == wanted[0])
 
 
+def take_over(crate):
+    """Moves a library that `rt ci` has left to where those of build.py are, and returns whether there is what it has left."""
+    left, folder = TOP / "crates" / crate / "out" / "rlib", library(crate)
+    if is_program(crate):
+        return product(crate).exists()
+    if not (left / folder.name).is_dir() or (left / "stamp").exists():
+        return False
+    shutil.rmtree(folder, ignore_errors=True)
+    folder.parent.mkdir(exist_ok=True)
+    (left / folder.name).rename(folder)
+    return True
+
+
 def sums():
     """The kit's line, and a line for each crate."""
     return [str(kit()), *(f"{crate} {sum_of_sources(crate)}" for crate in declared())]
@@ -138,12 +150,14 @@ def sums():
 def main():
     if len(sys.argv) == 1:
         print(*sums(), sep="\n")
+    elif sys.argv[1:] == ["--left"]:
+        for crate in libraries():
+            take_over(crate)
     elif len(sys.argv) == 3 and sys.argv[1] == "--built":
         earlier = pathlib.Path(sys.argv[2]).read_text().splitlines()
         now = sums()
         for crate, line in zip(declared(), now[1:]):
-            is_of_gate = sum_of_product(crate) and not has_stamp(crate) and not is_static(crate)
-            if earlier[:1] == now[:1] and line in earlier and is_of_gate:
+            if earlier[:1] == now[:1] and line in earlier and take_over(crate):
                 note(crate)
     else:
         sys.exit(__doc__)
