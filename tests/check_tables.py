@@ -108,7 +108,7 @@ def room_of_steps(weights):
 
 def check_room():
     text = (TOP / "crates/pool_places/specs/Counts.antt").read_text()
-    weights = {phase: int(number) for phase, number in re.findall(r"^weight phases\.(\w+) = ([1-9]\d*)$", text, flags=re.MULTILINE)}
+    weights = {phase: int(number) for phase, number in re.findall(r"^max_remaining phases\.(\w+) = ([1-9]\d*)$", text, flags=re.MULTILINE)}
     rows = list(tables(TOP / "docs/guide/operations.md"))
     listed = [(re.sub(r"\(.*\)", "", row["Phase of the object"]), row["Outstanding entries"]) for row in rows if "Outstanding entries" in row]
     found = {phase: int(number) for phases, number in listed for phase in re.findall(r"\w+", phases)}

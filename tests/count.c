@@ -7,6 +7,7 @@
  *
  * - allocations, the calls of malloc, realloc, aligned_alloc and posix_memalign;
  * - most, the most bytes that were held at one time, as malloc_usable_size tells them;
+ * - opened, the files that were opened by a relative path;
  * - reads, from other files than standard error, and of them those that answered no bytes (ends), an error (unread), and that
  *   came after the last write to standard output (late); room, the least room that one had;
  * - read and written, the bytes of all reads, and those of all writes to standard output; and writes, how many these were.
@@ -15,13 +16,15 @@
  */
 #define _GNU_SOURCE
 #include <dlfcn.h>
+#include <fcntl.h>
 #include <malloc.h>
+#include <stdarg.h>
 #include <stdio.h>
 #include <stdlib.h>
 #include <unistd.h>
 
 static struct {
-  _Atomic long allocations, most, reads, ends, unread, late, room, read, writes, written;
+  _Atomic long allocations, most, opened, reads, ends, unread, late, room, read, writes, written;
 } counted = {.room = 1L << 62};
 static _Atomic long held;
 
@@ -67,9 +70,30 @@ void free(void *block) {
   real(block);
 }
 
-ssize_t read(int file, void *bytes, size_t room) {
-  REAL(ssize_t, "read", int, void *, size_t);
-  ssize_t count = real(file, bytes, room);
+static int count_open(int file, const char *path) {
+  if (file >= 0 && path[0] != '/') counted.opened++;
+  return file;
+}
+
+int open(const char *path, int flags, ...) {
+  REAL(int, "open", const char *, int, ...);
+  va_list more;
+  va_start(more, flags);
+  int file = real(path, flags, va_arg(more, mode_t));
+  va_end(more);
+  return count_open(file, path);
+}
+
+int openat(int folder, const char *path, int flags, ...) {
+  REAL(int, "openat", int, const char *, int, ...);
+  va_list more;
+  va_start(more, flags);
+  int file = real(folder, path, flags, va_arg(more, mode_t));
+  va_end(more);
+  return count_open(file, path);
+}
+
+static ssize_t count_read(ssize_t count, size_t room) {
   counted.reads++;
   counted.late++;
   if (count == 0) counted.ends++;
@@ -77,6 +101,16 @@ ssize_t read(int file, void *bytes, size_t room) {
   if (count > 0) counted.read += count;
   if ((long)room < counted.room) counted.room = room;
   return count;
+}
+
+ssize_t read(int file, void *bytes, size_t room) {
+  REAL(ssize_t, "read", int, void *, size_t);
+  return count_read(real(file, bytes, room), room);
+}
+
+ssize_t pread(int file, void *bytes, size_t room, off_t place) {
+  REAL(ssize_t, "pread", int, void *, size_t, off_t);
+  return count_read(real(file, bytes, room, place), room);
 }
 
 ssize_t write(int file, const void *bytes, size_t size) {
@@ -100,6 +134,7 @@ __attribute__((destructor)) static void tell(void) {
   if (!file) return;
   TELL(allocations);
   TELL(most);
+  TELL(opened);
   TELL(reads);
   TELL(ends);
   TELL(unread);

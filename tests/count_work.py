@@ -7,7 +7,8 @@ POOL is the program. Its allocations, the bytes that it holds, its reads and its
 (tests/count.c, built with the C compiler that CC names, or cc). Allocations and bytes must be within a quarter of what is said
 below of lists and their elements; reads and writes within bounds that follow from the size of the buffers. The allocations of clap, which
 depend on the words alone, are counted first, and left out of the others. Segments that are judged side by side must each be read once, so
-what was found of them ahead must be used: a segment that was judged again would be read twice.
+what was found of them ahead must be used: a segment that was judged again would be read twice. Each file must be opened once; those after the
+first 500 are opened before any is judged, and again for their base and for their lines.
 
 TALLY is the test program crates/test_counts, which cuts a pool of up to 100,000 objects, reads the base that tests/pool_model.py tells, compares
 and prints it, and opens a pool from it, which goes on as the model does. The allocations of each of these calls are counted.
@@ -55,6 +56,9 @@ CLAP_MORE = 4
 
 # The calls of TALLY, in their order.
 CALLS = ["step", "cut", "read", "print", "open", "goon"]
+
+# How many files stay open until the check ends.
+KEPT = 500
 
 NO_LIMITS = "journalLimit = 4294967296\nmaxTotal = -1\nmaxIdle = -1\n"
 
@@ -143,6 +147,7 @@ class Counter:
         allocations, most = script.needs(command)
         self.expect(f"{name}: allocations", counted["allocations"] - self.clap[command], allocations * 3 // 4, allocations * 5 // 4)
         self.expect(f"{name}: bytes held", counted["most"], most * 3 // 4, most * 5 // 4)
+        self.expect(f"{name}: files opened", counted["opened"], 2 - (command == "stats"), 2 - (command == "stats"))
         self.streams(name, command, counted, len(text), len(journal))
 
     def streams(self, name, command, counted, text, journal):
@@ -217,17 +222,35 @@ def play_endless(counter):
     counter.endless("a full journal", ["run", "small.toml", "/dev/stdin"], b"", b"0 0 borrow 0\n", full)
 
 
-def play_side_by_side(counter):
-    """Legal segments: each is read once, but for the front of it in which its base is looked for."""
-    segments, uses = 12, 40_000
-    names, sizes = [f"segment-{index}" for index in range(segments)], []
+def write_segments(counter, segments, uses):
+    """Writes legal segments: the names of their files, and the bytes of all."""
+    names, size = [f"segment-{index}" for index in range(segments)], 0
     for index, name in enumerate(names):
         first = index * uses
         base = f"pool-journal 2 {first} 0 open none 0 0 0 0\n" if index else ""
         text = base + "".join(f"7 {at} use {at} = refused notlent\n" for at in range(first, first + uses))
-        sizes.append((counter.folder / name).write_text(text))
-    counted = counter.count(["check", "settings.toml", *names])
-    counter.expect(f"{segments} segments side by side: bytes read", counted["read"], sum(sizes), sum(sizes) + segments * BUFFER + SETTINGS)
+        size += (counter.folder / name).write_text(text)
+    return names, size
+
+
+def play_side_by_side(counter):
+    """Legal segments: each is read once, but for the front of it in which its base is looked for."""
+    for segments, uses in (12, 40_000), (KEPT + 100, 100):
+        names, size = write_segments(counter, segments, uses)
+        counted, name = counter.count(["check", "settings.toml", *names]), f"{segments} segments side by side"
+        counter.expect(f"{name}: bytes read", counted["read"], size, size + segments * BUFFER + SETTINGS)
+        opened, again = 1 + segments, max(0, segments - KEPT)
+        # On one processor a base is compared as it is read.
+        counter.expect(f"{name}: files opened", counted["opened"], opened + again, opened + 2 * again)
+
+
+def play_lost(counter):
+    """An error in the last of several segments: no file is opened again to find out which one it is in."""
+    names, _ = write_segments(counter, 12, 100)
+    with (counter.folder / names[-1]).open("a") as last:
+        last.write("no line\n")
+    counted = counter.count(["check", "settings.toml", *names], status=3)
+    counter.expect("12 segments, the last not to its end: files opened", counted["opened"], 13, 13)
 
 
 def growths(count, first=FIRST):
@@ -298,6 +321,7 @@ def main(pool, tally):
                 counter.play(script, command)
         play_endless(counter)
         play_side_by_side(counter)
+        play_lost(counter)
         play_cuts(counter, str(pathlib.Path(tally).resolve()))
     print(f"{counter.passed} passed, {counter.failed} failed")
     return 1 if counter.failed else 0

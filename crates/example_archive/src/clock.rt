@@ -3,7 +3,7 @@ use pool_shared::Clock;
 use std::io;
 use std::time::Instant;
 
-/// Returns the milliseconds since it was started.
+/// A clock that returns the milliseconds since its start.
 #[derive(Clone, Copy)]
 pub struct Uptime {
     rt: HostRuntime,
@@ -20,7 +20,7 @@ impl Uptime {
 }
 
 impl Clock for Uptime {
-    /// Returns 0 if the system gives no time: a pool accepts times that go back.
+    /// Returns the milliseconds since the start, or 0 if the system returns no time: a pool accepts times that go back.
     fn now(&self) -> u64 {
         match self.started.elapsed(&self.rt) {
             Ok(elapsed) => u64::try_from(elapsed.as_millis()).unwrap_or(u64::MAX),

@@ -3,24 +3,25 @@ use pool_shared::Factory;
 use std::convert::Infallible;
 use std::thread;
 
-/// How many questions a connection lasts for.
+/// The number of questions that a connection lasts for.
 const LASTS: u64 = 100;
 
-/// A connection to something that answers. It counts what it was asked.
+/// A connection to something that answers. It counts the questions.
 #[derive(Drop)]
 pub struct Connection {
     asked: u64,
 }
 
 impl Connection {
-    /// Asks. Meanwhile other workers may run.
+    /// Asks a question. Meanwhile other workers may run.
     pub fn ask(&mut self) {
         thread::yield_now();
         self.asked = self.asked.saturating_add(1);
     }
 }
 
-/// Makes connections. One that was asked `LASTS` times fails its test, and the pool makes a new one in its place.
+/// A factory of connections. One that was asked `LASTS` times fails its test, and the pool makes a new one in its
+/// place.
 #[derive(Drop)]
 pub struct Connector;
 

@@ -1,10 +1,10 @@
 use std::alloc::{AllocError, AllocFailed};
 use std::io;
 
-/// What ends the work early.
+/// An error that ends the work early.
 #[derive(Clone, Copy, Debug)]
 pub enum Fault {
-    /// The argument is missing, the folder of the archive.
+    /// The argument, the folder of the archive, is missing.
     NoFolder,
     Settings,
     NotOpened,
@@ -13,7 +13,7 @@ pub enum Fault {
     NotMaintained,
     NotClosed,
     CallerMissing,
-    /// The system gave no time, created no thread or wrote no file: perhaps the folder already has an archive.
+    /// The system returned no time, created no thread or wrote no file: perhaps the folder already has an archive.
     System,
     OutOfMemory,
 }

@@ -1,8 +1,9 @@
-//! An example: four workers share a pool that could run for years. `example_archive FOLDER` fills a folder that has no archive yet.
+//! An example: four workers share a long-running pool. `example_archive FOLDER` fills a folder that has no archive yet.
 //!
-//! The pool's journal has room for 300 entries, and they make some eight thousand. So now and then, and when the journal is full,
-//! each of them tests whether little room is left. If so, it cuts the journal, and writes the segment to a file of its own, beside
-//! the pool's settings. In the folder, `pool check archive.toml segment-*` checks all files as the one journal that they are.
+//! The pool's journal has room for 300 entries, and the workers append some eight thousand. So now and then, and when
+//! the journal is full, each worker tests whether little room is left. If so, it cuts the journal, and writes the
+//! segment to a file of its own, beside the pool's settings. In the folder, `pool check archive.toml segment-*` checks
+//! all files as one journal.
 #![tactic(auto)]
 
 ghost use Rattle.std.specs.Prelude.{◌≡◌};
@@ -28,14 +29,14 @@ use std::thread::Threads;
 use std::{env, thread};
 use working::{Tally, work};
 
-/// How the pool is to behave.
+/// The settings of the pool.
 const SETTINGS: &str = "journalLimit = 300
 maxTotal = 3
 minIdle = 1
 testOnBorrow = true
 ";
 
-/// The number that tells this pool from others.
+/// The number that distinguishes this pool from others.
 const NUMBER: u64 = 1;
 
 const WORKERS: u32 = 4;
@@ -73,7 +74,7 @@ fn work_all<B: Room + Send + Sync, R: Threads + Wait + Sync>(
     Ok(all)
 }
 
-// Closes the pool, and archives the entries that are left. Returns how many they are.
+// Closes the pool, and archives the entries that are left. Returns their number.
 fn close<B: Room, R: Wait>(
     rt: &R,
     archive: &Archive<'_>,
@@ -95,8 +96,8 @@ fn outcome_of(core: &Core<Connection>, tally: Tally, rest: u64) -> Outcome {
     }
 }
 
-// Runs the pool, with a caller for each worker and one for the keeper. The type `B` names this one pool, so the compiler knows that
-// the callers are those of this pool.
+// Runs the pool, with a caller for each worker and one for the keeper. The type `B` names this one pool, so the
+// compiler knows that the callers are those of this pool.
 fn live<B: Room + Send + Sync, R: Threads + Wait + Sync>(
     rt: &R,
     alloc: Global,

@@ -6,27 +6,27 @@ use crate::fault::Fault;
 use pool_shared::{AddFault, BorrowFault, Caller, Lent, Room};
 use std::sync::Wait;
 
-/// How many requests each worker answers.
+/// The number of requests that each worker answers.
 const REQUESTS: u32 = 500;
 
-/// After how many of them it looks after the pool.
+/// The number of requests after which a worker looks after the pool.
 const SPAN: u32 = 50;
 
 /// The least room that the journal should have, in entries.
 const LEAST: u64 = 100;
 
-/// How often a borrow is tried if the journal has no room for it.
+/// The number of times that a borrow is tried if the journal has no room for it.
 const TRIES: u32 = 100;
 
-/// How many requests a worker answered, and how many entries it wrote to files.
+/// The number of requests that a worker answered, and the number of entries that it wrote to files.
 #[derive(Clone, Copy)]
 pub struct Tally {
     pub answered: u64,
     pub archived: u64,
 }
 
-// Borrows a connection. If the journal has no room for that, archives it, unless another worker has just done so. Other workers may
-// have filled it again by the next try.
+// Borrows a connection. If the journal has no room for that, archives it, unless another worker has just done so. Other
+// workers may have filled it again by the next try.
 fn borrow<B: Room, R: Wait>(
     rt: &R,
     archive: &Archive<'_>,
@@ -47,7 +47,8 @@ fn borrow<B: Room, R: Wait>(
     Err(Fault::NotBorrowed)
 }
 
-// Maintains the pool, and archives its journal if little room is left. Maintenance that finds no room is left to the next worker.
+// Maintains the pool, and archives its journal if little room is left. Maintenance that finds no room is left to the
+// next worker.
 fn look_after<B: Room, R: Wait>(
     rt: &R,
     archive: &Archive<'_>,
@@ -60,7 +61,8 @@ fn look_after<B: Room, R: Wait>(
     }
 }
 
-/// Answers requests, each over a connection that it borrows for that, and looks after the pool now and then.
+/// Answers requests, each over a connection that it borrows for that, and looks after the pool now and then. Returns
+/// the caller and its tally.
 pub fn work<B: Room, R: Wait>(
     rt: &R,
     archive: &Archive<'_>,

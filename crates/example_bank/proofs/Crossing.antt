@@ -1,5 +1,6 @@
--- A store of files may go from thread to thread. What it holds is walked layer by layer, since one `search` through all of it runs out of steps. A
--- struct that is a field is found by its `the_field.row`, one that is an argument, as of an `Option` or an `Items`, by its `the_row`.
+-- A store of files may go from thread to thread. What it holds is walked layer by layer, since one `search` through all of it
+-- runs out of steps. A struct that is a field is found by its `the_field.row`, one that is an argument, as of an `Option` or an
+-- `Items`, by its `the_row`.
 use denote.RattleType.{RattleType}
 use denote.Param.Send.{IsSend, owning_send, sendable}
 use Rattle.std.proofs.Crossing.{crosses}

@@ -27,7 +27,7 @@ pub struct Order {
     pub transfer: i64,
 }
 
-/// Where books are kept, over connections of a type `C`.
+/// A store of books, over connections of a type `C`.
 pub trait Shelf<C> {
     /// Connects to the book at a path, and makes it if there is none.
     fn open(&self, path: &str) -> Result<C, Error>;
@@ -36,7 +36,7 @@ pub trait Shelf<C> {
     fn close(&self, connection: C) -> Result<(), Error>;
 }
 
-/// Books in files. Its callers are proved over any shelf: only two methods and `main` depend on what a store of files is.
+/// Books in files. Its callers are proved over any shelf: only two methods and `main` depend on the store of files.
 #[derive(Clone, Copy)]
 pub struct Files {
     rt: HostRuntime,
@@ -100,12 +100,12 @@ impl<S: Alter> Book<S> {
         self.connection.query_row(BALANCE, params![account])?.get(0)
     }
 
-    /// Breaks the connection, for the example: from now on each statement that reads a row fails.
+    /// Breaks the connection, for the example: each later statement that reads a row fails.
     pub fn break_down(&mut self) {
         self.connection.set_step_limit(Some(0));
     }
 
-    /// Closes it. Committed transactions are kept, even if the close fails.
+    /// Closes the connection. Committed transactions are kept, even if the close fails.
     pub fn close<H: Shelf<Connection<S>>>(self, shelf: &H) -> Result<(), Error> {
         let Book { connection } = self;
         shelf.close(connection)

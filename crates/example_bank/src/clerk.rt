@@ -7,10 +7,10 @@ use pool_shared::{Caller, Factory, Room};
 use sqlite::Error;
 use std::sync::Wait;
 
-/// How many orders each clerk executes.
+/// The number of orders that each clerk executes.
 const ORDERS: u32 = 25;
 
-/// What goes wrong with an order.
+/// A mishap with an order.
 #[derive(Clone, Copy, PartialEq, Eq)]
 enum Mishap {
     /// The connection breaks before it.
@@ -30,7 +30,8 @@ fn mishap_of(clerk: u32, number: u32) -> Option<Mishap> {
     }
 }
 
-// A deposit of 10 to the account with the clerk's number, and a transfer of that number plus 1 to the next account.
+// Returns the order of a clerk: a deposit of 10 to the account with the clerk's number, and a transfer of that number
+// plus 1 to the next account.
 fn order_of(clerk: u32) -> Order {
     let account = i64::from(clerk % 4);
     Order {
@@ -41,8 +42,8 @@ fn order_of(clerk: u32) -> Order {
     }
 }
 
-// Borrows a connection, executes an order over it, and returns it to the pool. Returns whether the order was executed. If it was
-// not, the connection is destroyed, and nothing has changed.
+// Borrows a connection, executes an order over it, and returns it to the pool. Returns whether the order was executed.
+// If it was not, the connection is destroyed, and nothing has changed.
 fn try_order<L: Connected, F: Factory<L, Error> + Drop, B: Room, R: Wait>(
     rt: &R,
     bank: &Bank<L, F, B>,
@@ -71,8 +72,8 @@ fn try_order<L: Connected, F: Factory<L, Error> + Drop, B: Room, R: Wait>(
     Ok(true)
 }
 
-/// Executes all orders of a clerk, each over a connection that it borrows for that. If the connection breaks, it executes the order
-/// over another one. Returns the clerk's caller.
+/// Executes all orders of a clerk, each over a connection that it borrows for that. If the connection breaks, it
+/// executes the order over another one. Returns the clerk's caller.
 pub fn work<L: Connected, F: Factory<L, Error> + Drop, B: Room, R: Wait>(
     rt: &R,
     bank: &Bank<L, F, B>,

@@ -3,7 +3,7 @@ use pool_shared::Clock;
 use std::time::{Duration, Instant};
 use std::{io, thread};
 
-/// Returns the milliseconds since it was started.
+/// A clock that returns the milliseconds since its start.
 #[derive(Clone, Copy)]
 pub struct OfficeClock {
     rt: HostRuntime,
@@ -25,7 +25,7 @@ impl OfficeClock {
 }
 
 impl Clock for OfficeClock {
-    /// Returns 0 if the system gives no time: a pool accepts times that go back.
+    /// Returns the milliseconds since the start, or 0 if the system returns no time: a pool accepts times that go back.
     fn now(&self) -> u64 {
         match self.started.elapsed(&self.rt) {
             Ok(elapsed) => u64::try_from(elapsed.as_millis()).unwrap_or(u64::MAX),

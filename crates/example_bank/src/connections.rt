@@ -41,7 +41,7 @@ impl<S: Alter> Link<S> {
     }
 }
 
-/// Opens connections to the books on a shelf.
+/// A factory that opens connections to the books on a shelf.
 #[derive(Clone, Copy)]
 pub struct Opener<H> {
     shelf: H,
@@ -68,7 +68,7 @@ impl<S: Alter + Drop, H: Shelf<Connection<S>> + Sync> Factory<Link<S>, Error> fo
 
     ghost from_passivate = { λ error. ⊤ };
 
-    /// Opens the first book that isn't open. There is one, since the pool has as many places as there are books.
+    /// Opens the first book that isn't open. There is one, since the pool has one place for each book.
     fn make(&self, _id: u64) -> Result<Link<S>, Error> {
         for path in BOOKS {
             match Book::open(&self.shelf, path) {
@@ -88,7 +88,7 @@ impl<S: Alter + Drop, H: Shelf<Connection<S>> + Sync> Factory<Link<S>, Error> fo
         Ok(())
     }
 
-    /// Runs a query.
+    /// Returns whether a query succeeds.
     fn validate(&self, link: &Link<S>) -> bool {
         match link.book.try_borrow_mut() {
             Ok(mut book) => book.balance(0).is_ok(),

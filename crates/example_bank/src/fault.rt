@@ -2,7 +2,7 @@ use sqlite::Error;
 use std::alloc::{AllocError, AllocFailed};
 use std::io;
 
-/// What ends the day early.
+/// An error that ends the day early.
 #[derive(Clone, Copy, Debug)]
 pub enum Fault {
     Settings,

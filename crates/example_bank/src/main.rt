@@ -1,10 +1,11 @@
 //! An example: four clerks share a pool of connections to SQLite databases.
 //!
-//! SQLite locks a database file for one connection at a time. So the bank has three books, each a file, and the pool has three
-//! places. A clerk's order is a transaction in the book of the borrowed connection, and the balance of an account is the sum over
-//! the books. In the course of the day one connection breaks in use, one breaks and is returned, and one is forgotten by the clerk
-//! who borrowed it. The holder finds the first, the test of the next borrow the second, and the manager's maintenance in the evening
-//! the third. It also opens a new one in its place. Then the accounts are added up.
+//! SQLite locks a database file for one connection at a time. So the bank has three books, each a file, and the pool
+//! has three places. A clerk's order is a transaction in the book of the borrowed connection, and the balance of an
+//! account is the sum over the books. During the day one connection breaks in use, one breaks and is returned, and one
+//! is forgotten by the clerk who borrowed it. The holder finds the first, the test of the next borrow the second, and
+//! the manager's maintenance in the evening the third. The maintenance also opens a new one in its place. Then the
+//! program adds up the accounts.
 //!
 //! It leaves the books and `bank.journal` in the folder that it runs in.
 #![tactic(auto)]
@@ -33,7 +34,7 @@ use std::sync::Wait;
 use std::thread::Threads;
 use std::{fs, thread};
 
-/// How the pool is to behave.
+/// The settings of the pool.
 const SETTINGS: &str = "maxTotal = 3
 minIdle = 3
 lifo = false
@@ -45,19 +46,20 @@ removeAbandonedOnMaintenance = true
 removeAbandonedTimeoutMillis = 200
 ";
 
-/// Where the pool's journal is written, for `pool check`, `pool stats` and `journal_picture`.
+/// The file of the pool's journal, for `pool check`, `pool stats` and `journal_picture`.
 const JOURNAL: &str = "bank.journal";
 
-/// The number that tells this pool from others.
+/// The number that distinguishes this pool from others.
 const NUMBER: u64 = 1;
 
 const CLERKS: u32 = 4;
 
-/// How long the bank is closed before the evening, in milliseconds: longer than the timeout of abandoned connections.
+/// The time for which the bank is closed before the evening, in milliseconds: longer than the timeout of abandoned
+/// connections.
 const PAUSE: u64 = 250;
 
-/// The pool of connections. Clerks work over connections of any type. So only the proof of `main` considers the parts of a
-/// connection to SQLite, to show that it may go from thread to thread.
+/// The pool of connections. Clerks work over connections of any type. So only the proof of `main` considers the parts
+/// of a connection to SQLite, to show that it may go from thread to thread.
 type Bank<L, F, B> = SharedPool<L, Error, F, OfficeClock, B>;
 
 // Runs all clerks, each in its own thread. Returns their callers.
@@ -103,8 +105,8 @@ fn keep_open<
     Ok(back)
 }
 
-// Runs a day at the bank, with a caller for each clerk and one for the manager. The type `B` names this one pool, so the
-// compiler knows that the callers are those of this pool.
+// Runs a day at the bank, with a caller for each clerk and one for the manager. The type `B` names this one pool, so
+// the compiler knows that the callers are those of this pool.
 fn day<
     L: Connected,
     F: Factory<L, Error> + Send + Drop,
@@ -189,7 +191,7 @@ fn tell_accounts<S: Alter + Drop, H: Shelf<Connection<S>>>(
     Ok(())
 }
 
-// Prints what the pool did, by its counts.
+// Prints the numbers of connections that the pool opened, that were forgotten, and that are still open.
 fn tell_pool<L>(rt: &HostRuntime, core: &Core<L>) -> Result<(), Fault> {
     let counts = core.counts();
     let still_open = counts.idle + counts.lent + counts.reserved;

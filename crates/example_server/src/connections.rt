@@ -3,7 +3,7 @@ ghost use Rattle.std.specs.Prelude.{◌≡◌, true, false};
 
 use pool_shared::Factory;
 
-/// A connection to something that answers. It counts what it was asked.
+/// A connection to something that answers. It counts the requests.
 #[derive(Drop)]
 pub struct Connection {
     is_awake: bool,
@@ -12,7 +12,7 @@ pub struct Connection {
 }
 
 impl Connection {
-    /// Asks, and returns whether the connection held.
+    /// Asks `request`, and returns whether the connection held.
     pub fn ask(&mut self, request: Request) -> bool {
         self.asked = self.asked.saturating_add(1);
         self.is_broken = matches!(request, Request::Fatal);
@@ -27,11 +27,11 @@ pub enum Request {
     Fatal,
 }
 
-/// Why there is no connection.
+/// The factory's error: there is no connection.
 #[derive(Clone, Copy, Debug)]
 pub struct Unreachable;
 
-/// Makes connections, and activates them when they are borrowed.
+/// A factory that makes connections, and activates them when they are borrowed.
 #[derive(Drop)]
 pub struct Connector;
 

@@ -5,7 +5,7 @@ use pool_journal::{Entry, print_entry};
 use pool_settings::Settings;
 use std::alloc::Global;
 
-/// Returns whether each answer is the one that a pool with these settings gives.
+/// Returns whether each answer in a journal is the expected one for a pool with these settings.
 pub fn is_legal(alloc: Global, settings: Settings, journal: &[Entry]) -> Result<bool, Fault> {
     let mut text = Vec::new(alloc);
     for entry in journal {

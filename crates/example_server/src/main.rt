@@ -1,9 +1,9 @@
 //! An example: four servers answer requests over a pool of three connections.
 //!
-//! In the course of the day one connection breaks, and one is forgotten by the server that borrowed it. In the evening the
-//! pool is maintained, which reclaims the forgotten one. Then it is closed, and its journal is checked.
+//! During the day one connection breaks, and one server forgets the connection that it borrowed. In the evening the
+//! keeper maintains the pool, which reclaims the forgotten one, and closes it. Then the program checks the journal.
 //!
-//! README.md, beside this folder, says how to copy the crate under another name.
+//! README.md, beside this folder, explains how to copy the crate under another name.
 #![tactic(auto)]
 
 ghost use Rattle.std.specs.Prelude.{◌≡◌};
@@ -28,7 +28,7 @@ use std::sync::atomic::{AtomicU64, Ordering};
 use std::thread;
 use std::thread::Threads;
 
-/// How the pool is to behave.
+/// The settings of the pool.
 const SETTINGS: &str = "maxTotal = 3
 minIdle = 1
 testOnBorrow = true
@@ -38,14 +38,14 @@ removeAbandonedOnMaintenance = true
 removeAbandonedTimeoutMillis = 60000
 ";
 
-/// The number that tells this pool from others.
+/// The number that distinguishes this pool from others.
 const NUMBER: u64 = 1;
 
 const SERVERS: u32 = 4;
 
 const MORNING: u64 = 0;
 
-/// Ten hours later, in milliseconds.
+/// The time ten hours later, in milliseconds.
 const EVENING: u64 = 36_000_000;
 
 /// A clock that is set by hand.
@@ -63,14 +63,14 @@ impl Clock for Watch<'_> {
 /// The pool of connections.
 type Connections<'a, B> = SharedPool<Connection, Unreachable, Connector, Watch<'a>, B>;
 
-/// The pool's core at the end of a day, and how many requests were answered.
+/// The pool's core at the end of a day, and the number of answered requests.
 #[derive(Drop)]
 struct Evening {
     core: Core<Connection>,
     answered: u64,
 }
 
-// Runs all servers, each in its own thread. Returns their callers, and how many requests were answered.
+// Runs all servers, each in its own thread. Returns their callers, and the number of answered requests.
 fn serve_all<B: Room + Send + Sync, R: Threads + Wait + Sync>(
     rt: &R,
     alloc: Global,
@@ -87,8 +87,8 @@ fn serve_all<B: Room + Send + Sync, R: Threads + Wait + Sync>(
     Ok((back, answered))
 }
 
-// Runs a day of the pool, with a caller for each server and one for the keeper. The type `B` names this one pool, so the
-// compiler knows that the callers are those of this pool.
+// Runs a day of the pool, with a caller for each server and one for the keeper. The type `B` names this one pool, so
+// the compiler knows that the callers are those of this pool.
 fn day<B: Room + Send + Sync, R: Threads + Wait + Sync>(
     rt: &R,
     alloc: Global,
@@ -122,7 +122,7 @@ fn day<B: Room + Send + Sync, R: Threads + Wait + Sync>(
     Ok(Evening { core, answered })
 }
 
-// Returns how many connections were found broken by their holders.
+// Returns the number of connections that their holders found broken.
 fn broken(journal: &[Entry]) -> usize {
     journal
         .iter()

@@ -1,11 +1,11 @@
-// What a server does all day.
+// The work of a server.
 use crate::Connections;
 use crate::connections::Request;
 use crate::fault::Fault;
 use pool_shared::{Caller, Room};
 use std::sync::Wait;
 
-/// How many requests each server answers.
+/// The number of requests that each server answers.
 const REQUESTS: u32 = 100;
 
 // Returns the kind of a request of a server.
@@ -21,7 +21,8 @@ fn forgets(server: u32, request: u32) -> bool {
     server == 1 && request == 20
 }
 
-/// Answers requests, each over a connection that it borrows for that. Returns the caller, and how many were answered.
+/// Answers requests, each over a connection that it borrows for that. Returns the caller, and the number of answered
+/// requests.
 pub fn serve<B: Room, R: Wait>(
     rt: &R,
     pool: &Connections<B>,

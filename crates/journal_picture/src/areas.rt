@@ -30,7 +30,7 @@ impl Edge {
         }
     }
 
-    /// The colours of what is below the least and the greatest.
+    /// Returns the colours of the areas up to the least and up to the greatest number.
     fn colours(self) -> (&'static str, &'static str) {
         match self {
             Edge::All => ("#e0a030", "#f5dfb4"),
@@ -40,7 +40,7 @@ impl Edge {
         }
     }
 
-    /// What the colour stands for.
+    /// Returns the meaning of the colour.
     fn name(self) -> &'static str {
         match self {
             Edge::All => "reserved: being made, readied, returned or destroyed",
@@ -51,7 +51,7 @@ impl Edge {
     }
 }
 
-/// Where a chart stands, and the number at its top.
+/// The position of a chart, and the number at its top.
 #[derive(Clone, Copy)]
 struct Frame {
     top: u64,
@@ -64,7 +64,7 @@ impl Frame {
         self.top.saturating_add(self.height)
     }
 
-    /// Where a number stands.
+    /// Returns the vertical position of a number.
     fn y_of(&self, number: u64) -> u64 {
         let across = u128::from(number.min(self.highest)) * u128::from(self.height);
         let share = across.checked_div(u128::from(self.highest)).unwrap_or(0);
@@ -73,7 +73,7 @@ impl Frame {
     }
 }
 
-/// The objects lent, idle and reserved, stacked.
+/// Draws the objects lent, idle and reserved, stacked.
 pub(crate) fn draw_areas<W: Write>(out: &mut Canvas<'_, W>, buckets: &[Bucket]) {
     let frame = Frame {
         top: OBJECTS_TOP,
@@ -87,7 +87,7 @@ pub(crate) fn draw_areas<W: Write>(out: &mut Canvas<'_, W>, buckets: &[Bucket]) 
     draw_legend(out);
 }
 
-/// The borrowers that wait, with a line at the greatest number in each bucket.
+/// Draws the borrowers that wait, with a line at the greatest number in each bucket.
 pub(crate) fn draw_waiting<W: Write>(out: &mut Canvas<'_, W>, buckets: &[Bucket]) {
     let frame = Frame {
         top: WAITING_TOP,
@@ -112,7 +112,7 @@ pub(crate) fn draw_waiting<W: Write>(out: &mut Canvas<'_, W>, buckets: &[Bucket]
     );
 }
 
-/// The greatest number below an edge, and at least 1.
+/// Returns the greatest number below an edge, and at least 1.
 fn highest_of(buckets: &[Bucket], edge: Edge) -> u64 {
     let mut highest = 1;
     for bucket in buckets {
@@ -121,14 +121,14 @@ fn highest_of(buckets: &[Bucket], edge: Edge) -> u64 {
     highest
 }
 
-/// The areas up to the greatest and up to the least number of each bucket.
+/// Draws the areas up to the greatest and up to the least number of each bucket.
 fn draw_edge<W: Write>(out: &mut Canvas<'_, W>, buckets: &[Bucket], frame: &Frame, edge: Edge) {
     let (full, light) = edge.colours();
     draw_extent(out, buckets, frame, edge, light, true);
     draw_extent(out, buckets, frame, edge, full, false);
 }
 
-/// The area in a colour up to the greatest or up to the least number of each bucket.
+/// Draws the area in a colour up to the greatest or up to the least number of each bucket.
 fn draw_extent<W: Write>(
     out: &mut Canvas<'_, W>,
     buckets: &[Bucket],
@@ -153,7 +153,7 @@ fn draw_extent<W: Write>(
     out.put("V{}Z\"/>\n", &[frame.bottom()]);
 }
 
-/// A step for each bucket, as high as its number.
+/// Draws a step for each bucket, as high as its number.
 fn draw_steps<W: Write>(
     out: &mut Canvas<'_, W>,
     buckets: &[Bucket],
@@ -173,7 +173,7 @@ fn draw_steps<W: Write>(
     }
 }
 
-/// The numbers at the left of a chart, with a line across at each.
+/// Draws the numbers at the left of a chart, with a line across at each.
 fn draw_numbers<W: Write>(out: &mut Canvas<'_, W>, frame: &Frame) {
     let most = frame.height / 24;
     let step = step_over(frame.highest).max(frame.highest.checked_div(most).unwrap_or(1));
@@ -190,7 +190,7 @@ fn draw_numbers<W: Write>(out: &mut Canvas<'_, W>, frame: &Frame) {
     }
 }
 
-/// What the colours of the areas mean.
+/// Draws the colours of the areas, with their meanings.
 fn draw_legend<W: Write>(out: &mut Canvas<'_, W>) {
     out.put(
         "<text x=\"{}\" y=\"86\" font-weight=\"bold\">objects, stacked</text>\n",

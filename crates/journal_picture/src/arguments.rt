@@ -1,4 +1,4 @@
-//! What the arguments ask for.
+//! The task that the arguments ask for.
 
 /// A use of the program.
 #[derive(Clone, Copy)]
@@ -9,7 +9,7 @@ pub(crate) enum Task<'a> {
     Draw(&'a [String]),
 }
 
-/// Returns what the arguments ask for, or `None` if they are wrong. The first argument is the program's name.
+/// Returns the task that the arguments ask for, or `None` if they are wrong. The first argument is the program's name.
 pub(crate) fn task_of(arguments: &[String]) -> Option<Task<'_>> {
     let (_, words) = arguments.split_first()?;
     let (first, _) = words.split_first()?;
@@ -28,7 +28,7 @@ fn is_one_of(word: &String, long: &str, short: &str) -> bool {
     word.as_str() == long || word.as_str() == short
 }
 
-/// Whether a word is an option, and no path.
+/// Returns whether a word is an option, and no path.
 fn is_option(word: &String) -> bool {
     let bytes = word.as_bytes();
     bytes.len() > 1 && bytes[0] == b'-'

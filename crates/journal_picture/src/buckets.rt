@@ -5,7 +5,7 @@ use crate::counts::Counts;
 use crate::marks::Marks;
 use std::alloc::{AllocError, Global};
 
-/// The number of buckets at most.
+/// The greatest number of buckets.
 const MOST: usize = 1_000;
 
 /// The least and the greatest of some numbers.
@@ -26,12 +26,13 @@ impl Span {
         }
     }
 
-    /// The least and the greatest of both parts together.
+    /// Returns the least and the greatest of both parts together.
     fn and(self, other: Span) -> Span
         ensures least { (result.least ≤ self.least) × (result.least ≤ other.least) }
         ensures greatest { (self.greatest ≤ result.greatest) × (other.greatest ≤ result.greatest) }
         ensures least_is_one { (result.least ≡ self.least) ⊎ (result.least ≡ other.least) }
-        ensures greatest_is_one { (result.greatest ≡ self.greatest) ⊎ (result.greatest ≡ other.greatest) }
+        ensures greatest_is_one { (result.greatest ≡ self.greatest)
+            ⊎ (result.greatest ≡ other.greatest) }
     {
         Span {
             least: self.least.min(other.least),
@@ -52,7 +53,7 @@ pub(crate) struct Levels {
 }
 
 impl Levels {
-    /// The levels at one time.
+    /// Returns the levels at one time.
     pub(crate) fn of(counts: Counts, waiting: u64) -> Levels {
         let lent_or_idle = counts.lent.saturating_add(counts.idle);
         Levels {
@@ -93,7 +94,7 @@ impl Bucket {
     }
 }
 
-/// The buckets, one behind the other. Where a time comes that would need more than 1,000, each two become one.
+/// The buckets, one after the other. If a time would need more than 1,000 of them, each two become one.
 #[derive(Drop)]
 pub(crate) struct Buckets {
     /// The time at which the first one begins.
@@ -113,7 +114,7 @@ impl Buckets {
         }
     }
 
-    /// Says when the first bucket begins.
+    /// Sets the time at which the first bucket begins.
     pub(crate) fn begin(&mut self, at: u64) {
         self.first = at;
     }
@@ -122,12 +123,12 @@ impl Buckets {
         self.list.as_slice()
     }
 
-    /// The time at which the first bucket begins.
+    /// Returns the time at which the first bucket begins.
     pub(crate) fn first(&self) -> u64 {
         self.first
     }
 
-    /// The width of a bucket, in milliseconds.
+    /// Returns the width of a bucket, in milliseconds.
     pub(crate) fn width(&self) -> u64 {
         1u64.checked_shl(self.doublings).unwrap_or(u64::MAX)
     }
@@ -152,13 +153,13 @@ impl Buckets {
         Ok(())
     }
 
-    /// The number of the bucket that a time is in, from 0.
+    /// Returns the number of the bucket that a time is in, from 0.
     fn place_of(&self, at: u64) -> usize {
         let elapsed = at.saturating_sub(self.first);
         elapsed.checked_shr(self.doublings).unwrap_or(0) as usize
     }
 
-    /// Makes the buckets so wide that a time is in one of them.
+    /// Widens the buckets until a time is in one of them.
     fn widen_to(&mut self, at: u64) {
         for _ in 0..64 {
             if self.place_of(at) < MOST {
@@ -182,7 +183,7 @@ impl Buckets {
         self.doublings = self.doublings.saturating_add(1);
     }
 
-    /// The bucket at a place and the next one, if there is one, together.
+    /// Returns the bucket at a position and the next one, if there is one, together.
     fn joined_at(&self, place: usize) -> Option<Bucket> {
         let left = *self.list.get(place)?;
         match self.list.get(place.saturating_add(1)) {
@@ -191,7 +192,7 @@ impl Buckets {
         }
     }
 
-    /// Adds buckets without entries, at these levels, up to a place.
+    /// Adds buckets without entries, at these levels, up to a position.
     fn extend_to(&mut self, place: usize, levels: Levels) -> Result<(), AllocError> {
         for _ in 0..MOST {
             if self.list.len() > place || self.list.len() >= MOST {

@@ -26,8 +26,8 @@ impl fmt::Display for Value<'_> {
     }
 }
 
-/// A picture that is being written. It keeps the error of the first write that fails, and then writes nothing more. `finish`
-/// returns that error, so functions that draw have no `?`.
+/// A picture that is being written. It keeps the error of the first write that fails, and then writes nothing more.
+/// `finish` returns that error, so functions that draw have no `?`.
 pub(crate) struct Canvas<'a, W: Write> {
     out: &'a mut W,
     result: io::Result<()>,
@@ -72,8 +72,8 @@ impl<'a, W: Write> Canvas<'a, W> {
     }
 }
 
-/// Writes a text with values in it. A function that writes many values takes several times as long to prove with `write!`, since
-/// each value is then a part of the type of what is written.
+/// Writes a text with values in it. A function that writes many values takes several times as long to prove with
+/// `write!`, since each value is then a part of the type of what is written.
 fn write_pattern<W: Write, V: fmt::Display>(
     out: &mut W,
     pattern: &str,

@@ -30,7 +30,7 @@ impl Line {
     }
 }
 
-/// The counts of objects over time.
+/// Draws the counts of objects over time.
 pub(crate) fn draw_chart<W: Write>(
     out: &mut Canvas<'_, W>,
     history: &History,
@@ -59,7 +59,7 @@ pub(crate) fn draw_chart<W: Write>(
     );
 }
 
-/// The greatest count in any sample, and at least 1.
+/// Returns the greatest count in any sample, and at least 1.
 fn highest_of(samples: &[Sample]) -> u64 {
     let mut highest = 1;
     for sample in samples {

@@ -33,7 +33,8 @@ impl fmt::Display for Fill {
     }
 }
 
-/// The colour of a bar. Callers whose numbers are near have hues that are far apart. Where the caller is not known, a loan is grey.
+/// Returns the colour of a bar. Callers whose numbers are near have hues that are far apart. If the caller is not
+/// known, a loan is grey.
 pub(crate) fn fill_of(phase: Phase, caller: Option<u32>) -> Fill {
     match phase {
         Phase::Lent => match caller {

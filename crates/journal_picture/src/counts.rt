@@ -2,17 +2,17 @@
 
 use pool_journal::Phase;
 
-/// How many objects there are.
+/// The numbers of present objects.
 #[derive(Clone, Copy)]
 pub(crate) struct Counts {
     pub(crate) idle: u64,
     pub(crate) lent: u64,
-    /// Those that are being made, tested or destroyed.
+    /// The number of those that are being made, tested or destroyed.
     pub(crate) reserved: u64,
 }
 
 impl Counts {
-    /// No objects.
+    /// Returns the counts of no objects.
     pub(crate) fn none() -> Counts {
         Counts {
             idle: 0,
@@ -21,7 +21,7 @@ impl Counts {
         }
     }
 
-    /// The count that an object in this phase is in.
+    /// Returns the count that an object in this phase is in.
     fn count_of(&mut self, phase: Phase) -> Option<&mut u64> {
         match phase {
             Phase::Idle | Phase::Testing => Some(&mut self.idle),
@@ -33,14 +33,14 @@ impl Counts {
         }
     }
 
-    /// An object comes to a phase.
+    /// Counts an object that reaches a phase.
     pub(crate) fn add(&mut self, phase: Phase) {
         if let Some(count) = self.count_of(phase) {
             *count = count.saturating_add(1);
         }
     }
 
-    /// An object leaves a phase.
+    /// Removes an object that leaves a phase from its count.
     pub(crate) fn remove(&mut self, phase: Phase) {
         if let Some(count) = self.count_of(phase) {
             *count = count.saturating_sub(1);

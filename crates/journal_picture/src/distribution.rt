@@ -1,11 +1,11 @@
-//! How a number of durations is distributed, in little memory.
+//! The distribution of a number of durations, in little memory.
 ghost use Rattle.std.specs.Prelude.{◌≡◌, ◌*◌, ◌-◌, ◌≤◌};
 
 use std::alloc::{AllocError, Global};
 use std::collections::BTreeMap;
 
-/// Durations, in milliseconds, of which each is counted in a range of durations that grows with it: below 128 ms the range is that
-/// duration alone, above it reaches no further than a 64th of the duration.
+/// Durations, in milliseconds, of which each is counted in a range of durations that grows with it: below 128 ms the
+/// range is that duration alone, above it reaches no further than a 64th of the duration.
 #[derive(Drop)]
 pub(crate) struct Distribution {
     /// The number of durations in each range, by the greatest in it.
@@ -31,18 +31,18 @@ impl Distribution {
         Ok(())
     }
 
-    /// The number of durations.
+    /// Returns the number of durations.
     pub(crate) fn count(&self) -> u64 {
         self.count
     }
 
-    /// The longest of the durations, or 0 if there is none.
+    /// Returns the longest of the durations, or 0 if there is none.
     pub(crate) fn longest(&self) -> u64 {
         self.longest
     }
 
-    /// A duration that `percent` percent of the durations do not exceed, or 0 if there is none. It is at most a 64th longer than the
-    /// shortest of which that holds.
+    /// Returns a duration that `percent` percent of the durations do not exceed, or 0 if there is none. It is at most a
+    /// 64th longer than the shortest of which that holds.
     pub(crate) fn quantile(&self, percent: u64) -> u64 {
         let rank = u128::from(self.count) * u128::from(percent.min(100));
         let mut passed: u128 = 0;
@@ -56,7 +56,7 @@ impl Distribution {
     }
 }
 
-/// The greatest duration in the range of a duration.
+/// Returns the greatest duration in the range of a duration.
 fn ceiling_of(duration: u64) -> u64
     ensures above { duration ≤ result }
     ensures near { 64 * (result - duration) ≤ duration }

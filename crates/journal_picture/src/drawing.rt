@@ -33,7 +33,7 @@ pub(crate) fn draw<W: Write>(out: &mut Canvas<'_, W>, history: &History) {
     out.text("</svg>\n");
 }
 
-/// The size of the picture, and what it tells of.
+/// Draws the head of the picture: its size, its background, its title and the omissions.
 fn draw_head<W: Write>(out: &mut Canvas<'_, W>, history: &History, layout: &Layout) {
     let width = LEFT + WIDTH + 30;
     out.put(
@@ -54,7 +54,7 @@ fn draw_head<W: Write>(out: &mut Canvas<'_, W>, history: &History, layout: &Layo
     draw_omissions(out, history, layout);
 }
 
-/// What has no place in the picture.
+/// Draws the numbers of objects and of waiting callers that have a lane, if some have none.
 fn draw_omissions<W: Write>(out: &mut Canvas<'_, W>, history: &History, layout: &Layout) {
     let (objects, waiters) = (history.objects.len(), history.waiters.len());
     out.text("<text x=\"10\" y=\"40\" fill=\"#a00000\">");
@@ -70,7 +70,7 @@ fn draw_omissions<W: Write>(out: &mut Canvas<'_, W>, history: &History, layout: 
     out.text("</text>\n");
 }
 
-/// What the colours mean.
+/// Draws the colours, with their meanings.
 fn draw_legend<W: Write>(out: &mut Canvas<'_, W>) {
     let mut x: u64 = 10;
     for phase in PHASES {
@@ -92,7 +92,7 @@ fn draw_legend<W: Write>(out: &mut Canvas<'_, W>) {
     );
 }
 
-/// The times, with a line down from each.
+/// Draws the times, with a line down from each.
 fn draw_axis<W: Write>(out: &mut Canvas<'_, W>, layout: &Layout, scale: &Scale) {
     let axis = layout.axis;
     for number in 0..12 {
@@ -111,7 +111,7 @@ fn draw_axis<W: Write>(out: &mut Canvas<'_, W>, layout: &Layout, scale: &Scale) 
     );
 }
 
-/// The names of the callers that wait, a lane for each.
+/// Draws the names of the callers that wait, a lane for each.
 fn draw_waiters<W: Write>(out: &mut Canvas<'_, W>, history: &History, layout: &Layout) {
     let mut top = layout.waits_top;
     for caller in history.waiters.iter().take(layout.waiters) {
@@ -123,7 +123,7 @@ fn draw_waiters<W: Write>(out: &mut Canvas<'_, W>, history: &History, layout: &L
     }
 }
 
-/// The waits of borrowers, each in the lane of its caller.
+/// Draws the waits of borrowers, each in the lane of its caller.
 fn draw_waits<W: Write>(
     out: &mut Canvas<'_, W>,
     history: &History,
@@ -153,7 +153,7 @@ fn draw_wait<W: Write>(out: &mut Canvas<'_, W>, wait: &Waiting, top: u64, scale:
     );
 }
 
-/// The names of the objects, a lane for each.
+/// Draws the names of the objects, a lane for each.
 fn draw_lanes<W: Write>(out: &mut Canvas<'_, W>, history: &History, layout: &Layout) {
     let mut top = layout.objects_top;
     for object in history.objects.iter().take(layout.objects) {
@@ -166,7 +166,7 @@ fn draw_lanes<W: Write>(out: &mut Canvas<'_, W>, history: &History, layout: &Lay
     }
 }
 
-/// What became of the objects, a bar for each phase.
+/// Draws the phases of the objects, a bar for each.
 fn draw_bars<W: Write>(out: &mut Canvas<'_, W>, history: &History, layout: &Layout, scale: &Scale) {
     for bar in &history.bars {
         if let Some(number) = lane_of(&history.objects, bar.object, layout.objects) {
@@ -175,7 +175,7 @@ fn draw_bars<W: Write>(out: &mut Canvas<'_, W>, history: &History, layout: &Layo
     }
 }
 
-/// The lane of a caller or an object, from 0, if it is among the first ones, which have `lanes` lanes.
+/// Returns the lane of a caller or an object, from 0, if it is among the first ones, which have `lanes` lanes.
 fn lane_of<T: Copy + PartialEq>(names: &[T], name: T, lanes: usize) -> Option<usize> {
     names.iter().take(lanes).position(|other| *other == name)
 }
@@ -213,7 +213,7 @@ fn draw_bar<W: Write>(out: &mut Canvas<'_, W>, bar: &Bar, top: u64, scale: &Scal
     }
 }
 
-/// Whether a number of a caller can be read in a bar so wide.
+/// Returns whether a caller's number can be read in a bar of this width.
 fn has_room(width: u64, caller: u32) -> bool {
     let digits = u64::from(caller.checked_ilog10().unwrap_or(0)) + 1;
     width >= 6 + 7 * digits

@@ -39,7 +39,7 @@ pub(crate) enum Fault<'a> {
 }
 
 impl<'a> Fault<'a> {
-    /// Why the arguments were not read: those that are not text name no file.
+    /// Returns the error for arguments that were not read: those that are not text name no file.
     pub(crate) fn of_arguments(cause: &io::Error) -> Fault<'a> {
         match cause.kind() {
             ErrorKind::OutOfMemory => Fault::OutOfMemory,
@@ -47,7 +47,7 @@ impl<'a> Fault<'a> {
         }
     }
 
-    /// The status that the program ends with.
+    /// Returns the exit status of the program.
     pub(crate) fn status(&self) -> u8 {
         match self {
             Fault::WrongArguments => WRONG_ARGUMENTS,

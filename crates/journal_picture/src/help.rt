@@ -1,4 +1,4 @@
-//! What the program prints if its arguments ask for help or for the version.
+//! The output of the program if its arguments ask for help or for the version.
 
 /// The uses of the program, and an example of each.
 pub(crate) const USES: &str = "\

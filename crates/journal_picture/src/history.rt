@@ -6,7 +6,7 @@ use pool_journal::Phase;
 pub(crate) struct Bar {
     pub(crate) object: u64,
     pub(crate) phase: Phase,
-    /// The caller that brought it there, or none if that was before the first entry.
+    /// The caller that moved it to this phase, or none if that was before the first entry.
     pub(crate) caller: Option<u32>,
     pub(crate) from: u64,
     pub(crate) until: u64,
@@ -27,7 +27,7 @@ pub(crate) struct Sample {
     pub(crate) counts: Counts,
 }
 
-/// What there is to draw of a journal, object by object.
+/// The parts of a journal to draw, object by object.
 #[derive(Drop)]
 pub(crate) struct History {
     /// The number of entries.
@@ -37,7 +37,7 @@ pub(crate) struct History {
     /// The times at which the entries begin and end.
     pub(crate) first: u64,
     pub(crate) last: u64,
-    /// In the order of their beginnings.
+    /// The bars, in the order of their beginnings.
     pub(crate) bars: Vec<Bar>,
     pub(crate) waits: Vec<Waiting>,
     pub(crate) samples: Vec<Sample>,

@@ -5,10 +5,10 @@ use crate::fault::Cause;
 use std::alloc::{AllocError, Global};
 use std::io::{ErrorKind, Read};
 
-/// The number of bytes that are kept at most.
+/// The most bytes that are buffered.
 const CAPACITY: usize = 65_536;
 
-/// The number of bytes within which a line ends that can be read.
+/// The most bytes of a line that can be read, line feed included.
 const LINE: usize = 256;
 
 /// The bytes of a stream that were read and not handled yet.
@@ -36,24 +36,24 @@ impl<R: Read + Drop> Incoming<R> {
         })
     }
 
-    /// The bytes that were read and not handled yet.
+    /// Returns the bytes that were read and not handled yet.
     pub(crate) fn bytes(&self) -> &[u8] {
         &self.buffer[self.start..self.end]
     }
 
-    /// The number of the line that comes next, from 1.
+    /// Returns the number of the line that comes next, from 1.
     pub(crate) fn line(&self) -> u64 {
         self.line
     }
 
-    /// The first `count` bytes, which are a line, are handled.
+    /// Drops the first `count` bytes, which are a line that is handled.
     pub(crate) fn drop_line(&mut self, count: usize) {
         self.start = self.start.saturating_add(count).min(self.end);
         self.line = self.line.saturating_add(1);
     }
 
-    /// Reads until a whole line is there, or as many bytes as a line has at most, or the stream ends. Returns whether there are
-    /// any bytes.
+    /// Reads until it has read a whole line, the most bytes that a line may have, or the end of the stream. Returns
+    /// whether there are any bytes.
     pub(crate) fn await_line(&mut self) -> Result<bool, Cause> {
         for _ in 0..u64::MAX {
             let bytes = self.bytes();

@@ -1,11 +1,11 @@
 use crate::history::History;
 
-/// How many waiting callers, and how many objects, have a lane at most.
+/// The most waiting callers, and the most objects, that have a lane.
 const MOST_WAITERS: usize = 50;
 
 const MOST_OBJECTS: usize = 300;
 
-/// Where the lanes begin, below the title and the legend.
+/// The top of the lanes, below the title and the legend.
 const TOP: u64 = 84;
 
 /// The height of a lane, and of the bar in it.
@@ -13,7 +13,7 @@ pub(crate) const LANE: u64 = 18;
 
 pub(crate) const BAR: u64 = 14;
 
-/// Where time begins, right of the names of the lanes, and how much place it has.
+/// The left edge of the times, right of the names of the lanes, and their width.
 pub(crate) const LEFT: u64 = 110;
 
 pub(crate) const WIDTH: u64 = 1_180;
@@ -24,10 +24,10 @@ pub(crate) const CHART: u64 = 90;
 /// The gap between the parts of the picture.
 const GAP: u64 = 24;
 
-/// Where the parts of a picture stand, from its top down.
+/// The positions of the parts of a picture, from its top down.
 #[derive(Clone, Copy)]
 pub(crate) struct Layout {
-    /// How many waiting callers and objects have a lane.
+    /// The numbers of waiting callers and of objects that have a lane.
     pub(crate) waiters: usize,
     pub(crate) objects: usize,
     pub(crate) waits_top: u64,
@@ -57,7 +57,7 @@ impl Layout {
     }
 }
 
-/// Where the lane of a number begins, from 0.
+/// Returns the top of the lane of a number, from 0.
 pub(crate) fn lane_top(top: u64, number: usize) -> u64 {
     top.saturating_add(LANE.saturating_mul(number as u64))
 }

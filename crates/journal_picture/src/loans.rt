@@ -17,7 +17,7 @@ pub(crate) struct Loan {
 }
 
 impl Loan {
-    /// The loan's duration, in milliseconds: 0 if it ended before it began, as clocks may say.
+    /// Returns the loan's duration, in milliseconds: 0 if it ended before it began, as clocks may report.
     pub(crate) fn duration(&self) -> u64 {
         self.until.saturating_sub(self.from)
     }
@@ -52,7 +52,7 @@ impl Longest {
         Ok(())
     }
 
-    /// The number of loans that are at least as long.
+    /// Returns the number of loans that are at least as long.
     fn place_of(&self, loan: &Loan) -> usize
         ensures { result ≤ length self.now.list.items }
     {

@@ -1,13 +1,13 @@
 //! Draws journals: `journal_picture JOURNAL.. > picture.svg`.
 //!
-//! Up to 10,000 entries the picture has a lane for each object, with a bar for each phase that it was in, lent ones in the
-//! colour of their caller; the waits of borrowers above, and the counts of objects below. A longer journal gets an overview:
-//! the counts over time in at most 1,000 buckets, the distributions of waits and loans, the longest loans, and the objects
-//! that are held at the end. It is read once, and memory is taken for its objects and for the buckets.
+//! Up to 10,000 entries the picture has a lane for each object, with a bar for each phase that it was in, lent ones in
+//! the colour of their caller; the waits of borrowers above, and the counts of objects below. A longer journal gets an
+//! overview: the counts over time in at most 1,000 buckets, the distributions of waits and loans, the longest loans,
+//! and the objects that are held at the end. It is read once, and memory is taken for its objects and for the buckets.
 //!
-//! A journal may stand in one file or in several, as segments, of which each must begin where the one before it ends. It is not
-//! checked otherwise: any entries are drawn. The status is 0, 2 for wrong arguments, and 3 at an error, which is reported in one
-//! line on standard error.
+//! A journal may be in one file or in several, as segments, of which each must begin where the one before it ends. It
+//! is not checked otherwise: any entries are drawn. The status is 0, 2 for wrong arguments, and 3 at an error, which is
+//! reported in one line on standard error.
 #![tactic(auto)]
 
 mod areas;
@@ -68,7 +68,7 @@ fn refuse(rt: &HostRuntime, fault: &Fault<'_>) -> ExitCode {
     ExitCode::from(fault.status())
 }
 
-/// The program's name and the words after it.
+/// Returns the name of the program and the words after it.
 fn arguments_of<'a>(rt: &HostRuntime) -> Result<Vec<String>, Fault<'a>> {
     match env::args(rt) {
         Ok(words) => Ok(words.collect(rt.alloc())?),

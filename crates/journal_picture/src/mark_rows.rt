@@ -9,7 +9,7 @@ use std::io::Write;
 /// The number of rows.
 pub(crate) const ROWS: u64 = 5;
 
-/// What is marked in a row.
+/// The kind of the entries that are marked in a row.
 #[derive(Clone, Copy, Debug)]
 enum Row {
     Refused,
@@ -59,7 +59,7 @@ impl Row {
     }
 }
 
-/// A row for each kind of marks, with a bar in each bucket that has some.
+/// Draws a row for each kind of marks, with a bar in each bucket that has some.
 pub(crate) fn draw_rows<W: Write>(out: &mut Canvas<'_, W>, buckets: &[Bucket]) {
     out.put(
         "<text x=\"{}\" y=\"{}\" font-weight=\"bold\">marks: a bar grows with the number in its bucket, the total is at the left; no object: a borrow was exhausted or timed out</text>\n",
@@ -96,7 +96,7 @@ fn draw_row<W: Write>(out: &mut Canvas<'_, W>, buckets: &[Bucket], row: Row, top
     }
 }
 
-/// The name and the total of a row, with the line below its bars.
+/// Draws the name and the total of a row, with the line below its bars.
 fn draw_total<W: Write>(out: &mut Canvas<'_, W>, row: Row, bottom: u64, total: u64) {
     let x = LEFT - 6;
     out.put(
@@ -115,7 +115,7 @@ fn draw_total<W: Write>(out: &mut Canvas<'_, W>, row: Row, bottom: u64, total: u
     );
 }
 
-/// The number of a row's marks in all buckets, and the greatest in one.
+/// Returns the number of a row's marks in all buckets, and the greatest in one.
 fn sums_of(buckets: &[Bucket], row: Row) -> (u64, u64) {
     let mut total: u64 = 0;
     let mut most: u64 = 0;
@@ -127,7 +127,7 @@ fn sums_of(buckets: &[Bucket], row: Row) -> (u64, u64) {
     (total, most)
 }
 
-/// How high the bar of a count is, where `most` is the greatest.
+/// Returns the height of the bar of a count. The greatest count is `most`.
 fn height_of(count: u64, most: u64) -> u64 {
     let across = u128::from(count.min(most)) * 20;
     let share = across.checked_div(u128::from(most)).unwrap_or(0);

@@ -4,7 +4,7 @@ ghost use Rattle.pool_journal.specs.Totals.{is_evicting};
 
 use pool_journal::{Answer, Entry, Input, Outcome};
 
-/// How many entries of each kind there are that are marked.
+/// The number of marked entries of each kind.
 #[derive(Clone, Copy)]
 pub(crate) struct Marks {
     /// Those that were refused.
@@ -30,7 +30,7 @@ impl Marks {
         }
     }
 
-    /// The marks of one entry.
+    /// Returns the marks of one entry.
     pub(crate) fn of(entry: &Entry) -> Marks {
         let answer = entry.answer;
         Marks {
@@ -42,7 +42,7 @@ impl Marks {
         }
     }
 
-    /// The marks of two parts together.
+    /// Returns the marks of two parts together.
     pub(crate) fn and(self, other: Marks) -> Marks {
         Marks {
             refused: self.refused.saturating_add(other.refused),
@@ -54,7 +54,7 @@ impl Marks {
     }
 }
 
-/// Whether an entry evicts an object.
+/// Returns whether an entry evicts an object.
 pub(crate) fn is_evicting(entry: &Entry) -> bool
     ensures { result ≡ is_evicting entry.now.answer entry.now.input }
 {
@@ -65,7 +65,7 @@ pub(crate) fn is_evicting(entry: &Entry) -> bool
     }
 }
 
-/// Whether an object did not pass a test, and is destroyed.
+/// Returns whether an object did not pass a test, and is destroyed.
 fn is_failed_test(entry: &Entry) -> bool {
     if entry.answer != Answer::Destroy {
         return false;

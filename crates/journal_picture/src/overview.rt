@@ -1,4 +1,4 @@
-//! What there is to draw of a journal of any length.
+//! The parts of a journal of any length to draw.
 
 use crate::buckets::{Buckets, Levels};
 use crate::counts::Counts;
@@ -25,7 +25,7 @@ pub(crate) struct Overview {
     pub(crate) waits: Distribution,
     pub(crate) loans: Distribution,
     pub(crate) longest: Longest,
-    /// The callers that wait, with the time from which on each does.
+    /// The callers that wait, each with the time at which it began to wait.
     waiting: HashMap<u32, u64>,
 }
 
@@ -44,7 +44,7 @@ impl Overview {
         }
     }
 
-    /// The number of borrowers that wait.
+    /// Returns the number of borrowers that wait.
     pub(crate) fn waiting(&self) -> u64 {
         self.waiting.len() as u64
     }
@@ -79,7 +79,7 @@ impl Overview {
         self.longest.take(loan)
     }
 
-    /// A borrower waits from the first answer that says so to the next answer that does not.
+    /// Notes whether a borrower waits: it does from the first answer that it must wait to the next other answer.
     fn note_wait(&mut self, entry: &Entry) -> Result<(), AllocError> {
         let Input::Borrow { began: _ } = entry.input else {
             return Ok(());

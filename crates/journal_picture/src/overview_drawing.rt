@@ -10,7 +10,7 @@ use crate::state::Present;
 use crate::time_axis::draw_times;
 use std::io::Write;
 
-/// Where the charts begin, right of their labels, and how wide they are.
+/// The left edge of the charts, right of their labels, and their width.
 pub(crate) const LEFT: u64 = 110;
 
 pub(crate) const WIDTH: u64 = 1_000;
@@ -20,7 +20,7 @@ pub(crate) const OBJECTS_TOP: u64 = 112;
 
 pub(crate) const OBJECTS_HEIGHT: u64 = 240;
 
-/// The same of the chart of borrowers that wait.
+/// The top of the chart of borrowers that wait, and its height.
 pub(crate) const WAITING_TOP: u64 = 392;
 
 pub(crate) const WAITING_HEIGHT: u64 = 100;
@@ -30,16 +30,16 @@ pub(crate) const ROWS_TOP: u64 = 524;
 
 pub(crate) const ROW_HEIGHT: u64 = 34;
 
-/// Where the charts end, above the times.
+/// The bottom of the charts, above the times.
 pub(crate) const BOTTOM: u64 = ROWS_TOP + ROWS * ROW_HEIGHT;
 
-/// Where the tables begin, right of the charts.
+/// The left edge of the tables, right of the charts.
 pub(crate) const PANEL_LEFT: u64 = 1_150;
 
 /// The least height of the picture.
 const LEAST_HEIGHT: u64 = BOTTOM + 70;
 
-/// Where a bucket begins in the charts, by its number and the number of all.
+/// Returns the left edge of a bucket in the charts, by its number and the number of all.
 pub(crate) fn bucket_left(number: usize, count: usize) -> u64 {
     let across = (number as u64).saturating_mul(WIDTH);
     let share = across.checked_div(count as u64).unwrap_or(0);
@@ -62,7 +62,7 @@ pub(crate) fn draw_overview<W: Write>(
     out.text("</svg>\n");
 }
 
-/// The size of the picture, and what it is of.
+/// Draws the head of the picture: its size, its background, its title and an explanation.
 fn draw_head<W: Write>(out: &mut Canvas<'_, W>, overview: &Overview, held: &[Present]) {
     let width = PANEL_LEFT + PANEL_WIDTH + 20;
     let height = height_of(held.len()).max(LEAST_HEIGHT);
@@ -89,7 +89,7 @@ fn draw_head<W: Write>(out: &mut Canvas<'_, W>, overview: &Overview, held: &[Pre
     );
 }
 
-/// The numbers of each bucket, over its width.
+/// Draws a hint over each bucket, with its numbers.
 fn draw_hints<W: Write>(out: &mut Canvas<'_, W>, buckets: &Buckets) {
     let count = buckets.as_slice().len();
     let width = buckets.width();
@@ -114,7 +114,7 @@ fn draw_hints<W: Write>(out: &mut Canvas<'_, W>, buckets: &Buckets) {
     }
 }
 
-/// The levels and the marks of a bucket, and the end of its hint.
+/// Writes the levels and the marks of a bucket, and the end of its hint.
 fn write_numbers<W: Write>(out: &mut Canvas<'_, W>, bucket: &Bucket) {
     let (levels, marks) = (&bucket.levels, &bucket.marks);
     out.put(

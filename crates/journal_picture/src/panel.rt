@@ -10,7 +10,7 @@ use std::io::Write;
 /// The height of a line.
 const LINE: u64 = 16;
 
-/// Where the tables begin.
+/// The top of each table.
 const DURATIONS_TOP: u64 = 86;
 
 const LOANS_TOP: u64 = 236;
@@ -37,20 +37,20 @@ const WAITS: u64 = PANEL_LEFT + 235;
 
 const LOANS: u64 = PANEL_LEFT + 470;
 
-/// The height of the picture that the tables need, by the number of objects held.
+/// Returns the height of the picture that the tables need, by the number of objects held.
 pub(crate) fn height_of(held: usize) -> u64 {
     let lines = (held.min(MOST_HELD) as u64).saturating_add(4);
     HELD_TOP.saturating_add(lines.saturating_mul(LINE))
 }
 
-/// The tables.
+/// Draws the tables.
 pub(crate) fn draw_panel<W: Write>(out: &mut Canvas<'_, W>, overview: &Overview, held: &[Present]) {
     draw_durations(out, overview);
     draw_longest(out, overview.longest.as_slice());
     draw_held(out, overview, held);
 }
 
-/// The distributions of waits and of loans.
+/// Draws the distributions of waits and of loans.
 fn draw_durations<W: Write>(out: &mut Canvas<'_, W>, overview: &Overview) {
     let (waits, loans) = (&overview.waits, &overview.loans);
     let rows = [
@@ -77,7 +77,7 @@ fn draw_durations<W: Write>(out: &mut Canvas<'_, W>, overview: &Overview) {
     );
 }
 
-/// A row of the distributions.
+/// Draws a row of the distributions.
 fn draw_pair<W: Write>(out: &mut Canvas<'_, W>, y: u64, name: &str, of_waits: u64, of_loans: u64) {
     out.put(
         "<g class=\"durations\"><text x=\"{}\" y=\"{}\" text-anchor=\"end\">{}</text>",
@@ -92,7 +92,7 @@ fn draw_pair<W: Write>(out: &mut Canvas<'_, W>, y: u64, name: &str, of_waits: u6
     out.text("</g>\n");
 }
 
-/// The longest loans that ended.
+/// Draws the longest loans that ended.
 fn draw_longest<W: Write>(out: &mut Canvas<'_, W>, loans: &[Loan]) {
     draw_heading(out, LOANS_TOP, "The longest loans that ended");
     let [object, _, caller, from, duration] = COLUMNS;
@@ -113,7 +113,7 @@ fn draw_longest<W: Write>(out: &mut Canvas<'_, W>, loans: &[Loan]) {
     }
 }
 
-/// A row of the longest loans.
+/// Draws a row of the longest loans.
 fn draw_loan<W: Write>(out: &mut Canvas<'_, W>, y: u64, loan: &Loan) {
     let [object, _, caller, from, duration] = COLUMNS;
     out.text("<g class=\"loan\">");
@@ -124,7 +124,7 @@ fn draw_loan<W: Write>(out: &mut Canvas<'_, W>, y: u64, loan: &Loan) {
     out.text("</g>\n");
 }
 
-/// The objects that are held at the end.
+/// Draws the objects that are held at the end.
 fn draw_held<W: Write>(out: &mut Canvas<'_, W>, overview: &Overview, held: &[Present]) {
     out.put(
         "<text x=\"{}\" y=\"{}\" font-weight=\"bold\">Objects held at the end: {}</text>\n",
@@ -150,7 +150,7 @@ fn draw_held<W: Write>(out: &mut Canvas<'_, W>, overview: &Overview, held: &[Pre
     draw_more(out, y.saturating_add(LINE), held);
 }
 
-/// A row of the objects that are held, at the time `last`.
+/// Draws a row of the objects that are held, at the time `last`.
 fn draw_present<W: Write>(out: &mut Canvas<'_, W>, y: u64, present: &Present, last: u64) {
     let [object, phase, caller, _, _] = COLUMNS;
     out.text("<g class=\"held\">");
@@ -168,7 +168,7 @@ fn draw_present<W: Write>(out: &mut Canvas<'_, W>, y: u64, present: &Present, la
     out.text("</g>\n");
 }
 
-/// Since when an object is held, and for how long up to the end.
+/// Draws the time since which an object is held, and the duration up to the end.
 fn draw_since<W: Write>(out: &mut Canvas<'_, W>, y: u64, since: Option<u64>, last: u64) {
     let [_, _, _, column, duration] = COLUMNS;
     match since {
@@ -184,7 +184,7 @@ fn draw_since<W: Write>(out: &mut Canvas<'_, W>, y: u64, since: Option<u64>, las
     }
 }
 
-/// How many objects more are held, with their names in a hint.
+/// Draws the number of the other objects that are held, with their names in a hint.
 fn draw_more<W: Write>(out: &mut Canvas<'_, W>, y: u64, held: &[Present]) {
     if held.len() <= MOST_HELD {
         return;
@@ -200,7 +200,7 @@ fn draw_more<W: Write>(out: &mut Canvas<'_, W>, y: u64, held: &[Present]) {
     out.text("</title></text>\n");
 }
 
-/// The line of an object in the hint.
+/// Writes the line of an object in the hint.
 fn write_name<W: Write>(out: &mut Canvas<'_, W>, present: &Present) {
     out.put(
         "object {}: {}",
@@ -218,7 +218,7 @@ fn write_name<W: Write>(out: &mut Canvas<'_, W>, present: &Present) {
     out.text("\n");
 }
 
-/// The heading of a table.
+/// Draws the heading of a table.
 fn draw_heading<W: Write>(out: &mut Canvas<'_, W>, y: u64, heading: &str) {
     out.put(
         "<text x=\"{}\" y=\"{}\" font-weight=\"bold\">{}</text>\n",
@@ -230,7 +230,7 @@ fn draw_heading<W: Write>(out: &mut Canvas<'_, W>, y: u64, heading: &str) {
     );
 }
 
-/// Words in grey, each in the column that ends at its place.
+/// Draws words in grey, each in the column that ends at its position.
 fn draw_words<W: Write>(out: &mut Canvas<'_, W>, y: u64, words: &[(u64, &str)]) {
     for (x, word) in words {
         out.put(
@@ -240,7 +240,7 @@ fn draw_words<W: Write>(out: &mut Canvas<'_, W>, y: u64, words: &[(u64, &str)]) 
     }
 }
 
-/// A caller, or a word in its place if it is not known.
+/// Draws a caller, or a word instead if it is not known.
 fn draw_caller<W: Write>(out: &mut Canvas<'_, W>, x: u64, y: u64, caller: Option<u32>) {
     match caller {
         Some(caller) => draw_number(out, x, y, u64::from(caller)),
@@ -248,7 +248,7 @@ fn draw_caller<W: Write>(out: &mut Canvas<'_, W>, x: u64, y: u64, caller: Option
     }
 }
 
-/// A number in the column that ends at `x`.
+/// Draws a number in the column that ends at `x`.
 fn draw_number<W: Write>(out: &mut Canvas<'_, W>, x: u64, y: u64, number: u64) {
     out.put(
         "<text x=\"{}\" y=\"{}\" text-anchor=\"end\">{}</text>",

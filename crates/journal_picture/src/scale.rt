@@ -1,9 +1,9 @@
 use crate::history::History;
 
-/// How many ticks the axis has at most, but for the last.
+/// The most ticks of the axis, except the last.
 const MOST_TICKS: u64 = 10;
 
-/// From moments, in milliseconds, to places across the picture.
+/// The mapping of times, in milliseconds, to positions across the picture.
 #[derive(Clone, Copy)]
 pub(crate) struct Scale {
     first: u64,
@@ -13,12 +13,12 @@ pub(crate) struct Scale {
 }
 
 impl Scale {
-    /// The time of a history, from `left` on and `width` wide.
+    /// Returns the scale for the time of a history, from `left` on and `width` wide.
     pub(crate) fn of(history: &History, left: u64, width: u64) -> Scale {
         Scale::over(history.first, history.last, left, width)
     }
 
-    /// The time from `first` to `last`, from `left` on and `width` wide.
+    /// Returns the scale for the time from `first` to `last`, from `left` on and `width` wide.
     pub(crate) fn over(first: u64, last: u64, left: u64, width: u64) -> Scale {
         Scale {
             first,
@@ -28,7 +28,7 @@ impl Scale {
         }
     }
 
-    /// Where a moment stands.
+    /// Returns the position of a time.
     pub(crate) fn place_of(&self, at: u64) -> u64 {
         let elapsed = at.saturating_sub(self.first).min(self.span);
         let across = u128::from(elapsed) * u128::from(self.width);
@@ -37,14 +37,14 @@ impl Scale {
             .saturating_add(u64::try_from(share).unwrap_or(self.width))
     }
 
-    /// How wide a stretch of time is, and at least 1, so that it is seen.
+    /// Returns the width of a stretch of time, and at least 1, so that it is seen.
     pub(crate) fn width_of(&self, from: u64, until: u64) -> u64 {
         self.place_of(until)
             .saturating_sub(self.place_of(from))
             .max(1)
     }
 
-    /// The moment of the tick of a number, from 0, if it is on the axis.
+    /// Returns the time of the tick of a number, from 0, if it is on the axis.
     pub(crate) fn tick(&self, number: u64) -> Option<u64> {
         let step = step_over(self.span);
         let before = self.first.checked_rem(step).unwrap_or(0);
@@ -59,7 +59,7 @@ impl Scale {
     }
 }
 
-/// How far the ticks of an axis of this length are apart: 1, 2 or 5 times a power of ten.
+/// Returns the distance between the ticks of an axis of this length: 1, 2 or 5 times a power of ten.
 pub(crate) fn step_over(span: u64) -> u64 {
     let mut unit: u64 = 1;
     for _ in 0..20 {

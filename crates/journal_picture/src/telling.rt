@@ -5,16 +5,16 @@ use pool_journal::{Answer, Entry, Input, Phase, Record};
 use std::alloc::{AllocError, Global};
 use std::collections::HashMap;
 
-/// Goes over entries, and keeps what there is to draw of them.
+/// A pass over entries that stores the parts to draw.
 ///
-/// A moment before an earlier entry's counts as that one.
+/// A time before an earlier entry's counts as that one.
 #[derive(Drop)]
 pub(crate) struct Teller {
     history: History,
     now: Sample,
-    /// Where the bar stands in which an object is.
+    /// The bar that an object is in.
     bars: HashMap<u64, usize>,
-    /// Where the wait stands that a caller is in.
+    /// The wait that a caller is in.
     waits: HashMap<u32, usize>,
 }
 
@@ -63,7 +63,7 @@ impl Teller {
         }
     }
 
-    /// An object comes to a phase.
+    /// Moves an object to a phase.
     fn move_object(
         &mut self,
         object: u64,
@@ -97,7 +97,7 @@ impl Teller {
         }
     }
 
-    /// A borrower was answered: it waits, or it does no longer.
+    /// Notes whether a borrower waits after an answer.
     fn note_wait(&mut self, caller: u32, answer: Answer) -> Result<(), AllocError> {
         let at = self.now.at;
         if answer != Answer::Wait {
@@ -123,8 +123,8 @@ impl Teller {
         Ok(())
     }
 
-    /// What was taken in, from a position on. What was there before the first entry is drawn from that on, and what goes on at
-    /// the end is drawn up to it.
+    /// Returns the history of the entries, the first of which has this position. Bars from before the first entry are
+    /// drawn from that on, and bars and waits that continue at the end are drawn up to it.
     pub(crate) fn finish(self, position: u64) -> History {
         let mut history = self.history;
         history.position = position;

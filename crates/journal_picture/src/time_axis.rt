@@ -22,7 +22,7 @@ const UNITS: [(u64, &str); 5] = [
     (1, "milliseconds"),
 ];
 
-/// The longest unit of which a stretch of time has ten.
+/// Returns the longest unit of which a stretch of time has ten.
 fn unit_for(span: u64) -> Unit {
     for (length, name) in UNITS {
         if span / 10 >= length {
@@ -35,7 +35,7 @@ fn unit_for(span: u64) -> Unit {
     }
 }
 
-/// The times since the first entry, with a line up from each.
+/// Draws the times since the first entry, with a line up from each.
 pub(crate) fn draw_times<W: Write>(out: &mut Canvas<'_, W>, overview: &Overview) {
     let buckets = &overview.buckets;
     let span = buckets

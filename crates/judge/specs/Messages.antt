@@ -1,4 +1,4 @@
--- What is printed of an error, and the status that the program ends with.
+-- The line that is printed for an error, and the exit status of the program.
 use Rattle.std.specs.Prelude.{ℕ, List, ◌++◌, codes, decimal}
 use Rattle.pool_settings.specs.Escaped.{escaped}
 use Rattle.pool_settings.specs.Faults.{fault_of}
@@ -41,6 +41,7 @@ base_text bases.OutOfMemory = codes "out of memory"
 abbrev pub segment_text : SegmentFault → List ℕ
 segment_text (segments.Base fault) = codes "base: " ++ base_text fault
 segment_text (segments.Illegal position) = codes "illegal " ++ decimal position
+segment_text segments.Unopened = codes "cannot open"
 segment_text (segments.Engine fault) = engine_text fault
 
 abbrev pub settings_text : FileFault → List ℕ

@@ -38,7 +38,7 @@ impl<'a> Fault<'a> {
         }
     }
 
-    /// Returns the status that the program ends with.
+    /// Returns the exit status of the program.
     pub(crate) fn status(&self) -> u8
         ensures { result ≡ Spec.status_of self.now }
     {
@@ -99,6 +99,7 @@ fn write_segment_fault<W: Write>(f: &mut Formatter<W>, fault: &SegmentFault) -> 
     match fault {
         SegmentFault::Base(fault) => write!(f, "base: {}", base_text(fault)),
         SegmentFault::Illegal(position) => write!(f, "illegal {position}"),
+        SegmentFault::Unopened => f.write_str("cannot open"),
         SegmentFault::Engine(fault) => write_engine_fault(f, fault),
     }
 }

@@ -1,4 +1,4 @@
-//! What the program prints if its argument asks for help or for the version.
+//! The output of the program if its argument asks for help or for the version.
 ghost use Rattle.std.specs.Prelude.{◌≡◌, string_bytes};
 ghost use Rattle.judge.specs.Help as Spec;
 

@@ -1,12 +1,13 @@
 //! Checks one segment of a journal independently: `judge SETTINGS SEGMENT > REACHED`.
 //!
-//! The pool goes on from the base with which the segment begins, and each entry must have the expected answer. The program
-//! prints the base after the segment: the lines with which the next segment must begin. So the segments of a journal are
-//! checked in any order and on any machines. They are one legal journal if each is legal, the first begins at the base before
-//! all entries, and each other one begins with what was printed of the one before it.
+//! The pool continues from the base with which the segment begins, and each entry must have the expected answer. The
+//! program prints the base after the segment: the lines with which the next segment must begin. So the segments of a
+//! journal are checked in any order and on any machines. They are one legal journal if each is legal, the first begins
+//! at the base before all entries, and each other one begins with the lines that were printed for the one before it.
 //!
-//! The status is 0, 1 for a segment that is not legal, 2 for any other arguments, and 3 for an error. One line on standard
-//! error names the file and the error. `--help` or `--version`, as the only argument, prints the uses or the version.
+//! The status is 0, 1 for a segment that is not legal, 2 for any other arguments, and 3 for an error. One line on
+//! standard error names the file and the error. `--help` or `--version`, as the only argument, prints the uses or the
+//! version.
 #![tactic(auto)]
 
 mod fault;
@@ -55,7 +56,8 @@ fn judge<'a>(rt: &HostRuntime, settings: &'a str, segment: &'a str) -> Result<()
     let settings = settings_in(rt, settings)?;
     match reached_by(rt, settings, segment) {
         Ok(text) => write(rt, &text),
-        Err(fault) => Err(fault_of(rt, segment, fault)),
+        Err(SegmentFault::Unopened) => Err(Fault::Unopened(segment)),
+        Err(fault) => Err(Fault::Segment(segment, fault)),
     }
 }
 
@@ -72,16 +74,6 @@ fn reached_by(rt: &HostRuntime, settings: Settings, path: &str) -> Result<Vec<u8
     match print_base(&judged.reached, &mut text) {
         Ok(()) => Ok(text),
         Err(_) => Err(SegmentFault::Engine(EngineFault::OutOfMemory)),
-    }
-}
-
-/// Returns the error for a segment. A read also fails if its file cannot be opened.
-fn fault_of<'a>(rt: &HostRuntime, path: &'a str, fault: SegmentFault) -> Fault<'a> {
-    match fault {
-        SegmentFault::Engine(EngineFault::Read) if File::open(rt, path).is_err() => {
-            Fault::Unopened(path)
-        }
-        _ => Fault::Segment(path, fault),
     }
 }
 

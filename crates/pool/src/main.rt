@@ -1,14 +1,17 @@
-//! The program: it runs scripts on a pool, checks journals, reports their statistics, and puts a load on a pool that threads share.
+//! The program: it runs scripts on a pool, checks journals, reports their statistics, and puts a load on a pool that
+//! threads share.
 //!
-//! Without arguments it runs standard input with the default settings. `run SETTINGS SCRIPT` runs a file, `check SETTINGS JOURNAL..`
-//! checks a journal in one file or more, `stats JOURNAL` writes its statistics, and with `load SETTINGS WORKERS ROUNDS` workers borrow
-//! from one pool and return. It writes to standard output. The status is 0 on success, 1 for a journal that is not legal, 2 for wrong
-//! arguments, and 3 for any other error. An error is reported in one line on standard error. At a terminal further lines follow, with
-//! its place and what to do. If wrong arguments ask for help or for the version, these are written too.
+//! Without arguments it runs standard input with the default settings. `run SETTINGS SCRIPT` runs a file,
+//! `check SETTINGS JOURNAL..` checks a journal in one file or more, `stats JOURNAL` writes its statistics, and with
+//! `load SETTINGS WORKERS ROUNDS` workers borrow from one pool and return. It writes to standard output. The status is
+//! 0 on success, 1 for a journal that is not legal, 2 for wrong arguments, and 3 for any other error. An error is
+//! reported in one line on standard error. At a terminal further lines follow, with its position and what to do. If
+//! wrong arguments ask for help or for the version, these are written too.
 #![tactic(auto)]
 
 use pool_arguments::{Task, task_of};
-use pool_load::{Gate, load, write_report};
+use pool_engines::write_report;
+use pool_load::{Gate, load};
 use pool_tasks::{
     Fault, check_journal, engine_result, refuse, run_input, run_script, settings_in, tell,
     tell_statistics,
@@ -60,7 +63,7 @@ fn perform<'a, R: Threads + Wait + Sync>(
     }
 }
 
-/// Holds no worker back.
+/// A gate that holds no worker back.
 struct NoGate;
 
 impl Gate for NoGate {

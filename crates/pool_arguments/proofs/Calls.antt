@@ -25,7 +25,7 @@ pub are_texts : {Z : Type 0} (words : List (String Z)) → AreTexts (map string_
 are_texts [] = tt
 are_texts (word ∷ words) = (IsUtf8-string_bytes word, are_texts words)
 
--- without an error the matches name the task that the definitions say
+-- without an error the matches name the task of the definitions
 pub matches_page : (program command : Text) (words : List Text) → AreTexts (command ∷ words) → length words ≤ usize_max
     → fault_of pool_app (program ∷ command ∷ words) ≡ [] → entered_asked (subcommand_of pool_app (program ∷ command ∷ words)) ≡ task_of (command ∷ words)
 matches_page program command words us fits clean =

@@ -1,4 +1,4 @@
--- The task that the words after the program's name give, by clap's matches.
+-- The task that the words after the program's name lead to, by clap's matches.
 use Rattle.std.proofs.Common.{◌≡◌, ◌∙◌, ◌≤◌, Bool, cond, true, false, refl, sym, ap, ap₂, List, [], ◌∷◌, ◌++◌, length, Option, Some, None, true≢false}
 use Rattle.std.specs.Prelude.{codes, bytes_eq, is_some}
 use Rattle.std.specs.List.{fold}
@@ -153,7 +153,7 @@ none_here word words u n = first (bytes_eq word (codes "--")) refl
     first true e = ap (λ x. words_asked (x ∷ words)) ((bytes_eq-Decides word (codes "--")).0 e) ∙ dashes_here words
     first false e = second (is_option word) e refl
 
--- the matches that clap returns name the task that the definitions say
+-- the matches that clap returns name the task of the definitions
 pub words_page : (command : Text) (words : List Text) → AreTexts (command ∷ words) → length words ≤ usize_max → words_asked (command ∷ words) ≡ task_of (command ∷ words)
 words_page command words us fits = by_run (bytes_eq command (codes "run")) refl
   where

@@ -24,7 +24,7 @@ asked (tasks.Check settings journals) = check settings.now (map (λ journal. jou
 asked (tasks.Stats journal) = stats journal.now
 asked (tasks.Load settings workers rounds) = load settings.now workers rounds
 
--- The words that are not read yet, and whether `--` came before them. A word after `--` is an operand, however it begins.
+-- The words that are not read yet, and whether `--` is before them. A word after `--` is an operand, however it begins.
 abbrev pub Rest : Type 0
 Rest = Bool × List Text
 

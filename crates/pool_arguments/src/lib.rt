@@ -42,7 +42,7 @@ pub enum Task<'a> {
 
 /// Returns the task that the arguments name, or `None` if they are wrong. The first argument is the program's name.
 ///
-/// May fail for lack of memory, also if the arguments are wrong: clap allocates for its command before it reads the words.
+/// May fail for lack of memory, even if the arguments are wrong: clap allocates for its command before it reads words.
 pub fn task_of<'a>(alloc: Global, arguments: &'a [String]) -> Result<Option<Task<'a>>, AllocError>
     ensures { IfOk result (λ task. option_map Spec.asked task
         ≡ Spec.task_of (drop 1 (map string_bytes arguments.entry.now))) }
@@ -62,7 +62,7 @@ pub fn task_of<'a>(alloc: Global, arguments: &'a [String]) -> Result<Option<Task
     }
 }
 
-/// Returns `None` for an error of clap. Fails if the error says that an allocation failed.
+/// Returns `None` for an error of clap. Fails if the error reports a failed allocation.
 fn refusal<'a>(kind: ErrorKind) -> Result<Option<Task<'a>>, AllocError>
     ensures ok { IfOk result (λ task. task ≡ None) }
     ensures known { kind ≡ ErrorKind.OutOfMemory → IsErr result }

@@ -12,12 +12,12 @@ use Rattle.pool_journal.specs.declared.input.Outcome.TheVariants as outcomes
 use Rattle.pool_journal.specs.declared.answer.Answer.{Answer}
 use Rattle.pool_journal.specs.declared.answer.Answer.TheVariants as answers
 use Rattle.pool_settings.specs.declared.settings.Settings.{Settings}
-use Rattle.pool_core.specs.Reply.{park_reply, added_reply, tested_reply, phase_of, table}
-use Rattle.pool_core.specs.Steps.{keeps_value, Finds}
+use Rattle.pool_core.specs.Reply.{park_reply, added_reply, tested_reply, phase_of, reply_from_records}
+use Rattle.pool_core.specs.Steps.{keeps_value, IsEnabled}
 use Rattle.pool_core.proofs.Finding.{finds_of}
 
 -- an object keeps a value that the input brings
-keeping_carries : (input : Input) (a : Answer) (rs : List Record) (next : ℕ) → Finds input a rs next → keeps_value a ≡ true
+keeping_carries : (input : Input) (a : Answer) (rs : List Record) (next : ℕ) → IsEnabled input a rs next → keeps_value a ≡ true
     → carries input ≡ true
 keeping_carries input answers.Parked rs next finds is = finds.1
 keeping_carries input answers.Kept rs next finds is = finds.1
@@ -37,7 +37,7 @@ tested_keeps_none _ = refl
 
 -- a value that is returned to a closed pool is not kept
 carried_is_not_kept : (S : Settings) (rs : List Record) (next : ℕ) (cursor : Option ℕ) (at : ℕ) (input : Input)
-    → carries input ≡ true → keeps_value (table S rs next true cursor at input) ≡ false
+    → carries input ≡ true → keeps_value (reply_from_records S rs next true cursor at input) ≡ false
 carried_is_not_kept S rs next cursor at (Park i outcomes.Good) carried = park_keeps_none (phase_of (record_in rs i))
 carried_is_not_kept S rs next cursor at (Added i outcomes.Good) carried = added_keeps_none (phase_of (record_in rs i))
 carried_is_not_kept S rs next cursor at (Tested i outcomes.Good) carried = tested_keeps_none (phase_of (record_in rs i))
@@ -47,15 +47,15 @@ carried_is_not_kept S rs next cursor at (Tested i _) carried = absurd (cc carrie
 carried_is_not_kept S rs next cursor at _ carried = absurd (cc carried)
 
 pub closed_keeps_none : (S : Settings) (rs : List Record) (next : ℕ) (shut : Bool) (cursor : Option ℕ) (at : ℕ) (input : Input)
-    (a : Answer) → AllByRecursion (λ r. record_in rs r.id ≡ Some r) rs → a ≡ table S rs next shut cursor at input → shut ≡ true
+    (a : Answer) → AllByRecursion (λ r. record_in rs r.id ≡ Some r) rs → a ≡ reply_from_records S rs next shut cursor at input → shut ≡ true
     → keeps_value a ≡ false
 closed_keeps_none S rs next shut cursor at input a found due is_closed = by_test (keeps_value a) refl
   where
-    finds : Finds input a rs next
+    finds : IsEnabled input a rs next
     finds = finds_of S rs next shut cursor at input a found due
 
     by_test : (b : Bool) → keeps_value a ≡ b → keeps_value a ≡ false
     by_test false is = is
     by_test true is =
-        ap keeps_value (due ∙ ap (λ (b : Bool). table S rs next b cursor at input) is_closed)
+        ap keeps_value (due ∙ ap (λ (b : Bool). reply_from_records S rs next b cursor at input) is_closed)
         ∙ carried_is_not_kept S rs next cursor at input (keeping_carries input a rs next finds is)

@@ -5,16 +5,15 @@ use Rattle.std.specs.List.{AllByRecursion}
 use Rattle.std.proofs.lemmas.Bool.{false≢true}
 use Rattle.std.proofs.lemmas.List.{length-map}
 use Rattle.std.proofs.lemmas.List.Sums.{sum_by-cons}
-use Rattle.pool_journal.specs.Journal.{is_present}
+use Rattle.pool_journal.specs.Entries.{is_present}
 use Rattle.pool_journal.specs.Queue.{is_queued}
 use Rattle.pool_journal.specs.declared.record.Record.{Record}
 use Rattle.pool_journal.specs.declared.record.Phase.{Phase}
 use Rattle.pool_journal.specs.declared.record.Phase.TheVariants as phases
 use Rattle.pool_places.specs.declared.place.Place.{Place}
-use Rattle.pool_places.specs.Shelf.{records_in}
-use Rattle.pool_stats.specs.Counts.{is_lent, is_reserved}
+use Rattle.pool_places.specs.PlacesModel.{records_in}
+use Rattle.pool_stats.specs.Counts.{is_lent, is_reserved, counts_at}
 use Rattle.pool_stats.specs.declared.counts.Counts.{Counts}
-use Rattle.pool_core.specs.Laws.{counts_at}
 use Rattle.pool_core.specs.Stepper.{base_in}
 use Rattle.pool_core.specs.declared.state.State.{State}
 

@@ -5,10 +5,10 @@ use Rattle.std.specs.Prelude.{◌||◌, ◌-◌, not, count_by, filter, IsSome, 
 use Rattle.std.specs.List.{range_with_len}
 use Rattle.std.proofs.lemmas.Bool.{ltb-true}
 use Rattle.std.proofs.lemmas.List.Sums.{length-filter, count_by-le-length}
-use Rattle.pool_journal.specs.Journal.{made_to, is_present, is_make_answer}
+use Rattle.pool_journal.specs.Entries.{made_to, is_present, is_make_answer}
 use Rattle.pool_journal.specs.Totals.{is_freed, is_reclaimed, is_evicting}
-use Rattle.pool_journal.specs.Base.{phase_from, drawn_from, present_from, record_from, records_from, closed_from, reach}
-use Rattle.pool_journal.specs.Sound.{IsSound}
+use Rattle.pool_journal.specs.Base.{phase_from, drawn_from, present_from, record_from, records_from, closed_from, base_after}
+use Rattle.pool_journal.specs.Sound.{IsWellFormed}
 use Rattle.pool_journal.specs.declared.base.Base.{Base}
 use Rattle.pool_journal.specs.declared.entry.Entry.{Entry}
 use Rattle.pool_journal.specs.declared.record.Record.{Record}
@@ -19,16 +19,17 @@ use Rattle.pool_journal.specs.declared.input.Input.TheVariants.{Borrow, Add, Fil
 use Rattle.pool_journal.specs.declared.answer.Answer.{Answer}
 use Rattle.pool_journal.specs.declared.answer.Answer.TheVariants as answers
 use Rattle.pool_journal.specs.declared.answer.Cause.TheVariants as causes
-use Rattle.pool_journal.proofs.BaseFound.{each_present_from}
-use Rattle.pool_journal.proofs.BasePushed.{drawn_from-push}
+use Rattle.pool_journal.proofs.Found.{each_present_from}
+use Rattle.pool_journal.proofs.Pushed.{drawn_from-push}
 use Rattle.pool_journal.proofs.Segments.{records_from-none}
 use Rattle.pool_journal.proofs.Starting.{drawn_from-none}
 use Rattle.pool_settings.specs.declared.settings.Settings.{Settings}
-use Rattle.pool_core.specs.Laws.{IsWithin, AtMostMaxTotalFrom, NothingLostFrom, counts_from}
+use Rattle.pool_core.specs.Laws.{IsWithin, AtMostMaxTotalFrom, ObjectsConservedFrom}
+use Rattle.pool_stats.specs.Counts.{counts_from}
 use Rattle.pool_core.specs.Legal.{IsLegalFrom}
-use Rattle.pool_core.specs.Openable.{is_destroying, IsRunnable, EndsEvicted}
-use Rattle.pool_core.specs.Reply.{is_below, borrow_reply, add_reply, full_reply, has_reached, choice, has_enough, reply_from}
-use Rattle.pool_core.specs.Steps.{Finds}
+use Rattle.pool_core.specs.Openable.{is_destroying, CanContinue, AccountsForEvicted}
+use Rattle.pool_core.specs.Reply.{is_below, borrow_reply, add_reply, exhausted_reply, has_reached, borrow_candidate, has_min_idle, reply_from}
+use Rattle.pool_core.specs.Steps.{IsEnabled}
 use Rattle.pool_core.proofs.Counted.{one_if, count_cons, counted}
 use Rattle.pool_core.proofs.Fronts.{IsDueFrom, DueKeepsFrom, each_legal_from}
 use Rattle.pool_core.proofs.Lives.{Acts, Still, Makes, Brings, still, makes, brings, acts, finds_due, gives_up, phase_stays}
@@ -122,9 +123,9 @@ makes_below_from : (S : Settings) (b : Base) (J : List Entry) (at : ℕ) (input 
     → is_make_answer (reply_from S b J at input) ≡ true → is_below S.max_total (length (records_from b J)) ≡ true
 makes_below_from S b J at (Borrow began) i is made =
     let none = full_makes_none S.block_when_exhausted (has_reached S.max_wait_millis (at - began)) in
-    borrow_makes (closed_from b J) (choice S.lifo (records_from b J)) _ (drawn_from b J) (full_reply S (at - began)) none made
+    borrow_makes (closed_from b J) (borrow_candidate S.lifo (records_from b J)) _ (drawn_from b J) (exhausted_reply S (at - began)) none made
 makes_below_from S b J at Add i is made = add_makes (answers.Refused causes.Closed) (closed_from b J) _ (drawn_from b J) refl made
-makes_below_from S b J at Fill i is made = add_makes answers.Enough (closed_from b J || has_enough S (records_from b J)) _ (drawn_from b J) refl made
+makes_below_from S b J at Fill i is made = add_makes answers.Enough (closed_from b J || has_min_idle S (records_from b J)) _ (drawn_from b J) refl made
 makes_below_from S b J at _ i is made = absurd (cc is)
 
 -- the same for an expected entry
@@ -133,7 +134,7 @@ due_makes_below_from : (S : Settings) (b : Base) (J : List Entry) (e : Entry) �
 due_makes_below_from S b J e due made =
     ap (is_below S.max_total) (sym (length-records_from b J)) ∙ by_answer e.answer refl made (finds_due S b J e due)
   where
-    by_answer : (a : Answer) → e.answer ≡ a → is_make_answer a ≡ true → Finds e.input a (records_from b J) (drawn_from b J)
+    by_answer : (a : Answer) → e.answer ≡ a → is_make_answer a ≡ true → IsEnabled e.input a (records_from b J) (drawn_from b J)
         → is_below S.max_total (length (records_from b J)) ≡ true
     by_answer (answers.Make i) is made finds = makes_below_from S b J e.at e.input i finds.1 (ap is_make_answer (sym due.is ∙ is))
     by_answer _ is made finds = absurd (cc made)
@@ -159,10 +160,10 @@ stays_within_from S b J e due so_far = by_answer (is_make_answer e.answer) refl
         no_more_within S.max_total (length (present_from b J)) (length (present_from b (J ++ e ∷ []))) le so_far
 
 -- before any entry the present objects are those that the base lists
-pub present_none : (b : Base) → IsSound b → length (present_from b []) ≡ length b.records
+pub present_none : (b : Base) → IsWellFormed b → length (present_from b []) ≡ length b.records
 present_none b sound = sym (length-records_from b []) ∙ ap length (records_from-none b sound)
 
-pub at_most_max_total_from : (S : Settings) (b : Base) (J : List Entry) → IsRunnable S b → IsLegalFrom S b J → AtMostMaxTotalFrom S b J
+pub at_most_max_total_from : (S : Settings) (b : Base) (J : List Entry) → CanContinue S b → IsLegalFrom S b J → AtMostMaxTotalFrom S b J
 at_most_max_total_from S b J runs =
     each_legal_from S b (AtMostMaxTotalFrom S b) runs.sound (subst (IsWithin S.max_total) (sym (present_none b runs.sound)) runs.within)
     (stays_within_from S b) J
@@ -193,21 +194,21 @@ stays_drawn_or_gone S b J e due so_far =
     let reclaimed = count_push (λ (x : Entry). is_reclaimed x.answer) J e in
     omega (arith, so_far, drawn_from-push b J e, present_on_from S b J e due, freed_or_reclaimed e.answer, freed, reclaimed)
 
-none_drawn_or_gone : (b : Base) → IsSound b → b.destroyed + b.reclaimed + length b.records ≡ b.drawn → DrawnOrGone b []
+none_drawn_or_gone : (b : Base) → IsWellFormed b → b.destroyed + b.reclaimed + length b.records ≡ b.drawn → DrawnOrGone b []
 none_drawn_or_gone b sound adds_up =
     let freed : freed_in [] ≡ 0 = refl in
     let reclaimed : reclaimed_in [] ≡ 0 = refl in
     omega (arith, adds_up, present_none b sound, drawn_from-none b, freed, reclaimed)
 
-pub drawn_or_gone : (S : Settings) (b : Base) (J : List Entry) → IsRunnable S b → IsLegalFrom S b J → DrawnOrGone b J
+pub drawn_or_gone : (S : Settings) (b : Base) (J : List Entry) → CanContinue S b → IsLegalFrom S b J → DrawnOrGone b J
 drawn_or_gone S b J runs = each_legal_from S b (DrawnOrGone b) runs.sound (none_drawn_or_gone b runs.sound runs.adds_up) (stays_drawn_or_gone S b) J
 
-pub nothing_lost_from : (S : Settings) (b : Base) (J : List Entry) → IsRunnable S b → IsLegalFrom S b J → NothingLostFrom b J
+pub nothing_lost_from : (S : Settings) (b : Base) (J : List Entry) → CanContinue S b → IsLegalFrom S b J → ObjectsConservedFrom b J
 nothing_lost_from S b J runs legal =
     omega (arith, drawn_or_gone S b J runs legal, length-records_from b J, counted (records_from b J) (each_present_from b J))
 
 -- the objects idle, lent and reserved are within the limit
-pub places_within_from : (S : Settings) (b : Base) (J : List Entry) → IsRunnable S b → IsLegalFrom S b J
+pub places_within_from : (S : Settings) (b : Base) (J : List Entry) → CanContinue S b → IsLegalFrom S b J
     → IsWithin S.max_total ((counts_from b J).idle + (counts_from b J).lent + (counts_from b J).reserved)
 places_within_from S b J runs legal =
     subst (IsWithin S.max_total) (sym (length-records_from b J) ∙ sym (counted (records_from b J) (each_present_from b J))) (at_most_max_total_from S b J runs legal)
@@ -254,14 +255,14 @@ stays_evicted S b J e due so_far = by_act (acts S b J e due)
     by_act (makes m) = omega (arith, so_far, freed, evicted, ap one_if m.evicts_none, makes_passing is_destroying b J e m)
     by_act (brings m) = omega (arith, so_far, freed, evicted, m.evicts, m.ends, brings_passing is_destroying b J e m)
 
-none_evicted : (b : Base) → IsSound b → EndsEvicted b → EvictedEnds b []
+none_evicted : (b : Base) → IsWellFormed b → AccountsForEvicted b → EvictedEnds b []
 none_evicted b sound ends =
     let freed : freed_in [] ≡ 0 = refl in
     let evicted : evicted_in [] ≡ 0 = refl in
     let listed = ap (count_by (λ (r : Record). is_destroying r.phase)) (records_from-none b sound) in
     omega (arith, ends, freed, evicted, count_destroying b [], listed)
 
-pub ends_evicted : (S : Settings) (b : Base) (J : List Entry) → IsSound b → EndsEvicted b → IsLegalFrom S b J → EndsEvicted (reach b J)
+pub ends_evicted : (S : Settings) (b : Base) (J : List Entry) → IsWellFormed b → AccountsForEvicted b → IsLegalFrom S b J → AccountsForEvicted (base_after b J)
 ends_evicted S b J sound ends legal =
     let along = each_legal_from S b (EvictedEnds b) sound (none_evicted b sound ends) (stays_evicted S b) J legal in
     omega (arith, along, count_destroying b J)

@@ -5,7 +5,7 @@ use Rattle.std.specs.Prelude.{IsSome, IsSomeAnd, ⊤, ◌&&◌, ◌-◌, nat_le,
 use Rattle.std.specs.List.{AllByRecursion}
 use Rattle.std.specs.Option.{option_map, option_or}
 use Rattle.pool_journal.specs.Carrying.{carries}
-use Rattle.pool_journal.specs.Journal.{id_of, made_to}
+use Rattle.pool_journal.specs.Entries.{id_of, made_to}
 use Rattle.pool_journal.specs.Queue.{record_in, is_idle, idle_queue, first_of, last_of}
 use Rattle.pool_journal.specs.declared.record.Record.{Record}
 use Rattle.pool_journal.specs.declared.record.Phase.{Phase}
@@ -23,10 +23,10 @@ use Rattle.pool_places.specs.After.{is_after}
 use Rattle.pool_places.specs.Changes.{IsInPhase}
 use Rattle.pool_places.specs.Overdue.{is_lent, is_overdue}
 use Rattle.pool_settings.specs.declared.settings.Settings.{Settings}
-use Rattle.pool_core.specs.Reply.{is_below, has_reached, choice, examined, evicts, forgotten, forgotten_for, full_reply}
+use Rattle.pool_core.specs.Reply.{is_below, has_reached, borrow_candidate, examined, is_evictable, abandoned_objects, forgotten_for, exhausted_reply}
 use Rattle.pool_core.specs.Reply.{borrow_reply, ready_reply, lent_reply, park_reply, added_reply, tested_reply, destroyed_reply}
-use Rattle.pool_core.specs.Reply.{add_reply, evict_next_reply, reclaim_next_reply, clear_next_reply, phase_of, new_of, table}
-use Rattle.pool_core.specs.Steps.{comes_from, MovesNamed, Finds}
+use Rattle.pool_core.specs.Reply.{add_reply, evict_next_reply, reclaim_next_reply, clear_next_reply, phase_of, new_of, reply_from_records}
+use Rattle.pool_core.specs.Steps.{comes_from, MovesInputObject, IsEnabled}
 use Rattle.pool_core.proofs.Queues.{all_filter, all_rising, first_has, last_has}
 
 -- what an answer requires of the phase of the object that the input names
@@ -110,13 +110,13 @@ comes (Some r) a is = is
 
 -- an answer that is allowed finds the object that the input names
 named_finds : (input : Input) (i : ℕ) (a : Answer) (rs : List Record) (next : ℕ) → id_of input ≡ Some i
-    → Allowed input a (phase_of (record_in rs i)) → Finds input a rs next
+    → Allowed input a (phase_of (record_in rs i)) → IsEnabled input a rs next
 named_finds input i a rs next named allowed = by_answer a allowed
   where
-    moves : (a : Answer) → comes_from a (phase_of (record_in rs i)) ≡ true → MovesNamed input a rs
+    moves : (a : Answer) → comes_from a (phase_of (record_in rs i)) ≡ true → MovesInputObject input a rs
     moves a is = rw named (comes (record_in rs i) a is)
 
-    by_answer : (a : Answer) → Allowed input a (phase_of (record_in rs i)) → Finds input a rs next
+    by_answer : (a : Answer) → Allowed input a (phase_of (record_in rs i)) → IsEnabled input a rs next
     by_answer (answers.Take j) is = absurd is
     by_answer (answers.Test j) is = absurd is
     by_answer (answers.DestroyIdle j) is = absurd is
@@ -135,7 +135,7 @@ named_finds input i a rs next named allowed = by_answer a allowed
 abbrev pub AllFound : List Record → Type 0
 AllFound rs = AllByRecursion (λ r. record_in rs r.id ≡ Some r) rs
 
--- what is found under the id of r is in the phase
+-- the record that is found under the id of r is in the phase
 abbrev IsIn : List Record → Phase → Record → Type 0
 IsIn rs p r = IsInPhase rs r.id p
 
@@ -162,7 +162,7 @@ idle_all rs found =
     all_rising (IsIn rs phases.Idle) (λ r. r.parked) (filter (λ r. is_idle r.phase) rs)
     (all_in rs phases.Idle (λ r. is_idle r.phase) (λ r is. is_idle_true r.phase is) found)
 
-lent_all : (S : Settings) (at : ℕ) (rs : List Record) → AllFound rs → AllByRecursion (IsIn rs phases.Lent) (forgotten S at rs)
+lent_all : (S : Settings) (at : ℕ) (rs : List Record) → AllFound rs → AllByRecursion (IsIn rs phases.Lent) (abandoned_objects S at rs)
 lent_all S at rs found = by_timeout S.remove_abandoned_timeout_millis
   where
     by_timeout : (t : ℤ) → AllByRecursion (IsIn rs phases.Lent) (forgotten_for t at rs)
@@ -173,7 +173,7 @@ lent_all S at rs found = by_timeout S.remove_abandoned_timeout_millis
 first_idle : (rs : List Record) → AllFound rs → (r : Record) → first_of (idle_queue rs) ≡ Some r → IsIn rs phases.Idle r
 first_idle rs found r is = first_has (IsIn rs phases.Idle) (idle_queue rs) r (idle_all rs found) is
 
-choice_idle : (lifo : Bool) (rs : List Record) → AllFound rs → (i : ℕ) → choice lifo rs ≡ Some i → IsInPhase rs i phases.Idle
+choice_idle : (lifo : Bool) (rs : List Record) → AllFound rs → (i : ℕ) → borrow_candidate lifo rs ≡ Some i → IsInPhase rs i phases.Idle
 choice_idle lifo rs found i is = by_lifo lifo is
   where
     by_id : (o : Option Record) → ((r : Record) → o ≡ Some r → IsIn rs phases.Idle r) → option_map (λ r. r.id) o ≡ Some i
@@ -181,7 +181,7 @@ choice_idle lifo rs found i is = by_lifo lifo is
     by_id None has is = absurd (cc is)
     by_id (Some r) has is = let same : r.id ≡ i = cc is in subst (λ (j : ℕ). IsInPhase rs j phases.Idle) same (has r refl)
 
-    by_lifo : (b : Bool) → choice b rs ≡ Some i → IsInPhase rs i phases.Idle
+    by_lifo : (b : Bool) → borrow_candidate b rs ≡ Some i → IsInPhase rs i phases.Idle
     by_lifo true is =
         by_id (last_of (idle_queue rs)) (λ r last. last_has (IsIn rs phases.Idle) (idle_queue rs) r (idle_all rs found) last) is
     by_lifo false is = by_id (first_of (idle_queue rs)) (first_idle rs found) is
@@ -197,14 +197,14 @@ examined_idle cursor rs found r is = by_case (first_of (filter (is_after cursor)
         first_has (IsIn rs phases.Idle) (filter (is_after cursor) (idle_queue rs)) r
         (all_filter (IsIn rs phases.Idle) (is_after cursor) (idle_queue rs) (idle_all rs found)) (some ∙ is)
 
-either_finds : (input : Input) (b : Bool) (x y : Answer) (rs : List Record) (next : ℕ) → Finds input x rs next
-    → Finds input y rs next → Finds input (if b then x else y) rs next
+either_finds : (input : Input) (b : Bool) (x y : Answer) (rs : List Record) (next : ℕ) → IsEnabled input x rs next
+    → IsEnabled input y rs next → IsEnabled input (if b then x else y) rs next
 either_finds input true x y rs next first second = first
 either_finds input false x y rs next first second = second
 
 borrow_finds : (S : Settings) (began waited : ℕ) (o : Option ℕ) (room : Bool) (rs : List Record) (next : ℕ)
     → ((i : ℕ) → o ≡ Some i → IsInPhase rs i phases.Idle)
-    → Finds (Borrow began) (borrow_reply o room next (full_reply S waited)) rs next
+    → IsEnabled (Borrow began) (borrow_reply o room next (exhausted_reply S waited)) rs next
 borrow_finds S began waited (Some i) room rs next has = (has i refl, refl)
 borrow_finds S began waited None true rs next has = (refl, refl)
 borrow_finds S began waited None false rs next has =
@@ -212,47 +212,47 @@ borrow_finds S began waited None false rs next has =
     (either_finds (Borrow began) (has_reached S.max_wait_millis waited) answers.TimedOut answers.Wait rs next tt tt) tt
 
 add_finds : (input : Input) (room : Bool) (rs : List Record) (next : ℕ) → IsSome (made_to input next)
-    → Finds input (add_reply room next) rs next
+    → IsEnabled input (add_reply room next) rs next
 add_finds input room rs next makes = either_finds input room (answers.Make next) answers.NoPlace rs next (refl, makes) tt
 
 evict_next_finds : (S : Settings) (q at : ℕ) (o : Option Record) (rs : List Record) (next : ℕ)
-    → ((r : Record) → o ≡ Some r → IsIn rs phases.Idle r) → Finds EvictNext (evict_next_reply S q at o) rs next
+    → ((r : Record) → o ≡ Some r → IsIn rs phases.Idle r) → IsEnabled EvictNext (evict_next_reply S q at o) rs next
 evict_next_finds S q at None rs next has = tt
 evict_next_finds S q at (Some r) rs next has =
-    either_finds EvictNext (evicts S q at r) (answers.DestroyIdle r.id) _ rs next (has r refl, refl)
+    either_finds EvictNext (is_evictable S q at r) (answers.DestroyIdle r.id) _ rs next (has r refl, refl)
     (either_finds EvictNext S.test_while_idle (answers.Test r.id) (answers.KeptIdle r.id) rs next (has r refl, refl) tt)
 
 reclaim_next_finds : (b : Bool) (o : Option Record) (rs : List Record) (next : ℕ)
-    → ((r : Record) → o ≡ Some r → IsIn rs phases.Lent r) → Finds ReclaimNext (reclaim_next_reply b o) rs next
+    → ((r : Record) → o ≡ Some r → IsIn rs phases.Lent r) → IsEnabled ReclaimNext (reclaim_next_reply b o) rs next
 reclaim_next_finds true (Some r) rs next has = has r refl
 reclaim_next_finds true None rs next has = tt
 reclaim_next_finds false o rs next has = tt
 
 clear_next_finds : (o : Option Record) (rs : List Record) (next : ℕ) → ((r : Record) → o ≡ Some r → IsIn rs phases.Idle r)
-    → Finds ClearNext (clear_next_reply o) rs next
+    → IsEnabled ClearNext (clear_next_reply o) rs next
 clear_next_finds (Some r) rs next has = (has r refl, refl)
 clear_next_finds None rs next has = tt
 
 -- an expected answer finds what it concerns
 pub finds_of : (S : Settings) (rs : List Record) (next : ℕ) (shut : Bool) (cursor : Option ℕ) (at : ℕ) (input : Input) (a : Answer)
-    → AllFound rs → a ≡ table S rs next shut cursor at input → Finds input a rs next
-finds_of S rs next shut cursor at input a found due = subst (λ (a : Answer). Finds input a rs next) (sym due) (by_input input)
+    → AllFound rs → a ≡ reply_from_records S rs next shut cursor at input → IsEnabled input a rs next
+finds_of S rs next shut cursor at input a found due = subst (λ (a : Answer). IsEnabled input a rs next) (sym due) (by_input input)
   where
     named : (input : Input) (i : ℕ) (a : Answer) → id_of input ≡ Some i → Allowed input a (phase_of (record_in rs i))
-        → Finds input a rs next
+        → IsEnabled input a rs next
     named input i a is allowed = named_finds input i a rs next is allowed
 
-    unless : (input : Input) (b : Bool) (x y : Answer) → Finds input x rs next → Finds input y rs next
-        → Finds input (if b then x else y) rs next
+    unless : (input : Input) (b : Bool) (x y : Answer) → IsEnabled input x rs next → IsEnabled input y rs next
+        → IsEnabled input (if b then x else y) rs next
     unless input b x y first second = either_finds input b x y rs next first second
 
     phase_at : ℕ → Phase
     phase_at i = phase_of (record_in rs i)
 
-    by_input : (input : Input) → Finds input (table S rs next shut cursor at input) rs next
+    by_input : (input : Input) → IsEnabled input (reply_from_records S rs next shut cursor at input) rs next
     by_input (Borrow began) =
         unless (Borrow began) shut _ _ tt
-        (borrow_finds S began (at - began) (choice S.lifo rs) (is_below S.max_total (length rs)) rs next
+        (borrow_finds S began (at - began) (borrow_candidate S.lifo rs) (is_below S.max_total (length rs)) rs next
         (choice_idle S.lifo rs found))
     by_input (Ready i o) = named (Ready i o) i _ refl (ready_allowed i (phase_at i) (new_of (record_in rs i)) o)
     by_input (GiveBack i) = named (GiveBack i) i _ refl (lent_allowed (GiveBack i) S.abandoned (phase_at i) answers.Check refl)
@@ -268,8 +268,8 @@ finds_of S rs next shut cursor at input a found due = subst (λ (a : Answer). Fi
     by_input (Tested i o) = named (Tested i o) i _ refl (tested_allowed i (phase_at i) o _)
     by_input (Reclaim on) = tt
     by_input ReclaimNext =
-        reclaim_next_finds S.abandoned (first_of (forgotten S at rs)) rs next
-        (λ r first. first_has (IsIn rs phases.Lent) (forgotten S at rs) r (lent_all S at rs found) first)
+        reclaim_next_finds S.abandoned (first_of (abandoned_objects S at rs)) rs next
+        (λ r first. first_has (IsIn rs phases.Lent) (abandoned_objects S at rs) r (lent_all S at rs found) first)
     by_input Clear = tt
     by_input ClearNext = clear_next_finds (first_of (idle_queue rs)) rs next (first_idle rs found)
     by_input (Destroyed i) = named (Destroyed i) i _ refl (destroyed_allowed i (phase_at i))

@@ -4,15 +4,15 @@ use Rattle.pool_journal.specs.Base.{empty_base}
 use Rattle.pool_journal.specs.declared.base.Base.{Base}
 use Rattle.pool_journal.specs.declared.entry.Entry.{Entry}
 use Rattle.pool_settings.specs.declared.settings.Settings.{Settings}
-use Rattle.pool_core.specs.Laws.{LawsFrom, Laws}
+use Rattle.pool_core.specs.Laws.{SafetyPropertiesFrom, SafetyProperties}
 use Rattle.pool_core.specs.Legal.{IsLegalFrom, IsLegal}
-use Rattle.pool_core.specs.Openable.{IsRunnable}
+use Rattle.pool_core.specs.Openable.{CanContinue}
 use Rattle.pool_core.proofs.Counting.{at_most_max_total_from, nothing_lost_from}
 use Rattle.pool_core.proofs.Lasting.{closed_parks_none_from, closed_base_parks_none, made_anew, made_and_gone_once_from}
 use Rattle.pool_core.proofs.Lending.{lent_in_turn_from}
 use Rattle.pool_core.proofs.Opening.{empty_is_openable}
 
-pub keeps_laws_from : (S : Settings) (b : Base) (J : List Entry) → IsRunnable S b → IsLegalFrom S b J → LawsFrom S b J
+pub keeps_laws_from : (S : Settings) (b : Base) (J : List Entry) → CanContinue S b → IsLegalFrom S b J → SafetyPropertiesFrom S b J
 keeps_laws_from S b J runs legal =
     record {
       at_most_max_total = at_most_max_total_from S b J runs legal;
@@ -24,5 +24,5 @@ keeps_laws_from S b J runs legal =
       nothing_lost = nothing_lost_from S b J runs legal;
     }
 
-pub keeps_laws : (S : Settings) (J : List Entry) → IsLegal S J → Laws S J
+pub keeps_laws : (S : Settings) (J : List Entry) → IsLegal S J → SafetyProperties S J
 keeps_laws S J = keeps_laws_from S empty_base J (empty_is_openable S).runnable

@@ -3,10 +3,10 @@ use Rattle.std.proofs.Common.{◌≡◌, ◌≢◌, ℕ, zero, suc, ◌+◌, ◌
 use Rattle.std.proofs.Common.{ap, sym, ◌∙◌, arith}
 use Rattle.std.specs.Prelude.{◌&&◌, IsSomeAnd, take}
 use Rattle.std.proofs.lemmas.Bool.Decides.{nat_tests}
-use Rattle.pool_journal.specs.Journal.{id_of, is_of, named_to, moved_by, is_lent_answer}
+use Rattle.pool_journal.specs.Entries.{id_of, is_of, named_to, move_of, is_lent_answer}
 use Rattle.pool_journal.specs.Queue.{record_in}
 use Rattle.pool_journal.specs.Base.{phase_from, drawn_from, records_from}
-use Rattle.pool_journal.specs.Sound.{IsSound}
+use Rattle.pool_journal.specs.Sound.{IsWellFormed}
 use Rattle.pool_journal.specs.declared.base.Base.{Base}
 use Rattle.pool_journal.specs.declared.entry.Entry.{Entry}
 use Rattle.pool_journal.specs.declared.record.Record.{Record}
@@ -15,12 +15,12 @@ use Rattle.pool_journal.specs.declared.record.Phase.TheVariants as phases
 use Rattle.pool_journal.specs.declared.input.Input.{Input}
 use Rattle.pool_journal.specs.declared.answer.Answer.{Answer}
 use Rattle.pool_journal.specs.declared.answer.Answer.TheVariants as answers
-use Rattle.pool_journal.proofs.BaseFound.{found_from}
+use Rattle.pool_journal.proofs.Found.{found_from}
 use Rattle.pool_places.specs.Overdue.{is_lent}
 use Rattle.pool_settings.specs.declared.settings.Settings.{Settings}
-use Rattle.pool_core.specs.Laws.{LeavesLentFrom, LentInTurnFrom}
+use Rattle.pool_core.specs.Laws.{LeavesLentFrom, ExclusiveLoansFrom}
 use Rattle.pool_core.specs.Legal.{IsLegalFrom}
-use Rattle.pool_core.specs.Steps.{Finds, comes_from}
+use Rattle.pool_core.specs.Steps.{IsEnabled, comes_from}
 use Rattle.pool_core.proofs.Fronts.{front_with, due_at_from}
 use Rattle.pool_core.proofs.Lives.{finds_due, move, phase_moved}
 
@@ -49,7 +49,7 @@ same_id i j same = grind (arith, nat_tests)
 
 -- an entry that lends an object moves it to Lent
 lends_to : (a : Answer) (input : Input) (i : ℕ) → (is_lent_answer a && is_of i (id_of input)) ≡ true
-    → moved_by a input ≡ Some (i, phases.Lent)
+    → move_of a input ≡ Some (i, phases.Lent)
 lends_to answers.Lent input i is = by_id (id_of input) is
   where
     by_id : (o : Option ℕ) → is_of i o ≡ true → named_to o phases.Lent ≡ Some (i, phases.Lent)
@@ -76,7 +76,7 @@ found_not_lent_from b J j leaves = by_record (record_in (records_from b J) j) re
         lent_from (phase_from b j J) (ap (λ (r : Record). comes_from answers.Lent r.phase) (sym at.is) ∙ is)
 
 was_not_lent_from : (b : Base) (J : List Entry) (a : Answer) (input : Input) (i : ℕ) → (is_lent_answer a && is_of i (id_of input)) ≡ true
-    → Finds input a (records_from b J) (drawn_from b J) → is_lent (phase_from b i J) ≡ false
+    → IsEnabled input a (records_from b J) (drawn_from b J) → is_lent (phase_from b i J) ≡ false
 was_not_lent_from b J answers.Lent input i is finds = by_id (id_of input) is finds
   where
     by_id : (o : Option ℕ) → is_of i o ≡ true → IsSomeAnd o (λ j. IsSomeAnd (record_in (records_from b J) j) (Leaves answers.Lent))
@@ -96,7 +96,7 @@ lent_is_not p other is = absurd (cc (sym other ∙ ap is_lent is))
 abbrev lent_at_from : Base → List Entry → ℕ → ℕ → Bool
 lent_at_from b J i m = is_lent (phase_from b i (take m J))
 
-pub lent_in_turn_from : (S : Settings) (b : Base) (J : List Entry) → IsSound b → IsLegalFrom S b J → LentInTurnFrom b J
+pub lent_in_turn_from : (S : Settings) (b : Base) (J : List Entry) → IsWellFormed b → IsLegalFrom S b J → ExclusiveLoansFrom b J
 lent_in_turn_from S b J sound legal i k l e f before at_k at_l first second =
     let to = phase_moved b (take k J) e i phases.Lent (lends_to e.answer e.input i first) in
     let lent_then : lent_at_from b J i (k + 1) ≡ true = ap (λ K. is_lent (phase_from b i K)) (front_with J k e at_k) ∙ ap is_lent to in

@@ -4,8 +4,8 @@ use Rattle.std.proofs.Common.{refl, ap, sym, ◌∙◌, arith, subst, inl, inr, 
 use mathlib.Core.Bool.{false≢true}
 use Rattle.std.specs.Prelude.{◌||◌, not, IsSome, IsSomeAnd, unwrap_or}
 use Rattle.std.proofs.lemmas.Bool.Decides.{nat_tests}
-use Rattle.pool_journal.specs.Latest.{said_if}
-use Rattle.pool_journal.specs.Journal.{Move, id_of, is_of, made_to, named_to, moves, parks, phase_told, made_told, is_present, is_make_answer}
+use Rattle.pool_journal.specs.Latest.{some_if}
+use Rattle.pool_journal.specs.Entries.{Move, id_of, is_of, made_to, named_to, move_of_entry, parks, phase_after_move, made_by_move, is_present, is_make_answer}
 use Rattle.pool_journal.specs.Queue.{record_in, is_queued}
 use Rattle.pool_journal.specs.Totals.{is_freed, is_reclaimed, is_evicting}
 use Rattle.pool_journal.specs.Base.{phase_from, is_new_from, drawn_from, records_from, closed_from, cursor_from}
@@ -18,13 +18,13 @@ use Rattle.pool_journal.specs.declared.input.Input.{Input}
 use Rattle.pool_journal.specs.declared.input.Input.TheVariants.{Borrow, Add, Fill}
 use Rattle.pool_journal.specs.declared.answer.Answer.{Answer}
 use Rattle.pool_journal.specs.declared.answer.Answer.TheVariants as answers
-use Rattle.pool_journal.proofs.BaseFound.{found_from, each_found_from}
-use Rattle.pool_journal.proofs.BasePushed.{phase_from-push, is_new_from-push}
+use Rattle.pool_journal.proofs.Found.{found_from, each_found_from}
+use Rattle.pool_journal.proofs.Pushed.{phase_from-push, is_new_from-push}
 use Rattle.pool_places.specs.Counts.{is_adding}
 use Rattle.pool_settings.specs.declared.settings.Settings.{Settings}
 use Rattle.pool_core.specs.Legal.{entry_of}
 use Rattle.pool_core.specs.Openable.{is_begun, is_destroying}
-use Rattle.pool_core.specs.Steps.{MovesNamed, Finds, comes_from}
+use Rattle.pool_core.specs.Steps.{MovesInputObject, IsEnabled, comes_from}
 use Rattle.pool_core.proofs.Counted.{one_if}
 use Rattle.pool_core.proofs.Finding.{finds_of}
 use Rattle.pool_core.proofs.Fronts.{IsDueFrom}
@@ -38,7 +38,7 @@ gives_up a = is_freed a || is_reclaimed a
 
 -- an entry that moves no object
 pub record Still (e : Entry) : Type 0 where
-  pub none : moves e ≡ None
+  pub none : move_of_entry e ≡ None
   pub no_make : is_make_answer e.answer ≡ false
   pub stays : gives_up e.answer ≡ false
   pub evicts_none : is_evicting e.answer e.input ≡ false
@@ -47,7 +47,7 @@ pub record Still (e : Entry) : Type 0 where
 -- an entry that makes the next object
 pub record Makes (b : Base) (J : List Entry) (e : Entry) : Type 0 where
   pub p : Phase
-  pub to : moves e ≡ Some (drawn_from b J, p)
+  pub to : move_of_entry e ≡ Some (drawn_from b J, p)
   pub begun : is_begun p ≡ true
   pub comes : is_present p ≡ true
   pub makes : is_make_answer e.answer ≡ true
@@ -59,7 +59,7 @@ pub record Makes (b : Base) (J : List Entry) (e : Entry) : Type 0 where
 pub record Brings (b : Base) (J : List Entry) (e : Entry) : Type 0 where
   pub i : ℕ
   pub p : Phase
-  pub to : moves e ≡ Some (i, p)
+  pub to : move_of_entry e ≡ Some (i, p)
   pub below : i < drawn_from b J
   pub was_there : is_present (phase_from b i J) ≡ true
   pub no_make : is_make_answer e.answer ≡ false
@@ -90,9 +90,9 @@ there b J i P is = by_record (record_in (records_from b J) i) refl is
         let at = found_from b J i r some in
         record { below = omega (arith, at.below); was_there = at.passes; has = subst (λ (k : Record). P k.phase) at.is is }
 
--- what else an answer does that moves an object from a phase with P to p
+-- the other effects of an answer that moves an object from a phase with P to p
 record Moves (e : Entry) (i : ℕ) (p : Phase) (P : Phase → Type 0) : Type 0 where
-  to : moves e ≡ Some (i, p)
+  to : move_of_entry e ≡ Some (i, p)
   no_make : is_make_answer e.answer ≡ false
   leaves : gives_up e.answer ≡ not (is_present p)
   not_added : is_adding p ≡ false
@@ -122,7 +122,7 @@ brings_one b J e i p P m is =
     })
 
 -- an entry that moves the object that its input names, from a phase that its answer comes from
-brings_named : (b : Base) (J : List Entry) (c at : ℕ) (input : Input) (a : Answer) (p : Phase) → MovesNamed input a (records_from b J)
+brings_named : (b : Base) (J : List Entry) (c at : ℕ) (input : Input) (a : Answer) (p : Phase) → MovesInputObject input a (records_from b J)
     → ((i : ℕ) → id_of input ≡ Some i → Moves (entry_of c at input a) i p (λ q. comes_from a q ≡ true)) → Acts b J (entry_of c at input a)
 brings_named b J c at input a p named m = by_id (id_of input) refl named
   where
@@ -181,7 +181,7 @@ named_of i o named = let same : (i == i) ≡ true = grind (arith, nat_tests) in 
 moves_named : (o : Option ℕ) (i : ℕ) (p : Phase) → o ≡ Some i → named_to o p ≡ Some (i, p)
 moves_named o i p is = ap (λ (n : Option ℕ). named_to n p) is
 
-acts_of : (b : Base) (J : List Entry) (c at : ℕ) (input : Input) (a : Answer) → Finds input a (records_from b J) (drawn_from b J)
+acts_of : (b : Base) (J : List Entry) (c at : ℕ) (input : Input) (a : Answer) → IsEnabled input a (records_from b J) (drawn_from b J)
     → Acts b J (entry_of c at input a)
 acts_of b J c at input (answers.Take i) finds =
     let to = ap (λ (t : Bool). if t then move i phases.Readying else None) finds.1 in
@@ -310,7 +310,7 @@ acts_of b J c at input answers.Freed finds =
 acts_of b J c at input _ finds = still (record { none = refl; no_make = refl; stays = refl; evicts_none = refl; parks_none = λ i. refl })
 
 -- an expected entry finds what it concerns
-pub finds_due : (S : Settings) (b : Base) (J : List Entry) (e : Entry) → IsDueFrom S b J e → Finds e.input e.answer (records_from b J) (drawn_from b J)
+pub finds_due : (S : Settings) (b : Base) (J : List Entry) (e : Entry) → IsDueFrom S b J e → IsEnabled e.input e.answer (records_from b J) (drawn_from b J)
 finds_due S b J e due =
     finds_of S (records_from b J) (drawn_from b J) (closed_from b J) (cursor_from b J) e.at e.input e.answer (each_found_from b J) due.is
 
@@ -318,35 +318,35 @@ finds_due S b J e due =
 pub acts : (S : Settings) (b : Base) (J : List Entry) (e : Entry) → IsDueFrom S b J e → Acts b J e
 acts S b J e due = acts_of b J e.caller e.at e.input e.answer (finds_due S b J e due)
 
-pub phase_stays : (b : Base) (J : List Entry) (e : Entry) → moves e ≡ None → (j : ℕ) → phase_from b j (J ++ e ∷ []) ≡ phase_from b j J
-phase_stays b J e none j = phase_from-push b j J e ∙ ap (λ (m : Option Move). unwrap_or (phase_told j m) (phase_from b j J)) none
+pub phase_stays : (b : Base) (J : List Entry) (e : Entry) → move_of_entry e ≡ None → (j : ℕ) → phase_from b j (J ++ e ∷ []) ≡ phase_from b j J
+phase_stays b J e none j = phase_from-push b j J e ∙ ap (λ (m : Option Move). unwrap_or (phase_after_move j m) (phase_from b j J)) none
 
-pub phase_moved : (b : Base) (J : List Entry) (e : Entry) (i : ℕ) (p : Phase) → moves e ≡ Some (i, p) → phase_from b i (J ++ e ∷ []) ≡ p
+pub phase_moved : (b : Base) (J : List Entry) (e : Entry) (i : ℕ) (p : Phase) → move_of_entry e ≡ Some (i, p) → phase_from b i (J ++ e ∷ []) ≡ p
 phase_moved b J e i p to =
     let same : (i == i) ≡ true = grind (arith, nat_tests) in
-    phase_from-push b i J e ∙ ap (λ (m : Option Move). unwrap_or (phase_told i m) (phase_from b i J)) to
-    ∙ ap (λ (t : Bool). unwrap_or (said_if t p) (phase_from b i J)) same
+    phase_from-push b i J e ∙ ap (λ (m : Option Move). unwrap_or (phase_after_move i m) (phase_from b i J)) to
+    ∙ ap (λ (t : Bool). unwrap_or (some_if t p) (phase_from b i J)) same
 
-pub phase_of_others : (b : Base) (J : List Entry) (e : Entry) (i : ℕ) (p : Phase) → moves e ≡ Some (i, p)
+pub phase_of_others : (b : Base) (J : List Entry) (e : Entry) (i : ℕ) (p : Phase) → move_of_entry e ≡ Some (i, p)
     → (j : ℕ) → j ≢ i → phase_from b j (J ++ e ∷ []) ≡ phase_from b j J
 phase_of_others b J e i p to j other =
     let differs : (i == j) ≡ false = grind (arith, nat_tests) in
-    phase_from-push b j J e ∙ ap (λ (m : Option Move). unwrap_or (phase_told j m) (phase_from b j J)) to
-    ∙ ap (λ (t : Bool). unwrap_or (said_if t p) (phase_from b j J)) differs
+    phase_from-push b j J e ∙ ap (λ (m : Option Move). unwrap_or (phase_after_move j m) (phase_from b j J)) to
+    ∙ ap (λ (t : Bool). unwrap_or (some_if t p) (phase_from b j J)) differs
 
 -- the same for whether an object is new
-pub new_stays : (b : Base) (J : List Entry) (e : Entry) → moves e ≡ None → (j : ℕ) → is_new_from b j (J ++ e ∷ []) ≡ is_new_from b j J
-new_stays b J e none j = is_new_from-push b j J e ∙ ap (λ (m : Option Move). unwrap_or (made_told j m (is_make_answer e.answer)) (is_new_from b j J)) none
+pub new_stays : (b : Base) (J : List Entry) (e : Entry) → move_of_entry e ≡ None → (j : ℕ) → is_new_from b j (J ++ e ∷ []) ≡ is_new_from b j J
+new_stays b J e none j = is_new_from-push b j J e ∙ ap (λ (m : Option Move). unwrap_or (made_by_move j m (is_make_answer e.answer)) (is_new_from b j J)) none
 
-pub new_moved : (b : Base) (J : List Entry) (e : Entry) (i : ℕ) (p : Phase) → moves e ≡ Some (i, p) → is_new_from b i (J ++ e ∷ []) ≡ is_make_answer e.answer
+pub new_moved : (b : Base) (J : List Entry) (e : Entry) (i : ℕ) (p : Phase) → move_of_entry e ≡ Some (i, p) → is_new_from b i (J ++ e ∷ []) ≡ is_make_answer e.answer
 new_moved b J e i p to =
     let same : (i == i) ≡ true = grind (arith, nat_tests) in
-    is_new_from-push b i J e ∙ ap (λ (m : Option Move). unwrap_or (made_told i m (is_make_answer e.answer)) (is_new_from b i J)) to
-    ∙ ap (λ (t : Bool). unwrap_or (said_if t (is_make_answer e.answer)) (is_new_from b i J)) same
+    is_new_from-push b i J e ∙ ap (λ (m : Option Move). unwrap_or (made_by_move i m (is_make_answer e.answer)) (is_new_from b i J)) to
+    ∙ ap (λ (t : Bool). unwrap_or (some_if t (is_make_answer e.answer)) (is_new_from b i J)) same
 
-pub new_of_others : (b : Base) (J : List Entry) (e : Entry) (i : ℕ) (p : Phase) → moves e ≡ Some (i, p)
+pub new_of_others : (b : Base) (J : List Entry) (e : Entry) (i : ℕ) (p : Phase) → move_of_entry e ≡ Some (i, p)
     → (j : ℕ) → j ≢ i → is_new_from b j (J ++ e ∷ []) ≡ is_new_from b j J
 new_of_others b J e i p to j other =
     let differs : (i == j) ≡ false = grind (arith, nat_tests) in
-    is_new_from-push b j J e ∙ ap (λ (m : Option Move). unwrap_or (made_told j m (is_make_answer e.answer)) (is_new_from b j J)) to
-    ∙ ap (λ (t : Bool). unwrap_or (said_if t (is_make_answer e.answer)) (is_new_from b j J)) differs
+    is_new_from-push b j J e ∙ ap (λ (m : Option Move). unwrap_or (made_by_move j m (is_make_answer e.answer)) (is_new_from b j J)) to
+    ∙ ap (λ (t : Bool). unwrap_or (some_if t (is_make_answer e.answer)) (is_new_from b j J)) differs

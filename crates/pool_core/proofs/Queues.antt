@@ -5,7 +5,7 @@ use Rattle.std.specs.Prelude.{filter, fold, unwrap_or, count_by, ◌+◌}
 use Rattle.std.specs.List.{AllByRecursion}
 use Rattle.std.proofs.lemmas.List.Sums.{length-filter}
 use Rattle.std.specs.Option.{option_map, option_or}
-use Rattle.pool_journal.specs.Queue.{record_in, is_idle, idle_queue, first_of, last_of, put_rising, by_rising}
+use Rattle.pool_journal.specs.Queue.{record_in, is_idle, idle_queue, first_of, last_of, insert_sorted, sort_by}
 use Rattle.pool_journal.specs.declared.record.Record.{Record}
 use Rattle.pool_places.specs.After.{is_after}
 use Rattle.pool_core.specs.Reply.{examined}
@@ -20,23 +20,23 @@ all_filter {A} P p (x ∷ xs) all = by_test (p x) (all_filter P p xs all.1)
     by_test false rest = rest
 
 all_put : {A : Type 0} (P : A → Type 0) (key : A → ℕ) (ys : List A) (x : A) → P x → AllByRecursion P ys
-    → AllByRecursion P (put_rising key ys x)
+    → AllByRecursion P (insert_sorted key ys x)
 all_put P key [] x here all = (here, tt)
 all_put {A} P key (y ∷ ys) x here all = by_test (ltb (key x) (key y)) (all_put P key ys x here all.1)
   where
-    by_test : (b : Bool) → AllByRecursion P (put_rising key ys x)
-        → AllByRecursion P (if b then x ∷ y ∷ ys else y ∷ put_rising key ys x)
+    by_test : (b : Bool) → AllByRecursion P (insert_sorted key ys x)
+        → AllByRecursion P (if b then x ∷ y ∷ ys else y ∷ insert_sorted key ys x)
     by_test true rest = (here, all)
     by_test false rest = (all.0, rest)
 
 all_puts : {A : Type 0} (P : A → Type 0) (key : A → ℕ) (ys xs : List A) → AllByRecursion P ys → AllByRecursion P xs
-    → AllByRecursion P (fold (put_rising key) ys xs)
+    → AllByRecursion P (fold (insert_sorted key) ys xs)
 all_puts P key ys [] so_far all = so_far
-all_puts P key ys (x ∷ xs) so_far all = all_puts P key (put_rising key ys x) xs (all_put P key ys x all.0 so_far) all.1
+all_puts P key ys (x ∷ xs) so_far all = all_puts P key (insert_sorted key ys x) xs (all_put P key ys x all.0 so_far) all.1
 
 pub all_rising : {A : Type 0} (P : A → Type 0) (key : A → ℕ) (xs : List A) → AllByRecursion P xs
-    → AllByRecursion P (by_rising key xs)
-unfolding by_rising
+    → AllByRecursion P (sort_by key xs)
+unfolding sort_by
 all_rising P key xs all = all_puts P key [] xs tt all
 
 pub all_idle : (P : Record → Type 0) (rs : List Record) → AllByRecursion P rs → AllByRecursion P (idle_queue rs)
@@ -55,21 +55,21 @@ last_has {A} P (y ∷ xs) x all is = by_last (last_of xs) refl is (λ z found. l
     by_last (Some z) found is later = let e : z ≡ x = cc is in subst P e (later z found)
 
 -- the queue has as many objects as are idle
-length-put : {A : Type 0} (key : A → ℕ) (ys : List A) (x : A) → length (put_rising key ys x) ≡ length ys + 1
+length-put : {A : Type 0} (key : A → ℕ) (ys : List A) (x : A) → length (insert_sorted key ys x) ≡ length ys + 1
 length-put key [] x = refl
 length-put {A} key (y ∷ ys) x = by_test (ltb (key x) (key y)) (length-put key ys x)
   where
-    by_test : (b : Bool) → length (put_rising key ys x) ≡ length ys + 1
-        → length (if b then x ∷ y ∷ ys else y ∷ put_rising key ys x) ≡ length (y ∷ ys) + 1
+    by_test : (b : Bool) → length (insert_sorted key ys x) ≡ length ys + 1
+        → length (if b then x ∷ y ∷ ys else y ∷ insert_sorted key ys x) ≡ length (y ∷ ys) + 1
     by_test true later = omega arith
     by_test false later = omega (arith, later)
 
-length-puts : {A : Type 0} (key : A → ℕ) (ys xs : List A) → length (fold (put_rising key) ys xs) ≡ length ys + length xs
+length-puts : {A : Type 0} (key : A → ℕ) (ys xs : List A) → length (fold (insert_sorted key) ys xs) ≡ length ys + length xs
 length-puts key ys [] = omega arith
-length-puts key ys (x ∷ xs) = omega (arith, length-puts key (put_rising key ys x) xs, length-put key ys x)
+length-puts key ys (x ∷ xs) = omega (arith, length-puts key (insert_sorted key ys x) xs, length-put key ys x)
 
 pub length-idle_queue : (rs : List Record) → length (idle_queue rs) ≡ count_by (λ r. is_idle r.phase) rs
-unfolding by_rising
+unfolding sort_by
 length-idle_queue rs =
     omega (arith, length-puts (λ r. r.parked) [] (filter (λ r. is_idle r.phase) rs), length-filter (λ r. is_idle r.phase) rs)
 

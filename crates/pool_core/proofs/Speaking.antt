@@ -5,9 +5,9 @@ use Rattle.std.specs.Prelude.{IsSome, is_some, not, ℤ, pos, negsuc, ◌-◌, �
 use Rattle.std.specs.List.{AllByRecursion}
 use Rattle.std.specs.Option.{option_map}
 use Rattle.std.proofs.lemmas.Bool.Decides.{nat_tests}
-use Rattle.pool_journal.specs.Journal.{id_of, made_to, moved_by, examined_by, is_present, is_make_answer, is_parked_answer}
-use Rattle.pool_journal.specs.Journal.{is_lent_answer, is_noted_answer}
-use Rattle.pool_journal.specs.OneMore.{touched}
+use Rattle.pool_journal.specs.Entries.{id_of, made_to, move_of, examined_by, is_present, is_make_answer, is_parked_answer}
+use Rattle.pool_journal.specs.Entries.{is_lent_answer, is_noted_answer}
+use Rattle.pool_journal.specs.OneMore.{record_after}
 use Rattle.pool_journal.specs.Queue.{record_in, idle_queue, first_of, last_of, queue_length}
 use Rattle.pool_journal.specs.declared.record.Record.{Record}
 use Rattle.pool_journal.specs.declared.input.Input.{Input}
@@ -22,13 +22,13 @@ use Rattle.pool_journal.specs.declared.answer.Cause.{Cause}
 use Rattle.pool_journal.specs.declared.answer.Cause.TheVariants as causes
 use Rattle.pool_journal.specs.declared.record.Phase.{Phase}
 use Rattle.pool_journal.specs.declared.record.Phase.TheVariants as phases
-use Rattle.pool_journal.proofs.Steps.{Speaks, silent, touches, draws, Silent, Examines}
+use Rattle.pool_journal.specs.Effects.{HasEffect, silent, touches, draws, NoEffect, Examines}
 use Rattle.pool_places.specs.Overdue.{is_overdue}
 use Rattle.pool_settings.specs.declared.settings.Settings.{Settings}
 use Rattle.pool_core.specs.Legal.{entry_of}
-use Rattle.pool_core.specs.Reply.{is_below, has_reached, choice, examined, evicts, forgotten_for, forgotten, has_room, full_reply}
+use Rattle.pool_core.specs.Reply.{is_below, has_reached, borrow_candidate, examined, is_evictable, forgotten_for, abandoned_objects, has_room, exhausted_reply}
 use Rattle.pool_core.specs.Reply.{borrow_reply, ready_reply, lent_reply, park_reply, added_reply, tested_reply, destroyed_reply}
-use Rattle.pool_core.specs.Reply.{add_reply, evict_next_reply, reclaim_next_reply, clear_next_reply, phase_of, new_of, table}
+use Rattle.pool_core.specs.Reply.{add_reply, evict_next_reply, reclaim_next_reply, clear_next_reply, phase_of, new_of, reply_from_records}
 use Rattle.pool_core.proofs.Queues.{all_filter, all_idle, first_has, last_has, examined_has}
 
 differs : (i j : ℕ) → j ≢ i → (i == j) ≡ false
@@ -59,7 +59,7 @@ each_there rs = along rs (λ i is. is)
 idle_there : (rs : List Record) → AllByRecursion (IsThere rs) (idle_queue rs)
 idle_there rs = all_idle (IsThere rs) rs (each_there rs)
 
-forgotten_there : (S : Settings) (at : ℕ) (rs : List Record) → AllByRecursion (IsThere rs) (forgotten S at rs)
+forgotten_there : (S : Settings) (at : ℕ) (rs : List Record) → AllByRecursion (IsThere rs) (abandoned_objects S at rs)
 forgotten_there S at rs = for_timeout S.remove_abandoned_timeout_millis
   where
     for_timeout : (timeout : ℤ) → AllByRecursion (IsThere rs) (forgotten_for timeout at rs)
@@ -67,7 +67,7 @@ forgotten_there S at rs = for_timeout S.remove_abandoned_timeout_millis
     for_timeout (negsuc _) = tt
 
 -- the object that a borrow takes is present
-pub choice_is_there : (lifo : Bool) (rs : List Record) (i : ℕ) → choice lifo rs ≡ Some i → IsSome (record_in rs i)
+pub choice_is_there : (lifo : Bool) (rs : List Record) (i : ℕ) → borrow_candidate lifo rs ≡ Some i → IsSome (record_in rs i)
 choice_is_there true rs i is = by_last (last_of (idle_queue rs)) refl is
   where
     by_last : (o : Option Record) → last_of (idle_queue rs) ≡ o → option_map (λ r. r.id) o ≡ Some i → IsSome (record_in rs i)
@@ -98,7 +98,7 @@ IsNamed (answers.Reclaimed i) = ⊥
 IsNamed _ = ⊤
 
 others_stay : (c at : ℕ) (input : Input) (a : Answer) (i : ℕ) → id_of input ≡ Some i → IsNamed a → (k : ℕ) (r : Record) → r.id ≢ i
-    → touched k (entry_of c at input a) r ≡ r
+    → record_after k (entry_of c at input a) r ≡ r
 others_stay c at input (answers.Take j) i named is k r other = absurd is
 others_stay c at input (answers.Make j) i named is k r other = absurd is
 others_stay c at input (answers.Test j) i named is k r other = absurd is
@@ -119,11 +119,11 @@ no_make _ is = refl
 
 -- an input that names an object: if it is present, the answer may affect it, otherwise it has no effect
 by_name : (c at i : ℕ) (input : Input) (rs : List Record) (next : ℕ) (F : Phase → Bool → Answer) → id_of input ≡ Some i
-    → ((p : Phase) (new : Bool) → IsNamed (F p new)) → Silent (entry_of c at input (F phases.Absent false))
-    → Speaks (entry_of c at input (F (phase_of (record_in rs i)) (new_of (record_in rs i)))) rs next
+    → ((p : Phase) (new : Bool) → IsNamed (F p new)) → NoEffect (entry_of c at input (F phases.Absent false))
+    → HasEffect (entry_of c at input (F (phase_of (record_in rs i)) (new_of (record_in rs i)))) rs next
 by_name c at i input rs next F named is nothing = by_record (record_in rs i) refl
   where
-    by_record : (o : Option Record) → record_in rs i ≡ o → Speaks (entry_of c at input (F (phase_of o) (new_of o))) rs next
+    by_record : (o : Option Record) → record_in rs i ≡ o → HasEffect (entry_of c at input (F (phase_of o) (new_of o))) rs next
     by_record None found = silent nothing
     by_record (Some r) found =
         touches
@@ -178,36 +178,36 @@ destroyed_named phases.Destroying = tt
 destroyed_named _ = tt
 
 -- an entry without effect
-mute : (c at : ℕ) (input : Input) (cause : Cause) → Silent (entry_of c at input (answers.Refused cause))
+mute : (c at : ℕ) (input : Input) (cause : Cause) → NoEffect (entry_of c at input (answers.Refused cause))
 mute c at input cause = record { no_make = refl; all_stay = λ k r. refl }
 
-lent_mute : (c at : ℕ) (input : Input) (b : Bool) (a : Answer) → Silent (entry_of c at input (lent_reply b phases.Absent a))
+lent_mute : (c at : ℕ) (input : Input) (b : Bool) (a : Answer) → NoEffect (entry_of c at input (lent_reply b phases.Absent a))
 lent_mute c at input true a = record { no_make = refl; all_stay = λ k r. refl }
 lent_mute c at input false a = record { no_make = refl; all_stay = λ k r. refl }
 
 -- an object is made for the input, or there is no effect
 drawn_speaks : (c at : ℕ) (input : Input) (p : Phase) (rs : List Record) (next : ℕ) → made_to input next ≡ Some (next, p)
-    → is_present p ≡ true → Speaks (entry_of c at input (answers.Make next)) rs next
+    → is_present p ≡ true → HasEffect (entry_of c at input (answers.Make next)) rs next
 drawn_speaks c at input p rs next to here =
     let same : (next == next) ≡ true = grind (arith, nat_tests) in
     draws
     (record { makes = refl; comes = λ k. rw (to, same) here; others_stay = λ k r other. rw (to, differs next r.id other) refl })
 
 add_speaks : (c at : ℕ) (input : Input) (rs : List Record) (next : ℕ) (room : Bool)
-    → made_to input next ≡ Some (next, phases.Adding) → Speaks (entry_of c at input (add_reply room next)) rs next
+    → made_to input next ≡ Some (next, phases.Adding) → HasEffect (entry_of c at input (add_reply room next)) rs next
 add_speaks c at input rs next true to = drawn_speaks c at input phases.Adding rs next to refl
 add_speaks c at input rs next false to = silent (record { no_make = refl; all_stay = λ k r. refl })
 
 borrow_speaks : (S : Settings) (c at began : ℕ) (rs : List Record) (next waited : ℕ) (o : Option ℕ) (room : Bool)
     → ((i : ℕ) → o ≡ Some i → IsSome (record_in rs i))
-    → Speaks (entry_of c at (Borrow began) (borrow_reply o room next (full_reply S waited))) rs next
+    → HasEffect (entry_of c at (Borrow began) (borrow_reply o room next (exhausted_reply S waited))) rs next
 borrow_speaks S c at began rs next waited (Some i) room there =
     touches (record { i = i; is_there = there i refl; no_make = refl; others_stay = λ k r other. rw (differs i r.id other) refl })
 borrow_speaks S c at began rs next waited None true there = drawn_speaks c at (Borrow began) phases.Readying rs next refl refl
 borrow_speaks S c at began rs next waited None false there = by_test S.block_when_exhausted (has_reached S.max_wait_millis waited)
   where
     by_test : (b t : Bool)
-        → Speaks (entry_of c at (Borrow began) (if b then (if t then answers.TimedOut else answers.Wait) else answers.Exhausted))
+        → HasEffect (entry_of c at (Borrow began) (if b then (if t then answers.TimedOut else answers.Wait) else answers.Exhausted))
         rs next
     by_test true true = silent (record { no_make = refl; all_stay = λ k r. refl })
     by_test true false = silent (record { no_make = refl; all_stay = λ k r. refl })
@@ -215,9 +215,9 @@ borrow_speaks S c at began rs next waited None false there = by_test S.block_whe
 
 -- an answer that affects another object than the input's
 of_own : (c at i : ℕ) (input : Input) (a : Answer) (p : Phase) (rs : List Record) (next : ℕ) → IsSome (record_in rs i)
-    → moved_by a input ≡ Some (i, p) → is_make_answer a ≡ false → is_parked_answer a ≡ false → is_lent_answer a ≡ false
+    → move_of a input ≡ Some (i, p) → is_make_answer a ≡ false → is_parked_answer a ≡ false → is_lent_answer a ≡ false
     → is_noted_answer a ≡ false
-    → Speaks (entry_of c at input a) rs next
+    → HasEffect (entry_of c at input a) rs next
 of_own c at i input a p rs next there to no_make no_park no_lend no_note =
     touches
     (record {
@@ -233,11 +233,11 @@ one_examined b t i = if b then answers.DestroyIdle i else (if t then answers.Tes
 
 evict_next_speaks : (S : Settings) (c at q : ℕ) (rs : List Record) (next : ℕ) (o : Option Record)
     → ((r : Record) → o ≡ Some r → IsSome (record_in rs r.id))
-    → Speaks (entry_of c at EvictNext (evict_next_reply S q at o)) rs next
+    → HasEffect (entry_of c at EvictNext (evict_next_reply S q at o)) rs next
 evict_next_speaks S c at q rs next None there = silent (record { no_make = refl; all_stay = λ k r. refl })
-evict_next_speaks S c at q rs next (Some x) there = by_test (evicts S q at x) S.test_while_idle
+evict_next_speaks S c at q rs next (Some x) there = by_test (is_evictable S q at x) S.test_while_idle
   where
-    by_test : (b t : Bool) → Speaks (entry_of c at EvictNext (one_examined b t x.id)) rs next
+    by_test : (b t : Bool) → HasEffect (entry_of c at EvictNext (one_examined b t x.id)) rs next
     by_test true t =
         of_own c at x.id EvictNext (answers.DestroyIdle x.id) phases.Destroying rs next (there x refl) refl refl refl refl refl
     by_test false true =
@@ -245,29 +245,29 @@ evict_next_speaks S c at q rs next (Some x) there = by_test (evicts S q at x) S.
     by_test false false = silent (record { no_make = refl; all_stay = λ k r. refl })
 
 reclaim_next_speaks : (c at : ℕ) (rs : List Record) (next : ℕ) (b : Bool) (o : Option Record)
-    → ((r : Record) → o ≡ Some r → IsSome (record_in rs r.id)) → Speaks (entry_of c at ReclaimNext (reclaim_next_reply b o)) rs next
+    → ((r : Record) → o ≡ Some r → IsSome (record_in rs r.id)) → HasEffect (entry_of c at ReclaimNext (reclaim_next_reply b o)) rs next
 reclaim_next_speaks c at rs next true (Some x) there =
     of_own c at x.id ReclaimNext (answers.Reclaimed x.id) phases.Gone rs next (there x refl) refl refl refl refl refl
 reclaim_next_speaks c at rs next true None there = silent (record { no_make = refl; all_stay = λ k r. refl })
 reclaim_next_speaks c at rs next false o there = silent (record { no_make = refl; all_stay = λ k r. refl })
 
 clear_next_speaks : (c at : ℕ) (rs : List Record) (next : ℕ) (o : Option Record)
-    → ((r : Record) → o ≡ Some r → IsSome (record_in rs r.id)) → Speaks (entry_of c at ClearNext (clear_next_reply o)) rs next
+    → ((r : Record) → o ≡ Some r → IsSome (record_in rs r.id)) → HasEffect (entry_of c at ClearNext (clear_next_reply o)) rs next
 clear_next_speaks c at rs next (Some x) there =
     of_own c at x.id ClearNext (answers.DestroyIdle x.id) phases.Destroying rs next (there x refl) refl refl refl refl refl
 clear_next_speaks c at rs next None there = silent (record { no_make = refl; all_stay = λ k r. refl })
 
-unless : (b : Bool) (c at : ℕ) (input : Input) (x y : Answer) (rs : List Record) (next : ℕ) → Silent (entry_of c at input x)
-    → Speaks (entry_of c at input y) rs next → Speaks (entry_of c at input (if b then x else y)) rs next
+unless : (b : Bool) (c at : ℕ) (input : Input) (x y : Answer) (rs : List Record) (next : ℕ) → NoEffect (entry_of c at input x)
+    → HasEffect (entry_of c at input y) rs next → HasEffect (entry_of c at input (if b then x else y)) rs next
 unless true c at input x y rs next s t = silent s
 unless false c at input x y rs next s t = t
 
 -- an expected answer affects what it may
 pub speaks : (S : Settings) (rs : List Record) (next : ℕ) (shut : Bool) (cursor : Option ℕ) (c at : ℕ) (input : Input)
-    → Speaks (entry_of c at input (table S rs next shut cursor at input)) rs next
+    → HasEffect (entry_of c at input (reply_from_records S rs next shut cursor at input)) rs next
 speaks S rs next shut cursor c at (Borrow began) =
     unless shut c at (Borrow began) _ _ rs next (mute c at (Borrow began) causes.Closed)
-    (borrow_speaks S c at began rs next (at - began) (choice S.lifo rs) (is_below S.max_total (length rs))
+    (borrow_speaks S c at began rs next (at - began) (borrow_candidate S.lifo rs) (is_below S.max_total (length rs))
     (λ i is. choice_is_there S.lifo rs i is))
 speaks S rs next shut cursor c at (Ready i o) =
     by_name c at i (Ready i o) rs next (λ p new. ready_reply p new o) refl (λ p new. ready_named p new o)
@@ -302,8 +302,8 @@ speaks S rs next shut cursor c at (Tested i o) =
     (mute c at (Tested i o) causes.NotHeld)
 speaks S rs next shut cursor c at (Reclaim on) = silent (record { no_make = refl; all_stay = λ k r. refl })
 speaks S rs next shut cursor c at ReclaimNext =
-    reclaim_next_speaks c at rs next S.abandoned (first_of (forgotten S at rs))
-    (λ r is. first_has (IsThere rs) (forgotten S at rs) r (forgotten_there S at rs) is)
+    reclaim_next_speaks c at rs next S.abandoned (first_of (abandoned_objects S at rs))
+    (λ r is. first_has (IsThere rs) (abandoned_objects S at rs) r (forgotten_there S at rs) is)
 speaks S rs next shut cursor c at Clear = silent (record { no_make = refl; all_stay = λ k r. refl })
 speaks S rs next shut cursor c at ClearNext =
     clear_next_speaks c at rs next (first_of (idle_queue rs)) (λ r is. first_has (IsThere rs) (idle_queue rs) r (idle_there rs) is)
@@ -318,7 +318,7 @@ speaks S rs next shut cursor c at Close =
 examines_one : (S : Settings) (c at q : ℕ) (rs : List Record) (o : Option Record)
     → ((r : Record) → o ≡ Some r → IsSome (record_in rs r.id)) → Examines (entry_of c at EvictNext (evict_next_reply S q at o)) rs
 examines_one S c at q rs None there i is = absurd (cc is)
-examines_one S c at q rs (Some x) there i is = by_test (evicts S q at x) S.test_while_idle is
+examines_one S c at q rs (Some x) there i is = by_test (is_evictable S q at x) S.test_while_idle is
   where
     by_test : (b t : Bool) → examined_by (one_examined b t x.id) EvictNext ≡ Some i → IsSome (record_in rs i)
     by_test true t is = let same : x.id ≡ i = cc is in subst (λ (j : ℕ). IsSome (record_in rs j)) same (there x refl)
@@ -344,33 +344,33 @@ none_examined a input i rs other is = absurd (cc (sym (examines_none a input oth
 
 -- an expected answer examines a present object
 pub examines : (S : Settings) (rs : List Record) (next : ℕ) (shut : Bool) (cursor : Option ℕ) (c at : ℕ) (input : Input)
-    → Examines (entry_of c at input (table S rs next shut cursor at input)) rs
+    → Examines (entry_of c at input (reply_from_records S rs next shut cursor at input)) rs
 examines S rs next shut cursor c at EvictNext j is =
     examines_one S c at (queue_length rs) rs (examined cursor rs) (examined_is_there cursor rs) j is
 examines S rs next shut cursor c at (Borrow began) j is =
-    none_examined (table S rs next shut cursor at (Borrow began)) (Borrow began) j rs refl is
+    none_examined (reply_from_records S rs next shut cursor at (Borrow began)) (Borrow began) j rs refl is
 examines S rs next shut cursor c at (Ready i o) j is =
-    none_examined (table S rs next shut cursor at (Ready i o)) (Ready i o) j rs refl is
+    none_examined (reply_from_records S rs next shut cursor at (Ready i o)) (Ready i o) j rs refl is
 examines S rs next shut cursor c at (GiveBack i) j is =
-    none_examined (table S rs next shut cursor at (GiveBack i)) (GiveBack i) j rs refl is
+    none_examined (reply_from_records S rs next shut cursor at (GiveBack i)) (GiveBack i) j rs refl is
 examines S rs next shut cursor c at (Park i o) j is =
-    none_examined (table S rs next shut cursor at (Park i o)) (Park i o) j rs refl is
+    none_examined (reply_from_records S rs next shut cursor at (Park i o)) (Park i o) j rs refl is
 examines S rs next shut cursor c at (Invalidate i) j is =
-    none_examined (table S rs next shut cursor at (Invalidate i)) (Invalidate i) j rs refl is
-examines S rs next shut cursor c at (Use i) j is = none_examined (table S rs next shut cursor at (Use i)) (Use i) j rs refl is
-examines S rs next shut cursor c at Add j is = none_examined (table S rs next shut cursor at Add) Add j rs refl is
-examines S rs next shut cursor c at Fill j is = none_examined (table S rs next shut cursor at Fill) Fill j rs refl is
+    none_examined (reply_from_records S rs next shut cursor at (Invalidate i)) (Invalidate i) j rs refl is
+examines S rs next shut cursor c at (Use i) j is = none_examined (reply_from_records S rs next shut cursor at (Use i)) (Use i) j rs refl is
+examines S rs next shut cursor c at Add j is = none_examined (reply_from_records S rs next shut cursor at Add) Add j rs refl is
+examines S rs next shut cursor c at Fill j is = none_examined (reply_from_records S rs next shut cursor at Fill) Fill j rs refl is
 examines S rs next shut cursor c at (Added i o) j is =
-    none_examined (table S rs next shut cursor at (Added i o)) (Added i o) j rs refl is
-examines S rs next shut cursor c at Evict j is = none_examined (table S rs next shut cursor at Evict) Evict j rs refl is
+    none_examined (reply_from_records S rs next shut cursor at (Added i o)) (Added i o) j rs refl is
+examines S rs next shut cursor c at Evict j is = none_examined (reply_from_records S rs next shut cursor at Evict) Evict j rs refl is
 examines S rs next shut cursor c at (Tested i o) j is =
-    none_examined (table S rs next shut cursor at (Tested i o)) (Tested i o) j rs refl is
+    none_examined (reply_from_records S rs next shut cursor at (Tested i o)) (Tested i o) j rs refl is
 examines S rs next shut cursor c at (Reclaim on) j is =
-    none_examined (table S rs next shut cursor at (Reclaim on)) (Reclaim on) j rs refl is
+    none_examined (reply_from_records S rs next shut cursor at (Reclaim on)) (Reclaim on) j rs refl is
 examines S rs next shut cursor c at ReclaimNext j is =
-    none_examined (table S rs next shut cursor at ReclaimNext) ReclaimNext j rs refl is
-examines S rs next shut cursor c at Clear j is = none_examined (table S rs next shut cursor at Clear) Clear j rs refl is
-examines S rs next shut cursor c at ClearNext j is = none_examined (table S rs next shut cursor at ClearNext) ClearNext j rs refl is
+    none_examined (reply_from_records S rs next shut cursor at ReclaimNext) ReclaimNext j rs refl is
+examines S rs next shut cursor c at Clear j is = none_examined (reply_from_records S rs next shut cursor at Clear) Clear j rs refl is
+examines S rs next shut cursor c at ClearNext j is = none_examined (reply_from_records S rs next shut cursor at ClearNext) ClearNext j rs refl is
 examines S rs next shut cursor c at (Destroyed i) j is =
-    none_examined (table S rs next shut cursor at (Destroyed i)) (Destroyed i) j rs refl is
-examines S rs next shut cursor c at Close j is = none_examined (table S rs next shut cursor at Close) Close j rs refl is
+    none_examined (reply_from_records S rs next shut cursor at (Destroyed i)) (Destroyed i) j rs refl is
+examines S rs next shut cursor c at Close j is = none_examined (reply_from_records S rs next shut cursor at Close) Close j rs refl is

@@ -9,11 +9,11 @@ use Rattle.pool_journal.specs.declared.record.Record.{Record}
 use Rattle.pool_journal.specs.declared.record.Phase.{Phase}
 use Rattle.pool_journal.specs.declared.record.Phase.TheVariants as phases
 use Rattle.pool_journal.specs.declared.answer.Answer.{Answer}
-use Rattle.pool_journal.specs.Journal.{is_present}
+use Rattle.pool_journal.specs.Entries.{is_present}
 use Rattle.pool_journal.specs.Queue.{record_in}
 use Rattle.pool_journal.specs.Base.{phase_from, is_new_from, drawn_from, present_from, record_from, records_from}
-use Rattle.pool_journal.specs.Segments.{ReachesFrom}
-use Rattle.pool_journal.proofs.BaseFound.{found_from, not_found_from}
+use Rattle.pool_journal.specs.Segments.{IsStateAfter}
+use Rattle.pool_journal.proofs.Found.{found_from, not_found_from}
 use Rattle.pool_settings.specs.declared.settings.Settings.{Settings}
 use Rattle.pool_core.specs.Reply.{lent_reply, phase_of, new_of}
 
@@ -29,7 +29,7 @@ absent_or_gone phases.Gone is = inr refl
 absent_or_gone _ is = absurd (cc is)
 
 -- a query of an object of the entries is one of its record
-pub asks_from : {A : Type 0} (b : Base) (J : List Entry) (rs : List Record) (next : ℕ) → ReachesFrom b J rs next → (i : ℕ) (F : Phase → Bool → A)
+pub asks_from : {A : Type 0} (b : Base) (J : List Entry) (rs : List Record) (next : ℕ) → IsStateAfter b J rs next → (i : ℕ) (F : Phase → Bool → A)
     → ((new : Bool) → F phases.Absent new ≡ F phases.Absent false) → ((new : Bool) → F phases.Gone new ≡ F phases.Absent false)
     → F (phase_from b i J) (is_new_from b i J) ≡ F (phase_of (record_in rs i)) (new_of (record_in rs i))
 asks_from {A} b J rs next reaches i F absent gone = by_record (record_in rs i) refl
@@ -50,7 +50,7 @@ asks_from {A} b J rs next reaches i F absent gone = by_record (record_in rs i) r
         ap (λ (k : Record). F k.phase k.is_new) (sym at.is)
 
 -- the same for a query of a lent object
-pub lent_from_is : (S : Settings) (b : Base) (J : List Entry) (rs : List Record) (next : ℕ) → ReachesFrom b J rs next → (i : ℕ) (a : Answer)
+pub lent_from_is : (S : Settings) (b : Base) (J : List Entry) (rs : List Record) (next : ℕ) → IsStateAfter b J rs next → (i : ℕ) (a : Answer)
     → lent_reply S.abandoned (phase_from b i J) a ≡ lent_reply S.abandoned (phase_of (record_in rs i)) a
 lent_from_is S b J rs next reaches i a =
     asks_from b J rs next reaches i (λ p new. lent_reply S.abandoned p a) (λ new. refl) (λ new. gone S.abandoned)

@@ -1,14 +1,13 @@
 -- The safety properties of legal entries after a base that a pool can continue from, and of whole legal journals.
-use Rattle.std.specs.Prelude.{◌≡◌, ◌≢◌, ℕ, ◌+◌, ◌<◌, ◌≤◌, true, List, take, slice_get, length, count_by, Some, ℤ, pos, negsuc, ⊤}
-use Rattle.pool_journal.specs.Base.{empty_base, phase_from, present_from, reach}
-use Rattle.pool_journal.specs.Journal.{moves, lends, is_closing}
-use Rattle.pool_journal.specs.Queue.{is_queued}
+use Rattle.std.specs.Prelude.{◌≡◌, ◌≢◌, ℕ, ◌+◌, ◌<◌, ◌≤◌, true, List, take, slice_get, length, Some, ℤ, pos, negsuc, ⊤}
+use Rattle.pool_journal.specs.Base.{empty_base, phase_from, present_from}
+use Rattle.pool_journal.specs.Entries.{move_of_entry, lends, is_closing}
 use Rattle.pool_journal.specs.declared.base.Base.{Base}
 use Rattle.pool_journal.specs.declared.entry.Entry.{Entry}
 use Rattle.pool_journal.specs.declared.record.Phase.{Phase}
 use Rattle.pool_journal.specs.declared.record.Phase.TheVariants as phases
 use Rattle.pool_journal.specs.declared.answer.Answer.TheVariants as answers
-use Rattle.pool_stats.specs.Counts.{is_lent, is_reserved}
+use Rattle.pool_stats.specs.Counts.{counts_from}
 use Rattle.pool_stats.specs.declared.counts.Counts.{Counts}
 use Rattle.pool_settings.specs.declared.settings.Settings.{Settings}
 
@@ -25,19 +24,19 @@ IsWithin (negsuc _) n = ⊤
 abbrev pub AtMostMaxTotalFrom : Settings → Base → List Entry → Type 0
 AtMostMaxTotalFrom S b J = IsWithin S.max_total (length (present_from b J))
 
--- after an entry that closes the pool, none moves an object to Idle
-abbrev pub ClosedParksNone : List Entry → Type 0
-ClosedParksNone J = EachTwo J (λ e f. is_closing e.answer e.input ≡ true → (i : ℕ) → moves f ≢ Some (i, phases.Idle))
+-- after an entry that closes the pool, no entry moves an object to Idle
+abbrev pub NoneIdleAfterClose : List Entry → Type 0
+NoneIdleAfterClose J = EachTwo J (λ e f. is_closing e.answer e.input ≡ true → (i : ℕ) → move_of_entry f ≢ Some (i, phases.Idle))
 
 -- after a base of a closed pool, no entry moves an object to Idle
-abbrev pub ClosedBaseParksNone : Base → List Entry → Type 0
-ClosedBaseParksNone b J = b.closed ≡ true → (k : ℕ) (e : Entry) → slice_get J k ≡ Some e → (i : ℕ) → moves e ≢ Some (i, phases.Idle)
+abbrev pub NoneIdleAfterClosedBase : Base → List Entry → Type 0
+NoneIdleAfterClosedBase b J = b.closed ≡ true → (k : ℕ) (e : Entry) → slice_get J k ≡ Some e → (i : ℕ) → move_of_entry e ≢ Some (i, phases.Idle)
 
 -- each id is made at most once and its place freed at most once, and no entry after that moves it
-pub record MadeAndGoneOnce (J : List Entry) : Type 0 where
+pub record IdsUsedOnce (J : List Entry) : Type 0 where
   pub made_once : EachTwo J (λ e f. (i : ℕ) → e.answer ≡ answers.Make i → f.answer ≢ answers.Make i)
-  pub gone_once : EachTwo J (λ e f. (i : ℕ) → moves e ≡ Some (i, phases.Gone) → moves f ≢ Some (i, phases.Gone))
-  pub gone_stays : EachTwo J (λ e f. (i : ℕ) (p : Phase) → moves e ≡ Some (i, phases.Gone) → moves f ≢ Some (i, p))
+  pub gone_once : EachTwo J (λ e f. (i : ℕ) → move_of_entry e ≡ Some (i, phases.Gone) → move_of_entry f ≢ Some (i, phases.Gone))
+  pub gone_stays : EachTwo J (λ e f. (i : ℕ) (p : Phase) → move_of_entry e ≡ Some (i, phases.Gone) → move_of_entry f ≢ Some (i, p))
 
 -- no object that was created before is made again
 abbrev pub MadeAnew : Base → List Entry → Type 0
@@ -49,46 +48,28 @@ pub record LeavesLentFrom (b : Base) (J : List Entry) (i m : ℕ) : Type 0 where
   pub not_after : phase_from b i (take (m + 1) J) ≢ phases.Lent
 
 -- between two entries that lend i, another one moves it out of Lent
-abbrev pub LentInTurnFrom : Base → List Entry → Type 0
-LentInTurnFrom b J =
+abbrev pub ExclusiveLoansFrom : Base → List Entry → Type 0
+ExclusiveLoansFrom b J =
     (i k l : ℕ) (e f : Entry) → k < l → slice_get J k ≡ Some e → slice_get J l ≡ Some f → lends i e ≡ true → lends i f ≡ true
     → (m : ℕ) × (k < m) × (m < l) × LeavesLentFrom b J i m
-
--- the counts of a base, of all entries before the segment
-abbrev pub counts_at : Base → Counts
-counts_at b =
-    record {
-      steps = b.first;
-      idle = count_by (λ r. is_queued r.phase) b.records;
-      lent = count_by (λ r. is_lent r.phase) b.records;
-      reserved = count_by (λ r. is_reserved r.phase) b.records;
-      created = b.drawn;
-      destroyed = b.destroyed;
-      evicted = b.evicted;
-      reclaimed = b.reclaimed;
-    }
-
--- the counts after the entries J, which continue the base b
-abbrev pub counts_from : Base → List Entry → Counts
-counts_from b J = counts_at (reach b J)
 
 -- each object that was made is idle, lent or reserved, or was destroyed or reclaimed
 abbrev pub AddsUp : Counts → Type 0
 AddsUp c = c.created ≡ c.idle + c.lent + c.reserved + c.destroyed + c.reclaimed
 
 -- no object is lost
-abbrev pub NothingLostFrom : Base → List Entry → Type 0
-NothingLostFrom b J = AddsUp (counts_from b J)
+abbrev pub ObjectsConservedFrom : Base → List Entry → Type 0
+ObjectsConservedFrom b J = AddsUp (counts_from b J)
 
 -- the safety properties of legal entries after a base
-pub record LawsFrom (S : Settings) (b : Base) (J : List Entry) : Type 0 where
+pub record SafetyPropertiesFrom (S : Settings) (b : Base) (J : List Entry) : Type 0 where
   pub at_most_max_total : AtMostMaxTotalFrom S b J
-  pub closed_parks_none : ClosedParksNone J
-  pub closed_base_parks_none : ClosedBaseParksNone b J
-  pub made_and_gone_once : MadeAndGoneOnce J
+  pub closed_parks_none : NoneIdleAfterClose J
+  pub closed_base_parks_none : NoneIdleAfterClosedBase b J
+  pub made_and_gone_once : IdsUsedOnce J
   pub made_anew : MadeAnew b J
-  pub lent_in_turn : LentInTurnFrom b J
-  pub nothing_lost : NothingLostFrom b J
+  pub lent_in_turn : ExclusiveLoansFrom b J
+  pub nothing_lost : ObjectsConservedFrom b J
 
 -- ---- of whole journals
 
@@ -98,11 +79,11 @@ AtMostMaxTotal S J = AtMostMaxTotalFrom S empty_base J
 abbrev pub LeavesLent : List Entry → ℕ → ℕ → Type 0
 LeavesLent J i m = LeavesLentFrom empty_base J i m
 
-abbrev pub LentInTurn : List Entry → Type 0
-LentInTurn J = LentInTurnFrom empty_base J
+abbrev pub ExclusiveLoans : List Entry → Type 0
+ExclusiveLoans J = ExclusiveLoansFrom empty_base J
 
-abbrev pub NothingLost : List Entry → Type 0
-NothingLost J = NothingLostFrom empty_base J
+abbrev pub ObjectsConserved : List Entry → Type 0
+ObjectsConserved J = ObjectsConservedFrom empty_base J
 
-abbrev pub Laws : Settings → List Entry → Type 0
-Laws S J = LawsFrom S empty_base J
+abbrev pub SafetyProperties : Settings → List Entry → Type 0
+SafetyProperties S J = SafetyPropertiesFrom S empty_base J

@@ -1,4 +1,5 @@
--- What the pool answers to an input: the rows of the table of answers, and the table after a base and entries, or a journal.
+-- The expected answer to an input: the rows of the table of answers, and the answer after a base and entries, or after a
+-- journal.
 use Rattle.std.specs.Prelude.{ℕ, ◌+◌, ◌-◌, Bool, true, false, not, ◌&&◌, ◌||◌, if◌then◌else◌, nat_lt, nat_le, min}
 use Rattle.std.specs.Prelude.{List, [], length, filter, count_by, Option, Some, None, ℤ, pos, negsuc, int_le, int_lt}
 use Rattle.std.specs.Int.{div_ceil}
@@ -47,15 +48,15 @@ abbrev pub is_nearly_full : ℤ → ℕ → Bool
 is_nearly_full (pos limit) n = nat_lt limit (n + 3)
 is_nearly_full (negsuc _) n = true
 
--- how many tests an eviction run makes on a queue of length q: n, but at most q; for a negative n, q divided by its absolute
--- value, rounded up
-abbrev pub tests : ℤ → ℕ → ℕ
-tests (pos n) q = min n q
-tests (negsuc n) q = div_ceil q (n + 1)
+-- the number of tests that an eviction run makes on a queue of length q: n, but at most q; for a negative n, q divided by its
+-- absolute value, rounded up
+abbrev pub tests_per_run : ℤ → ℕ → ℕ
+tests_per_run (pos n) q = min n q
+tests_per_run (negsuc n) q = div_ceil q (n + 1)
 
 -- the object that a borrow takes: the one that was parked last, or first
-abbrev pub choice : Bool → List Record → Option ℕ
-choice lifo rs = option_map (λ r. r.id) (if lifo then last_of (idle_queue rs) else first_of (idle_queue rs))
+abbrev pub borrow_candidate : Bool → List Record → Option ℕ
+borrow_candidate lifo rs = option_map (λ r. r.id) (if lifo then last_of (idle_queue rs) else first_of (idle_queue rs))
 
 -- the object that is examined next: the first idle one that was parked after the cursor, otherwise the first idle one
 abbrev pub examined : Option ℕ → List Record → Option Record
@@ -63,8 +64,8 @@ examined cursor rs = option_or (first_of (filter (is_after cursor) (idle_queue r
 
 -- an idle object in a queue of length q is evicted: it was idle longer than the limit, or longer than the soft limit while the
 -- queue exceeds the number to keep
-abbrev pub evicts : Settings → ℕ → ℕ → Record → Bool
-evicts S q at r =
+abbrev pub is_evictable : Settings → ℕ → ℕ → Record → Bool
+is_evictable S q at r =
     is_past S.min_evictable_idle_millis (at - r.since)
     || (is_past S.soft_min_evictable_idle_millis (at - r.since) && int_lt (effective_min_idle S) (pos q))
 
@@ -73,8 +74,8 @@ abbrev pub forgotten_for : ℤ → ℕ → List Record → List Record
 forgotten_for (pos timeout) at rs = overdue at timeout rs
 forgotten_for (negsuc _) at rs = []
 
-abbrev pub forgotten : Settings → ℕ → List Record → List Record
-forgotten S at rs = forgotten_for S.remove_abandoned_timeout_millis at rs
+abbrev pub abandoned_objects : Settings → ℕ → List Record → List Record
+abandoned_objects S at rs = forgotten_for S.remove_abandoned_timeout_millis at rs
 
 -- fewer than two objects are in the queue, and the others number more than `max_total` less 3
 abbrev pub is_scarce : Settings → List Record → Bool
@@ -86,16 +87,16 @@ reclaims S shut rs times.Maintain = S.abandoned && S.remove_abandoned_on_mainten
 reclaims S shut rs times.Borrow = S.abandoned && S.remove_abandoned_on_borrow && not shut && is_scarce S rs
 
 -- the objects in the queue, or on their way to it, are at least the number to keep
-abbrev pub has_enough : Settings → List Record → Bool
-has_enough S rs = int_le (effective_min_idle S) (pos (queue_length rs + count_by (λ r. is_adding r.phase) rs))
+abbrev pub has_min_idle : Settings → List Record → Bool
+has_min_idle S rs = int_le (effective_min_idle S) (pos (queue_length rs + count_by (λ r. is_adding r.phase) rs))
 
 -- the queue of an open pool takes one more object
 abbrev pub has_room : Settings → Bool → List Record → Bool
 has_room S shut rs = not shut && is_below S.max_idle (queue_length rs)
 
 -- no object can be made: a borrow waits until its time is up, or fails at once
-abbrev pub full_reply : Settings → ℕ → Answer
-full_reply S waited =
+abbrev pub exhausted_reply : Settings → ℕ → Answer
+exhausted_reply S waited =
     if S.block_when_exhausted then (if has_reached S.max_wait_millis waited then answers.TimedOut else answers.Wait)
     else answers.Exhausted
 
@@ -172,7 +173,7 @@ add_reply room next = if room then answers.Make next else answers.NoPlace
 abbrev pub evict_next_reply : Settings → ℕ → ℕ → Option Record → Answer
 evict_next_reply S q at None = answers.Nothing
 evict_next_reply S q at (Some r) =
-    if evicts S q at r then answers.DestroyIdle r.id
+    if is_evictable S q at r then answers.DestroyIdle r.id
     else (if S.test_while_idle then answers.Test r.id else answers.KeptIdle r.id)
 
 -- an object is reclaimed, if abandoned ones are removed and there is one
@@ -197,34 +198,34 @@ new_of (Some r) = r.is_new
 
 -- the table of answers: the expected answer in a state, which is the records of the present objects, the next id, whether the
 -- pool is closed, and the cursor
-abbrev pub table : Settings → List Record → ℕ → Bool → Option ℕ → ℕ → Input → Answer
-table S rs next shut cursor at (Borrow began) =
+abbrev pub reply_from_records : Settings → List Record → ℕ → Bool → Option ℕ → ℕ → Input → Answer
+reply_from_records S rs next shut cursor at (Borrow began) =
     if shut then answers.Refused causes.Closed
-    else borrow_reply (choice S.lifo rs) (is_below S.max_total (length rs)) next (full_reply S (at - began))
-table S rs next shut cursor at (Ready i o) = ready_reply (phase_of (record_in rs i)) (new_of (record_in rs i)) o
-table S rs next shut cursor at (GiveBack i) = lent_reply S.abandoned (phase_of (record_in rs i)) answers.Check
-table S rs next shut cursor at (Park i o) = park_reply (phase_of (record_in rs i)) o (has_room S shut rs)
-table S rs next shut cursor at (Invalidate i) = lent_reply S.abandoned (phase_of (record_in rs i)) answers.Destroy
-table S rs next shut cursor at (Use i) = lent_reply S.abandoned (phase_of (record_in rs i)) answers.Noted
-table S rs next shut cursor at Add =
+    else borrow_reply (borrow_candidate S.lifo rs) (is_below S.max_total (length rs)) next (exhausted_reply S (at - began))
+reply_from_records S rs next shut cursor at (Ready i o) = ready_reply (phase_of (record_in rs i)) (new_of (record_in rs i)) o
+reply_from_records S rs next shut cursor at (GiveBack i) = lent_reply S.abandoned (phase_of (record_in rs i)) answers.Check
+reply_from_records S rs next shut cursor at (Park i o) = park_reply (phase_of (record_in rs i)) o (has_room S shut rs)
+reply_from_records S rs next shut cursor at (Invalidate i) = lent_reply S.abandoned (phase_of (record_in rs i)) answers.Destroy
+reply_from_records S rs next shut cursor at (Use i) = lent_reply S.abandoned (phase_of (record_in rs i)) answers.Noted
+reply_from_records S rs next shut cursor at Add =
     if shut then answers.Refused causes.Closed else add_reply (is_below S.max_total (length rs)) next
-table S rs next shut cursor at Fill =
-    if shut || has_enough S rs then answers.Enough else add_reply (is_below S.max_total (length rs)) next
-table S rs next shut cursor at (Added i o) = added_reply (phase_of (record_in rs i)) o (not shut)
-table S rs next shut cursor at Evict =
-    if shut then answers.Refused causes.Closed else answers.Count (tests S.num_tests_per_eviction_run (queue_length rs))
-table S rs next shut cursor at EvictNext = evict_next_reply S (queue_length rs) at (examined cursor rs)
-table S rs next shut cursor at (Tested i o) = tested_reply (phase_of (record_in rs i)) o (not shut)
-table S rs next shut cursor at (Reclaim on) = answers.Count (if reclaims S shut rs on then length (forgotten S at rs) else 0)
-table S rs next shut cursor at ReclaimNext = reclaim_next_reply S.abandoned (first_of (forgotten S at rs))
-table S rs next shut cursor at Clear = answers.Count (length (idle_queue rs))
-table S rs next shut cursor at ClearNext = clear_next_reply (first_of (idle_queue rs))
-table S rs next shut cursor at (Destroyed i) = destroyed_reply (phase_of (record_in rs i))
-table S rs next shut cursor at Close = if shut then answers.Nothing else answers.Count (length (idle_queue rs))
+reply_from_records S rs next shut cursor at Fill =
+    if shut || has_min_idle S rs then answers.Enough else add_reply (is_below S.max_total (length rs)) next
+reply_from_records S rs next shut cursor at (Added i o) = added_reply (phase_of (record_in rs i)) o (not shut)
+reply_from_records S rs next shut cursor at Evict =
+    if shut then answers.Refused causes.Closed else answers.Count (tests_per_run S.num_tests_per_eviction_run (queue_length rs))
+reply_from_records S rs next shut cursor at EvictNext = evict_next_reply S (queue_length rs) at (examined cursor rs)
+reply_from_records S rs next shut cursor at (Tested i o) = tested_reply (phase_of (record_in rs i)) o (not shut)
+reply_from_records S rs next shut cursor at (Reclaim on) = answers.Count (if reclaims S shut rs on then length (abandoned_objects S at rs) else 0)
+reply_from_records S rs next shut cursor at ReclaimNext = reclaim_next_reply S.abandoned (first_of (abandoned_objects S at rs))
+reply_from_records S rs next shut cursor at Clear = answers.Count (length (idle_queue rs))
+reply_from_records S rs next shut cursor at ClearNext = clear_next_reply (first_of (idle_queue rs))
+reply_from_records S rs next shut cursor at (Destroyed i) = destroyed_reply (phase_of (record_in rs i))
+reply_from_records S rs next shut cursor at Close = if shut then answers.Nothing else answers.Count (length (idle_queue rs))
 
 -- the expected answer after the entries J, which continue the base b: the table's, in the state after them
 abbrev pub reply_from : Settings → Base → List Entry → ℕ → Input → Answer
-reply_from S b J at input = table S (records_from b J) (drawn_from b J) (closed_from b J) (cursor_from b J) at input
+reply_from S b J at input = reply_from_records S (records_from b J) (drawn_from b J) (closed_from b J) (cursor_from b J) at input
 
 -- the expected answer after a whole journal
 abbrev pub reply : Settings → List Entry → ℕ → Input → Answer

@@ -7,22 +7,22 @@ use Rattle.pool_journal.specs.declared.answer.Answer.{Answer}
 use Rattle.pool_journal.specs.declared.answer.Answer.TheVariants as answers
 use Rattle.pool_journal.specs.declared.record.Phase.{Phase}
 use Rattle.pool_journal.specs.declared.record.Phase.TheVariants as phases
-use Rattle.pool_journal.specs.Journal.{id_of, is_borrow, made_to, is_closing, examined_by}
+use Rattle.pool_journal.specs.Entries.{id_of, is_borrow, made_to, is_closing, examined_by}
 use Rattle.pool_journal.specs.Carrying.{carries}
-use Rattle.pool_journal.specs.OneMore.{stays, stepped, next_after}
+use Rattle.pool_journal.specs.OneMore.{stays, records_after, next_after}
 use Rattle.pool_journal.specs.Queue.{record_in}
-use Rattle.pool_journal.specs.Reaches.{place_known}
+use Rattle.pool_journal.specs.Known.{place_known}
 use Rattle.pool_places.specs.Changes.{IsInPhase}
-use Rattle.pool_places.specs.Shelf.{records_in}
+use Rattle.pool_places.specs.PlacesModel.{records_in}
 use Rattle.pool_stats.specs.Ended.{ended_after}
 use Rattle.pool_core.specs.Legal.{entry_of}
-use Rattle.pool_core.specs.Reply.{table}
-use Rattle.pool_core.specs.declared.state.Moment.{Moment}
+use Rattle.pool_core.specs.Reply.{reply_from_records}
+use Rattle.pool_core.specs.declared.state.StepContext.{StepContext}
 use Rattle.pool_core.specs.declared.state.State.{State}
 
 -- the records after a step, by any caller
-abbrev pub known_after : Moment → Input → Answer → ℕ → List Record → List Record
-known_after now input answer next rs = stepped now.position (entry_of 0 now.at input answer) next rs
+abbrev pub known_after : StepContext → Input → Answer → ℕ → List Record → List Record
+known_after now input answer next rs = records_after now.position (entry_of 0 now.at input answer) next rs
 
 -- whether the pool is closed after a step
 abbrev pub closed_after : Answer → Input → Bool → Bool
@@ -33,8 +33,8 @@ abbrev pub cursor_after : Answer → Input → List Record → Option ℕ → Op
 cursor_after answer input rs cursor = unwrap_or (place_known (examined_by answer input) rs) cursor
 
 -- the new state has taken the step that the input asks for, with the expected answer
-pub record TakesStep {T : Type 0} (now : Moment) (input : Input) (old new : State T) (answer : Answer) : Type 0 where
-  pub due : answer ≡ table old.settings (records_in old.places.kept) old.next old.closed old.cursor now.at input
+pub record TakesStep {T : Type 0} (now : StepContext) (input : Input) (old new : State T) (answer : Answer) : Type 0 where
+  pub due : answer ≡ reply_from_records old.settings (records_in old.places.kept) old.next old.closed old.cursor now.at input
   pub known : records_in new.places.kept ≡ known_after now input answer old.next (records_in old.places.kept)
   pub next_is : new.next ≡ next_after (entry_of 0 now.at input answer) old.next
   pub closed_is : new.closed ≡ closed_after answer input old.closed
@@ -47,7 +47,7 @@ pub record TakesStep {T : Type 0} (now : Moment) (input : Input) (old new : Stat
 abbrev pub AllStay : List Record → Type 0
 AllStay rs = AllByRecursion (λ r. stays r ≡ true) rs
 
--- what is known of the records and the next id before the entry at a position: each record is that of a present object, found
+-- the facts about the records and the next id before the entry at a position: each record is that of a present object, found
 -- under its id, created before and parked before; and there are ids left
 pub record IsBefore (position : ℕ) (rs : List Record) (next : ℕ) : Type 0 where
   pub stay : AllStay rs
@@ -75,8 +75,8 @@ comes_from answers.Noted phases.Lent = true
 comes_from _ _ = false
 
 -- the object that the input names is present, in a phase from which the answer moves it
-abbrev pub MovesNamed : Input → Answer → List Record → Type 0
-MovesNamed input a rs = IsSomeAnd (id_of input) (λ i. IsSomeAnd (record_in rs i) (λ r. comes_from a r.phase ≡ true))
+abbrev pub MovesInputObject : Input → Answer → List Record → Type 0
+MovesInputObject input a rs = IsSomeAnd (id_of input) (λ i. IsSomeAnd (record_in rs i) (λ r. comes_from a r.phase ≡ true))
 
 -- the object that the input names becomes idle, with its value
 abbrev pub keeps_value : Answer → Bool
@@ -84,19 +84,19 @@ keeps_value answers.Parked = true
 keeps_value answers.Kept = true
 keeps_value _ = false
 
--- what an answer needs: an idle object that it takes, a lent one that it reclaims, the next id, or the object that the input
--- names, in a phase from which the answer moves it; and a value with the input, if the object keeps one
-abbrev pub Finds : Input → Answer → List Record → ℕ → Type 0
-Finds input (answers.Take i) rs next = IsInPhase rs i phases.Idle × (is_borrow input ≡ true)
-Finds input (answers.Test i) rs next = IsInPhase rs i phases.Idle × (carries input ≡ false)
-Finds input (answers.DestroyIdle i) rs next = IsInPhase rs i phases.Idle × (carries input ≡ false)
-Finds input (answers.Reclaimed i) rs next = IsInPhase rs i phases.Lent
-Finds input (answers.Make i) rs next = (i ≡ next) × IsSome (made_to input i)
-Finds input answers.Parked rs next = MovesNamed input answers.Parked rs × (carries input ≡ true)
-Finds input answers.Kept rs next = MovesNamed input answers.Kept rs × (carries input ≡ true)
-Finds input answers.Lent rs next = MovesNamed input answers.Lent rs
-Finds input answers.Check rs next = MovesNamed input answers.Check rs
-Finds input answers.Destroy rs next = MovesNamed input answers.Destroy rs
-Finds input answers.Freed rs next = MovesNamed input answers.Freed rs
-Finds input answers.Noted rs next = MovesNamed input answers.Noted rs
-Finds input _ rs next = ⊤
+-- the condition of an answer: an idle object that it takes, a lent one that it reclaims, the next id, or the object that the
+-- input names, in a phase from which the answer moves it; and a value with the input, if the object keeps one
+abbrev pub IsEnabled : Input → Answer → List Record → ℕ → Type 0
+IsEnabled input (answers.Take i) rs next = IsInPhase rs i phases.Idle × (is_borrow input ≡ true)
+IsEnabled input (answers.Test i) rs next = IsInPhase rs i phases.Idle × (carries input ≡ false)
+IsEnabled input (answers.DestroyIdle i) rs next = IsInPhase rs i phases.Idle × (carries input ≡ false)
+IsEnabled input (answers.Reclaimed i) rs next = IsInPhase rs i phases.Lent
+IsEnabled input (answers.Make i) rs next = (i ≡ next) × IsSome (made_to input i)
+IsEnabled input answers.Parked rs next = MovesInputObject input answers.Parked rs × (carries input ≡ true)
+IsEnabled input answers.Kept rs next = MovesInputObject input answers.Kept rs × (carries input ≡ true)
+IsEnabled input answers.Lent rs next = MovesInputObject input answers.Lent rs
+IsEnabled input answers.Check rs next = MovesInputObject input answers.Check rs
+IsEnabled input answers.Destroy rs next = MovesInputObject input answers.Destroy rs
+IsEnabled input answers.Freed rs next = MovesInputObject input answers.Freed rs
+IsEnabled input answers.Noted rs next = MovesInputObject input answers.Noted rs
+IsEnabled input _ rs next = ⊤

@@ -1,5 +1,5 @@
 ghost use Rattle.std.specs.Prelude.{◌≡◌, ◌-◌};
-ghost use Rattle.pool_core.specs.Reply.{evicts, full_reply, borrow_reply, readying_reply, ready_reply, lent_reply, returning_reply, park_reply, adding_reply, added_reply, testing_reply, tested_reply, destroyed_reply, add_reply, evict_next_reply};
+ghost use Rattle.pool_core.specs.Reply.{is_evictable, exhausted_reply, borrow_reply, readying_reply, ready_reply, lent_reply, returning_reply, park_reply, adding_reply, added_reply, testing_reply, tested_reply, destroyed_reply, add_reply, evict_next_reply};
 
 use crate::limits::{has_reached_limit, is_more_than, is_past_limit};
 use pool_journal::{Answer, Cause, Outcome, Phase, Record};
@@ -13,7 +13,7 @@ const NOT_LENT: Answer = Answer::Refused(Cause::NotLent);
 
 // The answer to a borrow that has waited `waited` milliseconds, if there is no object for it.
 fn full_answer(settings: &Settings, waited: u64) -> Answer
-    ensures { result ≡ full_reply settings.now waited }
+    ensures { result ≡ exhausted_reply settings.now waited }
 {
     if !settings.block_when_exhausted {
         Answer::Exhausted
@@ -24,8 +24,8 @@ fn full_answer(settings: &Settings, waited: u64) -> Answer
     }
 }
 
-/// The answer to a borrow of an open pool that has waited `waited` milliseconds: `choice` is the object that it would
-/// take, `room` whether a place is free, and `next` the next id.
+/// Returns the answer to a borrow of an open pool that has waited `waited` milliseconds: `choice` is the object that it
+/// would take, `room` whether a place is free, and `next` the next id.
 pub fn borrow_answer(
     settings: &Settings,
     choice: Option<u64>,
@@ -33,7 +33,7 @@ pub fn borrow_answer(
     next: u64,
     waited: u64,
 ) -> Answer
-    ensures { result ≡ borrow_reply choice room next (full_reply settings.now waited) }
+    ensures { result ≡ borrow_reply choice room next (exhausted_reply settings.now waited) }
 {
     match choice {
         Some(id) => Answer::Take(id),
@@ -56,7 +56,7 @@ fn readying_answer(is_new: bool, outcome: Outcome) -> Answer
     }
 }
 
-/// The answer to the outcome of making an object ready.
+/// Returns the answer to the outcome of making an object ready.
 pub fn ready_answer(phase: Phase, is_new: bool, outcome: Outcome) -> Answer
     ensures { result ≡ ready_reply phase is_new outcome }
 {
@@ -66,8 +66,8 @@ pub fn ready_answer(phase: Phase, is_new: bool, outcome: Outcome) -> Answer
     }
 }
 
-/// The answer to a return, an invalidation or a use: `answer` if the object is lent. With `abandoned`, an object that
-/// isn't present may have been reclaimed.
+/// Returns the answer to a return, an invalidation or a use: `answer` if the object is lent. With `abandoned`, an
+/// object that isn't present may have been reclaimed.
 pub fn lent_answer(abandoned: bool, phase: Phase, answer: Answer) -> Answer
     ensures { result ≡ lent_reply abandoned phase answer }
 {
@@ -89,7 +89,7 @@ fn returning_answer(outcome: Outcome, room: bool) -> Answer
     }
 }
 
-/// The answer to the outcome of checking a returned object, with `room` in the queue.
+/// Returns the answer to the outcome of checking a returned object, with `room` in the queue.
 pub fn park_answer(phase: Phase, outcome: Outcome, room: bool) -> Answer
     ensures { result ≡ park_reply phase outcome room }
 {
@@ -99,7 +99,7 @@ pub fn park_answer(phase: Phase, outcome: Outcome, room: bool) -> Answer
     }
 }
 
-/// The answer if an object is to be made for the queue, with `room` for one more in the pool.
+/// Returns the answer if an object is to be made for the queue, with `room` for one more in the pool.
 pub fn add_answer(room: bool, next: u64) -> Answer
     ensures { result ≡ add_reply room next }
 {
@@ -122,7 +122,7 @@ fn adding_answer(outcome: Outcome, is_open: bool) -> Answer
     }
 }
 
-/// The answer to the outcome of making an object for the queue.
+/// Returns the answer to the outcome of making an object for the queue.
 pub fn added_answer(phase: Phase, outcome: Outcome, is_open: bool) -> Answer
     ensures { result ≡ added_reply phase outcome is_open }
 {
@@ -134,7 +134,7 @@ pub fn added_answer(phase: Phase, outcome: Outcome, is_open: bool) -> Answer
 
 // Whether an idle object in a queue of length `queue` is evicted at time `at` (milliseconds).
 fn is_evicted(settings: &Settings, queue: u64, at: u64, known: Record) -> bool
-    ensures { result ≡ evicts settings.now queue at known }
+    ensures { result ≡ is_evictable settings.now queue at known }
 {
     let idle = at.saturating_sub(known.since);
     is_past_limit(settings.min_evictable_idle_millis, idle)
@@ -142,8 +142,8 @@ fn is_evicted(settings: &Settings, queue: u64, at: u64, known: Record) -> bool
             && is_more_than(queue, settings.effective_min_idle())
 }
 
-/// The answer to the next step of an eviction run at time `at` (milliseconds), for the idle object `examined`, in a
-/// queue of length `queue`.
+/// Returns the answer to the next step of an eviction run at time `at` (milliseconds), for the idle object `examined`,
+/// in a queue of length `queue`.
 pub fn evict_next_answer(
     settings: &Settings,
     queue: u64,
@@ -171,7 +171,7 @@ fn testing_answer(outcome: Outcome, is_open: bool) -> Answer
     }
 }
 
-/// The answer to the outcome of an idle test.
+/// Returns the answer to the outcome of an idle test.
 pub fn tested_answer(phase: Phase, outcome: Outcome, is_open: bool) -> Answer
     ensures { result ≡ tested_reply phase outcome is_open }
 {
@@ -181,7 +181,7 @@ pub fn tested_answer(phase: Phase, outcome: Outcome, is_open: bool) -> Answer
     }
 }
 
-/// The answer to the report that an object was destroyed.
+/// Returns the answer to the report that an object was destroyed.
 pub fn destroyed_answer(phase: Phase) -> Answer
     ensures { result ≡ destroyed_reply phase }
 {

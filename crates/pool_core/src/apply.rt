@@ -1,13 +1,13 @@
 ghost use Rattle.std.specs.Prelude.{◌≡◌, ◌≤◌, Some, None, IsSome, if◌then◌else◌, true, false, is_some};
 ghost use Rattle.pool_journal.specs.Carrying.{carries};
-ghost use Rattle.pool_journal.specs.Journal.{id_of, is_borrow, is_make_answer};
+ghost use Rattle.pool_journal.specs.Entries.{id_of, is_borrow, is_make_answer};
 ghost use Rattle.pool_journal.specs.declared.record.Phase.TheVariants as phases;
-ghost use Rattle.pool_places.specs.Shelf.{records_in};
+ghost use Rattle.pool_places.specs.PlacesModel.{records_in};
 ghost use Rattle.pool_stats.specs.Ended.{MayGrow};
-ghost use Rattle.pool_core.specs.Reply.{table};
+ghost use Rattle.pool_core.specs.Reply.{reply_from_records};
 
 use crate::marks::{closes, examined, id_in, next_after};
-use crate::state::{Moment, State};
+use crate::state::{State, StepContext};
 use pool_journal::{Answer, Input, Phase};
 
 // The object that an input names.
@@ -40,13 +40,13 @@ fn taken<T>(handed: Option<T>, value: T) -> Option<T>
 }
 
 impl<T> State<T> {
-    ghost use Rattle.pool_core.specs.Steps.{TakesStep, IsBefore, MovesNamed, Finds, known_after, cursor_after, keeps_value};
-    ghost use Rattle.pool_core.specs.Kept.{Hands, Keeps, SameValues};
+    ghost use Rattle.pool_core.specs.Steps.{TakesStep, IsBefore, MovesInputObject, IsEnabled, known_after, cursor_after, keeps_value};
+    ghost use Rattle.pool_core.specs.Values.{TransfersValue, StoresValue, SameValues};
 
-    // Moves the object that the input names to the phase that the answer gives it, without a value.
-    fn bring(&mut self, now: Moment, input: Input, answer: Answer)
+    // Moves the object that the input names to the phase of the answer, without a value.
+    fn bring(&mut self, now: StepContext, input: Input, answer: Answer)
         requires before { IsBefore now.position (records_in self.old.places.kept) self.old.next }
-        requires moves { MovesNamed input answer (records_in self.old.places.kept) }
+        requires moves { MovesInputObject input answer (records_in self.old.places.kept) }
         requires bare { keeps_value answer ≡ false }
         ensures known { records_in self.new.places.kept
             ≡ known_after now input answer self.old.next (records_in self.old.places.kept) }
@@ -66,13 +66,14 @@ impl<T> State<T> {
 
     // Makes the object that the input names idle, with its value: after an idle test at its position in the queue,
     // otherwise at the end.
-    fn keep(&mut self, now: Moment, input: Input, answer: Answer, value: T)
+    fn keep(&mut self, now: StepContext, input: Input, answer: Answer, value: T)
         requires before { IsBefore now.position (records_in self.old.places.kept) self.old.next }
-        requires moves { MovesNamed input answer (records_in self.old.places.kept) }
+        requires moves { MovesInputObject input answer (records_in self.old.places.kept) }
         requires keeps { keeps_value answer ≡ true }
         ensures known { records_in self.new.places.kept
             ≡ known_after now input answer self.old.next (records_in self.old.places.kept) }
-        ensures values { Keeps input self.old.places.kept self.new.places.kept (Some value) None }
+        ensures values { StoresValue input self.old.places.kept self.new.places.kept
+            (Some value) None }
         ensures rest { self.new ≡ record self.old { places = self.new.places } }
     {
         let id = named_by(input);
@@ -86,18 +87,19 @@ impl<T> State<T> {
     // Applies the answer to the objects and their values.
     fn move_object(
         &mut self,
-        now: Moment,
+        now: StepContext,
         input: Input,
         answer: Answer,
         value: Option<T>,
     ) -> Option<T>
         requires before { IsBefore now.position (records_in self.old.places.kept) self.old.next }
-        requires finds { Finds input answer (records_in self.old.places.kept) self.old.next }
+        requires finds { IsEnabled input answer (records_in self.old.places.kept) self.old.next }
         requires carried { is_some value ≡ carries input }
         requires reserved { is_make_answer answer ≡ true → 1 ≤ self.old.places.spare }
         ensures known { records_in self.new.places.kept
             ≡ known_after now input answer self.old.next (records_in self.old.places.kept) }
-        ensures values { Hands answer input self.old.places.kept self.new.places.kept value result }
+        ensures values { TransfersValue answer input self.old.places.kept self.new.places.kept value
+            result }
         ensures rest { self.new ≡ record self.old { places = self.new.places } }
     {
         match answer {
@@ -144,18 +146,18 @@ impl<T> State<T> {
     {
         let timeout = self.settings.remove_abandoned_timeout_millis;
         if self.settings.abandoned && timeout >= 0 {
-            self.places.look_for_overdue(at, timeout as u64);
+            self.places.refresh_abandoned_bound(at, timeout as u64);
         }
     }
 
     // Stores the object after which an eviction run continues, and what a removal that found nothing has learned.
-    fn remember(&mut self, at: u64, input: Input, answer: Answer)
+    fn update_hints(&mut self, at: u64, input: Input, answer: Answer)
         ensures { self.new ≡ self.old }
     {
         match (input, answer) {
             (Input::EvictNext, Answer::KeptIdle(id) | Answer::Test(id) | Answer::DestroyIdle(id)) =>
-                self.places.look_from(id),
-            (Input::Reclaim { on }, Answer::Count(0)) if self.removes(on) => {
+                self.places.start_search_at(id),
+            (Input::Reclaim { on }, Answer::Count(0)) if self.should_reclaim(on) => {
                 self.look_for_abandoned(at)
             }
             (Input::ReclaimNext, Answer::Nothing) => self.look_for_abandoned(at),
@@ -167,22 +169,23 @@ impl<T> State<T> {
     /// result is the value returned.
     pub fn apply(
         &mut self,
-        now: Moment,
+        now: StepContext,
         input: Input,
         answer: Answer,
         value: Option<T>,
     ) -> Option<T>
         requires before { IsBefore now.position (records_in self.old.places.kept) self.old.next }
         requires due { answer
-            ≡ table self.old.settings (records_in self.old.places.kept) self.old.next
+            ≡ reply_from_records self.old.settings (records_in self.old.places.kept) self.old.next
             self.old.closed self.old.cursor now.at input }
         requires carried { is_some value ≡ carries input }
         requires reserved { is_make_answer answer ≡ true → 1 ≤ self.old.places.spare }
         requires few { MayGrow self.old.ended }
         ensures step { TakesStep now input self.old self.new answer }
-        ensures values { Hands answer input self.old.places.kept self.new.places.kept value result }
+        ensures values { TransfersValue answer input self.old.places.kept self.new.places.kept value
+            result }
     {
-        self.remember(now.at, input, answer);
+        self.update_hints(now.at, input, answer);
         let cursor = self.cursor_after(input, answer);
         let out = self.move_object(now, input, answer, value);
         self.next = next_after(self.next, answer);

@@ -1,9 +1,9 @@
 ghost use Rattle.std.specs.Prelude.{◌≡◌, length};
 ghost use Rattle.std.specs.Option.{option_map};
 ghost use Rattle.pool_journal.specs.Queue.{record_in, queue_length, idle_queue, first_of};
-ghost use Rattle.pool_places.specs.Shelf.{records_in};
-ghost use Rattle.pool_core.specs.Reply.{is_below, choice, examined, forgotten, is_scarce, reclaims, has_enough, has_room, tests, lent_reply, add_reply, evict_next_reply, reclaim_next_reply, clear_next_reply};
-ghost use Rattle.pool_core.specs.Reply.{phase_of, new_of, table};
+ghost use Rattle.pool_places.specs.PlacesModel.{records_in};
+ghost use Rattle.pool_core.specs.Reply.{is_below, borrow_candidate, examined, abandoned_objects, is_scarce, reclaims, has_min_idle, has_room, tests_per_run, lent_reply, add_reply, evict_next_reply, reclaim_next_reply, clear_next_reply};
+ghost use Rattle.pool_core.specs.Reply.{phase_of, new_of, reply_from_records};
 
 use crate::answers::{
     add_answer, added_answer, borrow_answer, destroyed_answer, evict_next_answer, lent_answer,
@@ -17,7 +17,7 @@ const CLOSED: Answer = Answer::Refused(Cause::Closed);
 
 impl<T> State<T> {
     // The phase of an object, and whether nothing has happened to it since it was made.
-    fn look(&self, id: u64) -> (Phase, bool)
+    fn phase_and_is_new(&self, id: u64) -> (Phase, bool)
         ensures phase { result.0 ≡ phase_of (record_in (records_in self.now.places.kept) id) }
         ensures is_new { result.1 ≡ new_of (record_in (records_in self.now.places.kept) id) }
     {
@@ -28,8 +28,9 @@ impl<T> State<T> {
     }
 
     // The object that a borrow takes.
-    fn choose(&self) -> Option<u64>
-        ensures { result ≡ choice self.now.settings.lifo (records_in self.now.places.kept) }
+    fn borrow_candidate(&self) -> Option<u64>
+        ensures { result ≡ borrow_candidate self.now.settings.lifo
+            (records_in self.now.places.kept) }
     {
         if self.settings.lifo {
             self.places.last_idle()
@@ -47,7 +48,7 @@ impl<T> State<T> {
     }
 
     // Whether the queue takes one more object.
-    fn takes_one_more(&self) -> bool
+    fn has_idle_room(&self) -> bool
         ensures { result
             ≡ has_room self.now.settings self.now.closed (records_in self.now.places.kept) }
     {
@@ -56,7 +57,7 @@ impl<T> State<T> {
 
     // Whether the objects in the queue, or on their way to it, are at least the number to keep.
     fn is_filled(&self) -> bool
-        ensures { result ≡ has_enough self.now.settings (records_in self.now.places.kept) }
+        ensures { result ≡ has_min_idle self.now.settings (records_in self.now.places.kept) }
     {
         let counts = self.places.counts();
         is_at_least(
@@ -103,8 +104,8 @@ impl<T> State<T> {
         counts.queue < 2 && is_near_limit(self.settings.max_total, counts.present - counts.queue)
     }
 
-    /// Whether a removal of abandoned objects reclaims any.
-    pub fn removes(&self, on: When) -> bool
+    /// Returns whether a removal of abandoned objects reclaims any.
+    pub fn should_reclaim(&self, on: When) -> bool
         ensures { result
             ≡ reclaims self.now.settings self.now.closed (records_in self.now.places.kept) on }
     {
@@ -123,7 +124,7 @@ impl<T> State<T> {
     // How many lent objects were not used for the timeout, at time `at` (milliseconds).
     fn count_forgotten(&self, at: u64) -> u64
         ensures { result ≡
-            length (forgotten self.now.settings at (records_in self.now.places.kept)) }
+            length (abandoned_objects self.now.settings at (records_in self.now.places.kept)) }
     {
         match u64::try_from(self.settings.remove_abandoned_timeout_millis) {
             Ok(timeout) => self.places.count_overdue(at, timeout),
@@ -134,7 +135,7 @@ impl<T> State<T> {
     // The answer that reclaims the first of them, if any.
     fn reclaim_next(&self, at: u64) -> Answer
         ensures { result ≡ reclaim_next_reply self.now.settings.abandoned
-            (first_of (forgotten self.now.settings at (records_in self.now.places.kept))) }
+            (first_of (abandoned_objects self.now.settings at (records_in self.now.places.kept))) }
     {
         let timeout = self.settings.remove_abandoned_timeout_millis;
         if !self.settings.abandoned || timeout < 0 {
@@ -162,12 +163,12 @@ impl<T> State<T> {
         ensures { result ≡ lent_reply self.now.settings.abandoned
             (phase_of (record_in (records_in self.now.places.kept) id)) answer }
     {
-        lent_answer(self.settings.abandoned, self.look(id).0, answer)
+        lent_answer(self.settings.abandoned, self.phase_and_is_new(id).0, answer)
     }
 
     // The answer, at time `at`, to a borrow that began at time `began` (milliseconds).
     fn decide_borrow(&self, at: u64, began: u64) -> Answer
-        ensures { result ≡ table self.now.settings (records_in self.now.places.kept)
+        ensures { result ≡ reply_from_records self.now.settings (records_in self.now.places.kept)
             self.now.next self.now.closed self.now.cursor at (Input.Borrow began) }
     {
         if self.closed {
@@ -175,7 +176,7 @@ impl<T> State<T> {
         }
         borrow_answer(
             &self.settings,
-            self.choose(),
+            self.borrow_candidate(),
             self.has_free_place(),
             self.next,
             at.saturating_sub(began),
@@ -192,7 +193,7 @@ impl<T> State<T> {
 
     // How many tests an eviction run makes.
     fn count_tests(&self) -> u64
-        ensures { result ≡ tests self.now.settings.num_tests_per_eviction_run
+        ensures { result ≡ tests_per_run self.now.settings.num_tests_per_eviction_run
             (queue_length (records_in self.now.places.kept)) }
     {
         let queue = self.places.queued() as u64;
@@ -209,20 +210,20 @@ impl<T> State<T> {
         evict_next_answer(&self.settings, queue, at, self.examine())
     }
 
-    /// The expected answer to `input` at time `at` (milliseconds).
+    /// Returns the expected answer to `input` at time `at` (milliseconds).
     pub fn decide(&self, at: u64, input: Input) -> Answer
-        ensures { result ≡ table self.now.settings (records_in self.now.places.kept)
+        ensures { result ≡ reply_from_records self.now.settings (records_in self.now.places.kept)
             self.now.next self.now.closed self.now.cursor at input }
     {
         match input {
             Input::Borrow { began } => self.decide_borrow(at, began),
             Input::Ready { id, outcome } => {
-                let (phase, is_new) = self.look(id);
+                let (phase, is_new) = self.phase_and_is_new(id);
                 ready_answer(phase, is_new, outcome)
             }
             Input::GiveBack { id } => self.answer_if_lent(id, Answer::Check),
             Input::Park { id, outcome } => {
-                park_answer(self.look(id).0, outcome, self.takes_one_more())
+                park_answer(self.phase_and_is_new(id).0, outcome, self.has_idle_room())
             }
             Input::Invalidate { id } => self.answer_if_lent(id, Answer::Destroy),
             Input::Use { id } => self.answer_if_lent(id, Answer::Noted),
@@ -230,17 +231,23 @@ impl<T> State<T> {
             Input::Add => self.add_one(),
             Input::Fill if self.closed || self.is_filled() => Answer::Enough,
             Input::Fill => self.add_one(),
-            Input::Added { id, outcome } => added_answer(self.look(id).0, outcome, !self.closed),
+            Input::Added { id, outcome } => {
+                added_answer(self.phase_and_is_new(id).0, outcome, !self.closed)
+            }
             Input::Evict => Answer::Count(self.count_tests()),
             Input::EvictNext => self.evict_next(at),
-            Input::Tested { id, outcome } => tested_answer(self.look(id).0, outcome, !self.closed),
-            Input::Reclaim { on } if self.removes(on) => Answer::Count(self.count_forgotten(at)),
+            Input::Tested { id, outcome } => {
+                tested_answer(self.phase_and_is_new(id).0, outcome, !self.closed)
+            }
+            Input::Reclaim { on } if self.should_reclaim(on) => {
+                Answer::Count(self.count_forgotten(at))
+            }
             Input::Reclaim { on: _ } => Answer::Count(0),
             Input::ReclaimNext => self.reclaim_next(at),
             Input::Close if self.closed => Answer::Nothing,
             Input::Clear | Input::Close => Answer::Count(self.count_idle()),
             Input::ClearNext => self.clear_next(),
-            Input::Destroyed { id } => destroyed_answer(self.look(id).0),
+            Input::Destroyed { id } => destroyed_answer(self.phase_and_is_new(id).0),
         }
     }
 }

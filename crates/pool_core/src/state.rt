@@ -1,10 +1,10 @@
 use pool_places::Places;
 use pool_settings::Settings;
-use pool_stats::Ended;
+use pool_stats::RemovalTotals;
 
 /// The position in the journal and the time (milliseconds) of a step.
 #[derive(Clone, Copy)]
-pub struct Moment {
+pub struct StepContext {
     pub position: u64,
     pub at: u64,
 }
@@ -21,6 +21,6 @@ pub struct State<T> {
     pub cursor: Option<u64>,
     /// The number of outstanding entries: the most that may still be needed to free every place and close the pool.
     pub owed: u64,
-    /// How many objects were destroyed, evicted and reclaimed.
-    pub ended: Ended,
+    /// The numbers of objects that were destroyed, evicted and reclaimed.
+    pub ended: RemovalTotals,
 }

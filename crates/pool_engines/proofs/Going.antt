@@ -8,13 +8,13 @@ use Rattle.std.specs.Prelude.{Contains}
 use Rattle.pool_journal.specs.Text.{line_feed}
 use Rattle.pool_engines.specs.Faults.{is_read_failure, is_write_failure}
 use Rattle.pool_engines.specs.Leaving.{read_ahead}
-use Rattle.pool_engines.specs.Engine.{Tells, Gives, Passes}
+use Rattle.pool_engines.specs.Engine.{AppendsOutput, WritesOutput, Passes}
 use Rattle.pool_engines.specs.declared.engine_fault.EngineFault.{EngineFault}
 use Rattle.pool_engines.specs.declared.engine_fault.EngineFault.TheVariants.{Line, Full, OutOfMemory, Read, Write}
 
 -- the output was written, except for what is buffered
 abbrev pub Gave : List ℕ → Option (List ℕ) → Option (List ℕ) → List ℕ → Type 0
-Gave told held written waiting = (sent : List ℕ) × (told ≡ sent ++ waiting) × Appends held written sent
+Gave told held written buffered = (sent : List ℕ) × (told ≡ sent ++ buffered) × Appends held written sent
 
 -- if the reader failed, the bytes that are left contain no whole line
 abbrev pub LeavesNoLine : Result (Unit {0}) EngineFault → List ℕ → Type 0
@@ -32,8 +32,8 @@ pub Gave-sent : (told : List ℕ) (held mid written : Option (List ℕ)) (before
 Gave-sent told held mid written before after more (sent, parts, given) e more_given = (sent ++ more, parts ∙ ap (λ l. sent ++ l) e ∙ sym (append_assoc sent more after), Appends-trans held mid written sent more given more_given)
 
 -- the writer fails
-pub Gave-failed : (told : List ℕ) (held mid written : Option (List ℕ)) (waiting : List ℕ) → Gave told held mid waiting → AppendsFront mid written waiting → AppendsFront held written told
-Gave-failed told held mid written waiting (sent, parts, given) (front, rest, e, more_given) = (sent ++ front, rest, parts ∙ ap (λ l. sent ++ l) e ∙ sym (append_assoc sent front rest), Appends-trans held mid written sent front given more_given)
+pub Gave-failed : (told : List ℕ) (held mid written : Option (List ℕ)) (buffered : List ℕ) → Gave told held mid buffered → AppendsFront mid written buffered → AppendsFront held written told
+Gave-failed told held mid written buffered (sent, parts, given) (front, rest, e, more_given) = (sent ++ front, rest, parts ∙ ap (λ l. sent ++ l) e ∙ sym (append_assoc sent front rest), Appends-trans held mid written sent front given more_given)
 
 -- the bytes that are left, if they are known
 abbrev pub left : Option (List ℕ) → List ℕ
@@ -51,24 +51,24 @@ left-at_end None h = refl
 left-at_end (Some xs) h = h
 
 module _ {E F : Type 0} (settings : E → F) (taken told : E → List ℕ) (stands : E → Type 0) (is_partial : List ℕ → Type 0) (ends : E → List ℕ → Result (Unit {0}) EngineFault → Type 0) (begun : E) (known held : Option (List ℕ)) where
-  pub record Going (engine : E) (now written : Option (List ℕ)) (pending waiting : List ℕ) : Type 0 where
+  pub record Going (engine : E) (now written : Option (List ℕ)) (pending buffered : List ℕ) : Type 0 where
     pub standing : stands engine
     pub same : settings engine ≡ settings begun
     pub took : Consumes known now (taken engine ++ pending)
     pub ahead : length pending ≤ read_ahead
-    pub gave : Gave (told engine) held written waiting
+    pub gave : Gave (told engine) held written buffered
 
-  Gives-gave : (result : Result (Unit {0}) EngineFault) (engine : E) (written : Option (List ℕ)) (waiting : List ℕ) → Gave (told engine) held written waiting → Gives settings taken told stands is_partial ends result engine held written waiting
-  Gives-gave (Ok u) engine written waiting h = h
-  Gives-gave (Err (Line n f)) engine written waiting h = h
-  Gives-gave (Err (Full n)) engine written waiting h = h
-  Gives-gave (Err OutOfMemory) engine written waiting h = h
-  Gives-gave (Err Read) engine written waiting h = h
-  Gives-gave (Err Write) engine written waiting (sent, parts, given) = (sent, waiting, parts, given)
+  Gives-gave : (result : Result (Unit {0}) EngineFault) (engine : E) (written : Option (List ℕ)) (buffered : List ℕ) → Gave (told engine) held written buffered → WritesOutput settings taken told stands is_partial ends result engine held written buffered
+  Gives-gave (Ok u) engine written buffered h = h
+  Gives-gave (Err (Line n f)) engine written buffered h = h
+  Gives-gave (Err (Full n)) engine written buffered h = h
+  Gives-gave (Err OutOfMemory) engine written buffered h = h
+  Gives-gave (Err Read) engine written buffered h = h
+  Gives-gave (Err Write) engine written buffered (sent, parts, given) = (sent, buffered, parts, given)
 
   -- the engine ends before the pending bytes
   pub Passes-ended : (result : Result (Unit {0}) EngineFault) (old new : E) (now written : Option (List ℕ)) (pending before after shown : List ℕ) → Going old now written pending before → LeavesNoLine result pending → shown ≡ pending
-      → taken new ≡ taken old → Tells settings taken told stands is_partial ends old new before after → ((more : List ℕ) → ends new (shown ++ more) result)
+      → taken new ≡ taken old → AppendsOutput settings taken told stands is_partial ends old new before after → ((more : List ℕ) → ends new (shown ++ more) result)
       → Passes settings taken told stands is_partial ends result begun new known now held written after
   Passes-ended result old new now written pending before after shown going leaves all same (words, grown, is, stay) ended = record {
     rest = pending ++ left now;
@@ -80,10 +80,10 @@ module _ {E F : Type 0} (settings : E → F) (taken told : E → List ℕ) (stan
   }
 
   -- the engine is stopped
-  pub Passes-stopped : (result : Result (Unit {0}) EngineFault) (engine : E) (now written : Option (List ℕ)) (pending waiting : List ℕ) → Going engine now written pending waiting → LeavesNoLine result pending
-      → ((rest : List ℕ) → ends engine rest result) → Passes settings taken told stands is_partial ends result begun engine known now held written waiting
-  Passes-stopped result engine now written pending waiting going leaves ended =
-      Passes-ended result engine engine now written pending waiting waiting pending going leaves refl refl ([], sym (append-nil waiting), sym (append-nil (told engine)), refl) (λ more. ended (pending ++ more))
+  pub Passes-stopped : (result : Result (Unit {0}) EngineFault) (engine : E) (now written : Option (List ℕ)) (pending buffered : List ℕ) → Going engine now written pending buffered → LeavesNoLine result pending
+      → ((rest : List ℕ) → ends engine rest result) → Passes settings taken told stands is_partial ends result begun engine known now held written buffered
+  Passes-stopped result engine now written pending buffered going leaves ended =
+      Passes-ended result engine engine now written pending buffered buffered pending going leaves refl refl ([], sym (append-nil buffered), sym (append-nil (told engine)), refl) (λ more. ended (pending ++ more))
 
   -- the writer fails
   pub Passes-failed : (engine : E) (now mid written : Option (List ℕ)) (pending before after : List ℕ) → Going engine now mid pending before → AppendsFront mid written before
@@ -99,7 +99,7 @@ module _ {E F : Type 0} (settings : E → F) (taken told : E → List ℕ) (stan
 
   -- a line is taken
   pub Going-took : (old new : E) (now written : Option (List ℕ)) (pending before after shown : List ℕ) (count : ℕ) → Going old now written pending before → shown ≡ pending
-      → stands new → taken new ≡ taken old ++ take count shown → Tells settings taken told stands is_partial ends old new before after → Going new now written (drop count pending) after
+      → stands new → taken new ≡ taken old ++ take count shown → AppendsOutput settings taken told stands is_partial ends old new before after → Going new now written (drop count pending) after
   Going-took old new now written pending before after shown count going all standing is (words, grown, told_is, stay) = record {
     standing = standing;
     same = stay ∙ going.same;
@@ -126,9 +126,9 @@ module _ {E F : Type 0} (settings : E → F) (taken told : E → List ℕ) (stan
       Going-sent engine now mid written pending before after before going (sym (ap (λ l. before ++ l) empty ∙ append-nil before)) given
 
   -- more was read
-  pub Going-filled : (engine : E) (old now written : Option (List ℕ)) (before after more waiting : List ℕ) → Going engine old written before waiting → after ≡ before ++ more → length after ≤ read_ahead → Consumes old now more
-      → Going engine now written after waiting
-  Going-filled engine old now written before after more waiting going grown within came = record {
+  pub Going-filled : (engine : E) (old now written : Option (List ℕ)) (before after more buffered : List ℕ) → Going engine old written before buffered → after ≡ before ++ more → length after ≤ read_ahead → Consumes old now more
+      → Going engine now written after buffered
+  Going-filled engine old now written before after more buffered going grown within came = record {
     standing = going.standing;
     same = going.same;
     took = subst (Consumes known now) (append_assoc (taken engine) before more ∙ ap (λ l. taken engine ++ l) (sym grown)) (Consumes-trans known old now (taken engine ++ before) more going.took came);
@@ -137,9 +137,9 @@ module _ {E F : Type 0} (settings : E → F) (taken told : E → List ℕ) (stan
   }
 
   -- the reader does not advance
-  pub Going-kept : (engine : E) (old now written : Option (List ℕ)) (pending waiting : List ℕ) → Going engine old written pending waiting → Keeps old now
-      → Going engine now written pending waiting
-  Going-kept engine old now written pending waiting going kept = record {
+  pub Going-kept : (engine : E) (old now written : Option (List ℕ)) (pending buffered : List ℕ) → Going engine old written pending buffered → Keeps old now
+      → Going engine now written pending buffered
+  Going-kept engine old now written pending buffered going kept = record {
     standing = going.standing;
     same = going.same;
     took = Consumes-kept known old now (taken engine ++ pending) going.took kept;
@@ -149,7 +149,7 @@ module _ {E F : Type 0} (settings : E → F) (taken told : E → List ℕ) (stan
 
   -- the stream is at its end
   pub Passes-finished : (result : Result (Unit {0}) EngineFault) (old new : E) (now written : Option (List ℕ)) (pending before after shown : List ℕ) → Going old now written pending before → LeavesNoLine result pending → shown ≡ pending → IsAtEnd now
-      → taken new ≡ taken old → Tells settings taken told stands is_partial ends old new before after → ends new shown result
+      → taken new ≡ taken old → AppendsOutput settings taken told stands is_partial ends old new before after → ends new shown result
       → Passes settings taken told stands is_partial ends result begun new known now held written after
   Passes-finished result old new now written pending before after shown going leaves all at_end same (words, grown, is, stay) ended = record {
     rest = pending ++ left now;
@@ -175,39 +175,39 @@ module _ {E F : Type 0} (settings : E → F) (taken told : E → List ℕ) (stan
     gave = ([], none_told, Appends-nil held);
   }
 
-  Gives-handed : (result : Result (Unit {0}) EngineFault) (engine : E) (mid written : Option (List ℕ)) (waiting : List ℕ) → is_write_failure result ≡ false → Gives settings taken told stands is_partial ends result engine held mid waiting → Appends mid written waiting
-      → Gives settings taken told stands is_partial ends result engine held written []
-  Gives-handed (Ok u) engine mid written waiting works h given = Gave-sent (told engine) held mid written waiting [] waiting h (sym (append-nil waiting)) given
-  Gives-handed (Err (Line n f)) engine mid written waiting works h given = Gave-sent (told engine) held mid written waiting [] waiting h (sym (append-nil waiting)) given
-  Gives-handed (Err (Full n)) engine mid written waiting works h given = Gave-sent (told engine) held mid written waiting [] waiting h (sym (append-nil waiting)) given
-  Gives-handed (Err OutOfMemory) engine mid written waiting works h given = Gave-sent (told engine) held mid written waiting [] waiting h (sym (append-nil waiting)) given
-  Gives-handed (Err Read) engine mid written waiting works h given = Gave-sent (told engine) held mid written waiting [] waiting h (sym (append-nil waiting)) given
-  Gives-handed (Err Write) engine mid written waiting works h given = absurd (false≢true (sym works))
+  Gives-handed : (result : Result (Unit {0}) EngineFault) (engine : E) (mid written : Option (List ℕ)) (buffered : List ℕ) → is_write_failure result ≡ false → WritesOutput settings taken told stands is_partial ends result engine held mid buffered → Appends mid written buffered
+      → WritesOutput settings taken told stands is_partial ends result engine held written []
+  Gives-handed (Ok u) engine mid written buffered works h given = Gave-sent (told engine) held mid written buffered [] buffered h (sym (append-nil buffered)) given
+  Gives-handed (Err (Line n f)) engine mid written buffered works h given = Gave-sent (told engine) held mid written buffered [] buffered h (sym (append-nil buffered)) given
+  Gives-handed (Err (Full n)) engine mid written buffered works h given = Gave-sent (told engine) held mid written buffered [] buffered h (sym (append-nil buffered)) given
+  Gives-handed (Err OutOfMemory) engine mid written buffered works h given = Gave-sent (told engine) held mid written buffered [] buffered h (sym (append-nil buffered)) given
+  Gives-handed (Err Read) engine mid written buffered works h given = Gave-sent (told engine) held mid written buffered [] buffered h (sym (append-nil buffered)) given
+  Gives-handed (Err Write) engine mid written buffered works h given = absurd (false≢true (sym works))
 
-  Gave-from : (result : Result (Unit {0}) EngineFault) (engine : E) (written : Option (List ℕ)) (waiting : List ℕ) → is_write_failure result ≡ false → Gives settings taken told stands is_partial ends result engine held written waiting → Gave (told engine) held written waiting
-  Gave-from (Ok u) engine written waiting works h = h
-  Gave-from (Err (Line n f)) engine written waiting works h = h
-  Gave-from (Err (Full n)) engine written waiting works h = h
-  Gave-from (Err OutOfMemory) engine written waiting works h = h
-  Gave-from (Err Read) engine written waiting works h = h
-  Gave-from (Err Write) engine written waiting works h = absurd (false≢true (sym works))
+  Gave-from : (result : Result (Unit {0}) EngineFault) (engine : E) (written : Option (List ℕ)) (buffered : List ℕ) → is_write_failure result ≡ false → WritesOutput settings taken told stands is_partial ends result engine held written buffered → Gave (told engine) held written buffered
+  Gave-from (Ok u) engine written buffered works h = h
+  Gave-from (Err (Line n f)) engine written buffered works h = h
+  Gave-from (Err (Full n)) engine written buffered works h = h
+  Gave-from (Err OutOfMemory) engine written buffered works h = h
+  Gave-from (Err Read) engine written buffered works h = h
+  Gave-from (Err Write) engine written buffered works h = absurd (false≢true (sym works))
 
   -- the buffered output is written at the end
-  pub Passes-handed : (result : Result (Unit {0}) EngineFault) (engine : E) (now mid written : Option (List ℕ)) (waiting : List ℕ) → is_write_failure result ≡ false → Passes settings taken told stands is_partial ends result begun engine known now held mid waiting → Appends mid written waiting
+  pub Passes-handed : (result : Result (Unit {0}) EngineFault) (engine : E) (now mid written : Option (List ℕ)) (buffered : List ℕ) → is_write_failure result ≡ false → Passes settings taken told stands is_partial ends result begun engine known now held mid buffered → Appends mid written buffered
       → Passes settings taken told stands is_partial ends result begun engine known now held written []
-  Passes-handed result engine now mid written waiting works p given = record { rest = p.rest; same = p.same; stream = p.stream; leaves = p.leaves; ended = p.ended; gave = Gives-handed result engine mid written waiting works p.gave given }
+  Passes-handed result engine now mid written buffered works p given = record { rest = p.rest; same = p.same; stream = p.stream; leaves = p.leaves; ended = p.ended; gave = Gives-handed result engine mid written buffered works p.gave given }
 
   -- the writer fails at the end
-  pub Passes-unhanded : (result : Result (Unit {0}) EngineFault) (engine : E) (now mid written : Option (List ℕ)) (waiting : List ℕ) → is_write_failure result ≡ false → Passes settings taken told stands is_partial ends result begun engine known now held mid waiting → AppendsFront mid written waiting
+  pub Passes-unhanded : (result : Result (Unit {0}) EngineFault) (engine : E) (now mid written : Option (List ℕ)) (buffered : List ℕ) → is_write_failure result ≡ false → Passes settings taken told stands is_partial ends result begun engine known now held mid buffered → AppendsFront mid written buffered
       → ((rest : List ℕ) → ends engine rest result → ends engine rest (Err Write)) → Passes settings taken told stands is_partial ends (Err Write) begun engine known now held written []
-  Passes-unhanded result engine now mid written waiting works p failed fails = record { rest = p.rest; same = p.same; stream = p.stream; leaves = (p.leaves.0, p.leaves.1, p.leaves.2, λ told. absurd (false≢true told)); ended = fails p.rest p.ended; gave = Gave-failed (told engine) held mid written waiting (Gave-from result engine mid waiting works p.gave) failed }
+  Passes-unhanded result engine now mid written buffered works p failed fails = record { rest = p.rest; same = p.same; stream = p.stream; leaves = (p.leaves.0, p.leaves.1, p.leaves.2, λ told. absurd (false≢true told)); ended = fails p.rest p.ended; gave = Gave-failed (told engine) held mid written buffered (Gave-from result engine mid buffered works p.gave) failed }
 
   -- the writer had failed before
-  pub Passes-broken : (result : Result (Unit {0}) EngineFault) (engine : E) (now written : Option (List ℕ)) (waiting : List ℕ) → is_write_failure result ≡ true → Passes settings taken told stands is_partial ends result begun engine known now held written waiting
+  pub Passes-broken : (result : Result (Unit {0}) EngineFault) (engine : E) (now written : Option (List ℕ)) (buffered : List ℕ) → is_write_failure result ≡ true → Passes settings taken told stands is_partial ends result begun engine known now held written buffered
       → Passes settings taken told stands is_partial ends result begun engine known now held written []
-  Passes-broken (Ok u) engine now written waiting broken p = absurd (false≢true broken)
-  Passes-broken (Err (Line n f)) engine now written waiting broken p = absurd (false≢true broken)
-  Passes-broken (Err (Full n)) engine now written waiting broken p = absurd (false≢true broken)
-  Passes-broken (Err OutOfMemory) engine now written waiting broken p = absurd (false≢true broken)
-  Passes-broken (Err Read) engine now written waiting broken p = absurd (false≢true broken)
-  Passes-broken (Err Write) engine now written waiting broken p = record { rest = p.rest; same = p.same; stream = p.stream; leaves = p.leaves; ended = p.ended; gave = p.gave }
+  Passes-broken (Ok u) engine now written buffered broken p = absurd (false≢true broken)
+  Passes-broken (Err (Line n f)) engine now written buffered broken p = absurd (false≢true broken)
+  Passes-broken (Err (Full n)) engine now written buffered broken p = absurd (false≢true broken)
+  Passes-broken (Err OutOfMemory) engine now written buffered broken p = absurd (false≢true broken)
+  Passes-broken (Err Read) engine now written buffered broken p = absurd (false≢true broken)
+  Passes-broken (Err Write) engine now written buffered broken p = record { rest = p.rest; same = p.same; stream = p.stream; leaves = p.leaves; ended = p.ended; gave = p.gave }

@@ -6,12 +6,12 @@ use Rattle.pool_engines.specs.declared.engine_fault.EngineFault.{EngineFault}
 use Rattle.pool_engines.specs.declared.engine_fault.EngineFault.TheVariants.{Line, Full, OutOfMemory, Read, Write}
 
 -- the capacity of the output buffer, in bytes
-abbrev pub waiting_room : ℕ
-waiting_room = 65536
+abbrev pub buffer_room : ℕ
+buffer_room = 65536
 
 -- there is room for a line after the buffered output
 abbrev pub HasRoom : {Z : Type 0} → Vec ℕ Z → Type 0
-HasRoom waiting = vec_len waiting + longest_line ≤ vec_capacity waiting
+HasRoom buffered = vec_len buffered + longest_line ≤ vec_capacity buffered
 
 -- a prefix of the bytes is appended to known bytes
 abbrev pub AppendsFront : Option (List ℕ) → Option (List ℕ) → List ℕ → Type 0

@@ -20,6 +20,6 @@ statistics_text s =
     ++ number_line (codes "total") s.total
 
 -- the lines, if there are statistics
-abbrev pub told_by : Option Statistics → List ℕ
-told_by None = []
-told_by (Some s) = statistics_text s
+abbrev pub statistics_lines : Option Statistics → List ℕ
+statistics_lines None = []
+statistics_lines (Some s) = statistics_text s

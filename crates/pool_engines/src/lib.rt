@@ -1,15 +1,17 @@
 //! The engines: how the program processes a stream of lines.
 #![tactic(auto)]
 
+mod check_fault;
 mod checker;
-mod due;
 mod engine;
 mod engine_fault;
+mod expected_line;
 mod file_fault;
-mod incoming;
+mod input_buffer;
 mod judged_segment;
 mod judging;
 mod laws;
+mod line_progress;
 mod load_fault;
 mod outgoing;
 mod own_base;
@@ -24,9 +26,9 @@ mod source;
 mod statistics_lines;
 mod step;
 mod tallier;
-mod turn;
 mod verdict;
 
+pub use check_fault::CheckFault;
 pub use engine_fault::EngineFault;
 pub use file_fault::FileFault;
 pub use judged_segment::{JudgedSegment, join};

@@ -9,7 +9,7 @@ pub enum LoadFault {
     /// There are no rounds, or more than 1,000,000.
     #[error("pool: wrong number of rounds")]
     RoundCount,
-    /// The entry of a section did not fit the journal.
+    /// The entry of a critical section did not fit the journal.
     #[error("pool: journal full")]
     JournalFull,
     #[error("pool: out of memory")]

@@ -1,6 +1,6 @@
 ghost use Rattle.std.specs.Prelude.{◌≡◌, ℕ, ◌+◌, ◌<◌, ◌≤◌, List, [], ◌++◌, length, take, is_err, IsOk, IfOk, IfErr, OnOk, OnErr, vec_capacity};
 ghost use Rattle.std.specs.Io.KnownBytes.{Appends, Keeps};
-ghost use Rattle.pool_engines.specs.Handing.{AppendsFront, HasRoom, waiting_room};
+ghost use Rattle.pool_engines.specs.Handing.{AppendsFront, HasRoom, buffer_room};
 ghost use Rattle.pool_engines.specs.Faults.{IsTold};
 
 use crate::engine_fault::EngineFault;
@@ -10,19 +10,23 @@ use crate::sink::Sink;
 const FULL: usize = 65_536 - 256;
 
 /// Writes the buffered output if there is little room left. Then a line has room.
-pub(crate) fn make_room<W: Sink>(waiting: &mut Vec<u8>, writer: &mut W) -> Result<(), EngineFault>
-    requires room { waiting_room ≤ vec_capacity waiting.old }
-    ensures ok { OnOk result ((sent : List ℕ) × (waiting.old.items ≡ sent ++ waiting.new.items)
+pub(crate) fn reserve_line<W: Sink>(
+    buffered: &mut Vec<u8>,
+    writer: &mut W,
+) -> Result<(), EngineFault>
+    requires room { buffer_room ≤ vec_capacity buffered.old }
+    ensures ok { OnOk result ((sent : List ℕ) × (buffered.old.items ≡ sent ++ buffered.new.items)
         × Appends (W.contents writer.old) (W.contents writer.new) sent) }
-    ensures room { OnOk result (HasRoom waiting.new) }
-    ensures capacity { vec_capacity waiting.new ≡ vec_capacity waiting.old }
+    ensures room { OnOk result (HasRoom buffered.new) }
+    ensures capacity { vec_capacity buffered.new ≡ vec_capacity buffered.old }
     ensures err { OnErr result
-        (AppendsFront (W.contents writer.old) (W.contents writer.new) waiting.old.items) }
+        (AppendsFront (W.contents writer.old) (W.contents writer.new) buffered.old.items) }
     ensures fault { IfErr result (λ fault. fault ≡ EngineFault.Write) }
-    ensures told { IsTold (is_err result) (W.may_have_failed writer.old) (W.may_have_failed writer.new) }
+    ensures told { IsTold (is_err result) (W.may_have_failed writer.old)
+        (W.may_have_failed writer.new) }
 {
-    if waiting.len() > FULL {
-        hand_on(waiting, writer)
+    if buffered.len() > FULL {
+        write_buffered(buffered, writer)
     } else {
         Ok(())
     }
@@ -30,21 +34,25 @@ pub(crate) fn make_room<W: Sink>(waiting: &mut Vec<u8>, writer: &mut W) -> Resul
 
 /// Writes all buffered output, and leaves the buffer empty. On an error the writer got a prefix of it. If the buffer is
 /// empty, the writer is not called.
-pub(crate) fn hand_on<W: Sink>(waiting: &mut Vec<u8>, writer: &mut W) -> Result<(), EngineFault>
-    ensures ok { OnOk result ((waiting.new.items ≡ [])
-        × Appends (W.contents writer.old) (W.contents writer.new) waiting.old.items) }
+pub(crate) fn write_buffered<W: Sink>(
+    buffered: &mut Vec<u8>,
+    writer: &mut W,
+) -> Result<(), EngineFault>
+    ensures ok { OnOk result ((buffered.new.items ≡ [])
+        × Appends (W.contents writer.old) (W.contents writer.new) buffered.old.items) }
     ensures err { OnErr result
-        (AppendsFront (W.contents writer.old) (W.contents writer.new) waiting.old.items) }
+        (AppendsFront (W.contents writer.old) (W.contents writer.new) buffered.old.items) }
     ensures fault { IfErr result (λ fault. fault ≡ EngineFault.Write) }
-    ensures told { IsTold (is_err result) (W.may_have_failed writer.old) (W.may_have_failed writer.new) }
-    ensures idle { waiting.old.items ≡ [] → IsOk result }
-    ensures capacity { vec_capacity waiting.new ≡ vec_capacity waiting.old }
+    ensures told { IsTold (is_err result) (W.may_have_failed writer.old)
+        (W.may_have_failed writer.new) }
+    ensures idle { buffered.old.items ≡ [] → IsOk result }
+    ensures capacity { vec_capacity buffered.new ≡ vec_capacity buffered.old }
 {
-    if waiting.is_empty() {
+    if buffered.is_empty() {
         return Ok(());
     }
-    write_whole(writer, waiting)?;
-    waiting.clear();
+    write_whole(writer, buffered)?;
+    buffered.clear();
     match writer.flush_all() {
         Ok(()) => Ok(()),
         Err(_) => Err(EngineFault::Write),
@@ -57,7 +65,8 @@ fn write_whole<W: Sink>(writer: &mut W, bytes: &[u8]) -> Result<(), EngineFault>
     ensures err { OnErr result
         (AppendsFront (W.contents writer.old) (W.contents writer.new) bytes.now) }
     ensures fault { IfErr result (λ fault. fault ≡ EngineFault.Write) }
-    ensures told { IsTold (is_err result) (W.may_have_failed writer.old) (W.may_have_failed writer.new) }
+    ensures told { IsTold (is_err result) (W.may_have_failed writer.old)
+        (W.may_have_failed writer.new) }
 {
     let mut rest = bytes;
     while !rest.is_empty() {

@@ -4,7 +4,7 @@ ghost use Rattle.pool_engines.specs.Faults.{IsTold, is_write_failure};
 ghost use Rattle.pool_engines.specs.ReportLines.{report_text, HandsReport};
 
 use crate::engine_fault::EngineFault;
-use crate::outgoing::hand_on;
+use crate::outgoing::write_buffered;
 use crate::sink::Sink;
 use crate::statistics_lines::{push_line, push_statistics};
 use pool_stats::Statistics;
@@ -26,11 +26,12 @@ pub fn write_report<W: Sink>(
 ) -> Result<(), EngineFault>
     ensures handed { HandsReport (report_text workers rounds refused stats.now)
         (W.contents writer.old) (W.contents writer.new) result }
-    ensures told { IsTold (is_write_failure result) (W.may_have_failed writer.old) (W.may_have_failed writer.new) }
+    ensures told { IsTold (is_write_failure result) (W.may_have_failed writer.old)
+        (W.may_have_failed writer.new) }
 {
     let mut lines = Vec::new(alloc);
     match push_report(&mut lines, workers, rounds, refused, stats) {
-        Ok(()) => hand_on(&mut lines, writer),
+        Ok(()) => write_buffered(&mut lines, writer),
         Err(_) => Err(EngineFault::OutOfMemory),
     }
 }
@@ -42,7 +43,8 @@ fn push_report(
     refused: u64,
     stats: &Statistics,
 ) -> Result<(), AllocError>
-    ensures { OnOk result (out.new.items ≡ out.old.items ++ report_text workers rounds refused stats.now) }
+    ensures { OnOk result (out.new.items ≡ out.old.items
+        ++ report_text workers rounds refused stats.now) }
 {
     push_line(out, b"workers", u64::from(workers))?;
     push_line(out, b"rounds", rounds)?;

@@ -12,6 +12,9 @@ pub enum SegmentFault {
     /// The entry at this position, counted from 0 among all of the journal, does not have the expected answer.
     #[error("pool: illegal {0}")]
     Illegal(u64),
+    /// The segment can't be opened.
+    #[error("pool: cannot open the segment")]
+    Unopened,
     /// The segment can't be read to its end.
     #[error("{0}")]
     Engine(EngineFault),

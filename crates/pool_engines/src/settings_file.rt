@@ -5,7 +5,7 @@ ghost use Rattle.pool_engines.specs.SettingsFile.{TakesAtMost, IsAnswered, IsJud
 ghost use Rattle.pool_engines.specs.Faults.{IsTold};
 
 use crate::file_fault::FileFault;
-use crate::incoming::read_behind;
+use crate::input_buffer::read_behind;
 use crate::source::Source;
 use pool_settings::Settings;
 use std::alloc::{AllocError, Global};
@@ -27,7 +27,8 @@ pub fn read_settings<R: Source>(alloc: Global, reader: &mut R) -> Result<Setting
     ensures in_range { IfOk result IsInRange }
     ensures unread { result ≡ Err FileFault.OutOfMemory
         → Keeps (R.remaining reader.old) (R.remaining reader.new) }
-    ensures told { IsTold (is_unread result) (R.may_have_failed reader.old) (R.may_have_failed reader.new) }
+    ensures told { IsTold (is_unread result) (R.may_have_failed reader.old)
+        (R.may_have_failed reader.new) }
 {
     let mut buffer = match buffer(alloc) {
         Ok(buffer) => buffer,
@@ -37,7 +38,7 @@ pub fn read_settings<R: Source>(alloc: Global, reader: &mut R) -> Result<Setting
     judge(alloc, &buffer[..count])
 }
 
-/// Room for the longest settings file, and for one more byte.
+/// Returns a buffer with room for the longest settings file, and for one more byte.
 fn buffer(alloc: Global) -> Result<Vec<u8>, AllocError>
     ensures { IfOk result (λ buffer. length buffer.items ≡ 1048577) }
 {
@@ -52,7 +53,8 @@ fn fill<R: Source>(buffer: &mut [u8], reader: &mut R) -> Result<usize, FileFault
         × (count < length buffer.new → IsAtEnd (R.remaining reader.new))) }
     ensures err { IfErr result (λ fault. (fault ≡ FileFault.Read)
         × TakesAtMost (length buffer.old) (R.remaining reader.old) (R.remaining reader.new)) }
-    ensures told { IsTold (is_err result) (R.may_have_failed reader.old) (R.may_have_failed reader.new) }
+    ensures told { IsTold (is_err result) (R.may_have_failed reader.old)
+        (R.may_have_failed reader.new) }
 {
     let mut count = 0;
     while count < buffer.len() {
@@ -65,7 +67,7 @@ fn fill<R: Source>(buffer: &mut [u8], reader: &mut R) -> Result<usize, FileFault
     Ok(count)
 }
 
-/// The settings in the bytes of a file, if these aren't too many.
+/// Returns the settings in the bytes of a file, if these aren't too many.
 fn judge(alloc: Global, bytes: &[u8]) -> Result<Settings, FileFault>
     ensures judged { IsJudged bytes.now result }
     ensures in_range { IfOk result IsInRange }

@@ -27,9 +27,11 @@ pub trait Sink: Write {
     /// A write failed, or accepted none of some bytes. None is then written.
     fn write_some(&mut self, bytes: &[u8]) -> io::Result<usize>
         ensures bound { WritesAtMost result bytes.now }
-        ensures bytes { WriteAppends (Self.contents self.old) (Self.contents self.new) result bytes.now }
+        ensures bytes { WriteAppends (Self.contents self.old)
+            (Self.contents self.new) result bytes.now }
         ensures some { IfOk result (λ count. 0 < length bytes.now → 0 < count) }
-        ensures told { IsTold (is_err result) (may_have_failed self.old) (may_have_failed self.new) };
+        ensures told { IsTold (is_err result) (may_have_failed self.old)
+            (may_have_failed self.new) };
 
     /// Flushes as `flush` does, and again if a signal interrupts it.
     ///
@@ -38,7 +40,8 @@ pub trait Sink: Write {
     /// A flush failed.
     fn flush_all(&mut self) -> io::Result<()>
         ensures bytes { Keeps (Self.contents self.old) (Self.contents self.new) }
-        ensures told { IsTold (is_err result) (may_have_failed self.old) (may_have_failed self.new) };
+        ensures told { IsTold (is_err result) (may_have_failed self.old)
+            (may_have_failed self.new) };
 }
 
 impl Sink for Vec<u8> {

@@ -27,8 +27,10 @@ pub trait Source: Read {
     /// A read failed. No byte is then taken.
     fn read_some(&mut self, buffer: &mut [u8]) -> io::Result<usize>
         ensures bound { ReadsAtMost result buffer.new }
-        ensures bytes { ReadConsumes (Self.remaining self.old) (Self.remaining self.new) result buffer.new }
-        ensures told { IsTold (is_err result) (may_have_failed self.old) (may_have_failed self.new) };
+        ensures bytes { ReadConsumes (Self.remaining self.old)
+            (Self.remaining self.new) result buffer.new }
+        ensures told { IsTold (is_err result) (may_have_failed self.old)
+            (may_have_failed self.new) };
 }
 
 /// A read of bytes in memory never fails.
@@ -63,7 +65,8 @@ impl Source for Stdin {
 /// A read failed, or the last try was interrupted.
 pub fn read_past_signals<R: Read>(reader: &mut R, buffer: &mut [u8]) -> io::Result<usize>
     ensures bound { ReadsAtMost result buffer.new }
-    ensures bytes { ReadConsumes (R.remaining reader.old) (R.remaining reader.new) result buffer.new }
+    ensures bytes { ReadConsumes (R.remaining reader.old)
+        (R.remaining reader.new) result buffer.new }
     ensures retried { IfErr result (λ fault. error_kind fault ≢ ErrorKind.Interrupted) }
 {
     for _ in 0..u64::MAX {

@@ -1,23 +1,23 @@
 ghost use Rattle.std.specs.Prelude.{◌≡◌, ◌+◌, is_some, IfErr, OnErr, MatchResult};
 ghost use Rattle.pool_journal.specs.Text.{IsRequest};
 ghost use Rattle.pool_journal.specs.Carrying.{carries};
-ghost use Rattle.pool_engines.specs.Made.{IsMadeFrom};
+ghost use Rattle.pool_engines.specs.Made.{IsProducedFrom};
 ghost use Rattle.pool_engines.specs.Step.{Answers, Refuses};
 ghost use Rattle.pool_engines.specs.Engine.{IsOwnFault};
-ghost use Rattle.pool_core.specs.Stepper.{ForEach, pool_of};
+ghost use Rattle.pool_core.specs.Stepper.{ForEveryHistory, pool_of};
 
 use crate::engine_fault::EngineFault;
 use pool_core::{StepFault, Stepper};
 use pool_journal::{Entry, Input, Outcome, Request};
 
-/// The number of the next entry's line.
+/// Returns the number of the next entry's line.
 pub(crate) fn line_number(stepper: &Stepper<u64>) -> u64
     ensures { result ≡ stepper.now.taken + 1 }
 {
     stepper.taken() + 1
 }
 
-/// The value that an input passes in: that of each object is its id.
+/// Returns the value that an input passes in: that of each object is its id.
 fn value_of(input: &Input) -> Option<u64>
     ensures { is_some result ≡ carries input.now }
 {
@@ -39,7 +39,8 @@ pub(crate) fn step(
     request: &Request,
 ) -> Result<Entry, EngineFault>
     requires asked { IsRequest request.now }
-    ensures stepped { ForEach stepper.old (λ b J. IsMadeFrom stepper.old.settings b J → MatchResult result
+    ensures stepped { ForEveryHistory stepper.old
+        (λ b J. IsProducedFrom stepper.old.settings b J → MatchResult result
         (Answers request.now b J stepper.old stepper.new)
         (Refuses (pool_of stepper.old b J) number request.now)) }
     ensures err { OnErr result (stepper.new ≡ stepper.old) }

@@ -16,7 +16,7 @@ pub(crate) enum Verdict {
 }
 
 impl Verdict {
-    ghost use Rattle.pool_engines.specs.Check.{told_by, is_legal};
+    ghost use Rattle.pool_engines.specs.Check.{verdict_line, is_legal};
 
     pub(crate) fn is_legal(&self) -> bool
         ensures { result ≡ is_legal self.now }
@@ -26,7 +26,7 @@ impl Verdict {
 
     /// Appends the line of the verdict after `count` entries.
     pub(crate) fn tell(&self, count: u64, line: &mut Vec<u8>) -> Result<(), AllocError>
-        ensures { OnOk result (line.new.items ≡ line.old.items ++ told_by self.now count) }
+        ensures { OnOk result (line.new.items ≡ line.old.items ++ verdict_line self.now count) }
     {
         self.push_words(count, line)?;
         line.push(b'\n')?;
@@ -35,7 +35,8 @@ impl Verdict {
 
     /// Appends that line without its line feed.
     fn push_words(&self, count: u64, line: &mut Vec<u8>) -> Result<(), AllocError>
-        ensures { OnOk result (line.new.items ++ line_feed ∷ [] ≡ line.old.items ++ told_by self.now count) }
+        ensures { OnOk result (line.new.items ++ line_feed ∷ [] ≡ line.old.items
+            ++ verdict_line self.now count) }
     {
         match self {
             Verdict::Legal => {

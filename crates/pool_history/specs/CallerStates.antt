@@ -9,8 +9,8 @@ use Rattle.pool_history.specs.declared.room.Fragment.{Fragment}
 use Rattle.pool_history.specs.declared.room.View.{View}
 use Rattle.pool_history.specs.CellInvariant.{entries_with_number, fragments_only, fragment, IsPrefix}
 
--- the state of a caller: its number, the entries that it has observed and those that it has appended, its number of cuts, and the positions of
--- all cuts that it has observed
+-- the state of a caller: its number, the entries that it has observed and those that it has appended, its number of cuts, and
+-- the positions of all cuts that it has observed
 pub record CallerState : Type 0 where
   pub number : ℕ
   pub observed : List Entry
@@ -34,7 +34,8 @@ abbrev pub cut_positions_in : List Fragment → List ℕ
 cut_positions_in [] = []
 cut_positions_in (h ∷ hs) = h.cut_positions
 
--- the invariant of a caller: its pass is of this cell, and has one fragment, which has observed a legal and owner-respecting history; its own entries are exactly those with its number
+-- the invariant of a caller: its pass is of this cell, and has one fragment, which has observed a legal and owner-respecting
+-- history; its own entries are exactly those with its number
 pub record CallerInvariant (table : TableId) (s : Settings) (id : TableId) (number : ℕ) (v : View) : Type 0 where
   pub here : id ≡ table
   pub knows : v ≡ fragments_only (fragment s number (observed_in v.fragments) (appended_in v.fragments) (cut_count_in v.fragments) (cut_positions_in v.fragments) ∷ [])
@@ -42,7 +43,9 @@ pub record CallerInvariant (table : TableId) (s : Settings) (id : TableId) (numb
   pub owner_respecting : IsOwnerRespecting (observed_in v.fragments)
   pub all : appended_in v.fragments ≡ entries_with_number number (observed_in v.fragments)
 
--- the same caller has observed a legal and owner-respecting history that extends what it had observed, and in which no entry has the answer Refused NotHeld or Refused BadOutcome; its own entries are exactly those with its number, and its number of cuts is unchanged
+-- the same caller has observed a legal and owner-respecting history that extends what it had observed, and in which no entry
+-- has the answer Refused NotHeld or Refused BadOutcome; its own entries are exactly those with its number, and its number of
+-- cuts is unchanged
 pub record Advances (s : Settings) (before after : CallerState) : Type 0 where
   pub number : after.number ≡ before.number
   pub later : IsPrefix before.observed after.observed

@@ -1,4 +1,4 @@
--- What the pass that stores the words learns from reading one of them.
+-- The facts that a read of one of the words shows to the pass that stores them.
 use Rattle.std.specs.Prelude.{◌≡◌, ℕ, ◌+◌, ◌==◌, List, slice_index, if◌then◌else◌}
 use Rattle.atomic_table.specs.Table.{Me, Step}
 use Rattle.crossbeam_utils.specs.declared.atomic.seq_cell.Doing.{Doing}

@@ -1,7 +1,8 @@
 -- Which caller continues an object, and with which outcomes.
 use Rattle.std.specs.Prelude.{◌≡◌, ◌≢◌, ℕ, ◌==◌, Bool, false, List, take, slice_get, Option, Some, None, IsSomeAnd}
-use Rattle.pool_journal.specs.Latest.{latest, said_if}
-use Rattle.pool_journal.specs.Journal.{Move, moves, phase, is_new}
+use Rattle.pool_journal.specs.Latest.{last_some, some_if}
+use Rattle.pool_journal.specs.Entries.{Move, move_of_entry}
+use Rattle.pool_journal.specs.Journal.{phase, is_new}
 use Rattle.pool_journal.specs.declared.answer.Answer.TheVariants as answers
 use Rattle.pool_journal.specs.declared.answer.Cause.TheVariants as causes
 use Rattle.pool_journal.specs.declared.input.Outcome.{Outcome}
@@ -15,11 +16,11 @@ use Rattle.pool_journal.specs.declared.record.Phase.TheVariants as phases
 -- the entry, if it moves i
 abbrev pub told_mover : {X : Type 0} → ℕ → Option Move → X → Option X
 told_mover i None x = None
-told_mover i (Some (j, p)) x = said_if (j == i) x
+told_mover i (Some (j, p)) x = some_if (j == i) x
 
 -- the last entry that moves i
 unfoldable pub last_move : ℕ → List Entry → Option Entry
-last_move i J = latest (λ e. told_mover i (moves e) (Some e)) None J
+last_move i J = last_some (λ e. told_mover i (move_of_entry e) (Some e)) None J
 
 -- caller n owns object i, which it moved last, and which is in this phase
 abbrev pub IsOwnedBy : List Entry → ℕ → ℕ → Phase → Type 0
@@ -51,7 +52,8 @@ IsTestOutcome outcomes.MakeFailed = ⊥
 IsTestOutcome outcomes.CreateTestFailed = ⊥
 IsTestOutcome o = Unit {0}
 
--- an input that continues an object comes from the caller that owns it, finds it in the phase that it needs, and reports an outcome that is possible there
+-- an input that continues an object comes from the caller that owns it, finds it in the phase that it needs, and reports an
+-- outcome that is possible in that phase
 abbrev pub IsOwnerRespectingAfter : List Entry → ℕ → Input → Type 0
 IsOwnerRespectingAfter J n (Ready i o) = IsOwnedBy J n i phases.Readying × IsReadyOutcome (is_new i J) o
 IsOwnerRespectingAfter J n (Park i o) = IsOwnedBy J n i phases.Returning × IsParkOutcome o

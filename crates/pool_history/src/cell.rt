@@ -30,7 +30,8 @@ pub struct Cell {
 ///
 /// There is no memory for it.
 pub fn begin(alloc: Global) -> Result<(Cell, CountsPass), AllocError>
-    ensures { IfOk result (λ c. (c.1.table_id ≡ c.0.table.shared.table_id) × (cell_view c.1 ≡ beginner)) }
+    ensures { IfOk result (λ c. (c.1.table_id ≡ c.0.table.shared.table_id)
+        × (cell_view c.1 ≡ beginner)) }
 {
     let (table, authority) = Table::of_words(alloc, &[0, 0, 0, 0, 0, 0, 0, 0, 0], &())?;
     Ok((Cell { table }, authority))
@@ -48,7 +49,8 @@ fn version_of(cell: &Cell, pass: &mut CountsPass) -> u64
 /// Returns the words, which it reads one by one.
 fn gather(cell: &Cell, pass: &mut CountsPass) -> [u64; 8]
     requires { pass.old.table_id ≡ cell.now.table.shared.table_id }
-    ensures { Stays pass.old pass.new × (length result ≡ 8) × Gathered (λ words. words) 8 result pass.old.me.0.stage pass.new.me.0.stage }
+    ensures { Stays pass.old pass.new × (length result ≡ 8)
+        × Gathered (λ words. words) 8 result pass.old.me.0.stage pass.new.me.0.stage }
 {
     let mut words = [0; WORDS];
     for i in 0..WORDS {
@@ -64,7 +66,8 @@ pub fn load<M: Outcome<[u64; 8], View>, R: Wait>(
     pass: &mut CountsPass,
 ) -> [u64; 8]
     requires cell { pass.old.table_id ≡ cell.now.table.shared.table_id }
-    requires turns { Turns HasCellInvariant pass.old.id (cell_view pass.old) (λ words. words) M.then }
+    requires turns { Turns HasCellInvariant pass.old.id (cell_view pass.old)
+        (λ words. words) M.then }
     ensures same { IsSamePass pass.old pass.new }
     ensures view { M.then (cell_view pass.old) result result (cell_view pass.new) }
 {
@@ -82,13 +85,14 @@ pub fn load<M: Outcome<[u64; 8], View>, R: Wait>(
     unreachable!()
 }
 
-/// Makes the version odd, if it is still this even one. Returns the version that it was.
+/// Makes the version odd if it still is `version`, which is even. Returns the version that it found.
 fn lock(cell: &Cell, pass: &mut CountsPass, version: u64, words: &[u64; 8]) -> u64
     requires cell { pass.old.table_id ≡ cell.now.table.shared.table_id }
     requires even { version % 2 ≡ 0 }
     requires small { version + 1 < 2 ^ 64 }
     ensures stays { Stays pass.old pass.new }
-    ensures taken { result ≡ version → (old : _) × (pass.new.me.0.stage ≡ Writing (version + 1) old words.now 0) }
+    ensures taken { result ≡ version → (old : _)
+        × (pass.new.me.0.stage ≡ Writing (version + 1) old words.now 0) }
 {
     let shared = &cell.table.shared;
     shared.compare_exchange_with::<Locks>(pass, 0, version, version + 1, words)
@@ -118,9 +122,11 @@ fn take<R: Wait>(rt: &R, cell: &Cell, pass: &mut CountsPass, words: [u64; 8]) ->
 fn put(cell: &Cell, pass: &mut CountsPass, i: usize, word: u64)
     requires cell { pass.old.table_id ≡ cell.now.table.shared.table_id }
     requires inside { i < 8 }
-    requires next { (version : ℕ) × (old : List ℕ) × (words : List ℕ) × (pass.old.me.0.stage ≡ Writing version old words i) × (word ≡ slice_index words i) }
+    requires next { (version : ℕ) × (old : List ℕ) × (words : List ℕ)
+        × (pass.old.me.0.stage ≡ Writing version old words i) × (word ≡ slice_index words i) }
     ensures stays { Stays pass.old pass.new }
-    ensures put { (version : ℕ) (old words : List ℕ) → pass.old.me.0.stage ≡ Writing version old words i → word ≡ slice_index words i
+    ensures put { (version : ℕ) (old words : List ℕ)
+        → pass.old.me.0.stage ≡ Writing version old words i → word ≡ slice_index words i
         → pass.new.me.0.stage ≡ Writing version old words (i + 1) }
 {
     let shared = &cell.table.shared;
@@ -137,7 +143,8 @@ fn publish<M: Outcome<[u64; 8], View>>(
     words: [u64; 8],
 )
     requires cell { pass.old.table_id ≡ cell.now.table.shared.table_id }
-    requires taken { (old : _) × (pass.old.me.0.stage ≡ Writing version old words 0) × TurnsAt HasCellInvariant pass.old.id (cell_view pass.old) old words M.then }
+    requires taken { (old : _) × (pass.old.me.0.stage ≡ Writing version old words 0)
+        × TurnsAt HasCellInvariant pass.old.id (cell_view pass.old) old words M.then }
     requires small { version + 1 < 2 ^ 64 }
     ensures same { IsSamePass pass.old pass.new }
     ensures view { (old : _) × M.then (cell_view pass.old) old words (cell_view pass.new) }
@@ -168,10 +175,12 @@ pub fn store_words<M: Outcome<[u64; 8], View>, R: Wait>(
 /// Splits the view of a pass, and returns a new pass with the part that it loses.
 pub fn split<M: Split<View>>(cell: &Cell, pass: &mut CountsPass) -> CountsPass
     requires cell { pass.old.table_id ≡ cell.now.table.shared.table_id }
-    requires forks { Forks HasCellInvariant pass.old.id (cell_view pass.old) (M.left (cell_view pass.old)) (M.right (cell_view pass.old)) }
+    requires forks { Forks HasCellInvariant pass.old.id (cell_view pass.old)
+        (M.left (cell_view pass.old)) (M.right (cell_view pass.old)) }
     ensures same { IsSamePass pass.old pass.new }
     ensures view { cell_view pass.new ≡ M.left (cell_view pass.old) }
-    ensures given { (result.table_id ≡ pass.old.table_id) × (cell_view result ≡ M.right (cell_view pass.old)) × (result.me.1 ≡ []) }
+    ensures given { (result.table_id ≡ pass.old.table_id)
+        × (cell_view result ≡ M.right (cell_view pass.old)) × (result.me.1 ≡ []) }
 {
     cell.table.shared.split_seat::<Cut<M>>(pass)
 }
@@ -180,7 +189,8 @@ pub fn split<M: Split<View>>(cell: &Cell, pass: &mut CountsPass) -> CountsPass
 pub fn join<M: Join<View>>(cell: &Cell, pass: &mut CountsPass, other: CountsPass)
     requires cell { pass.old.table_id ≡ cell.now.table.shared.table_id }
     requires other { (other.table_id ≡ pass.old.table_id) × (other.me.1 ≡ []) }
-    requires merges { Merges HasCellInvariant pass.old.id (cell_view pass.old) other.id (cell_view other) (M.both (cell_view pass.old) (cell_view other)) M.spent }
+    requires merges { Merges HasCellInvariant pass.old.id (cell_view pass.old) other.id
+        (cell_view other) (M.both (cell_view pass.old) (cell_view other)) M.spent }
     ensures same { IsSamePass pass.old pass.new }
     ensures view { cell_view pass.new ≡ M.both (cell_view pass.old) (cell_view other) }
 {

@@ -4,20 +4,22 @@ use Rattle.std.specs.Prelude.{IfOk, sum, slice_index}
 use Rattle.std.proofs.lemmas.Bool.Decides.{nat_tests}
 use Rattle.std.proofs.lemmas.List.Sums.{sum_by-cons}
 use Rattle.std.proofs.Math.Nat.{zero-mul, suc-mul}
-use Rattle.pool_journal.specs.Journal.{is_lent_answer}
+use Rattle.pool_journal.specs.Entries.{is_lent_answer}
 use Rattle.pool_journal.specs.declared.entry.Entry.{Entry}
 use Rattle.pool_journal.specs.declared.input.Input.{Input}
 use Rattle.pool_journal.specs.declared.input.Input.TheVariants as inputs
 use Rattle.pool_journal.specs.declared.input.Outcome.{Outcome}
+use Rattle.pool_journal.specs.declared.input.When.TheVariants as times
 use Rattle.pool_journal.specs.declared.answer.Answer.{Answer}
 use Rattle.pool_journal.specs.declared.answer.Answer.TheVariants as answers
 use Rattle.pool_settings.specs.declared.settings.Settings.{Settings}
 use Rattle.pool_stats.specs.Answers.{count_answers}
 use Rattle.pool_core.specs.Legal.{IsLegal}
 use Rattle.pool_history.specs.CellInvariant.{entries_with_number, AllBelow}
-use Rattle.pool_shared.specs.Walks.{walked, AllDue}
+use Rattle.pool_shared.specs.Walks.{run_stages, AllExpected}
 use Rattle.pool_shared.specs.Borrows as borrows
 use Rattle.pool_shared.specs.Returns as returns
+use Rattle.pool_shared.specs.Reclaims as removals
 use Rattle.pool_shared.specs.Clears as clears
 use Rattle.pool_engines.specs.declared.load_fault.LoadFault.{LoadFault}
 use Rattle.pool_load.specs.declared.loading.LoadReport.{LoadReport}
@@ -29,7 +31,7 @@ use Rattle.pool_load.proofs.Replies.{is_ready, lends_ready}
 abbrev lent_by : Entry → ℕ
 lent_by e = cond (is_lent_answer e.answer) 1 0
 
--- how many entries lend
+-- the number of entries that lend
 abbrev lent_in : List Entry → ℕ
 lent_in [] = 0
 lent_in (e ∷ es) = lent_by e + lent_in es
@@ -77,17 +79,15 @@ abbrev lent_at : borrows.Stage → ℕ
 lent_at (borrows.lent i) = 1
 lent_at _ = 0
 
-reclaiming_not : (n : ℕ) → lent_at (borrows.reclaiming n) ≡ 0
-reclaiming_not zero = refl
-reclaiming_not (suc n) = refl
+removal_not_ready : (st : removals.Stage) (e : Entry) → removals.IsExpected times.Borrow st e → is_ready e.input ≡ false
+removal_not_ready removals.begins e due = ap is_ready due
+removal_not_ready (removals.reclaims left taken) e due = ap is_ready due.1
+removal_not_ready _ e due = absurd due
 
-removing_not : (a : Answer) → lent_at (borrows.after_removing a) ≡ 0
-removing_not (answers.Count n) = reclaiming_not n
+removing_not : (st : removals.Stage) → lent_at (borrows.removing st) ≡ 0
+removing_not (removals.reclaims zero taken) = refl
+removing_not (removals.reclaims (suc left) taken) = refl
 removing_not _ = refl
-
-reclaimed_not : (left : ℕ) (a : Answer) → lent_at (borrows.after_reclaiming left a) ≡ 0
-reclaimed_not left (answers.Reclaimed i) = reclaiming_not _
-reclaimed_not left _ = refl
 
 asking_not : (a : Answer) → lent_at (borrows.after_asking a) ≡ 0
 asking_not answers.Wait = refl
@@ -103,11 +103,9 @@ destroyed_not true o = refl
 destroyed_not false o = refl
 
 -- an entry of a borrow lends exactly if it leads to that stage
-borrow_step : (s : Settings) (began : ℕ) (st : borrows.Stage) (e : Entry) → Ordered e → borrows.Due s began st e → lent_by e + lent_at st ≡ lent_at (borrows.next st e)
-borrow_step s began borrows.removes e ordered due =
-    let a = not_lent e ordered (ap is_ready due) in let b = removing_not e.answer in omega (arith, a, b)
-borrow_step s began (borrows.reclaims left) e ordered due =
-    let a = not_lent e ordered (ap is_ready due) in let b = reclaimed_not left e.answer in omega (arith, a, b)
+borrow_step : (s : Settings) (began : ℕ) (st : borrows.Stage) (e : Entry) → Ordered e → borrows.IsExpected s began st e → lent_by e + lent_at st ≡ lent_at (borrows.next st e)
+borrow_step s began (borrows.removes st) e ordered due =
+    let a = not_lent e ordered (removal_not_ready st e due) in let b = removing_not (removals.next st e) in omega (arith, a, b)
 borrow_step s began borrows.asks e ordered due =
     let a = not_lent e ordered (ap is_ready due) in let b = asking_not e.answer in omega (arith, a, b)
 borrow_step s began (borrows.readies i new) e ordered due = by_input e.input due
@@ -119,16 +117,16 @@ borrow_step s began (borrows.destroys i new o) e ordered due =
     let a = not_lent e ordered (ap is_ready due) in let b = destroyed_not new o in omega (arith, a, b)
 borrow_step s began _ e ordered due = absurd due
 
-borrow_lends : (s : Settings) (began : ℕ) (st : borrows.Stage) (es : List Entry) → AllOrdered es → AllDue (borrows.Due s began) borrows.next st es
-    → lent_in es + lent_at st ≡ lent_at (walked borrows.next st es)
+borrow_lends : (s : Settings) (began : ℕ) (st : borrows.Stage) (es : List Entry) → AllOrdered es → AllExpected (borrows.IsExpected s began) borrows.next st es
+    → lent_in es + lent_at st ≡ lent_at (run_stages borrows.next st es)
 borrow_lends s began st [] all due = omega arith
 borrow_lends s began st (e ∷ es) all due =
     let here = borrow_step s began st e all.0 due.0 in let rest = borrow_lends s began (borrows.next st e) es all.1 due.1 in omega (arith, here, rest)
 
-starts_not : (s : Settings) → lent_at (borrows.start s) ≡ 0
+starts_not : (s : Settings) → lent_at (borrows.first_stage s) ≡ 0
 starts_not s = by_flag s.remove_abandoned_on_borrow
   where
-    by_flag : (b : Bool) → lent_at (if b then borrows.removes else borrows.asks) ≡ 0
+    by_flag : (b : Bool) → lent_at (if b then borrows.removes removals.begins else borrows.asks) ≡ 0
     by_flag true = refl
     by_flag false = refl
 
@@ -145,7 +143,7 @@ none_lent : (es : List Entry) → AllOrdered es → NoneReady es → lent_in es 
 none_lent [] all none = refl
 none_lent (e ∷ es) all none = let here = not_lent e all.0 none.0 in let rest = none_lent es all.1 none.1 in omega (arith, here, rest)
 
-return_not_ready : (s : Settings) (i : ℕ) (st : returns.Stage) (e : Entry) → returns.Due s i st e → is_ready e.input ≡ false
+return_not_ready : (s : Settings) (i : ℕ) (st : returns.Stage) (e : Entry) → returns.IsExpected s i st e → is_ready e.input ≡ false
 return_not_ready s i returns.gives e due = ap is_ready due
 return_not_ready s i returns.checks e due = by_input e.input due
   where
@@ -155,33 +153,33 @@ return_not_ready s i returns.checks e due = by_input e.input due
 return_not_ready s i returns.destroys e due = ap is_ready due
 return_not_ready s i _ e due = absurd due
 
-return_none : (s : Settings) (i : ℕ) (st : returns.Stage) (es : List Entry) → AllDue (returns.Due s i) returns.next st es → NoneReady es
+return_none : (s : Settings) (i : ℕ) (st : returns.Stage) (es : List Entry) → AllExpected (returns.IsExpected s i) returns.next st es → NoneReady es
 return_none s i st [] due = tt
 return_none s i st (e ∷ es) due = (return_not_ready s i st e due.0, return_none s i (returns.next st e) es due.1)
 
-close_not_ready : (st : clears.Stage) (e : Entry) → clears.Due inputs.Close st e → is_ready e.input ≡ false
+close_not_ready : (st : clears.Stage) (e : Entry) → clears.IsExpected inputs.Close st e → is_ready e.input ≡ false
 close_not_ready clears.begins e due = ap is_ready due
 close_not_ready (clears.sweeps left taken) e due = ap is_ready due.1
 close_not_ready (clears.destroys i left taken) e due = ap is_ready due
 close_not_ready _ e due = absurd due
 
-close_none : (st : clears.Stage) (es : List Entry) → AllDue (clears.Due inputs.Close) clears.next st es → NoneReady es
+close_none : (st : clears.Stage) (es : List Entry) → AllExpected (clears.IsExpected inputs.Close) clears.next st es → NoneReady es
 close_none st [] due = tt
 close_none st (e ∷ es) due = (close_not_ready st e due.0, close_none (clears.next st e) es due.1)
 
 round_lends : (s : Settings) (f : ℕ) (es : List Entry) → AllOrdered es → Round s f es → lent_in es + f ≡ 1
 round_lends s f es all (lends i bs gs is none bought gave) =
     let parts = ordered_parts bs gs (subst AllOrdered is all) in
-    let out = borrow_lends s bought.began (borrows.start s) bs parts.0 bought.due in
+    let out = borrow_lends s bought.began (borrows.first_stage s) bs parts.0 bought.due in
     let begins = starts_not s in
     let ends = ap lent_at bought.ends in
     let back = none_lent gs parts.1 (return_none s i returns.gives gs gave.due) in
     let both = ap lent_in is ∙ lent_parts bs gs in
     omega (arith, out, begins, ends, back, both, none)
 round_lends s f es all (refuses one refused) =
-    let out = borrow_lends s refused.began (borrows.start s) es all refused.due in
+    let out = borrow_lends s refused.began (borrows.first_stage s) es all refused.due in
     let begins = starts_not s in
-    let ends = refusal_not (walked borrows.next (borrows.start s) es) refused.ends in
+    let ends = refusal_not (run_stages borrows.next (borrows.first_stage s) es) refused.ends in
     omega (arith, out, begins, ends, one)
 
 worked_lends : (s : Settings) (r f : ℕ) (es : List Entry) → AllOrdered es → IsWorked s r f es → lent_in es + f ≡ r

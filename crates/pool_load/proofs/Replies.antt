@@ -2,7 +2,7 @@
 use Rattle.std.proofs.Common.{◌≡◌, ℕ, ◌||◌, Bool, true, false, if◌then◌else◌, List, length, Option, Some, None, refl}
 use Rattle.std.specs.Prelude.{not, ◌-◌}
 use Rattle.pool_journal.specs.Base.{empty_base, drawn_from, closed_from, records_from, cursor_from}
-use Rattle.pool_journal.specs.Journal.{is_lent_answer}
+use Rattle.pool_journal.specs.Entries.{is_lent_answer}
 use Rattle.pool_journal.specs.Queue.{idle_queue, first_of, queue_length, record_in}
 use Rattle.pool_journal.specs.declared.record.Record.{Record}
 use Rattle.pool_journal.specs.declared.record.Phase.{Phase}
@@ -16,7 +16,7 @@ use Rattle.pool_journal.specs.declared.answer.Answer.{Answer}
 use Rattle.pool_journal.specs.declared.answer.Answer.TheVariants as answers
 use Rattle.pool_journal.specs.declared.answer.Cause.TheVariants as causes
 use Rattle.pool_settings.specs.declared.settings.Settings.{Settings}
-use Rattle.pool_core.specs.Reply.{reply, borrow_reply, full_reply, has_reached, choice, is_below, lent_reply, park_reply, returning_reply, has_room, added_reply, adding_reply, tested_reply, testing_reply, destroyed_reply, add_reply, has_enough, evicts, evict_next_reply, examined, reclaim_next_reply, clear_next_reply, forgotten, phase_of, table}
+use Rattle.pool_core.specs.Reply.{reply, borrow_reply, exhausted_reply, has_reached, borrow_candidate, is_below, lent_reply, park_reply, returning_reply, has_room, added_reply, adding_reply, tested_reply, testing_reply, destroyed_reply, add_reply, has_min_idle, is_evictable, evict_next_reply, examined, reclaim_next_reply, clear_next_reply, abandoned_objects, phase_of, reply_from_records}
 
 abbrev pub is_ready : Input → Bool
 is_ready (Ready i o) = true
@@ -76,7 +76,7 @@ add_idle room next = either room (answers.Make next) answers.NoPlace refl refl
 
 evict_next_idle : (s : Settings) (q at : ℕ) (o : Option Record) → Idle (evict_next_reply s q at o)
 evict_next_idle s q at None = refl
-evict_next_idle s q at (Some r) = either (evicts s q at r) (answers.DestroyIdle r.id) (if s.test_while_idle then answers.Test r.id else answers.KeptIdle r.id) refl (either s.test_while_idle (answers.Test r.id) (answers.KeptIdle r.id) refl refl)
+evict_next_idle s q at (Some r) = either (is_evictable s q at r) (answers.DestroyIdle r.id) (if s.test_while_idle then answers.Test r.id else answers.KeptIdle r.id) refl (either s.test_while_idle (answers.Test r.id) (answers.KeptIdle r.id) refl refl)
 
 reclaim_next_idle : (b : Bool) (o : Option Record) → Idle (reclaim_next_reply b o)
 reclaim_next_idle true (Some r) = refl
@@ -89,10 +89,10 @@ clear_next_idle None = refl
 
 -- an answer of the table lends only an object that was reported as ready
 table_lends : (s : Settings) (rs : List Record) (next : ℕ) (shut : Bool) (cursor : Option ℕ) (at : ℕ) (input : Input) → is_ready input ≡ false
-    → is_lent_answer (table s rs next shut cursor at input) ≡ false
+    → is_lent_answer (reply_from_records s rs next shut cursor at input) ≡ false
 table_lends s rs next shut cursor at (Borrow began) other =
-    either shut (answers.Refused causes.Closed) (borrow_reply (choice s.lifo rs) (is_below s.max_total (length rs)) next (full_reply s (at - began))) refl
-    (borrow_idle (choice s.lifo rs) (is_below s.max_total (length rs)) next (full_reply s (at - began))
+    either shut (answers.Refused causes.Closed) (borrow_reply (borrow_candidate s.lifo rs) (is_below s.max_total (length rs)) next (exhausted_reply s (at - began))) refl
+    (borrow_idle (borrow_candidate s.lifo rs) (is_below s.max_total (length rs)) next (exhausted_reply s (at - began))
     (either s.block_when_exhausted (if has_reached s.max_wait_millis (at - began) then answers.TimedOut else answers.Wait) answers.Exhausted (either (has_reached s.max_wait_millis (at - began)) answers.TimedOut answers.Wait refl refl) refl))
 table_lends s rs next shut cursor at (Ready i o) other = absurd (cc other)
 table_lends s rs next shut cursor at (GiveBack i) other = lent_idle s.abandoned (phase_of (record_in rs i)) answers.Check refl
@@ -101,13 +101,13 @@ table_lends s rs next shut cursor at (Invalidate i) other = lent_idle s.abandone
 table_lends s rs next shut cursor at (Use i) other = lent_idle s.abandoned (phase_of (record_in rs i)) answers.Noted refl
 table_lends s rs next shut cursor at Add other = either shut (answers.Refused causes.Closed) (add_reply (is_below s.max_total (length rs)) next) refl (add_idle (is_below s.max_total (length rs)) next)
 table_lends s rs next shut cursor at Fill other =
-    either (shut || has_enough s rs) answers.Enough (add_reply (is_below s.max_total (length rs)) next) refl (add_idle (is_below s.max_total (length rs)) next)
+    either (shut || has_min_idle s rs) answers.Enough (add_reply (is_below s.max_total (length rs)) next) refl (add_idle (is_below s.max_total (length rs)) next)
 table_lends s rs next shut cursor at (Added i o) other = added_idle (phase_of (record_in rs i)) o (not shut)
 table_lends s rs next shut cursor at Evict other = either shut (answers.Refused causes.Closed) _ refl refl
 table_lends s rs next shut cursor at EvictNext other = evict_next_idle s (queue_length rs) at (examined cursor rs)
 table_lends s rs next shut cursor at (Tested i o) other = tested_idle (phase_of (record_in rs i)) o (not shut)
 table_lends s rs next shut cursor at (Reclaim on) other = refl
-table_lends s rs next shut cursor at ReclaimNext other = reclaim_next_idle s.abandoned (first_of (forgotten s at rs))
+table_lends s rs next shut cursor at ReclaimNext other = reclaim_next_idle s.abandoned (first_of (abandoned_objects s at rs))
 table_lends s rs next shut cursor at Clear other = refl
 table_lends s rs next shut cursor at ClearNext other = clear_next_idle (first_of (idle_queue rs))
 table_lends s rs next shut cursor at (Destroyed i) other = destroyed_idle (phase_of (record_in rs i))

@@ -12,7 +12,7 @@ use Rattle.pool_core.specs.Legal.{IsLegal}
 use Rattle.pool_history.specs.Finish.{EachAppended, AllByCallers, NoneCut}
 use Rattle.pool_history.specs.CellInvariant.{entries_with_number, AllBelow}
 use Rattle.pool_history.specs.CallerStates.{CallerState, Advances, newcomer_at}
-use Rattle.pool_shared.specs.Clears.{CloseRow}
+use Rattle.pool_shared.specs.Clears.{CloseSpec}
 use Rattle.pool_load.specs.Rounds.{IsWorked, MakesRounds}
 use Rattle.pool_load.specs.Workers.{AllWorked}
 use Rattle.pool_load.specs.Loads.{IsLoad}
@@ -102,7 +102,7 @@ module _ (s : Settings) (rounds workers : ℕ) (front after : List CallerState) 
       (all_back new worked (same ∙ ap (λ (c : CallerState). c.number) new.end) (uncut ∙ ap (λ (c : CallerState). c.cut_count) new.end) k c at).1
 
   pub loaded : (refused taken : ℕ) (stats : Statistics) (all : List CallerState) → length all ≡ workers + 1 → ((k : ℕ) → k < workers + 1 → slice_get all k ≡ Some (newcomer_at k)) → all ≡ front ++ last ∷ []
-      → AllWorked s rounds front after (map Ok fs) → Advances s last last' → CloseRow s (Ok taken) last last'
+      → AllWorked s rounds front after (map Ok fs) → Advances s last last' → CloseSpec s (Ok taken) last last'
       → IsLegal s H → EachAppended (after ++ last' ∷ []) H → AllByCallers (after ++ last' ∷ []) H → refused ≡ sum fs → stats ≡ statistics_of H → IsLoad s workers rounds refused stats
   loaded refused taken stats all long is cut worked goes row legal made under sums told =
       let new = newcomers workers all front last long is cut in
@@ -121,7 +121,7 @@ module _ (s : Settings) (rounds workers : ℕ) (front after : List CallerState) 
           goes = subst (λ c. Advances s c last') new.end goes;
           appended = closes.0 ∙ ap (λ n. entries_with_number n H) number;
           observed = closes.1;
-          row = subst (λ c. CloseRow s (Ok taken) c last') new.end row;
+          row = subst (λ c. CloseSpec s (Ok taken) c last') new.end row;
         };
         all = sums;
         told = told;

@@ -7,7 +7,7 @@ use Rattle.pool_stats.specs.declared.statistics.Statistics.{Statistics}
 use Rattle.pool_core.specs.Legal.{IsLegal}
 use Rattle.pool_history.specs.CellInvariant.{entries_with_number, AllBelow, IsPrefix}
 use Rattle.pool_history.specs.CallerStates.{CallerState, Advances, newcomer_at}
-use Rattle.pool_shared.specs.Clears.{CloseRow}
+use Rattle.pool_shared.specs.Clears.{CloseSpec}
 use Rattle.pool_engines.specs.declared.load_fault.LoadFault.{LoadFault}
 use Rattle.pool_engines.specs.declared.load_fault.LoadFault.TheVariants.{WorkerCount, RoundCount}
 use Rattle.pool_load.specs.Rounds.{IsWorked}
@@ -20,19 +20,19 @@ pub record IsInRange (workers rounds : ℕ) : Type 0 where
   pub some_rounds : 0 < rounds
   pub few_rounds : rounds ≤ 1000000
 
--- all entries of the caller of this number in a history are those of one whole close, its first and last call: from a newcomer on
--- it observed a legal history, up to its last entry at least, and appended there what a close appends, up to a stage at which one
--- ends
+-- all entries of the caller of this number in a history are those of one whole close, its first and last call: from a newcomer
+-- on it observed a legal history, up to its last entry at least, and appended the entries of a close, up to a stage at which
+-- one ends
 pub record OnlyCloses (s : Settings) (n : ℕ) (journal : List Entry) : Type 0 where
   pub taken : ℕ
   pub after : CallerState
   pub goes : Advances s (newcomer_at n) after
   pub appended : after.appended ≡ entries_with_number n journal
   pub observed : IsPrefix after.observed journal
-  pub row : CloseRow s (Ok taken) (newcomer_at n) after
+  pub row : CloseSpec s (Ok taken) (newcomer_at n) after
 
--- there is one legal history: in it each worker made its rounds, the last caller closed the pool, and there are no other entries.
--- The refused borrows of all workers are counted, and the statistics are those of this history
+-- there is one legal history: in it each worker made its rounds, the last caller closed the pool, and there are no other
+-- entries. The refused borrows of all workers are counted, and the statistics are those of this history
 pub record IsLoad (s : Settings) (workers rounds refused : ℕ) (stats : Statistics) : Type 0 where
   pub journal : List Entry
   pub legal : IsLegal s journal

@@ -11,7 +11,7 @@ use Rattle.pool_history.specs.CallerStates.{CallerState}
 use Rattle.pool_lock.specs.Sections.{IsFullFor}
 use Rattle.pool_shared.specs.declared.faults.BorrowFault.{BorrowFault}
 use Rattle.pool_shared.specs.declared.faults.BorrowFault.TheVariants as faults
-use Rattle.pool_shared.specs.Walks.{walked, AllDue}
+use Rattle.pool_shared.specs.Walks.{run_stages, AllExpected}
 use Rattle.pool_shared.specs.Borrows as borrows
 use Rattle.pool_shared.specs.Returns as returns
 use Rattle.pool_engines.specs.declared.load_fault.LoadFault.{LoadFault}
@@ -44,21 +44,21 @@ IsThrough _ = ⊥
 -- the entries of a whole borrow that lent this object
 pub record BorrowDone (s : Settings) (i : ℕ) (es : List Entry) : Type 0 where
   pub began : ℕ
-  pub due : AllDue (borrows.Due s began) borrows.next (borrows.start s) es
-  pub ends : walked borrows.next (borrows.start s) es ≡ borrows.lent i
+  pub due : AllExpected (borrows.IsExpected s began) borrows.next (borrows.first_stage s) es
+  pub ends : run_stages borrows.next (borrows.first_stage s) es ≡ borrows.lent i
 
 -- the entries of a whole borrow that lent nothing
 pub record BorrowRefused (s : Settings) (es : List Entry) : Type 0 where
   pub began : ℕ
-  pub due : AllDue (borrows.Due s began) borrows.next (borrows.start s) es
-  pub ends : IsRefusal (walked borrows.next (borrows.start s) es)
+  pub due : AllExpected (borrows.IsExpected s began) borrows.next (borrows.first_stage s) es
+  pub ends : IsRefusal (run_stages borrows.next (borrows.first_stage s) es)
 
 -- the entries of a whole return of this object
 pub record ReturnDone (s : Settings) (i : ℕ) (es : List Entry) : Type 0 where
-  pub due : AllDue (returns.Due s i) returns.next returns.gives es
-  pub ends : IsThrough (walked returns.next returns.gives es)
+  pub due : AllExpected (returns.IsExpected s i) returns.next returns.gives es
+  pub ends : IsThrough (run_stages returns.next returns.gives es)
 
--- one round, and how many refused borrows are in it
+-- one round, and the number of refused borrows in it
 pub data Round (s : Settings) (f : ℕ) (es : List Entry) : Type 0 where
   lends : (i : ℕ) (bs gs : List Entry) → es ≡ bs ++ gs → f ≡ 0 → BorrowDone s i bs → ReturnDone s i gs → Round s f es
   refuses : f ≡ 1 → BorrowRefused s es → Round s f es
@@ -75,10 +75,10 @@ abbrev pub MakesRounds : Settings → ℕ → ℕ → CallerState → CallerStat
 MakesRounds s r f before after = (es : List Entry) × (after.appended ≡ before.appended ++ es) × IsWorked s r f es
 
 -- an error that isn't a lack of room or memory
-abbrev pub IsOwn : {E : Type 0} → BorrowFault E → Type 0
-IsOwn faults.JournalFull = ⊥
-IsOwn faults.OutOfMemory = ⊥
-IsOwn _ = Unit {0}
+abbrev pub IsNonResourceError : {E : Type 0} → BorrowFault E → Type 0
+IsNonResourceError faults.JournalFull = ⊥
+IsNonResourceError faults.OutOfMemory = ⊥
+IsNonResourceError _ = Unit {0}
 
 -- a lack of room or memory stops a worker
 abbrev pub StopsFor : {E : Type 0} → LoadFault → BorrowFault E → Type 0

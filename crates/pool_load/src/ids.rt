@@ -3,10 +3,10 @@ use pool_shared::{Clock, Factory, SharedPool};
 use std::convert::Infallible;
 use std::sync::atomic::{AtomicU64, Ordering};
 
-/// A pool of such objects.
+/// A pool of objects whose values are their ids.
 pub(crate) type IdPool<B> = SharedPool<u64, Infallible, Ids, Ticks, B>;
 
-/// Makes the id of an object its value, and never fails.
+/// A factory that makes the id of an object its value, and never fails.
 #[derive(Drop)]
 pub(crate) struct Ids;
 
@@ -44,7 +44,7 @@ impl Factory<u64, Infallible> for Ids {
     fn destroy(&self, _value: u64) {}
 }
 
-/// Returns how often it was read before.
+/// A clock that returns the number of its earlier readings.
 #[derive(Drop)]
 pub(crate) struct Ticks {
     readings: AtomicU64,

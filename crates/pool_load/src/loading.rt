@@ -1,7 +1,7 @@
 // Many workers at once, and the statistics of their history.
 ghost use Rattle.std.specs.Prelude.{◌≡◌, ◌+◌, ◌*◌, ℕ, Ok, IfOk, IfErr, OnOk};
 ghost use Rattle.pool_history.specs.CallerStates.{Advances};
-ghost use Rattle.pool_shared.specs.Clears.{CloseRow};
+ghost use Rattle.pool_shared.specs.Clears.{CloseSpec};
 ghost use Rattle.pool_load.specs.Workers.{StopsLoad};
 ghost use Rattle.pool_load.specs.Loads.{IsInRange, IsLoad, IsLoadFault};
 
@@ -17,16 +17,16 @@ use std::marker::Brand;
 use std::sync::Wait;
 use std::thread::Threads;
 
-/// How many workers there may be.
+/// The greatest number of workers.
 const MOST_WORKERS: u32 = 1_023;
 
-/// How many rounds a worker may make.
+/// The greatest number of rounds of a worker.
 const MOST_ROUNDS: u64 = 1_000_000;
 
 /// The result of a load.
 #[derive(Clone, Copy, Debug, PartialEq, Eq)]
 pub struct LoadReport {
-    /// How many borrows of all workers were refused.
+    /// The number of refused borrows of all workers.
     pub refused: u64,
     /// The statistics of the whole history.
     pub stats: Statistics,
@@ -67,7 +67,7 @@ pub fn load<G: Gate, R: Threads + Wait + Sync>(
     }
 }
 
-/// The load of a pool on the cell of `site`.
+/// Runs the load of a pool on the cell of `site`.
 fn load_on<B: Room + Send + Sync, G: Gate, R: Threads + Wait + Sync>(
     rt: &R,
     alloc: Global,
@@ -115,10 +115,11 @@ fn load_on<B: Room + Send + Sync, G: Gate, R: Threads + Wait + Sync>(
     }
 }
 
-/// The last caller closes the pool.
+/// Lets the last caller close the pool.
 fn close<B: Room, R: Wait>(rt: &R, pool: &IdPool<B>, last: &mut Caller<B>) -> Result<(), LoadFault>
-    ensures goes { Advances B.settings last.old last.new }
-    ensures row { IfOk result (λ u. (taken : ℕ) × CloseRow B.settings (Ok taken) last.old last.new) }
+    ensures advances { Advances B.settings last.old last.new }
+    ensures spec { IfOk result (λ u. (taken : ℕ)
+        × CloseSpec B.settings (Ok taken) last.old last.new) }
     ensures stops { IfErr result (StopsLoad B.settings) }
 {
     match pool.close(rt, last) {

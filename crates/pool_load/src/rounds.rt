@@ -1,6 +1,6 @@
 // Rounds of one caller.
 ghost use Rattle.std.specs.Prelude.{◌≡◌, ◌≤◌, IfOk, IfErr};
-ghost use Rattle.pool_load.specs.Rounds.{MakesRound, MakesRounds, IsOwn, StopsFor, Stops};
+ghost use Rattle.pool_load.specs.Rounds.{MakesRound, MakesRounds, IsNonResourceError, StopsFor, Stops};
 
 use crate::gate::Gate;
 use pool_engines::LoadFault;
@@ -9,7 +9,7 @@ use std::sync::Wait;
 
 /// Passes over a refused borrow. If a borrow failed for lack of room or memory, the worker stops.
 fn pass_over<E>(fault: &BorrowFault<E>) -> Result<(), LoadFault>
-    ensures own { IfOk result (λ u. IsOwn fault.now) }
+    ensures own { IfOk result (λ u. IsNonResourceError fault.now) }
     ensures stops { IfErr result (λ stop. StopsFor stop fault.now) }
 {
     match fault {
@@ -19,7 +19,7 @@ fn pass_over<E>(fault: &BorrowFault<E>) -> Result<(), LoadFault>
     }
 }
 
-/// Makes one round. Returns how many borrows were refused in it: 0 or 1.
+/// Makes one round. Returns the number of refused borrows in it: 0 or 1.
 fn round<T: Drop, E: Drop, F: Factory<T, E> + Drop, C: Clock + Drop, B: Room, G: Gate, R: Wait>(
     rt: &R,
     pool: &SharedPool<T, E, F, C, B>,
@@ -30,7 +30,7 @@ fn round<T: Drop, E: Drop, F: Factory<T, E> + Drop, C: Clock + Drop, B: Room, G:
     ensures most { IfOk result (λ n. n ≤ 1) }
     ensures number { me.new.number ≡ me.old.number }
     ensures uncut { me.new.cut_count ≡ me.old.cut_count }
-    ensures row { IfOk result (λ n. MakesRound B.settings n me.old me.new) }
+    ensures spec { IfOk result (λ n. MakesRound B.settings n me.old me.new) }
     ensures stops { IfErr result (λ fault. Stops B.settings fault me.new) }
 {
     match pool.borrow(rt, me) {
@@ -51,13 +51,13 @@ fn round<T: Drop, E: Drop, F: Factory<T, E> + Drop, C: Clock + Drop, B: Room, G:
     }
 }
 
-/// Makes rounds of a caller: in each it borrows an object, passes the gate with it, and returns it. Returns how many
-/// borrows were refused, which are rounds too. The caller's entries are those of its rounds.
+/// Makes rounds of a caller: in each it borrows an object, passes the gate with it, and returns it. Returns the number
+/// of refused borrows, which are rounds too. The caller's entries are those of its rounds.
 ///
 /// # Errors
 ///
-/// `JournalFull` and `OutOfMemory`, if a critical section of a borrow or of a return failed for that; the rounds end
-/// there.
+/// `JournalFull` and `OutOfMemory`, if a critical section of a borrow or of a return failed with that error; the rounds
+/// end then.
 pub fn work<T: Drop, E: Drop, F: Factory<T, E> + Drop, C: Clock + Drop, B: Room, G: Gate, R: Wait>(
     rt: &R,
     pool: &SharedPool<T, E, F, C, B>,

@@ -14,7 +14,7 @@ use std::sync::Wait;
 use std::thread;
 use std::thread::{Promise, PromisedHandle, Scope, Threads};
 
-/// The result of a worker: its caller, and how many borrows were refused, or why it stopped.
+/// The result of a worker: its caller, and the number of refused borrows or the error that stopped it.
 #[derive(Drop)]
 pub(crate) struct Worked<B: Room> {
     pub(crate) caller: Caller<B>,
@@ -163,7 +163,7 @@ pub(crate) fn work_all<B: Room + Send + Sync, G: Gate, R: Threads + Wait + Sync>
     )
 }
 
-/// The callers of all workers, and how many borrows were refused in all.
+/// Returns the number of refused borrows of all workers, and their callers.
 pub(crate) fn collect_all<B: Room>(
     alloc: Global,
     workers: Vec<Worked<B>>,

@@ -1,7 +1,7 @@
 -- One critical section: which inputs are permitted, what it returns, and the state that it leaves.
 use Rattle.std.specs.Prelude.{◌≡◌, ℕ, Bool, true, false, List, [], ◌∷◌, ◌++◌, Option, None, Some, IsSomeAnd}
 use Rattle.atomic_table.specs.Seated.{TableId}
-use Rattle.pool_journal.specs.Journal.{moves, is_make_answer}
+use Rattle.pool_journal.specs.Entries.{move_of_entry, is_make_answer}
 use Rattle.pool_journal.specs.declared.base.Base.{Base}
 use Rattle.pool_journal.specs.declared.entry.Entry.{Entry}
 use Rattle.pool_journal.specs.declared.input.Input.{Input}
@@ -11,15 +11,15 @@ use Rattle.pool_journal.specs.declared.answer.Answer.TheVariants as answers
 use Rattle.pool_journal.specs.declared.record.Phase.{Phase}
 use Rattle.pool_journal.specs.declared.record.Phase.TheVariants as phases
 use Rattle.pool_places.specs.declared.place.Place.{Place}
-use Rattle.pool_places.specs.Shelf.{value_in}
+use Rattle.pool_places.specs.PlacesModel.{value_in}
 use Rattle.pool_settings.specs.declared.settings.Settings.{Settings}
 use Rattle.pool_core.specs.declared.step_fault.StepFault.{StepFault}
 use Rattle.pool_core.specs.declared.step_fault.StepFault.TheVariants.{JournalFull, OutOfMemory}
-use Rattle.pool_core.specs.Finishing.{finishes}
-use Rattle.pool_core.specs.Fits.{FitsFrom, IsTooLongFrom}
-use Rattle.pool_core.specs.Laws.{Laws}
-use Rattle.pool_core.specs.Legal.{IsLegal, entry_of, entry_due}
-use Rattle.pool_core.specs.Pool.{Pool}
+use Rattle.pool_core.specs.Completion.{is_completing}
+use Rattle.pool_core.specs.Fits.{FitsLimitFrom, ExceedsLimitFrom}
+use Rattle.pool_core.specs.Laws.{SafetyProperties}
+use Rattle.pool_core.specs.Legal.{IsLegal, entry_of, expected_entry}
+use Rattle.pool_core.specs.Pool.{CoreModel}
 use Rattle.pool_core.specs.Reply.{reply}
 use Rattle.pool_history.specs.declared.room.View.{View}
 use Rattle.pool_history.specs.CellInvariant.{authority}
@@ -31,15 +31,16 @@ use Rattle.pool_history.specs.Ownership.{IsOwnerRespecting, IsReadyOutcome, IsPa
 abbrev pub AllKept : {T : Type 0} → (T → Type 0) → List (Place T) → Type 0
 AllKept {T} P ps = (i : ℕ) (v : T) → value_in ps i ≡ Some v → P v
 
--- the lock invariant: the authoritative pass is of this cell; its history is legal and owner-respecting, and has the safety properties; the core's base and journal are the stored segment of that history; and each stored value is passive
-pub record LockInvariant {T : Type 0} (table : TableId) (s : Settings) (callers : ℕ) (P : T → Type 0) (id : TableId) (core : Pool T) (v : View) : Type 0 where
+-- the lock invariant: the authoritative pass is of this cell; its history is legal and owner-respecting, and has the safety
+-- properties; the core's base and journal are the stored segment of that history; and each stored value is passive
+pub record LockInvariant {T : Type 0} (table : TableId) (s : Settings) (callers : ℕ) (P : T → Type 0) (id : TableId) (core : CoreModel T) (v : View) : Type 0 where
   pub here : id ≡ table
   pub settings : core.settings ≡ s
   pub knows : v ≡ authority s v.history callers v.cut_positions []
   pub ends : IsStoredSegment v.cut_positions v.history core.base core.journal
   pub legal : IsLegal s v.history
   pub owner_respecting : IsOwnerRespecting v.history
-  pub laws : Laws s v.history
+  pub laws : SafetyProperties s v.history
   pub kept : AllKept P core.places
 
 -- the caller owns the object: its last entry moved the object to this phase, and was or was not the one that made it
@@ -47,7 +48,7 @@ pub record OwnsObject (me : CallerState) (i : ℕ) (p : Phase) (new : Bool) : Ty
   pub appended : List Entry
   pub e : Entry
   pub last : me.appended ≡ appended ++ e ∷ []
-  pub moved : moves e ≡ Some (i, p)
+  pub moved : move_of_entry e ≡ Some (i, p)
   pub is_new : is_make_answer e.answer ≡ new
 
 -- an input is permitted: one that continues an object comes from the caller that owns it, and reports a possible outcome
@@ -78,7 +79,7 @@ pub record AppendsEntry (e : Entry) (before after : CallerState) : Type 0 where
 abbrev pub AppendsAnswer : Input → Answer → CallerState → CallerState → Type 0
 AppendsAnswer input a before after = (at : ℕ) × AppendsEntry (entry_of before.number at input a) before after
 
--- the returned value: a passive one with an answer that takes one, none with an answer that stores it, otherwise the one passed in
+-- the returned value: a passive one if the answer takes one, none if the answer stores it, otherwise the one passed in
 abbrev pub ReturnsValue : {T : Type 0} → (T → Type 0) → Answer → Option T → Option T → Type 0
 ReturnsValue P (answers.Take i) handed out = IsSomeAnd out P
 ReturnsValue P (answers.Test i) handed out = IsSomeAnd out P
@@ -87,21 +88,22 @@ ReturnsValue P answers.Parked handed out = out ≡ None
 ReturnsValue P answers.Kept handed out = out ≡ None
 ReturnsValue P _ handed out = out ≡ handed
 
--- a critical section failed at this time: the entry expected then, after what is observed, is not one of a completing step, and the stored entries (those after the last cut) with this entry have this property
+-- a critical section failed at this time: the entry expected then, after the observed entries, is not one of a completing step,
+-- and the stored entries (those after the last cut) with this entry have this property
 pub record IsFailedStep (Are : Settings → Base → List Entry → Type 0) (s : Settings) (input : Input) (me : CallerState) (at : ℕ) : Type 0 where
-  pub unfinished : finishes (reply s me.observed at input) input ≡ false
+  pub unfinished : is_completing (reply s me.observed at input) input ≡ false
   pub base : Base
   pub stored : List Entry
   pub ends : IsStoredSegment me.cut_positions me.observed base stored
-  pub are : Are s base (stored ++ entry_due s me.observed me.number at input ∷ [])
+  pub are : Are s base (stored ++ expected_entry s me.observed me.number at input ∷ [])
 
 -- the entry expected at this time does not fit
 abbrev pub LacksRoom : Settings → Input → CallerState → ℕ → Type 0
-LacksRoom = IsFailedStep IsTooLongFrom
+LacksRoom = IsFailedStep ExceedsLimitFrom
 
 -- the entry expected at this time fits
 abbrev pub LacksMemory : Settings → Input → CallerState → ℕ → Type 0
-LacksMemory = IsFailedStep FitsFrom
+LacksMemory = IsFailedStep FitsLimitFrom
 
 -- a critical section failed for lack of room
 abbrev pub IsFullFor : Settings → Input → CallerState → Type 0

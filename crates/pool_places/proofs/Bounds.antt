@@ -1,4 +1,4 @@
--- A moment before which no lent object was last used.
+-- A time before which no lent object was last used.
 use Rattle.std.proofs.Common.{◌≡◌, ℕ, zero, suc, ◌-◌, ◌<◌, ◌≤◌, nat_le, Bool, true, false, ◌&&◌, cond, List, [], ◌∷◌, ◌++◌, set, refl, arith}
 use Rattle.std.specs.Prelude.{remove, IsTrue}
 use Rattle.std.proofs.lemmas.Bool.Decides.{nat_tests}
@@ -8,7 +8,7 @@ use Rattle.pool_journal.specs.declared.record.Phase.TheVariants as phases
 use Rattle.pool_places.specs.declared.place.Place.{Place}
 use Rattle.pool_places.specs.Changes.{opens_as, sets_to, takes_to}
 use Rattle.pool_places.specs.Overdue.{is_lent, overdue, IsBound}
-use Rattle.pool_places.specs.Shelf.{records_in}
+use Rattle.pool_places.specs.PlacesModel.{records_in}
 use Rattle.pool_places.proofs.Entries.{all_mapped}
 
 pub set_not_lent : (p : Phase) → IsTrue (sets_to p) → is_lent p ≡ false
@@ -23,7 +23,7 @@ pub taken_not_lent : (p : Phase) → IsTrue (takes_to p) → is_lent p ≡ false
 taken_not_lent phases.Lent is = absurd (cc is)
 taken_not_lent _ is = refl
 
--- an earlier moment is a bound as well
+-- an earlier time is a bound as well
 pub bound_earlier : (m n : ℕ) (rs : List Record) → m ≤ n → IsBound n rs → IsBound m rs
 bound_earlier m n rs less bound = all_mapped (λ r. is_lent r.phase ≡ true → n ≤ r.used) (λ r. is_lent r.phase ≡ true → m ≤ r.used) rs (λ r holds lent. let le = holds lent in omega (arith, le, less)) bound
 
@@ -42,7 +42,7 @@ pub bound_push : {T : Type 0} (n : ℕ) (p : Place T) (ps : List (Place T)) → 
 bound_push n p [] here bound = (here, tt)
 bound_push n p (q ∷ ps) here bound = (bound.0, bound_push n p ps here bound.1)
 
--- where the bound isn't overdue, nothing is
+-- if the bound is less than the timeout ago, no object is abandoned
 pub none_overdue : (at timeout least : ℕ) (rs : List Record) → IsBound least rs → at - least < timeout → overdue at timeout rs ≡ []
 none_overdue at timeout least [] bound early = refl
 none_overdue at timeout least (r ∷ rs) bound early = by_test (is_lent r.phase) refl (none_overdue at timeout least rs bound.1 early)

@@ -1,4 +1,4 @@
--- Lists of which each element has something.
+-- Lists whose elements all have a property.
 use Rattle.std.proofs.Common.{◌≡◌, ℕ, zero, suc, List, [], ◌∷◌, slice_get, Some, subst}
 use Rattle.std.specs.List.{AllByRecursion}
 

@@ -1,4 +1,4 @@
--- An object that was read at its place, and what a write there does.
+-- An object that was read at its position, and the effect of a write at this position.
 use Rattle.std.proofs.Common.{◌≡◌, ◌≢◌, ℕ, ◌==◌, Bool, true, false, not, cond, if◌then◌else◌, List, [], ◌∷◌, ◌++◌, get_or, set, Option, Some, None, refl, ap, sym, ◌∙◌, subst}
 use Rattle.std.specs.Prelude.{IsSomeAnd, is_some, remove}
 use Rattle.std.specs.Option.{option_and_then, option_map}
@@ -8,18 +8,18 @@ use Rattle.pool_journal.specs.declared.record.Record.{Record}
 use Rattle.pool_journal.specs.declared.record.Phase.TheVariants as phases
 use Rattle.pool_places.specs.declared.place.Place.{Place}
 use Rattle.pool_places.specs.Changes.{with_changed, without_id}
-use Rattle.pool_places.specs.Shelf.{Shelf, records_in, value_in, changed, without, IsAt, IsShelf, IsValued}
+use Rattle.pool_places.specs.PlacesModel.{PlacesModel, records_in, value_in, changed, without, IsAt, PlacesInvariant, IsValued}
 use Rattle.pool_places.proofs.Shelves.{place_found, shelf_set, change_is, shelf_without, remove_is, known_at, valued_at}
 use Rattle.pool_places.proofs.Values.{value_changed_kept, value_changed_other, place_changed_here, value_without}
 
--- i stands at place k, and q was read there
+-- i is at position k, and q was read at it
 pub record Found {T : Type 0} (ps : List (Place T)) (i k : ℕ) (q : Place T) : Type 0 where
-  pub shelf : IsShelf ps
+  pub shelf : PlacesInvariant ps
   pub at : IsAt ps i k
   pub read : q ≡ get_or ps k q
 
--- what was known of the object before is known of what was read
-pub found_known : {T : Type 0} {ps : List (Place T)} {i k n : ℕ} {q : Place T} {s : Shelf T} (P : Record → Type 0) → Found ps i k q → (let seen : Shelf T = record { kept = ps; spare = n } in seen ≡ s)
+-- a property of the record of i holds of the record that was read
+pub found_known : {T : Type 0} {ps : List (Place T)} {i k n : ℕ} {q : Place T} {s : PlacesModel T} (P : Record → Type 0) → Found ps i k q → (let seen : PlacesModel T = record { kept = ps; spare = n } in seen ≡ s)
     → IsSomeAnd (record_in (records_in s.kept) i) P → P q.known
 found_known {ps} {i} {k} {n} {q} {s} P here seen known =
     known_at P ps i k q here.shelf here.at here.read (subst (λ x. IsSomeAnd (record_in (records_in x.kept) i) P) (sym seen) known)
@@ -60,8 +60,8 @@ records_without {T} i (p ∷ ps) = by_test (not (i == p.known.id)) (records_with
 pub records_push : {T : Type 0} (ps : List (Place T)) (p : Place T) → records_in (ps ++ p ∷ []) ≡ records_in ps ++ p.known ∷ []
 records_push ps p = map-append (λ q. q.known) ps (p ∷ [])
 
--- a write that changes what was read
-pub set_shelf : {T : Type 0} {ps : List (Place T)} {i k : ℕ} {q : Place T} (p : Place T) → Found ps i k q → p.known.id ≡ q.known.id → IsValued p → IsShelf (set ps k p)
+-- a write that changes the object that was read
+pub set_shelf : {T : Type 0} {ps : List (Place T)} {i k : ℕ} {q : Place T} (p : Place T) → Found ps i k q → p.known.id ≡ q.known.id → IsValued p → PlacesInvariant (set ps k p)
 set_shelf {ps} {i} {k} {q} p here same valued = shelf_set ps k q p here.shelf here.at.in_range here.read same valued
 
 pub set_kept : {T : Type 0} {ps : List (Place T)} {i k : ℕ} {q : Place T} (f : Place T → Place T) → Found ps i k q → set ps k (f q) ≡ changed i f ps
@@ -84,9 +84,9 @@ set_value {ps} {i} {k} {q} f same here =
     ap (λ xs. value_in xs i) (set_kept f here)
     ∙ ap (option_and_then (λ p. p.value)) (place_changed_here i f ps same ∙ ap (option_map f) (place_found ps i k q here.shelf.rising here.at here.read))
 
--- taking it out
-pub remove_shelf : {T : Type 0} {ps : List (Place T)} {i k : ℕ} {q : Place T} → Found ps i k q → IsShelf (remove ps k)
-remove_shelf {ps} {i} {k} {q} here = subst IsShelf (sym (remove_is ps i k q here.shelf here.at here.read)) (shelf_without i ps here.shelf)
+-- a removal of the object
+pub remove_shelf : {T : Type 0} {ps : List (Place T)} {i k : ℕ} {q : Place T} → Found ps i k q → PlacesInvariant (remove ps k)
+remove_shelf {ps} {i} {k} {q} here = subst PlacesInvariant (sym (remove_is ps i k q here.shelf here.at here.read)) (shelf_without i ps here.shelf)
 
 pub remove_kept : {T : Type 0} {ps : List (Place T)} {i k : ℕ} {q : Place T} → Found ps i k q → remove ps k ≡ without i ps
 remove_kept {ps} {i} {k} {q} here = remove_is ps i k q here.shelf here.at here.read

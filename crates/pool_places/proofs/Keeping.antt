@@ -1,4 +1,4 @@
--- What the records say of the queue.
+-- The queue by the records.
 use Rattle.std.proofs.Common.{◌≡◌, ◌≢◌, ℕ, ◌<◌, ◌==◌, true, false, List, [], ◌∷◌, Option, Some, None, refl, ap, ◌∙◌, arith, subst, inl, inr}
 use Rattle.std.specs.Prelude.{IsSomeAnd, IsTrue}
 use Rattle.std.specs.List.{AllByRecursion}
@@ -9,7 +9,7 @@ use Rattle.pool_journal.specs.declared.record.Phase.TheVariants as phases
 use Rattle.pool_journal.specs.Queue.{record_in, is_queued}
 use Rattle.pool_places.specs.declared.place.Place.{Place}
 use Rattle.pool_places.specs.Changes.{opens_as, sets_to, IdsBelow, IsFreePosition, QueueBelow}
-use Rattle.pool_places.specs.Waiting.{Parked, IsEntry, IsQueueOf}
+use Rattle.pool_places.specs.QueueEntries.{QueueEntry, IsEntry, IsQueueOf}
 use Rattle.pool_places.proofs.Entries.{all_mapped}
 use Rattle.pool_places.proofs.Found.{Found}
 use Rattle.pool_places.proofs.Picked.{Among, among_found}
@@ -36,18 +36,18 @@ among_has : (P : Record → Type 0) (r : Record) (rs : List Record) → AllByRec
 among_has P r [] all among = absurd among
 among_has P r (x ∷ rs) all among = elim among [ inl here ↦ subst P here all.0 | inr later ↦ among_has P r rs all.1 later ]
 
--- a position above all of the queue is above all entries
-pub entries_below : (n : ℕ) (rs : List Record) (qs : List Parked) → QueueBelow n rs → IsQueueOf (record_in rs) qs → AllByRecursion (λ q. q.parked < n) qs
+-- a position above all in the queue is above those of all entries
+pub entries_below : (n : ℕ) (rs : List Record) (qs : List QueueEntry) → QueueBelow n rs → IsQueueOf (record_in rs) qs → AllByRecursion (λ q. q.parked < n) qs
 entries_below n rs qs below is = all_mapped (λ q. IsSomeAnd (record_in rs q.id) (IsEntry q)) (λ q. q.parked < n) qs (λ q e. by_record q (record_in rs q.id) refl e) is.each
   where
-    by_record : (q : Parked) (o : Option Record) → record_in rs q.id ≡ o → IsSomeAnd o (IsEntry q) → q.parked < n
+    by_record : (q : QueueEntry) (o : Option Record) → record_in rs q.id ≡ o → IsSomeAnd o (IsEntry q) → q.parked < n
     by_record q None is e = absurd e
     by_record q (Some r) is e = let under = among_has (λ x. is_queued x.phase ≡ true → x.parked < n) r rs below (among_found q.id r rs is).0 e.queued in omega (arith, under, e.parked)
 
 -- a position that is free among the records is free among the entries
-pub entries_free : (n : ℕ) (rs : List Record) (qs : List Parked) → IsFreePosition n rs → IsQueueOf (record_in rs) qs → AllByRecursion (λ q. q.parked ≢ n) qs
+pub entries_free : (n : ℕ) (rs : List Record) (qs : List QueueEntry) → IsFreePosition n rs → IsQueueOf (record_in rs) qs → AllByRecursion (λ q. q.parked ≢ n) qs
 entries_free n rs qs free is = all_mapped (λ q. IsSomeAnd (record_in rs q.id) (IsEntry q)) (λ q. q.parked ≢ n) qs (λ q e. by_record q (record_in rs q.id) refl e) is.each
   where
-    by_record : (q : Parked) (o : Option Record) → record_in rs q.id ≡ o → IsSomeAnd o (IsEntry q) → q.parked ≢ n
+    by_record : (q : QueueEntry) (o : Option Record) → record_in rs q.id ≡ o → IsSomeAnd o (IsEntry q) → q.parked ≢ n
     by_record q None is e = absurd e
     by_record q (Some r) is e = λ same. among_has (λ x. is_queued x.phase ≡ true → x.parked ≢ n) r rs free (among_found q.id r rs is).0 e.queued (e.parked ∙ same)

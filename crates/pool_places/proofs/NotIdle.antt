@@ -1,4 +1,4 @@
--- Phases in which no value is kept.
+-- Phases in which no value is stored.
 use Rattle.std.proofs.Common.{◌≡◌, false, refl}
 use Rattle.std.specs.Prelude.{IsTrue}
 use Rattle.pool_journal.specs.Queue.{is_idle, is_queued}

@@ -1,4 +1,4 @@
--- The numbers of the objects after a change of one.
+-- The counts of the objects after a change of one.
 use Rattle.std.proofs.Common.{◌≡◌, ℕ, ◌+◌, ◌*◌, ◌≤◌, ◌^◌, lit≤, Bool, true, false, cond, List, [], ◌∷◌, ◌++◌, length, set, refl, ap, arith}
 use Rattle.std.specs.Prelude.{remove}
 use Rattle.std.specs.Int.{from_bool}
@@ -12,12 +12,12 @@ use Rattle.pool_journal.specs.declared.record.Phase.TheVariants as phases
 use Rattle.pool_journal.specs.Queue.{is_idle, is_queued}
 use Rattle.pool_places.specs.declared.place.Place.{Place}
 use Rattle.pool_places.specs.declared.place_counts.PlaceCounts.{PlaceCounts}
-use Rattle.pool_places.specs.Counts.{is_adding, weight, IsCounts, IsSmall, HasOne, HasOneMore}
+use Rattle.pool_places.specs.Counts.{is_adding, max_remaining, IsCounts, IsSmall, HasOne, HasOneMore}
 use Rattle.pool_places.specs.Overdue.{is_lent}
-use Rattle.pool_places.specs.Shelf.{records_in}
+use Rattle.pool_places.specs.PlacesModel.{records_in}
 use Rattle.pool_places.proofs.Found.{Found}
 
--- what the objects add up to, by what each phase adds
+-- the sum over the objects of the number of each phase
 abbrev total : {T : Type 0} → (Phase → ℕ) → List (Place T) → ℕ
 total w ps = sum_by (λ r. w r.phase) (records_in ps)
 
@@ -49,7 +49,7 @@ ones : (rs : List Record) → sum_by (λ r. 1) rs ≡ length rs
 ones [] = refl
 ones (r ∷ rs) = omega (arith, sum_by-cons (λ (x : Record). 1) r rs, ones rs)
 
-weight_at_most : (p : Phase) → weight p ≤ 5
+weight_at_most : (p : Phase) → max_remaining p ≤ 5
 weight_at_most phases.Readying = lit≤ tt
 weight_at_most _ = lit≤ tt
 
@@ -66,7 +66,7 @@ total_at_most {T} w ps few = omega (arith, total_is w ps, sum_by-le (λ (x : Pla
 pub length_records : {T : Type 0} (ps : List (Place T)) → length (records_in ps) ≡ length ps
 length_records ps = length-map ps (λ p. p.known)
 
--- an object that is there is counted
+-- a present object is counted
 pub has_one : {T : Type 0} {ps : List (Place T)} {i k : ℕ} {q : Place T} (c : PlaceCounts) → Found ps i k q → IsCounts c (records_in ps) → HasOne c q.known.phase
 has_one {ps} {q} c here is = record {
   present = omega (arith, is.present, ones (records_in ps), total_remove (λ p. 1) here);
@@ -74,10 +74,10 @@ has_one {ps} {q} c here is = record {
   idle = omega (arith, is.idle, one_is is_idle q.known.phase, total_remove (one is_idle) here);
   lent = omega (arith, is.lent, one_is is_lent q.known.phase, total_remove (one is_lent) here);
   adding = omega (arith, is.adding, one_is is_adding q.known.phase, total_remove (one is_adding) here);
-  owed = omega (arith, is.owed, total_remove weight here);
+  owed = omega (arith, is.owed, total_remove max_remaining here);
 }
 
--- without it
+-- the counts without the object
 pub counted_remove : {T : Type 0} {ps : List (Place T)} {i k : ℕ} {q : Place T} (old rest : PlaceCounts) → Found ps i k q → IsCounts old (records_in ps) → HasOneMore rest old q.known.phase → IsCounts rest (records_in (remove ps k))
 counted_remove {ps} {k} {q} old rest here is less = record {
   present = omega (arith, is.present, less.present, ones (records_in ps), ones (records_in (remove ps k)), total_remove (λ p. 1) here);
@@ -85,10 +85,10 @@ counted_remove {ps} {k} {q} old rest here is less = record {
   idle = omega (arith, is.idle, less.idle, one_is is_idle q.known.phase, total_remove (one is_idle) here);
   lent = omega (arith, is.lent, less.lent, one_is is_lent q.known.phase, total_remove (one is_lent) here);
   adding = omega (arith, is.adding, less.adding, one_is is_adding q.known.phase, total_remove (one is_adding) here);
-  owed = omega (arith, is.owed, less.owed, total_remove weight here);
+  owed = omega (arith, is.owed, less.owed, total_remove max_remaining here);
 }
 
--- in another phase
+-- the counts with the object in another phase
 pub counted_set : {T : Type 0} {ps : List (Place T)} {i k : ℕ} {q : Place T} (old rest new : PlaceCounts) (p : Place T) → Found ps i k q → IsCounts old (records_in ps) → HasOneMore rest old q.known.phase → HasOneMore rest new p.known.phase → IsCounts new (records_in (set ps k p))
 counted_set {ps} {k} {q} old rest new p here is less more = record {
   present = omega (arith, is.present, less.present, more.present, ones (records_in ps), ones (records_in (set ps k p)), total_set (λ p. 1) p here);
@@ -96,10 +96,10 @@ counted_set {ps} {k} {q} old rest new p here is less more = record {
   idle = omega (arith, is.idle, less.idle, more.idle, one_is is_idle q.known.phase, one_is is_idle p.known.phase, total_set (one is_idle) p here);
   lent = omega (arith, is.lent, less.lent, more.lent, one_is is_lent q.known.phase, one_is is_lent p.known.phase, total_set (one is_lent) p here);
   adding = omega (arith, is.adding, less.adding, more.adding, one_is is_adding q.known.phase, one_is is_adding p.known.phase, total_set (one is_adding) p here);
-  owed = omega (arith, is.owed, less.owed, more.owed, total_set weight p here);
+  owed = omega (arith, is.owed, less.owed, more.owed, total_set max_remaining p here);
 }
 
--- in the same phase
+-- the counts with the object in the same phase
 pub counted_same : {T : Type 0} {ps : List (Place T)} {i k : ℕ} {q : Place T} (c : PlaceCounts) (p : Place T) → Found ps i k q → p.known.phase ≡ q.known.phase → IsCounts c (records_in ps) → IsCounts c (records_in (set ps k p))
 counted_same {ps} {k} {q} c p here same is = record {
   present = omega (arith, is.present, ones (records_in ps), ones (records_in (set ps k p)), total_set (λ p. 1) p here);
@@ -107,10 +107,10 @@ counted_same {ps} {k} {q} c p here same is = record {
   idle = omega (arith, is.idle, ap (one is_idle) same, total_set (one is_idle) p here);
   lent = omega (arith, is.lent, ap (one is_lent) same, total_set (one is_lent) p here);
   adding = omega (arith, is.adding, ap (one is_adding) same, total_set (one is_adding) p here);
-  owed = omega (arith, is.owed, ap weight same, total_set weight p here);
+  owed = omega (arith, is.owed, ap max_remaining same, total_set max_remaining p here);
 }
 
--- with one more
+-- the counts with one more object
 pub counted_push : {T : Type 0} (ps : List (Place T)) (old new : PlaceCounts) (p : Place T) → IsCounts old (records_in ps) → HasOneMore old new p.known.phase → IsCounts new (records_in (ps ++ p ∷ []))
 counted_push ps old new p is more = record {
   present = omega (arith, is.present, more.present, ones (records_in ps), ones (records_in (ps ++ p ∷ [])), total_push (λ p. 1) ps p);
@@ -118,7 +118,7 @@ counted_push ps old new p is more = record {
   idle = omega (arith, is.idle, more.idle, one_is is_idle p.known.phase, total_push (one is_idle) ps p);
   lent = omega (arith, is.lent, more.lent, one_is is_lent p.known.phase, total_push (one is_lent) ps p);
   adding = omega (arith, is.adding, more.adding, one_is is_adding p.known.phase, total_push (one is_adding) ps p);
-  owed = omega (arith, is.owed, more.owed, total_push weight ps p);
+  owed = omega (arith, is.owed, more.owed, total_push max_remaining ps p);
 }
 
 pub small : {T : Type 0} (ps : List (Place T)) (c : PlaceCounts) → length ps ≤ 2 ^ 60 → IsCounts c (records_in ps) → IsSmall c
@@ -128,10 +128,10 @@ small ps c few is = record {
   idle = omega (arith, few, is.idle, total_at_most (one is_idle) ps (one_at_most is_idle));
   lent = omega (arith, few, is.lent, total_at_most (one is_lent) ps (one_at_most is_lent));
   adding = omega (arith, few, is.adding, total_at_most (one is_adding) ps (one_at_most is_adding));
-  owed = omega (arith, few, is.owed, total_at_most weight ps weight_at_most);
+  owed = omega (arith, few, is.owed, total_at_most max_remaining ps weight_at_most);
 }
 
--- with one less the numbers are small as well
+-- with one object fewer, the counts are small as well
 pub small_less : (rest old : PlaceCounts) (phase : Phase) → IsSmall old → HasOneMore rest old phase → IsSmall rest
 small_less rest old phase is less = record {
   present = omega (arith, is.present, less.present);

@@ -1,4 +1,4 @@
--- What is picked from the entries of the queue is what its definition picks from the records.
+-- A search of the entries of the queue has the result that is defined by the records.
 use Rattle.std.proofs.Common.{◌≡◌, ◌⊎◌, ℕ, ◌<◌, ◌≤◌, nat_lt, eqb, Bool, true, false, ◌&&◌, cond, if◌then◌else◌, List, [], ◌∷◌, reverse, Option, Some, None, refl, ap, sym, ◌∙◌, inl, inr, arith, subst}
 use Rattle.std.specs.Prelude.{filter, find, fold, IsSomeAnd}
 use Rattle.std.specs.List.{AllByRecursion}
@@ -13,8 +13,8 @@ use Rattle.pool_journal.specs.declared.record.Phase.TheVariants as phases
 use Rattle.pool_journal.specs.Queue.{record_in, is_idle, is_queued, idle_queue, first_of, last_of, earlier, later}
 use Rattle.pool_journal.proofs.Rising.{first_of-by_rising, last_of-by_rising}
 use Rattle.pool_places.specs.After.{is_after}
-use Rattle.pool_places.specs.Waiting.{Parked}
-use Rattle.pool_places.specs.Waiting.{Rises, IsEntry, HasEntry, IsQueueOf}
+use Rattle.pool_places.specs.QueueEntries.{QueueEntry}
+use Rattle.pool_places.specs.QueueEntries.{IsAscendingQueue, IsEntry, HasEntry, IsQueueOf}
 use Rattle.pool_places.proofs.Entries.{all_mapped}
 use Rattle.pool_places.proofs.Passes.{earlier_after, first_after-idle_queue}
 use Rattle.pool_places.proofs.Picks.{earlier_keeps, later_keeps, no_one, all_filtered}
@@ -24,7 +24,7 @@ abbrev pub Among : Record → List Record → Type 0
 Among r [] = ⊥
 Among r (x ∷ xs) = (x ≡ r) ⊎ Among r xs
 
--- a step that keeps r against what it beats
+-- a step that keeps r against the records that it beats
 record Prefers (step : Option Record → Record → Option Record) (r : Record) (Beaten : Record → Type 0) : Type 0 where
   keep : (x : Record) → (x ≡ r) ⊎ Beaten x → step (Some r) x ≡ Some r
   take : (o : Option Record) → ForSome o Beaten → step o r ≡ Some r
@@ -76,7 +76,7 @@ prefers_later r = record {
     take (Some b) worse = (let below = worse b refl in rw (le-ltb r.parked b.parked (omega (arith, below))) refl)
 
 -- ---- the entry that is found
-find_has : (P : Parked → Type 0) (test : Parked → Bool) (qs : List Parked) (q : Parked) → AllByRecursion P qs → find test qs ≡ Some q → P q × (test q ≡ true)
+find_has : (P : QueueEntry → Type 0) (test : QueueEntry → Bool) (qs : List QueueEntry) (q : QueueEntry) → AllByRecursion P qs → find test qs ≡ Some q → P q × (test q ≡ true)
 find_has P test [] q all is = absurd (cc is)
 find_has P test (x ∷ qs) q all is = by_test (test x) refl is (find_has P test qs q all.1)
   where
@@ -84,7 +84,7 @@ find_has P test (x ∷ qs) q all is = by_test (test x) refl is (find_has P test 
     by_test true passes is later = let e : x ≡ q = cc is in (subst P e all.0, ap test (sym e) ∙ passes)
     by_test false passes is later = later is
 
-find_none : (test : Parked → Bool) (qs : List Parked) → find test qs ≡ None → AllByRecursion (λ q. test q ≡ false) qs
+find_none : (test : QueueEntry → Bool) (qs : List QueueEntry) → find test qs ≡ None → AllByRecursion (λ q. test q ≡ false) qs
 find_none test [] is = tt
 find_none test (x ∷ qs) is = by_test (test x) refl is (find_none test qs)
   where
@@ -92,54 +92,54 @@ find_none test (x ∷ qs) is = by_test (test x) refl is (find_none test qs)
     by_test true passes is later = absurd (cc is)
     by_test false passes is later = (passes, later is)
 
--- what passes is the one that was found, or comes later
-find_first : (test : Parked → Bool) (qs : List Parked) (q : Parked) → Rises qs → find test qs ≡ Some q → AllByRecursion (λ x. test x ≡ true → (x.id ≡ q.id) ⊎ (q.parked < x.parked)) qs
+-- an entry that passes is the one that was found, or a later one
+find_first : (test : QueueEntry → Bool) (qs : List QueueEntry) (q : QueueEntry) → IsAscendingQueue qs → find test qs ≡ Some q → AllByRecursion (λ x. test x ≡ true → (x.id ≡ q.id) ⊎ (q.parked < x.parked)) qs
 find_first test [] q up is = tt
 find_first test (x ∷ qs) q up is = by_test (test x) refl is (find_first test qs q up.1)
   where
     by_test : (b : Bool) → test x ≡ b → cond b (Some x) (find test qs) ≡ Some q → (find test qs ≡ Some q → AllByRecursion (λ y. test y ≡ true → (y.id ≡ q.id) ⊎ (q.parked < y.parked)) qs) → AllByRecursion (λ y. test y ≡ true → (y.id ≡ q.id) ⊎ (q.parked < y.parked)) (x ∷ qs)
     by_test true passes is later =
         let e : x ≡ q = cc is in
-        let above = subst (λ (y : Parked). AllByRecursion (λ p. y.parked < p.parked) qs) e up.0 in
-        (λ t. inl (ap (λ (y : Parked). y.id) e), all_mapped (λ y. q.parked < y.parked) (λ y. test y ≡ true → (y.id ≡ q.id) ⊎ (q.parked < y.parked)) qs (λ y a t. inr a) above)
+        let above = subst (λ (y : QueueEntry). AllByRecursion (λ p. y.parked < p.parked) qs) e up.0 in
+        (λ t. inl (ap (λ (y : QueueEntry). y.id) e), all_mapped (λ y. q.parked < y.parked) (λ y. test y ≡ true → (y.id ≡ q.id) ⊎ (q.parked < y.parked)) qs (λ y a t. inr a) above)
     by_test false passes is later = (λ t. absurd (cc (t, passes)), later is)
 
-find_reverse : (test : Parked → Bool) (q : Parked) (qs : List Parked) → find test (reverse (q ∷ qs)) ≡ option_or (find test (reverse qs)) (cond (test q) (Some q) None)
+find_reverse : (test : QueueEntry → Bool) (q : QueueEntry) (qs : List QueueEntry) → find test (reverse (q ∷ qs)) ≡ option_or (find test (reverse qs)) (cond (test q) (Some q) None)
 find_reverse test q qs = ap (find test) (reverse-append (q ∷ []) qs) ∙ find-append test (reverse qs) (q ∷ [])
 
-last_has : (P : Parked → Type 0) (test : Parked → Bool) (qs : List Parked) (q : Parked) → AllByRecursion P qs → find test (reverse qs) ≡ Some q → P q × (test q ≡ true)
+last_has : (P : QueueEntry → Type 0) (test : QueueEntry → Bool) (qs : List QueueEntry) (q : QueueEntry) → AllByRecursion P qs → find test (reverse qs) ≡ Some q → P q × (test q ≡ true)
 last_has P test [] q all is = absurd (cc is)
 last_has P test (x ∷ qs) q all is = by_rest (find test (reverse qs)) (test x) refl (sym (find_reverse test x qs) ∙ is) (last_has P test qs q all.1) refl
   where
-    by_rest : (o : Option Parked) (b : Bool) → test x ≡ b → option_or o (cond b (Some x) None) ≡ Some q → (find test (reverse qs) ≡ Some q → P q × (test q ≡ true)) → find test (reverse qs) ≡ o → P q × (test q ≡ true)
+    by_rest : (o : Option QueueEntry) (b : Bool) → test x ≡ b → option_or o (cond b (Some x) None) ≡ Some q → (find test (reverse qs) ≡ Some q → P q × (test q ≡ true)) → find test (reverse qs) ≡ o → P q × (test q ≡ true)
     by_rest (Some y) b passes is later found = later (found ∙ is)
     by_rest None true passes is later found = let e : x ≡ q = cc is in (subst P e all.0, ap test (sym e) ∙ passes)
     by_rest None false passes is later found = absurd (cc is)
 
-last_none : (test : Parked → Bool) (qs : List Parked) → find test (reverse qs) ≡ None → AllByRecursion (λ q. test q ≡ false) qs
+last_none : (test : QueueEntry → Bool) (qs : List QueueEntry) → find test (reverse qs) ≡ None → AllByRecursion (λ q. test q ≡ false) qs
 last_none test [] is = tt
 last_none test (x ∷ qs) is = by_rest (find test (reverse qs)) (test x) refl (sym (find_reverse test x qs) ∙ is) (last_none test qs) refl
   where
-    by_rest : (o : Option Parked) (b : Bool) → test x ≡ b → option_or o (cond b (Some x) None) ≡ None → (find test (reverse qs) ≡ None → AllByRecursion (λ q. test q ≡ false) qs) → find test (reverse qs) ≡ o → AllByRecursion (λ q. test q ≡ false) (x ∷ qs)
+    by_rest : (o : Option QueueEntry) (b : Bool) → test x ≡ b → option_or o (cond b (Some x) None) ≡ None → (find test (reverse qs) ≡ None → AllByRecursion (λ q. test q ≡ false) qs) → find test (reverse qs) ≡ o → AllByRecursion (λ q. test q ≡ false) (x ∷ qs)
     by_rest (Some y) b passes is later found = absurd (cc is)
     by_rest None true passes is later found = absurd (cc is)
     by_rest None false passes is later found = (passes, later found)
 
-find_last : (test : Parked → Bool) (qs : List Parked) (q : Parked) → Rises qs → find test (reverse qs) ≡ Some q → AllByRecursion (λ x. test x ≡ true → (x.id ≡ q.id) ⊎ (x.parked < q.parked)) qs
+find_last : (test : QueueEntry → Bool) (qs : List QueueEntry) (q : QueueEntry) → IsAscendingQueue qs → find test (reverse qs) ≡ Some q → AllByRecursion (λ x. test x ≡ true → (x.id ≡ q.id) ⊎ (x.parked < q.parked)) qs
 find_last test [] q up is = tt
 find_last test (x ∷ qs) q up is = by_rest (find test (reverse qs)) (test x) refl (sym (find_reverse test x qs) ∙ is) (find_last test qs q up.1) refl
   where
-    by_rest : (o : Option Parked) (b : Bool) → test x ≡ b → option_or o (cond b (Some x) None) ≡ Some q → (find test (reverse qs) ≡ Some q → AllByRecursion (λ y. test y ≡ true → (y.id ≡ q.id) ⊎ (y.parked < q.parked)) qs) → find test (reverse qs) ≡ o
+    by_rest : (o : Option QueueEntry) (b : Bool) → test x ≡ b → option_or o (cond b (Some x) None) ≡ Some q → (find test (reverse qs) ≡ Some q → AllByRecursion (λ y. test y ≡ true → (y.id ≡ q.id) ⊎ (y.parked < q.parked)) qs) → find test (reverse qs) ≡ o
         → AllByRecursion (λ y. test y ≡ true → (y.id ≡ q.id) ⊎ (y.parked < q.parked)) (x ∷ qs)
     by_rest (Some y) b passes is later found = (λ t. inr (last_has (λ p. x.parked < p.parked) test qs q up.0 (found ∙ is)).0, later (found ∙ is))
     by_rest None true passes is later found =
         let e : x ≡ q = cc is in
-        (λ t. inl (ap (λ (y : Parked). y.id) e), all_mapped (λ y. test y ≡ false) (λ y. test y ≡ true → (y.id ≡ q.id) ⊎ (y.parked < q.parked)) qs (λ y no t. absurd (cc (no, t))) (last_none test qs found))
+        (λ t. inl (ap (λ (y : QueueEntry). y.id) e), all_mapped (λ y. test y ≡ false) (λ y. test y ≡ true → (y.id ≡ q.id) ⊎ (y.parked < q.parked)) qs (λ y no t. absurd (cc (no, t))) (last_none test qs found))
     by_rest None false passes is later found = absurd (cc is)
 
 -- ---- entries and records
--- the entry of a record has what each entry has
-of_entry : {C : Type 0} (rs : List Record) (G : Parked → Type 0) (x : Record) (qs : List Parked) → record_in rs x.id ≡ Some x → AllByRecursion (λ q. IsSomeAnd (record_in rs q.id) (IsEntry q)) qs → AllByRecursion G qs → HasEntry x.id qs → ((q : Parked) → q.id ≡ x.id → IsEntry q x → G q → C) → C
+-- a property of each entry holds of the entry of a record
+of_entry : {C : Type 0} (rs : List Record) (G : QueueEntry → Type 0) (x : Record) (qs : List QueueEntry) → record_in rs x.id ≡ Some x → AllByRecursion (λ q. IsSomeAnd (record_in rs q.id) (IsEntry q)) qs → AllByRecursion G qs → HasEntry x.id qs → ((q : QueueEntry) → q.id ≡ x.id → IsEntry q x → G q → C) → C
 of_entry rs G x [] here each all has go = absurd has
 of_entry rs G x (q ∷ qs) here each all has go =
     elim has [
@@ -167,9 +167,9 @@ among_filter test r (x ∷ rs) passes among = by_test (test x) refl (among_filte
     by_test true is later = elim among [ inl here ↦ inl here | inr rest ↦ inr (later rest) ]
     by_test false is later = elim among [ inl here ↦ absurd (cc (ap test here ∙ passes, is)) | inr rest ↦ later rest ]
 
--- what is asked of an entry is what is asked of its record
-pub record Agrees (test : Parked → Bool) (passes : Record → Bool) : Type 0 where
-  pub same : (q : Parked) (r : Record) → IsEntry q r → test q ≡ passes r
+-- the test of an entry agrees with the test of its record
+pub record Agrees (test : QueueEntry → Bool) (passes : Record → Bool) : Type 0 where
+  pub same : (q : QueueEntry) (r : Record) → IsEntry q r → test q ≡ passes r
   pub idle : (r : Record) → passes r ≡ true → is_queued r.phase ≡ true
 
 -- these are the records that pass
@@ -177,18 +177,18 @@ pub record ArePassing (rs xs : List Record) (passes : Record → Bool) : Type 0 
   pub each : AllByRecursion (λ x. (record_in rs x.id ≡ Some x) × (passes x ≡ true)) xs
   pub all : (r : Record) → Among r rs → passes r ≡ true → Among r xs
 
-record_of : {C : Type 0} (rs : List Record) (q : Parked) → IsSomeAnd (record_in rs q.id) (IsEntry q) → ((r : Record) → record_in rs q.id ≡ Some r → IsEntry q r → C) → C
+record_of : {C : Type 0} (rs : List Record) (q : QueueEntry) → IsSomeAnd (record_in rs q.id) (IsEntry q) → ((r : Record) → record_in rs q.id ≡ Some r → IsEntry q r → C) → C
 record_of {C} rs q e go = by_case (record_in rs q.id) refl e
   where
     by_case : (o : Option Record) → record_in rs q.id ≡ o → IsSomeAnd o (IsEntry q) → C
     by_case None is e = absurd e
     by_case (Some r) is e = go r is e
 
-queued_has : (rs : List Record) (qs : List Parked) (x : Record) → IsQueueOf (record_in rs) qs → record_in rs x.id ≡ Some x → is_queued x.phase ≡ true → HasEntry x.id qs
+queued_has : (rs : List Record) (qs : List QueueEntry) (x : Record) → IsQueueOf (record_in rs) qs → record_in rs x.id ≡ Some x → is_queued x.phase ≡ true → HasEntry x.id qs
 queued_has rs qs x is here queued = is.all x.id (subst (λ o. IsSomeAnd o (λ r. is_queued r.phase ≡ true)) (sym here) queued)
 
--- where no entry passes, no record does
-pub pick_none : (step : Option Record → Record → Option Record) (rs xs : List Record) (qs : List Parked) (test : Parked → Bool) (passes : Record → Bool) → Agrees test passes → ArePassing rs xs passes → IsQueueOf (record_in rs) qs → AllByRecursion (λ q. test q ≡ false) qs → fold step None xs ≡ None
+-- if no entry passes, no record does
+pub pick_none : (step : Option Record → Record → Option Record) (rs xs : List Record) (qs : List QueueEntry) (test : QueueEntry → Bool) (passes : Record → Bool) → Agrees test passes → ArePassing rs xs passes → IsQueueOf (record_in rs) qs → AllByRecursion (λ q. test q ≡ false) qs → fold step None xs ≡ None
 pick_none step rs xs qs test passes agrees are is none =
     ap (fold step None) (none_is xs (all_mapped (λ x. (record_in rs x.id ≡ Some x) × (passes x ≡ true)) (λ x. ⊥) xs
     (λ x has. of_entry {C = ⊥} rs (λ q. test q ≡ false) x qs has.0 is.each none (queued_has rs qs x is has.0 (agrees.idle x has.1)) (λ q same entry fails. absurd (cc (agrees.same q x entry, fails, has.1)))) are.each))
@@ -197,7 +197,7 @@ same_record : (rs : List Record) (i j : ℕ) (x r : Record) → record_in rs i �
 same_record rs i j x r here there same = let e : Some x ≡ Some r = sym here ∙ ap (record_in rs) same ∙ there in cc e
 
 -- the one that is found is the record of the best entry
-pick_one : (step : Option Record → Record → Option Record) (Less : ℕ → ℕ → Type 0) (rs xs : List Record) (qs : List Parked) (test : Parked → Bool) (passes : Record → Bool) (q : Parked) → ((r : Record) → Prefers step r (λ x. Less r.parked x.parked)) → Agrees test passes → ArePassing rs xs passes → IsQueueOf (record_in rs) qs
+pick_one : (step : Option Record → Record → Option Record) (Less : ℕ → ℕ → Type 0) (rs xs : List Record) (qs : List QueueEntry) (test : QueueEntry → Bool) (passes : Record → Bool) (q : QueueEntry) → ((r : Record) → Prefers step r (λ x. Less r.parked x.parked)) → Agrees test passes → ArePassing rs xs passes → IsQueueOf (record_in rs) qs
     → AllByRecursion (λ x. test x ≡ true → (x.id ≡ q.id) ⊎ Less q.parked x.parked) qs → IsSomeAnd (record_in rs q.id) (IsEntry q) × (test q ≡ true) → option_map (λ r. r.id) (fold step None xs) ≡ Some q.id
 pick_one step Less rs xs qs test passes q prefers agrees are is best found =
     record_of rs q found.0 (λ r here entry.
@@ -212,18 +212,18 @@ pick_one step Less rs xs qs test passes q prefers agrees are is best found =
     ∙ ap Some among.1)
 
 -- the first
-pub pick_first : (rs xs : List Record) (qs : List Parked) (test : Parked → Bool) (passes : Record → Bool) → Agrees test passes → ArePassing rs xs passes → IsQueueOf (record_in rs) qs → option_map (λ q. q.id) (find test qs) ≡ option_map (λ r. r.id) (fold (earlier (λ r. r.parked)) None xs)
+pub pick_first : (rs xs : List Record) (qs : List QueueEntry) (test : QueueEntry → Bool) (passes : Record → Bool) → Agrees test passes → ArePassing rs xs passes → IsQueueOf (record_in rs) qs → option_map (λ q. q.id) (find test qs) ≡ option_map (λ r. r.id) (fold (earlier (λ r. r.parked)) None xs)
 pick_first rs xs qs test passes agrees are is = by_case (find test qs) refl
   where
-    by_case : (o : Option Parked) → find test qs ≡ o → option_map (λ q. q.id) o ≡ option_map (λ r. r.id) (fold (earlier (λ r. r.parked)) None xs)
+    by_case : (o : Option QueueEntry) → find test qs ≡ o → option_map (λ q. q.id) o ≡ option_map (λ r. r.id) (fold (earlier (λ r. r.parked)) None xs)
     by_case None found = ap (option_map (λ (r : Record). r.id)) (sym (pick_none (earlier (λ r. r.parked)) rs xs qs test passes agrees are is (find_none test qs found)))
     by_case (Some q) found = sym (pick_one (earlier (λ r. r.parked)) (λ m n. m < n) rs xs qs test passes q prefers_earlier agrees are is (find_first test qs q is.rising found) (find_has (λ q. IsSomeAnd (record_in rs q.id) (IsEntry q)) test qs q is.each found))
 
 -- the last
-pub pick_last : (rs xs : List Record) (qs : List Parked) (test : Parked → Bool) (passes : Record → Bool) → Agrees test passes → ArePassing rs xs passes → IsQueueOf (record_in rs) qs → option_map (λ q. q.id) (find test (reverse qs)) ≡ option_map (λ r. r.id) (fold (later (λ r. r.parked)) None xs)
+pub pick_last : (rs xs : List Record) (qs : List QueueEntry) (test : QueueEntry → Bool) (passes : Record → Bool) → Agrees test passes → ArePassing rs xs passes → IsQueueOf (record_in rs) qs → option_map (λ q. q.id) (find test (reverse qs)) ≡ option_map (λ r. r.id) (fold (later (λ r. r.parked)) None xs)
 pick_last rs xs qs test passes agrees are is = by_case (find test (reverse qs)) refl
   where
-    by_case : (o : Option Parked) → find test (reverse qs) ≡ o → option_map (λ q. q.id) o ≡ option_map (λ r. r.id) (fold (later (λ r. r.parked)) None xs)
+    by_case : (o : Option QueueEntry) → find test (reverse qs) ≡ o → option_map (λ q. q.id) o ≡ option_map (λ r. r.id) (fold (later (λ r. r.parked)) None xs)
     by_case None found = ap (option_map (λ (r : Record). r.id)) (sym (pick_none (later (λ r. r.parked)) rs xs qs test passes agrees are is (last_none test qs found)))
     by_case (Some q) found = sym (pick_one (later (λ r. r.parked)) (λ m n. n < m) rs xs qs test passes q prefers_later agrees are is (find_last test qs q is.rising found) (last_has (λ q. IsSomeAnd (record_in rs q.id) (IsEntry q)) test qs q is.each found))
 
@@ -241,10 +241,10 @@ idle_passing rs found = record {
   all = λ r among passes. among_filter (λ x. is_idle x.phase) r rs passes among;
 }
 
-pub first_entry : (rs : List Record) (qs : List Parked) → AllByRecursion (λ r. record_in rs r.id ≡ Some r) rs → IsQueueOf (record_in rs) qs → option_map (λ q. q.id) (find (λ q. q.is_idle) qs) ≡ option_map (λ r. r.id) (first_of (idle_queue rs))
+pub first_entry : (rs : List Record) (qs : List QueueEntry) → AllByRecursion (λ r. record_in rs r.id ≡ Some r) rs → IsQueueOf (record_in rs) qs → option_map (λ q. q.id) (find (λ q. q.is_idle) qs) ≡ option_map (λ r. r.id) (first_of (idle_queue rs))
 first_entry rs qs found is = pick_first rs (filter (λ r. is_idle r.phase) rs) qs _ _ agrees_idle (idle_passing rs found) is ∙ ap (option_map (λ (r : Record). r.id)) (sym (first_of-by_rising (λ r. r.parked) (filter (λ r. is_idle r.phase) rs)))
 
-pub last_entry : (rs : List Record) (qs : List Parked) → AllByRecursion (λ r. record_in rs r.id ≡ Some r) rs → IsQueueOf (record_in rs) qs → option_map (λ q. q.id) (find (λ q. q.is_idle) (reverse qs)) ≡ option_map (λ r. r.id) (last_of (idle_queue rs))
+pub last_entry : (rs : List Record) (qs : List QueueEntry) → AllByRecursion (λ r. record_in rs r.id ≡ Some r) rs → IsQueueOf (record_in rs) qs → option_map (λ q. q.id) (find (λ q. q.is_idle) (reverse qs)) ≡ option_map (λ r. r.id) (last_of (idle_queue rs))
 last_entry rs qs found is = pick_last rs (filter (λ r. is_idle r.phase) rs) qs _ _ agrees_idle (idle_passing rs found) is ∙ ap (option_map (λ (r : Record). r.id)) (sym (last_of-by_rising (λ r. r.parked) (filter (λ r. is_idle r.phase) rs)))
 
 -- ---- the idle ones after a position
@@ -283,7 +283,7 @@ earlier_filtered k o (x ∷ xs) = by_test (nat_lt k x.parked) (earlier_filtered 
     by_test true stays comes = comes
     by_test false stays comes = stays
 
-pub next_entry : (k : ℕ) (rs : List Record) (qs : List Parked) → AllByRecursion (λ r. record_in rs r.id ≡ Some r) rs → IsQueueOf (record_in rs) qs → option_map (λ q. q.id) (find (λ q. q.is_idle && nat_lt k q.parked) qs) ≡ option_map (λ r. r.id) (first_of (filter (is_after (Some k)) (idle_queue rs)))
+pub next_entry : (k : ℕ) (rs : List Record) (qs : List QueueEntry) → AllByRecursion (λ r. record_in rs r.id ≡ Some r) rs → IsQueueOf (record_in rs) qs → option_map (λ q. q.id) (find (λ q. q.is_idle && nat_lt k q.parked) qs) ≡ option_map (λ r. r.id) (first_of (filter (is_after (Some k)) (idle_queue rs)))
 next_entry k rs qs found is =
     pick_first rs (filter (is_after (Some k)) (filter (λ r. is_idle r.phase) rs)) qs _ _ (agrees_after k) (after_passing k rs found) is
     ∙ ap (option_map (λ (r : Record). r.id)) (sym (earlier_filtered k None (filter (λ r. is_idle r.phase) rs)) ∙ sym (first_after-idle_queue k rs))

@@ -1,4 +1,4 @@
--- What is picked from the objects: it is present, in its phase, and the first of those that were asked for.
+-- The object that a search finds: it is present, in its phase, and the first of those that pass.
 use Rattle.std.proofs.Common.{◌≡◌, ℕ, ◌<◌, ◌≤◌, nat_lt, ◌&&◌, ◌==◌, Bool, true, false, cond, if◌then◌else◌, List, [], ◌∷◌, Option, Some, None, refl, ap, sym, ◌∙◌, arith, subst}
 use Rattle.std.specs.Prelude.{filter, find, fold, IfSome, IsSomeAnd}
 use Rattle.std.specs.List.{AllByRecursion}
@@ -15,14 +15,14 @@ use Rattle.pool_places.specs.declared.place.Place.{Place}
 use Rattle.pool_places.specs.After.{is_after}
 use Rattle.pool_places.specs.Overdue.{is_lent, is_overdue, overdue}
 use Rattle.pool_places.proofs.Passes.{earlier_after, first_after-idle_queue}
-use Rattle.pool_places.specs.Shelf.{records_in, IsRising}
+use Rattle.pool_places.specs.PlacesModel.{records_in, IsAscending}
 
--- what a pass finds has what each element has
+-- a property of each element holds of the element that a pass finds
 pub pass_keeps : {A : Type 0} (Q : A → Type 0) (step : Option A → A → Option A) → ((o : Option A) (x : A) → ForSome o Q → Q x → ForSome (step o x) Q) → (o : Option A) (xs : List A) → ForSome o Q → AllByRecursion Q xs → ForSome (fold step o xs) Q
 pass_keeps Q step keeps o [] so_far all = so_far
 pass_keeps Q step keeps o (x ∷ xs) so_far all = pass_keeps Q step keeps (step o x) xs (keeps o x so_far all.0) all.1
 
--- where ids rise, each record is found under its id
+-- if the ids are ascending, each record is found under its id
 above_absent : {T : Type 0} (p : Place T) (ps : List (Place T)) → AllByRecursion (λ q. p.known.id < q.known.id) ps → AllByRecursion (λ r. record_in (records_in ps) r.id ≡ Some r) (records_in ps)
     → AllByRecursion (λ r. record_in (p.known ∷ records_in ps) r.id ≡ Some r) (records_in ps)
 above_absent {T} p ps above here = along ps (records_in ps) above here
@@ -32,7 +32,7 @@ above_absent {T} p ps above here = along ps (records_in ps) above here
     along [] all above here = tt
     along (q ∷ qs) all above here = (let differs : (q.known.id == p.known.id) ≡ false = grind (arith, nat_tests, above.0) in rw differs here.0, along qs all above.1 here.1)
 
-pub each_is_found : {T : Type 0} (ps : List (Place T)) → IsRising ps → AllByRecursion (λ r. record_in (records_in ps) r.id ≡ Some r) (records_in ps)
+pub each_is_found : {T : Type 0} (ps : List (Place T)) → IsAscending ps → AllByRecursion (λ r. record_in (records_in ps) r.id ≡ Some r) (records_in ps)
 each_is_found [] up = tt
 each_is_found (p ∷ ps) up = (let same : (p.known.id == p.known.id) ≡ true = grind (arith, nat_tests) in rw same refl, above_absent p ps up.0 (each_is_found ps up.1))
 
@@ -78,7 +78,7 @@ found_idle rs r is = rw is.0 (is_idle_true r.phase is.1)
 pub no_one : {A : Type 0} (Q : A → Type 0) → ForSome None Q
 no_one Q x is = absurd (cc is)
 
-pub last_is_idle : {T : Type 0} (ps : List (Place T)) → IsRising ps → (r : Record) → last_of (idle_queue (records_in ps)) ≡ Some r → IsSomeAnd (record_in (records_in ps) r.id) (λ r. r.phase ≡ phases.Idle)
+pub last_is_idle : {T : Type 0} (ps : List (Place T)) → IsAscending ps → (r : Record) → last_of (idle_queue (records_in ps)) ≡ Some r → IsSomeAnd (record_in (records_in ps) r.id) (λ r. r.phase ≡ phases.Idle)
 unfolding IsFoundIdle
 last_is_idle ps up r is =
     let idle = filter (λ (r : Record). is_idle r.phase) (records_in ps) in
@@ -86,7 +86,7 @@ last_is_idle ps up r is =
     (pass_keeps (IsFoundIdle (records_in ps)) (later (λ r. r.parked)) (later_keeps (IsFoundIdle (records_in ps)) (λ r. r.parked)) None idle (no_one (IsFoundIdle (records_in ps)))
     (all_filtered (λ r. record_in (records_in ps) r.id ≡ Some r) (λ r. is_idle r.phase) (records_in ps) (each_is_found ps up)) r (sym (last_of-by_rising (λ r. r.parked) idle) ∙ is))
 
-pub first_is_idle : {T : Type 0} (ps : List (Place T)) → IsRising ps → (r : Record) → first_of (idle_queue (records_in ps)) ≡ Some r → IsSomeAnd (record_in (records_in ps) r.id) (λ r. r.phase ≡ phases.Idle)
+pub first_is_idle : {T : Type 0} (ps : List (Place T)) → IsAscending ps → (r : Record) → first_of (idle_queue (records_in ps)) ≡ Some r → IsSomeAnd (record_in (records_in ps) r.id) (λ r. r.phase ≡ phases.Idle)
 unfolding IsFoundIdle
 first_is_idle ps up r is =
     let idle = filter (λ (r : Record). is_idle r.phase) (records_in ps) in
@@ -94,7 +94,7 @@ first_is_idle ps up r is =
     (pass_keeps (IsFoundIdle (records_in ps)) (earlier (λ r. r.parked)) (earlier_keeps (IsFoundIdle (records_in ps)) (λ r. r.parked)) None idle (no_one (IsFoundIdle (records_in ps)))
     (all_filtered (λ r. record_in (records_in ps) r.id ≡ Some r) (λ r. is_idle r.phase) (records_in ps) (each_is_found ps up)) r (sym (first_of-by_rising (λ r. r.parked) idle) ∙ is))
 
-pub next_is_idle : {T : Type 0} (k : ℕ) (ps : List (Place T)) → IsRising ps → (r : Record) → first_of (filter (is_after (Some k)) (idle_queue (records_in ps))) ≡ Some r → IsSomeAnd (record_in (records_in ps) r.id) (λ r. r.phase ≡ phases.Idle)
+pub next_is_idle : {T : Type 0} (k : ℕ) (ps : List (Place T)) → IsAscending ps → (r : Record) → first_of (filter (is_after (Some k)) (idle_queue (records_in ps))) ≡ Some r → IsSomeAnd (record_in (records_in ps) r.id) (λ r. r.phase ≡ phases.Idle)
 unfolding IsFoundIdle
 next_is_idle k ps up r is =
     let idle = filter (λ (r : Record). is_idle r.phase) (records_in ps) in
@@ -109,7 +109,7 @@ next_is_idle k ps up r is =
         by_test true stays comes = comes
         by_test false stays comes = stays
 
--- the first of the records that pass has what each has
+-- a property of each element holds of the first one
 all_first : {A : Type 0} (Q : A → Type 0) (xs : List A) (x : A) → AllByRecursion Q xs → first_of xs ≡ Some x → Q x
 all_first Q [] x all is = absurd (cc is)
 all_first Q (y ∷ xs) x all is = let e : y ≡ x = cc is in subst Q e all.0
@@ -118,8 +118,8 @@ lent_true : (p : Phase) (b : Bool) → (is_lent p && b) ≡ true → p ≡ phase
 lent_true phases.Lent b is = refl
 lent_true _ b is = absurd (cc is)
 
--- the first overdue object is lent, and no other has a smaller id
-pub overdue_is_lent : {T : Type 0} (at timeout : ℕ) (ps : List (Place T)) → IsRising ps → (r : Record) → first_of (overdue at timeout (records_in ps)) ≡ Some r → IsSomeAnd (record_in (records_in ps) r.id) (λ r. r.phase ≡ phases.Lent)
+-- the first abandoned object is lent, and no other has a smaller id
+pub overdue_is_lent : {T : Type 0} (at timeout : ℕ) (ps : List (Place T)) → IsAscending ps → (r : Record) → first_of (overdue at timeout (records_in ps)) ≡ Some r → IsSomeAnd (record_in (records_in ps) r.id) (λ r. r.phase ≡ phases.Lent)
 overdue_is_lent at timeout ps up r is =
     let both = all_first _ (overdue at timeout (records_in ps)) r (all_filtered (λ r. record_in (records_in ps) r.id ≡ Some r) (is_overdue at timeout) (records_in ps) (each_is_found ps up)) is in
     rw both.0 (lent_true r.phase _ both.1)
@@ -132,7 +132,7 @@ above_filtered p n (q ∷ ps) all = by_test (p q.known) (omega (arith, all.0)) (
     by_test true here later = (here, later)
     by_test false here later = later
 
-pub first_has_least_id : {T : Type 0} (p : Record → Bool) (ps : List (Place T)) → IsRising ps → (r : Record) → first_of (filter p (records_in ps)) ≡ Some r → AllByRecursion (λ x. r.id ≤ x.id) (filter p (records_in ps))
+pub first_has_least_id : {T : Type 0} (p : Record → Bool) (ps : List (Place T)) → IsAscending ps → (r : Record) → first_of (filter p (records_in ps)) ≡ Some r → AllByRecursion (λ x. r.id ≤ x.id) (filter p (records_in ps))
 first_has_least_id p [] up r is = tt
 first_has_least_id {T} p (q ∷ ps) up r is = by_test (p q.known) is (first_has_least_id p ps up.1 r)
   where
@@ -141,7 +141,7 @@ first_has_least_id {T} p (q ∷ ps) up r is = by_test (p q.known) is (first_has_
     by_test true is later = let e : q.known ≡ r = cc is in (omega (arith, ap (λ (x : Record). x.id) e), subst (λ (x : Record). AllByRecursion (λ y. x.id ≤ y.id) (filter p (records_in ps))) e (above_filtered p q.known.id ps up.0))
     by_test false is later = later is
 
--- what the record that is found has, has the id that is told of it
+-- a property of the id of the record that is found holds of the id that is returned
 pub named_by_id : (m : Option ℕ) (o : Option Record) (P : ℕ → Type 0) → m ≡ option_map (λ r. r.id) o → ((r : Record) → o ≡ Some r → P r.id) → IfSome m P
 named_by_id m None P is has = subst (λ x. IfSome x P) (sym is) tt
 named_by_id m (Some r) P is has = subst (λ x. IfSome x P) (sym is) (has r refl)

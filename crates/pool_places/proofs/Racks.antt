@@ -1,4 +1,4 @@
--- What is stored, as the list of objects and the list of entries.
+-- The stored objects and keys, as the list of objects and the list of entries.
 use Rattle.std.proofs.Common.{◌≡◌, ◌≢◌, ℕ, suc, ◌<◌, ◌==◌, eqb, Bool, true, false, not, cond, if◌then◌else◌, List, [], ◌∷◌, ◌++◌, map, length, get_or, Option, Some, None, unwrap_or, refl, ap, sym, ◌∙◌, inl, inr, arith, subst}
 use Rattle.std.specs.Prelude.{IsSome, is_some, IsSomeAnd, find}
 use Rattle.std.specs.List.{AllByRecursion}
@@ -8,21 +8,21 @@ use Rattle.std.proofs.lemmas.Bool.Decides.{eqb_tells, nat_tests}
 use Rattle.pool_journal.specs.declared.record.Record.{Record}
 use Rattle.pool_journal.specs.declared.record.Phase.TheVariants as phases
 use Rattle.pool_journal.specs.Queue.{record_in, is_queued}
-use Rattle.pool_slots.specs.Rack.{Item, Rack, item_at, known_at, value_at, is_in, Sets}
-use Rattle.pool_slots.specs.Rack.{without as without_key}
-use Rattle.rising_index.specs.declared.pair.Pair.{Pair}
-use Rattle.rising_index.specs.Pairs.{key_of, IsRising}
+use Rattle.pool_slots.specs.SlotsModel.{Item, SlotsModel, item_at, known_at, value_at, is_in, Sets}
+use Rattle.pool_slots.specs.SlotsModel.{without as without_key}
+use Rattle.sorted_index.specs.declared.pair.Pair.{Pair}
+use Rattle.sorted_index.specs.Pairs.{key_of, IsAscending}
 use Rattle.pool_places.specs.declared.place.Place.{Place}
-use Rattle.pool_places.specs.Shelf.{records_in, place_in, changed, new_place, IsShelf}
-use Rattle.pool_places.specs.Stored.{place_of, place_at, kept_of, entry_at, entry_of, parked_of, IsTied, IsLine}
-use Rattle.pool_places.specs.Waiting.{Parked, Rises, IsEntry, HasEntry, IsQueueOf}
+use Rattle.pool_places.specs.PlacesModel.{records_in, place_in, changed, new_place, PlacesInvariant}
+use Rattle.pool_places.specs.Stored.{place_of, place_at, kept_of, entry_at, entry_of, parked_of, IndexInvariant, QueueInvariant}
+use Rattle.pool_places.specs.QueueEntries.{QueueEntry, IsAscendingQueue, IsEntry, HasEntry, IsQueueOf}
 use Rattle.pool_places.proofs.Entries.{all_mapped}
 use Rattle.pool_places.proofs.Found.{Found}
 use Rattle.pool_places.proofs.Shelves.{record_in-records_in}
 use Rattle.pool_slots.proofs.Keys.{is_in_first, is_in_later, neither}
 use Rattle.pool_places.proofs.Walks.{other_stays, key_is_gone, in_pushed, in_push_other}
 
-each_key : (ps : List Pair) → IsRising ps → AllByRecursion (λ p. key_of ps p.id ≡ Some p.key) ps
+each_key : (ps : List Pair) → IsAscending ps → AllByRecursion (λ p. key_of ps p.id ≡ Some p.key) ps
 each_key [] up = tt
 each_key (p ∷ ps) up = (let same : (p.id == p.id) ≡ true = grind (arith, nat_tests) in rw same refl, along ps up.0 (each_key ps up.1))
   where
@@ -33,11 +33,11 @@ each_key (p ∷ ps) up = (let same : (p.id == p.id) ≡ true = grind (arith, nat
 not_key : (key k : ℕ) (keys : List ℕ) → is_in k keys ≡ true → is_in key keys ≡ false → k ≢ key
 not_key key k keys there out same = cc (there, out, ap (λ x. is_in x keys) same)
 
-each_entry : (P : Parked → Type 0) (e : ℕ → Parked) (keys : List ℕ) → ((k : ℕ) → is_in k keys ≡ true → P (e k)) → AllByRecursion P (map e keys)
+each_entry : (P : QueueEntry → Type 0) (e : ℕ → QueueEntry) (keys : List ℕ) → ((k : ℕ) → is_in k keys ≡ true → P (e k)) → AllByRecursion P (map e keys)
 each_entry P e [] each = tt
 each_entry P e (x ∷ xs) each = (each x (is_in_first x xs), each_entry P e xs (λ k there. each k (is_in_later k x xs there)))
 
-has_entry : (e : ℕ → Parked) (key : ℕ) (keys : List ℕ) → is_in key keys ≡ true → HasEntry (e key).id (map e keys)
+has_entry : (e : ℕ → QueueEntry) (key : ℕ) (keys : List ℕ) → is_in key keys ≡ true → HasEntry (e key).id (map e keys)
 has_entry e key [] there = absurd (cc there)
 has_entry e key (x ∷ xs) there =
     elim (eqb_tells key x) [
@@ -47,55 +47,55 @@ has_entry e key (x ∷ xs) there =
 
 module _ {T : Type 0} where
   -- ---- one object
-  pub known_place : (rack : Rack T) (key : ℕ) (r : Record) → known_at rack key ≡ Some r → (place_at rack key).known ≡ r
+  pub known_place : (rack : SlotsModel T) (key : ℕ) (r : Record) → known_at rack key ≡ Some r → (place_at rack key).known ≡ r
   known_place rack key r is = by_case (item_at rack key) is
     where
       by_case : (o : Option (Item T)) → option_map (λ item. item.known) o ≡ Some r → (unwrap_or (option_map place_of o) (new_place 0 phases.Absent)).known ≡ r
       by_case None is = absurd (cc is)
       by_case (Some item) is = cc is
 
-  pub item_known : (rack : Rack T) (key : ℕ) (r : Record) → known_at rack key ≡ Some r → item_at rack key ≡ Some (record { known = r; value = value_at rack key })
+  pub item_known : (rack : SlotsModel T) (key : ℕ) (r : Record) → known_at rack key ≡ Some r → item_at rack key ≡ Some (record { known = r; value = value_at rack key })
   item_known rack key r is = by_case (item_at rack key) refl is
     where
       by_case : (o : Option (Item T)) → item_at rack key ≡ o → option_map (λ item. item.known) o ≡ Some r → item_at rack key ≡ Some (record { known = r; value = value_at rack key })
       by_case None found is = absurd (cc is)
       by_case (Some item) found is = (let same : item.known ≡ r = cc is in rw found (ap (λ x. Some (record { known = x; value = item.value })) same))
 
-  pub place_known : (rack : Rack T) (key : ℕ) (r : Record) → known_at rack key ≡ Some r → place_at rack key ≡ record { known = r; value = value_at rack key }
+  pub place_known : (rack : SlotsModel T) (key : ℕ) (r : Record) → known_at rack key ≡ Some r → place_at rack key ≡ record { known = r; value = value_at rack key }
   place_known rack key r is = ap (λ o. unwrap_or (option_map place_of o) (new_place 0 phases.Absent)) (item_known rack key r is)
 
-  -- the object that is there
-  pub some_item : {X : Type 0} (rack : Rack T) (key : ℕ) → IsSome (item_at rack key) → ((item : Item T) → item_at rack key ≡ Some item → X) → X
+  -- the object under a key that has one
+  pub some_item : {X : Type 0} (rack : SlotsModel T) (key : ℕ) → IsSome (item_at rack key) → ((item : Item T) → item_at rack key ≡ Some item → X) → X
   some_item {X} rack key there go = by_case (item_at rack key) refl there
     where
       by_case : (o : Option (Item T)) → item_at rack key ≡ o → IsSome o → X
       by_case None found there = absurd (cc there)
       by_case (Some item) found there = go item found
 
-  pub item_and : {X : Type 0} (P : Item T → Type 0) (rack : Rack T) (key : ℕ) → IsSomeAnd (item_at rack key) P → ((item : Item T) → item_at rack key ≡ Some item → P item → X) → X
+  pub item_and : {X : Type 0} (P : Item T → Type 0) (rack : SlotsModel T) (key : ℕ) → IsSomeAnd (item_at rack key) P → ((item : Item T) → item_at rack key ≡ Some item → P item → X) → X
   item_and {X} P rack key there go = by_case (item_at rack key) refl there
     where
       by_case : (o : Option (Item T)) → item_at rack key ≡ o → IsSomeAnd o P → X
       by_case None found there = absurd there
       by_case (Some item) found there = go item found there
 
-  pub place_item : (rack : Rack T) (key : ℕ) (item : Item T) → item_at rack key ≡ Some item → place_at rack key ≡ place_of item
+  pub place_item : (rack : SlotsModel T) (key : ℕ) (item : Item T) → item_at rack key ≡ Some item → place_at rack key ≡ place_of item
   place_item rack key item is = ap (λ o. unwrap_or (option_map place_of o) (new_place 0 phases.Absent)) is
 
-  pub place_same : (rack rack2 : Rack T) (key : ℕ) → item_at rack2 key ≡ item_at rack key → place_at rack2 key ≡ place_at rack key
+  pub place_same : (rack rack2 : SlotsModel T) (key : ℕ) → item_at rack2 key ≡ item_at rack key → place_at rack2 key ≡ place_at rack key
   place_same rack rack2 key is = ap (λ o. unwrap_or (option_map place_of o) (new_place 0 phases.Absent)) is
 
-  -- ---- the objects by rising id
+  -- ---- the objects in ascending order of id
   -- the pair leads to its object
-  pub record Good (rack : Rack T) (pairs : List Pair) (p : Pair) : Type 0 where
+  pub record Good (rack : SlotsModel T) (pairs : List Pair) (p : Pair) : Type 0 where
     pub key : key_of pairs p.id ≡ Some p.key
     pub id : (place_at rack p.key).known.id ≡ p.id
     pub there : IsSome (item_at rack p.key)
 
-  pub each_good : (rack : Rack T) (pairs : List Pair) → IsTied rack pairs → AllByRecursion (Good rack pairs) pairs
+  pub each_good : (rack : SlotsModel T) (pairs : List Pair) → IndexInvariant rack pairs → AllByRecursion (Good rack pairs) pairs
   each_good rack pairs tied = all_mapped (λ p. key_of pairs p.id ≡ Some p.key) (Good rack pairs) pairs (λ p is. item_and (λ item. item.known.id ≡ p.id) rack p.key (tied.there p.id p.key is) (λ item found id. record { key = is; id = ap (λ x. x.known.id) (place_item rack p.key item found) ∙ id; there = ap is_some found })) (each_key pairs tied.rising)
 
-  place_kept : (rack : Rack T) (pairs : List Pair) (i : ℕ) (ps : List Pair) → AllByRecursion (Good rack pairs) ps → place_in (kept_of rack ps) i ≡ option_map (place_at rack) (key_of ps i)
+  place_kept : (rack : SlotsModel T) (pairs : List Pair) (i : ℕ) (ps : List Pair) → AllByRecursion (Good rack pairs) ps → place_in (kept_of rack ps) i ≡ option_map (place_at rack) (key_of ps i)
   place_kept rack pairs i [] all = refl
   place_kept rack pairs i (p ∷ ps) all = rw all.0.id (by_test (i == p.id) (place_kept rack pairs i ps all.1))
     where
@@ -104,25 +104,25 @@ module _ {T : Type 0} where
       by_test false later = later
 
   -- the object of an id is the one under its key
-  pub place_under : (rack : Rack T) (pairs : List Pair) (i : ℕ) → IsTied rack pairs → place_in (kept_of rack pairs) i ≡ option_map (place_at rack) (key_of pairs i)
+  pub place_under : (rack : SlotsModel T) (pairs : List Pair) (i : ℕ) → IndexInvariant rack pairs → place_in (kept_of rack pairs) i ≡ option_map (place_at rack) (key_of pairs i)
   place_under rack pairs i tied = place_kept rack pairs i pairs (each_good rack pairs tied)
 
-  pub record_under : (rack : Rack T) (pairs : List Pair) (i : ℕ) → IsTied rack pairs → record_in (records_in (kept_of rack pairs)) i ≡ option_map (λ key. (place_at rack key).known) (key_of pairs i)
+  pub record_under : (rack : SlotsModel T) (pairs : List Pair) (i : ℕ) → IndexInvariant rack pairs → record_in (records_in (kept_of rack pairs)) i ≡ option_map (λ key. (place_at rack key).known) (key_of pairs i)
   record_under rack pairs i tied = record_in-records_in i (kept_of rack pairs) ∙ ap (option_map (λ p. p.known)) (place_under rack pairs i tied) ∙ twice (key_of pairs i)
     where
       twice : (o : Option ℕ) → option_map (λ p. p.known) (option_map (place_at rack) o) ≡ option_map (λ key. (place_at rack key).known) o
       twice None = refl
       twice (Some key) = refl
 
-  -- an object that is present has a key
-  pub key_there : (rack : Rack T) (pairs : List Pair) (i : ℕ) (P : Record → Type 0) → IsTied rack pairs → IsSomeAnd (record_in (records_in (kept_of rack pairs)) i) P → IsSome (key_of pairs i)
+  -- a present object has a key
+  pub key_there : (rack : SlotsModel T) (pairs : List Pair) (i : ℕ) (P : Record → Type 0) → IndexInvariant rack pairs → IsSomeAnd (record_in (records_in (kept_of rack pairs)) i) P → IsSome (key_of pairs i)
   key_there rack pairs i P tied known = by_case (key_of pairs i) (subst (λ o. IsSomeAnd o P) (record_under rack pairs i tied) known)
     where
       by_case : (o : Option ℕ) → IsSomeAnd (option_map (λ key. (place_at rack key).known) o) P → IsSome o
       by_case None known = absurd known
       by_case (Some key) known = refl
 
-  -- the place in the list where the id stands
+  -- the position of the id in the list
   abbrev pub spot : ℕ → List (Place T) → ℕ
   spot i [] = 0
   spot i (p ∷ ps) = if i == p.known.id then 0 else suc (spot i ps)
@@ -140,7 +140,7 @@ module _ {T : Type 0} where
         | inr differs ↦ (let later = stands ps i q (rw differs.0 at is) in rw differs.0 (record { in_range = omega (arith, later.in_range); read = later.read; id = later.id }))
       ]
 
-  pub found_key : (rack : Rack T) (pairs : List Pair) (i key : ℕ) (r : Record) → IsTied rack pairs → IsShelf (kept_of rack pairs) → key_of pairs i ≡ Some key → known_at rack key ≡ Some r
+  pub found_key : (rack : SlotsModel T) (pairs : List Pair) (i key : ℕ) (r : Record) → IndexInvariant rack pairs → PlacesInvariant (kept_of rack pairs) → key_of pairs i ≡ Some key → known_at rack key ≡ Some r
       → Found (kept_of rack pairs) i (spot i (kept_of rack pairs)) (record { known = r; value = value_at rack key })
   found_key rack pairs i key r tied shelf at known =
       let here = stands (kept_of rack pairs) i (record { known = r; value = value_at rack key }) (place_under rack pairs i tied ∙ ap (option_map (place_at rack)) at ∙ ap Some (place_known rack key r known)) in
@@ -151,15 +151,15 @@ module _ {T : Type 0} where
       }
 
   -- ---- an object is changed
-  -- what the object under the key was, and what it is now
-  pub record Turns (rack rack2 : Rack T) (pairs : List Pair) (i key : ℕ) (q p : Item T) : Type 0 where
+  -- the object under the key before and after the change
+  pub record Turns (rack rack2 : SlotsModel T) (pairs : List Pair) (i key : ℕ) (q p : Item T) : Type 0 where
     pub at : key_of pairs i ≡ Some key
     pub old : item_at rack key ≡ Some q
     pub sets : Sets rack rack2 key (Some p)
     pub id : q.known.id ≡ i
     pub same : p.known.id ≡ q.known.id
 
-  changed_all : (rack rack2 : Rack T) (pairs : List Pair) (i key : ℕ) (q p : Item T) → Turns rack rack2 pairs i key q p → (ps : List Pair) → AllByRecursion (Good rack pairs) ps → kept_of rack2 ps ≡ changed i (λ x. place_of p) (kept_of rack ps)
+  changed_all : (rack rack2 : SlotsModel T) (pairs : List Pair) (i key : ℕ) (q p : Item T) → Turns rack rack2 pairs i key q p → (ps : List Pair) → AllByRecursion (Good rack pairs) ps → kept_of rack2 ps ≡ changed i (λ x. place_of p) (kept_of rack ps)
   changed_all rack rack2 pairs i key q p turns [] all = refl
   changed_all rack rack2 pairs i key q p turns (x ∷ ps) all =
       elim (eqb_tells i x.id) [
@@ -176,10 +176,10 @@ module _ {T : Type 0} where
       place_at_here : x.key ≡ key → place_at rack2 x.key ≡ place_of p
       place_at_here here = ap (place_at rack2) here ∙ place_item rack2 key p turns.sets.changed
 
-  pub kept_turned : (rack rack2 : Rack T) (pairs : List Pair) (i key : ℕ) (q p : Item T) → IsTied rack pairs → Turns rack rack2 pairs i key q p → kept_of rack2 pairs ≡ changed i (λ x. place_of p) (kept_of rack pairs)
+  pub kept_turned : (rack rack2 : SlotsModel T) (pairs : List Pair) (i key : ℕ) (q p : Item T) → IndexInvariant rack pairs → Turns rack rack2 pairs i key q p → kept_of rack2 pairs ≡ changed i (λ x. place_of p) (kept_of rack pairs)
   kept_turned rack rack2 pairs i key q p tied turns = changed_all rack rack2 pairs i key q p turns pairs (each_good rack pairs tied)
 
-  pub tied_turned : (rack rack2 : Rack T) (pairs : List Pair) (i key : ℕ) (q p : Item T) → IsTied rack pairs → Turns rack rack2 pairs i key q p → IsTied rack2 pairs
+  pub tied_turned : (rack rack2 : SlotsModel T) (pairs : List Pair) (i key : ℕ) (q p : Item T) → IndexInvariant rack pairs → Turns rack rack2 pairs i key q p → IndexInvariant rack2 pairs
   tied_turned rack rack2 pairs i key q p tied turns = record {
     rising = tied.rising;
     there = λ j k is. elim (eqb_tells k key) [
@@ -203,18 +203,18 @@ module _ {T : Type 0} where
   is_queued_item None = false
   is_queued_item (Some item) = is_queued item.known.phase
 
-  -- what becomes of the queue and of the object under one key
-  pub record Requeues (rack rack2 : Rack T) (key : ℕ) (o : Option (Item T)) : Type 0 where
+  -- a change of the queue and of the object under one key
+  pub record Requeues (rack rack2 : SlotsModel T) (key : ℕ) (o : Option (Item T)) : Type 0 where
     pub sets : Sets rack rack2 key o
     pub here : is_in key rack2.queue ≡ is_queued_item o
     pub others : (other : ℕ) → other ≢ key → is_in other rack2.queue ≡ is_in other rack.queue
-    pub rises : Rises (parked_of rack2)
+    pub rises : IsAscendingQueue (parked_of rack2)
 
   there_if_queued : (o : Option (Item T)) → is_queued_item o ≡ true → IsSome o
   there_if_queued None queued = absurd (cc queued)
   there_if_queued (Some item) queued = refl
 
-  pub line_turned : (rack rack2 : Rack T) (key : ℕ) (o : Option (Item T)) → IsLine rack → Requeues rack rack2 key o → IsLine rack2
+  pub line_turned : (rack rack2 : SlotsModel T) (key : ℕ) (o : Option (Item T)) → QueueInvariant rack → Requeues rack rack2 key o → QueueInvariant rack2
   line_turned rack rack2 key o line turns = record {
     present = λ other there. elim (eqb_tells other key) [
       | inl same ↦ ap (λ k. is_some (item_at rack2 k)) same.1 ∙ ap is_some turns.sets.changed ∙ there_if_queued o (sym turns.here ∙ ap (λ k. is_in k rack2.queue) (sym same.1) ∙ there)
@@ -227,16 +227,16 @@ module _ {T : Type 0} where
     rises = turns.rises;
   }
 
-above_same : (e e2 : ℕ → Parked) (m n : ℕ) (keys : List ℕ) → n ≡ m → ((k : ℕ) → is_in k keys ≡ true → (e2 k).parked ≡ (e k).parked) → AllByRecursion (λ q. m < q.parked) (map e keys) → AllByRecursion (λ q. n < q.parked) (map e2 keys)
+above_same : (e e2 : ℕ → QueueEntry) (m n : ℕ) (keys : List ℕ) → n ≡ m → ((k : ℕ) → is_in k keys ≡ true → (e2 k).parked ≡ (e k).parked) → AllByRecursion (λ q. m < q.parked) (map e keys) → AllByRecursion (λ q. n < q.parked) (map e2 keys)
 above_same e e2 m n [] same each above = tt
 above_same e e2 m n (x ∷ xs) same each above = (omega (arith, same, each x (is_in_first x xs), above.0), above_same e e2 m n xs same (λ k there. each k (is_in_later k x xs there)) above.1)
 
--- the same positions rise as well
-pub rises_same : (e e2 : ℕ → Parked) (keys : List ℕ) → ((k : ℕ) → is_in k keys ≡ true → (e2 k).parked ≡ (e k).parked) → Rises (map e keys) → Rises (map e2 keys)
+-- equal positions are ascending as well
+pub rises_same : (e e2 : ℕ → QueueEntry) (keys : List ℕ) → ((k : ℕ) → is_in k keys ≡ true → (e2 k).parked ≡ (e k).parked) → IsAscendingQueue (map e keys) → IsAscendingQueue (map e2 keys)
 rises_same e e2 [] each up = tt
 rises_same e e2 (x ∷ xs) each up = (above_same e e2 (e x).parked (e2 x).parked xs (each x (is_in_first x xs)) (λ k there. each k (is_in_later k x xs there)) up.0, rises_same e e2 xs (λ k there. each k (is_in_later k x xs there)) up.1)
 
-above_without : (e : ℕ → Parked) (n key : ℕ) (keys : List ℕ) → AllByRecursion (λ q. n < q.parked) (map e keys) → AllByRecursion (λ q. n < q.parked) (map e (without_key key keys))
+above_without : (e : ℕ → QueueEntry) (n key : ℕ) (keys : List ℕ) → AllByRecursion (λ q. n < q.parked) (map e keys) → AllByRecursion (λ q. n < q.parked) (map e (without_key key keys))
 above_without e n key [] above = tt
 above_without e n key (x ∷ xs) above = by_test (eqb key x) (above_without e n key xs above.1)
   where
@@ -244,33 +244,33 @@ above_without e n key (x ∷ xs) above = by_test (eqb key x) (above_without e n 
     by_test true later = later
     by_test false later = (above.0, later)
 
-pub rises_without : (e : ℕ → Parked) (key : ℕ) (keys : List ℕ) → Rises (map e keys) → Rises (map e (without_key key keys))
+pub rises_without : (e : ℕ → QueueEntry) (key : ℕ) (keys : List ℕ) → IsAscendingQueue (map e keys) → IsAscendingQueue (map e (without_key key keys))
 rises_without e key [] up = tt
 rises_without e key (x ∷ xs) up = by_test (eqb key x) (rises_without e key xs up.1)
   where
-    by_test : (b : Bool) → Rises (map e (without_key key xs)) → Rises (map e (cond (not b) (x ∷ without_key key xs) (without_key key xs)))
+    by_test : (b : Bool) → IsAscendingQueue (map e (without_key key xs)) → IsAscendingQueue (map e (cond (not b) (x ∷ without_key key xs) (without_key key xs)))
     by_test true later = later
     by_test false later = (above_without e (e x).parked key xs up.0, later)
 
-above_push : (e : ℕ → Parked) (n key : ℕ) (keys : List ℕ) → AllByRecursion (λ q. n < q.parked) (map e keys) → n < (e key).parked → AllByRecursion (λ q. n < q.parked) (map e (keys ++ key ∷ []))
+above_push : (e : ℕ → QueueEntry) (n key : ℕ) (keys : List ℕ) → AllByRecursion (λ q. n < q.parked) (map e keys) → n < (e key).parked → AllByRecursion (λ q. n < q.parked) (map e (keys ++ key ∷ []))
 above_push e n key [] above here = (here, tt)
 above_push e n key (x ∷ xs) above here = (above.0, above_push e n key xs above.1 here)
 
-pub rises_push : (e : ℕ → Parked) (key : ℕ) (keys : List ℕ) → Rises (map e keys) → AllByRecursion (λ q. q.parked < (e key).parked) (map e keys) → Rises (map e (keys ++ key ∷ []))
+pub rises_push : (e : ℕ → QueueEntry) (key : ℕ) (keys : List ℕ) → IsAscendingQueue (map e keys) → AllByRecursion (λ q. q.parked < (e key).parked) (map e keys) → IsAscendingQueue (map e (keys ++ key ∷ []))
 rises_push e key [] up below = (tt, tt)
 rises_push e key (x ∷ xs) up below = (above_push e (e x).parked key xs up.0 below.0, rises_push e key xs up.1 below.1)
 
-below_same : (e e2 : ℕ → Parked) (m n : ℕ) (keys : List ℕ) → n ≡ m → ((k : ℕ) → is_in k keys ≡ true → (e2 k).parked ≡ (e k).parked) → AllByRecursion (λ q. q.parked < m) (map e keys) → AllByRecursion (λ q. q.parked < n) (map e2 keys)
+below_same : (e e2 : ℕ → QueueEntry) (m n : ℕ) (keys : List ℕ) → n ≡ m → ((k : ℕ) → is_in k keys ≡ true → (e2 k).parked ≡ (e k).parked) → AllByRecursion (λ q. q.parked < m) (map e keys) → AllByRecursion (λ q. q.parked < n) (map e2 keys)
 below_same e e2 m n [] same each below = tt
 below_same e e2 m n (x ∷ xs) same each below = (omega (arith, same, each x (is_in_first x xs), below.0), below_same e e2 m n xs same (λ k there. each k (is_in_later k x xs there)) below.1)
 
 module _ {T : Type 0} where
-  -- the entry of a key that nothing is changed of
-  entry_same : (rack rack2 : Rack T) (key k : ℕ) (o : Option (Item T)) → Sets rack rack2 key o → k ≢ key → (entry_at rack2 k).parked ≡ (entry_at rack k).parked
+  -- the position of a key that is unchanged
+  entry_same : (rack rack2 : SlotsModel T) (key k : ℕ) (o : Option (Item T)) → Sets rack rack2 key o → k ≢ key → (entry_at rack2 k).parked ≡ (entry_at rack k).parked
   entry_same rack rack2 key k o sets apart = ap (λ p. p.known.parked) (place_same rack rack2 k (sets.others k apart))
 
-  -- an object that isn't in the queue, and doesn't come to it
-  pub line_apart : (rack rack2 : Rack T) (key : ℕ) (o : Option (Item T)) → IsLine rack → Sets rack rack2 key o → rack2.queue ≡ rack.queue → is_in key rack.queue ≡ false → is_queued_item o ≡ false → IsLine rack2
+  -- an object that isn't in the queue, and doesn't enter it
+  pub line_apart : (rack rack2 : SlotsModel T) (key : ℕ) (o : Option (Item T)) → QueueInvariant rack → Sets rack rack2 key o → rack2.queue ≡ rack.queue → is_in key rack.queue ≡ false → is_queued_item o ≡ false → QueueInvariant rack2
   line_apart rack rack2 key o line sets queue out still =
       line_turned rack rack2 key o line (record {
         sets = sets;
@@ -279,8 +279,8 @@ module _ {T : Type 0} where
         rises = rw queue (rises_same (entry_at rack) (entry_at rack2) rack.queue (λ k there. entry_same rack rack2 key k o sets (not_key key k rack.queue there out)) line.rises);
       })
 
-  -- the entries stay where the key isn't in the queue
-  pub parked_same : (rack rack2 : Rack T) (key : ℕ) (o : Option (Item T)) → Sets rack rack2 key o → rack2.queue ≡ rack.queue → is_in key rack.queue ≡ false → parked_of rack2 ≡ parked_of rack
+  -- the entries are unchanged if the key isn't in the queue
+  pub parked_same : (rack rack2 : SlotsModel T) (key : ℕ) (o : Option (Item T)) → Sets rack rack2 key o → rack2.queue ≡ rack.queue → is_in key rack.queue ≡ false → parked_of rack2 ≡ parked_of rack
   parked_same rack rack2 key o sets queue out = ap (map (entry_at rack2)) queue ∙ along rack.queue out
     where
       along : (keys : List ℕ) → is_in key keys ≡ false → map (entry_at rack2) keys ≡ map (entry_at rack) keys
@@ -291,7 +291,7 @@ module _ {T : Type 0} where
           λ j. stays j ∷ along xs both.1 j
 
   -- an object that leaves the queue, or isn't in it
-  pub line_left : (rack rack2 : Rack T) (key : ℕ) (o : Option (Item T)) → IsLine rack → Sets rack rack2 key o → rack2.queue ≡ without_key key rack.queue → is_queued_item o ≡ false → IsLine rack2
+  pub line_left : (rack rack2 : SlotsModel T) (key : ℕ) (o : Option (Item T)) → QueueInvariant rack → Sets rack rack2 key o → rack2.queue ≡ without_key key rack.queue → is_queued_item o ≡ false → QueueInvariant rack2
   line_left rack rack2 key o line sets queue still =
       line_turned rack rack2 key o line (record {
         sets = sets;
@@ -301,7 +301,7 @@ module _ {T : Type 0} where
       })
 
   -- an object that stays in the queue at its position
-  pub line_stays : (rack rack2 : Rack T) (key : ℕ) (q p : Item T) → IsLine rack → Sets rack rack2 key (Some p) → item_at rack key ≡ Some q → rack2.queue ≡ rack.queue → is_queued q.known.phase ≡ true → is_queued p.known.phase ≡ true → p.known.parked ≡ q.known.parked → IsLine rack2
+  pub line_stays : (rack rack2 : SlotsModel T) (key : ℕ) (q p : Item T) → QueueInvariant rack → Sets rack rack2 key (Some p) → item_at rack key ≡ Some q → rack2.queue ≡ rack.queue → is_queued q.known.phase ≡ true → is_queued p.known.phase ≡ true → p.known.parked ≡ q.known.parked → QueueInvariant rack2
   line_stays rack rack2 key q p line sets old queue was is same =
       line_turned rack rack2 key (Some p) line (record {
         sets = sets;
@@ -313,8 +313,8 @@ module _ {T : Type 0} where
         ]) line.rises);
       })
 
-  -- an object that comes to the end of the queue
-  pub line_joined : (rack rack2 : Rack T) (key : ℕ) (q p : Item T) → IsLine rack → Sets rack rack2 key (Some p) → item_at rack key ≡ Some q → rack2.queue ≡ rack.queue ++ key ∷ [] → is_queued q.known.phase ≡ false → is_queued p.known.phase ≡ true → AllByRecursion (λ x. x.parked < p.known.parked) (parked_of rack) → IsLine rack2
+  -- an object that enters the queue at its end
+  pub line_joined : (rack rack2 : SlotsModel T) (key : ℕ) (q p : Item T) → QueueInvariant rack → Sets rack rack2 key (Some p) → item_at rack key ≡ Some q → rack2.queue ≡ rack.queue ++ key ∷ [] → is_queued q.known.phase ≡ false → is_queued p.known.phase ≡ true → AllByRecursion (λ x. x.parked < p.known.parked) (parked_of rack) → QueueInvariant rack2
   line_joined rack rack2 key q p line sets old queue was is below =
       let out : is_in key rack.queue ≡ false = line.follows key q old ∙ was in
       let each : (k : ℕ) → is_in k rack.queue ≡ true → (entry_at rack2 k).parked ≡ (entry_at rack k).parked = λ k there. entry_same rack rack2 key k (Some p) sets (not_key key k rack.queue there out) in
@@ -326,7 +326,7 @@ module _ {T : Type 0} where
       })
 
   -- ---- the entries are those of the records
-  pub queue_kept : (rack : Rack T) (pairs : List Pair) → IsTied rack pairs → IsLine rack → IsQueueOf (record_in (records_in (kept_of rack pairs))) (parked_of rack)
+  pub queue_kept : (rack : SlotsModel T) (pairs : List Pair) → IndexInvariant rack pairs → QueueInvariant rack → IsQueueOf (record_in (records_in (kept_of rack pairs))) (parked_of rack)
   queue_kept rack pairs tied line = record {
     rising = line.rises;
     each = each_entry (λ q. IsSomeAnd (record_in (records_in (kept_of rack pairs)) q.id) (IsEntry q)) (entry_at rack) rack.queue (λ k there. some_item rack k (line.present k there) (λ item found.

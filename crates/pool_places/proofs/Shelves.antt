@@ -1,4 +1,4 @@
--- What is found among objects whose ids rise, and what a change of one does.
+-- Searches among objects with ascending ids, and the effect of a change of one.
 use Rattle.std.proofs.Common.{◌≡◌, ◌≢◌, ℕ, zero, suc, ◌<◌, ◌^◌, ◌==◌, eqb, Bool, true, false, not, cond, List, [], ◌∷◌, ◌++◌, length, get_or, set, Option, Some, None, refl, ap, sym, ◌∙◌, arith, subst}
 use Rattle.std.specs.Prelude.{remove, is_some, IsSomeAnd}
 use Rattle.std.specs.List.{AllByRecursion}
@@ -11,9 +11,9 @@ use Rattle.std.proofs.lemmas.List.Elements.{All-set, All-filter, All-push}
 use Rattle.pool_journal.specs.Queue.{record_in}
 use Rattle.pool_journal.specs.declared.record.Record.{Record}
 use Rattle.pool_places.specs.declared.place.Place.{Place}
-use Rattle.pool_places.specs.Shelf.{records_in, place_in, changed, without, IsRising, IsAt, IsShelf, IsValued}
+use Rattle.pool_places.specs.PlacesModel.{records_in, place_in, changed, without, IsAscending, IsAt, PlacesInvariant, IsValued}
 
--- i stands at place k, which is read at the default d
+-- i is at position k, which is read with the default d
 pub record At {T : Type 0} (ps : List (Place T)) (i k : ℕ) (d : Place T) : Type 0 where
   pub in_range : k < length ps
   pub has_id : (get_or ps k d).known.id ≡ i
@@ -33,14 +33,14 @@ pub without_above : {T : Type 0} (i : ℕ) (ps : List (Place T)) → AllByRecurs
 without_above i [] all = refl
 without_above i (p ∷ ps) all = rw (other_is i p.known.id (λ same. omega (arith, all.0))) (ap (λ qs. p ∷ qs) (without_above i ps all.1))
 
--- the id at a later place is greater
+-- the id at a later position is greater
 pub id_above : {T : Type 0} (n k : ℕ) (d : Place T) (ps : List (Place T)) → AllByRecursion (λ q. n < q.known.id) ps → k < length ps → n < (get_or ps k d).known.id
 id_above n k d [] all lt = absurd (omega arith)
 id_above n zero d (p ∷ ps) all lt = all.0
 id_above n (suc k) d (p ∷ ps) all lt = id_above n k d ps all.1 (omega arith)
 
--- a write at the place of i changes i
-pub set-changed : {T : Type 0} (i k : ℕ) (f : Place T → Place T) (d : Place T) (ps : List (Place T)) → IsRising ps → At ps i k d → set ps k (f (get_or ps k d)) ≡ changed i f ps
+-- a write at the position of i changes i
+pub set-changed : {T : Type 0} (i k : ℕ) (f : Place T → Place T) (d : Place T) (ps : List (Place T)) → IsAscending ps → At ps i k d → set ps k (f (get_or ps k d)) ≡ changed i f ps
 set-changed i k f d [] up at = absurd (omega (arith, at.in_range))
 set-changed i zero f d (p ∷ ps) up at =
     let above : AllByRecursion (λ q. i < q.known.id) ps = subst (λ (n : ℕ). AllByRecursion (λ q. n < q.known.id) ps) at.has_id up.0 in
@@ -50,8 +50,8 @@ set-changed i (suc k) f d (p ∷ ps) up at =
     rw (other_is i p.known.id (λ same. omega (arith, below, at.has_id)))
     (ap (λ qs. p ∷ qs) (set-changed i k f d ps up.1 (record { in_range = omega (arith, at.in_range); has_id = at.has_id })))
 
--- so does taking it out
-pub remove-without : {T : Type 0} (i k : ℕ) (d : Place T) (ps : List (Place T)) → IsRising ps → At ps i k d → remove ps k ≡ without i ps
+-- a removal at the position of i removes i
+pub remove-without : {T : Type 0} (i k : ℕ) (d : Place T) (ps : List (Place T)) → IsAscending ps → At ps i k d → remove ps k ≡ without i ps
 remove-without i k d [] up at = absurd (omega (arith, at.in_range))
 remove-without i zero d (p ∷ ps) up at =
     let above : AllByRecursion (λ q. i < q.known.id) ps = subst (λ (n : ℕ). AllByRecursion (λ q. n < q.known.id) ps) at.has_id up.0 in
@@ -61,8 +61,8 @@ remove-without i (suc k) d (p ∷ ps) up at =
     rw (other_is i p.known.id (λ same. omega (arith, below, at.has_id)))
     (ap (λ qs. p ∷ qs) (remove-without i k d ps up.1 (record { in_range = omega (arith, at.in_range); has_id = at.has_id })))
 
--- the object at the place of i is i
-pub place_at : {T : Type 0} (i k : ℕ) (d : Place T) (ps : List (Place T)) → IsRising ps → At ps i k d → place_in ps i ≡ Some (get_or ps k d)
+-- the object at the position of i is i
+pub place_at : {T : Type 0} (i k : ℕ) (d : Place T) (ps : List (Place T)) → IsAscending ps → At ps i k d → place_in ps i ≡ Some (get_or ps k d)
 place_at i k d [] up at = absurd (omega (arith, at.in_range))
 place_at i zero d (p ∷ ps) up at = rw (same_is i p.known.id (sym at.has_id)) refl
 place_at i (suc k) d (p ∷ ps) up at =
@@ -79,11 +79,11 @@ record_in-records_in {T} i (p ∷ ps) = by_test (i == p.known.id) (record_in-rec
     by_test true rest = refl
     by_test false rest = rest
 
--- the object that was read at the place of i
+-- the object that was read at the position of i
 pub at_read : {T : Type 0} (ps : List (Place T)) (i k : ℕ) (q : Place T) → IsAt ps i k → q ≡ get_or ps k q → At ps i k q
 at_read ps i k q at read = record { in_range = at.in_range; has_id = at.has_id q }
 
-pub place_found : {T : Type 0} (ps : List (Place T)) (i k : ℕ) (q : Place T) → IsRising ps → IsAt ps i k → q ≡ get_or ps k q → place_in ps i ≡ Some q
+pub place_found : {T : Type 0} (ps : List (Place T)) (i k : ℕ) (q : Place T) → IsAscending ps → IsAt ps i k → q ≡ get_or ps k q → place_in ps i ≡ Some q
 place_found ps i k q up at read = place_at i k q ps up (at_read ps i k q at read) ∙ ap Some (sym read)
 
 -- a write that keeps the id keeps the order of the ids
@@ -93,17 +93,17 @@ all_above_set n k p d [] lt same all = tt
 all_above_set n zero p d (q ∷ ps) lt same all = (omega (arith, same, all.0), all.1)
 all_above_set n (suc k) p d (q ∷ ps) lt same all = (all.0, all_above_set n k p d ps (omega arith) same all.1)
 
-rising_set : {T : Type 0} (k : ℕ) (p d : Place T) (ps : List (Place T)) → k < length ps → p.known.id ≡ (get_or ps k d).known.id → IsRising ps → IsRising (set ps k p)
+rising_set : {T : Type 0} (k : ℕ) (p d : Place T) (ps : List (Place T)) → k < length ps → p.known.id ≡ (get_or ps k d).known.id → IsAscending ps → IsAscending (set ps k p)
 rising_set k p d [] lt same up = tt
 rising_set zero p d (q ∷ ps) lt same up = (subst (λ (n : ℕ). AllByRecursion (λ x. n < x.known.id) ps) (sym same) up.0, up.1)
 rising_set (suc k) p d (q ∷ ps) lt same up = (all_above_set q.known.id k p d ps (omega arith) same up.0, rising_set k p d ps (omega arith) same up.1)
 
-pub shelf_set : {T : Type 0} (ps : List (Place T)) (k : ℕ) (q p : Place T) → IsShelf ps → k < length ps → q ≡ get_or ps k q → p.known.id ≡ q.known.id → IsValued p → IsShelf (set ps k p)
+pub shelf_set : {T : Type 0} (ps : List (Place T)) (k : ℕ) (q p : Place T) → PlacesInvariant ps → k < length ps → q ≡ get_or ps k q → p.known.id ≡ q.known.id → IsValued p → PlacesInvariant (set ps k p)
 shelf_set ps k q p shelf lt read same valued =
     record { rising = rising_set k p q ps lt (same ∙ ap (λ x. x.known.id) read) shelf.rising; valued = All-set IsValued ps k p valued shelf.valued; few = omega (arith, shelf.few, length-set ps k p) }
 
--- a write at the place of i is a change of i
-pub change_is : {T : Type 0} (f : Place T → Place T) (ps : List (Place T)) (i k : ℕ) (q : Place T) → IsShelf ps → IsAt ps i k → q ≡ get_or ps k q → set ps k (f q) ≡ changed i f ps
+-- a write at the position of i is a change of i
+pub change_is : {T : Type 0} (f : Place T → Place T) (ps : List (Place T)) (i k : ℕ) (q : Place T) → PlacesInvariant ps → IsAt ps i k → q ≡ get_or ps k q → set ps k (f q) ≡ changed i f ps
 change_is f ps i k q shelf at read = ap (λ x. set ps k (f x)) read ∙ set-changed i k f q ps shelf.rising (at_read ps i k q at read)
 
 all_without : {T : Type 0} (n i : ℕ) (ps : List (Place T)) → AllByRecursion (λ q. n < q.known.id) ps → AllByRecursion (λ q. n < q.known.id) (without i ps)
@@ -114,43 +114,43 @@ all_without n i (p ∷ ps) all = by_test (not (i == p.known.id)) all.0 (all_with
     by_test true here rest = (here, rest)
     by_test false here rest = rest
 
-rising_without : {T : Type 0} (i : ℕ) (ps : List (Place T)) → IsRising ps → IsRising (without i ps)
+rising_without : {T : Type 0} (i : ℕ) (ps : List (Place T)) → IsAscending ps → IsAscending (without i ps)
 rising_without i [] up = tt
 rising_without i (p ∷ ps) up = by_test (not (i == p.known.id)) (all_without p.known.id i ps up.0) (rising_without i ps up.1)
   where
-    by_test : (b : Bool) → AllByRecursion (λ q. p.known.id < q.known.id) (without i ps) → IsRising (without i ps) → IsRising (cond b (p ∷ without i ps) (without i ps))
+    by_test : (b : Bool) → AllByRecursion (λ q. p.known.id < q.known.id) (without i ps) → IsAscending (without i ps) → IsAscending (cond b (p ∷ without i ps) (without i ps))
     by_test true here rest = (here, rest)
     by_test false here rest = rest
 
-pub shelf_without : {T : Type 0} (i : ℕ) (ps : List (Place T)) → IsShelf ps → IsShelf (without i ps)
+pub shelf_without : {T : Type 0} (i : ℕ) (ps : List (Place T)) → PlacesInvariant ps → PlacesInvariant (without i ps)
 shelf_without i ps shelf = record { rising = rising_without i ps shelf.rising; valued = All-filter (λ p. not (i == p.known.id)) IsValued ps shelf.valued; few = omega (arith, shelf.few, length-filter (λ (p : Place _). not (i == p.known.id)) ps, count_by-le-length (λ (p : Place _). not (i == p.known.id)) ps) }
 
-pub remove_is : {T : Type 0} (ps : List (Place T)) (i k : ℕ) (q : Place T) → IsShelf ps → IsAt ps i k → q ≡ get_or ps k q → remove ps k ≡ without i ps
+pub remove_is : {T : Type 0} (ps : List (Place T)) (i k : ℕ) (q : Place T) → PlacesInvariant ps → IsAt ps i k → q ≡ get_or ps k q → remove ps k ≡ without i ps
 remove_is ps i k q shelf at read = remove-without i k q ps shelf.rising (at_read ps i k q at read)
 
 all_above_push : {T : Type 0} (n : ℕ) (ps : List (Place T)) (p : Place T) → AllByRecursion (λ q. n < q.known.id) ps → n < p.known.id → AllByRecursion (λ q. n < q.known.id) (ps ++ p ∷ [])
 all_above_push n [] p all lt = (lt, tt)
 all_above_push n (q ∷ ps) p all lt = (all.0, all_above_push n ps p all.1 lt)
 
-rising_push : {T : Type 0} (ps : List (Place T)) (p : Place T) → IsRising ps → AllByRecursion (λ q. q.known.id < p.known.id) ps → IsRising (ps ++ p ∷ [])
+rising_push : {T : Type 0} (ps : List (Place T)) (p : Place T) → IsAscending ps → AllByRecursion (λ q. q.known.id < p.known.id) ps → IsAscending (ps ++ p ∷ [])
 rising_push [] p up all = (tt, tt)
 rising_push (q ∷ ps) p up all = (all_above_push q.known.id ps p up.0 all.0, rising_push ps p up.1 all.1)
 
-pub shelf_push : {T : Type 0} (ps : List (Place T)) (p : Place T) → IsShelf ps → AllByRecursion (λ q. q.known.id < p.known.id) ps → IsValued p → length ps < 2 ^ 60 → IsShelf (ps ++ p ∷ [])
+pub shelf_push : {T : Type 0} (ps : List (Place T)) (p : Place T) → PlacesInvariant ps → AllByRecursion (λ q. q.known.id < p.known.id) ps → IsValued p → length ps < 2 ^ 60 → PlacesInvariant (ps ++ p ∷ [])
 shelf_push ps p shelf above valued few = record { rising = rising_push ps p shelf.rising above; valued = All-push IsValued ps p shelf.valued valued; few = omega (arith, length_push ps p) }
 
--- what is known of the record of i is known of the object that was read
-pub known_at : {T : Type 0} (P : Record → Type 0) (ps : List (Place T)) (i k : ℕ) (q : Place T) → IsShelf ps → IsAt ps i k → q ≡ get_or ps k q → IsSomeAnd (record_in (records_in ps) i) P → P q.known
+-- a property of the record of i holds of the record of the object that was read
+pub known_at : {T : Type 0} (P : Record → Type 0) (ps : List (Place T)) (i k : ℕ) (q : Place T) → PlacesInvariant ps → IsAt ps i k → q ≡ get_or ps k q → IsSomeAnd (record_in (records_in ps) i) P → P q.known
 known_at P ps i k q shelf at read known =
     subst (λ o. IsSomeAnd o P) (record_in-records_in i ps ∙ ap (option_map (λ p. p.known)) (place_found ps i k q shelf.rising at read)) known
 
-pub valued_at : {T : Type 0} (ps : List (Place T)) (k : ℕ) (q : Place T) → IsShelf ps → k < length ps → q ≡ get_or ps k q → IsValued q
+pub valued_at : {T : Type 0} (ps : List (Place T)) (k : ℕ) (q : Place T) → PlacesInvariant ps → k < length ps → q ≡ get_or ps k q → IsValued q
 valued_at ps k q shelf lt read = subst IsValued (sym read) (shelf.valued k q lt)
 
 pub empty_valued : {T : Type 0} (o : Option T) {b : Bool} → o ≡ None → b ≡ false → is_some o ≡ b
 empty_valued o none is = ap is_some none ∙ sym is
 
--- what each record has, each object has
+-- a property of each record holds of the record of each object
 pub all_places : {T : Type 0} (P : Record → Type 0) (ps : List (Place T)) → AllByRecursion P (records_in ps) → AllByRecursion (λ p. P p.known) ps
 all_places P [] all = tt
 all_places P (p ∷ ps) all = (all.0, all_places P ps all.1)

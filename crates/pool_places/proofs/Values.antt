@@ -1,11 +1,11 @@
--- Which value is kept under an id after a change.
+-- The value that is stored under an id after a change.
 use Rattle.std.proofs.Common.{◌≡◌, ◌≢◌, ℕ, ◌<◌, ◌==◌, eqb, Bool, true, false, not, cond, if◌then◌else◌, List, [], ◌∷◌, ◌++◌, Some, None, refl, ap, sym, ◌∙◌, arith}
 use Rattle.std.specs.List.{AllByRecursion}
 use Rattle.std.specs.Option.{option_map, option_and_then}
 use Rattle.std.proofs.lemmas.Bool.Decides.{nat_tests}
 use Rattle.pool_journal.specs.Queue.{later}
 use Rattle.pool_places.specs.declared.place.Place.{Place}
-use Rattle.pool_places.specs.Shelf.{place_in, value_in, changed, without}
+use Rattle.pool_places.specs.PlacesModel.{place_in, value_in, changed, without}
 
 eqb_of : (i j : ℕ) → eqb i j ≡ true → i ≡ j
 eqb_of i j test = grind (arith, nat_tests)
@@ -80,7 +80,7 @@ place_without_here {T} i (p ∷ ps) = by_test (i == p.known.id) refl (place_with
     by_test true is later = later
     by_test false is later = rw is later
 
--- to take out an object without a value keeps all values
+-- a removal of an object without a value keeps all values
 pub value_without : {T : Type 0} (i : ℕ) (ps : List (Place T)) (j : ℕ) → value_in ps i ≡ None → value_in (without i ps) j ≡ value_in ps j
 value_without {T} i ps j empty = by_test (j == i) refl
   where
@@ -90,7 +90,7 @@ value_without {T} i ps j empty = by_test (j == i) refl
         ap (value_in (without i ps)) same ∙ ap (option_and_then (λ p. p.value)) (place_without_here i ps) ∙ sym empty ∙ ap (value_in ps) (sym same)
     by_test false is = ap (option_and_then (λ p. p.value)) (place_without_other i ps j (λ same. grind (arith, nat_tests)))
 
--- an object that comes is found under its id
+-- an object that is added is found under its id
 pub value_push_here : {T : Type 0} (ps : List (Place T)) (p : Place T) → AllByRecursion (λ q. q.known.id < p.known.id) ps → value_in (ps ++ p ∷ []) p.known.id ≡ p.value
 value_push_here [] p above = (let same : (p.known.id == p.known.id) ≡ true = grind (arith, nat_tests) in rw same refl)
 value_push_here (q ∷ ps) p above = (let apart : (p.known.id == q.known.id) ≡ false = grind (arith, nat_tests, above.0) in rw apart (value_push_here ps p above.1))

@@ -1,4 +1,4 @@
--- Walks along the keys of the queue, and what they find.
+-- Walks along the keys of the queue, and their results.
 use Rattle.std.proofs.Common.{◌≡◌, ◌≢◌, ℕ, ◌<◌, ◌≤◌, eqb, Bool, true, false, not, ◌||◌, ◌&&◌, nat_lt, cond, if◌then◌else◌, List, [], ◌∷◌, ◌++◌, map, reverse, length, Option, Some, None, unwrap_or, refl, ap, sym, ◌∙◌, inl, inr, arith, subst}
 use Rattle.std.specs.Prelude.{find, IfSome}
 use Rattle.std.specs.List.{AllByRecursion}
@@ -7,11 +7,11 @@ use Rattle.std.proofs.lemmas.Bool.Decides.{eqb_tells}
 use Rattle.std.proofs.lemmas.List.{map-append, reverse-append, reverse-reverse}
 use Rattle.std.proofs.lemmas.List.Folds.{list_any-append}
 use Rattle.pool_journal.specs.Queue.{first_of, last_of}
-use Rattle.pool_slots.specs.Rack.{is_in, is_key, put_before, without, AreDistinct, IsNextIn, IsPreviousIn}
+use Rattle.pool_slots.specs.SlotsModel.{is_in, is_key, put_before, without, AreDistinct, IsNextIn, IsPreviousIn}
 use Rattle.pool_slots.proofs.Keys.{is_in_first, is_in_later, distinct_push, in_put}
-use Rattle.pool_places.specs.Kept.{IsWithin}
+use Rattle.pool_places.specs.RepInvariant.{IsWithin}
 use Rattle.pool_places.specs.Stored.{from_key}
-use Rattle.pool_places.specs.Waiting.{Parked, Rises, is_wanted}
+use Rattle.pool_places.specs.QueueEntries.{QueueEntry, IsAscendingQueue, is_wanted}
 
 -- ---- from one end to the other
 reverse_cons : {A : Type 0} (x : A) (xs : List A) → reverse (x ∷ xs) ≡ reverse xs ++ x ∷ []
@@ -53,7 +53,7 @@ append_one : {A : Type 0} (xs : List A) (x : A) (ys : List A) → (xs ++ x ∷ [
 append_one [] x ys = refl
 append_one (z ∷ xs) x ys = ap (λ zs. z ∷ zs) (append_one xs x ys)
 
--- what comes before comes next on the way back
+-- the key before is the next one on the way back
 pub previous_is_next : (keys : List ℕ) (key : ℕ) (p : Option ℕ) → IsPreviousIn keys key p → IsNextIn (reverse keys) key p
 previous_is_next keys key p is front back split =
     let turned : keys ≡ reverse back ++ key ∷ reverse front = sym (reverse-reverse keys) ∙ ap reverse split ∙ reverse-append front (key ∷ back) ∙ ap (λ xs. xs ++ reverse front) (reverse_cons key back) ∙ append_one (reverse back) key (reverse front) in
@@ -84,7 +84,7 @@ within_later : (x : ℕ) (xs : List ℕ) (o : Option ℕ) → IsWithin xs o → 
 within_later x xs None there = tt
 within_later x xs (Some n) there = is_in_later n x xs there
 
--- from the key on come the key, and what follows from the next one on
+-- the keys from a key on are the key and the keys from the next one on
 pub record IsStep (keys : List ℕ) (key : ℕ) (next : Option ℕ) : Type 0 where
   pub rest : from_key (Some key) keys ≡ key ∷ from_key next keys
   pub within : IsWithin keys next
@@ -111,8 +111,8 @@ step (x ∷ xs) key next distinct found is =
 pub fewer : (keys : List ℕ) (key : ℕ) (next : Option ℕ) → IsStep keys key next → length (from_key next keys) < length (from_key (Some key) keys)
 fewer keys key next is = omega (arith, ap length is.rest)
 
--- ---- what is found on the way
-pub found_here : (e : ℕ → Parked) (test : Parked → Bool) (keys : List ℕ) (key : ℕ) → is_in key keys ≡ true → test (e key) ≡ true → find test (map e (from_key (Some key) keys)) ≡ Some (e key)
+-- ---- the result of a walk
+pub found_here : (e : ℕ → QueueEntry) (test : QueueEntry → Bool) (keys : List ℕ) (key : ℕ) → is_in key keys ≡ true → test (e key) ≡ true → find test (map e (from_key (Some key) keys)) ≡ Some (e key)
 found_here e test [] key there passes = absurd (cc there)
 found_here e test (x ∷ xs) key there passes =
     elim (eqb_tells key x) [
@@ -120,10 +120,10 @@ found_here e test (x ∷ xs) key there passes =
       | inr differs ↦ rw differs.0 (found_here e test xs key (rw differs.0 at there) passes)
     ]
 
-pub found_later : (e : ℕ → Parked) (test : Parked → Bool) (keys : List ℕ) (key : ℕ) (next : Option ℕ) → IsStep keys key next → test (e key) ≡ false → find test (map e (from_key (Some key) keys)) ≡ find test (map e (from_key next keys))
+pub found_later : (e : ℕ → QueueEntry) (test : QueueEntry → Bool) (keys : List ℕ) (key : ℕ) (next : Option ℕ) → IsStep keys key next → test (e key) ≡ false → find test (map e (from_key (Some key) keys)) ≡ find test (map e (from_key next keys))
 found_later e test keys key next is fails = ap (λ xs. find test (map e xs)) is.rest ∙ ap (λ b. cond b (Some (e key)) (find test (map e (from_key next keys)))) fails
 
--- ---- what stands before a key
+-- ---- the keys before a key
 abbrev before_key : ℕ → List ℕ → List ℕ
 before_key key [] = []
 before_key key (x ∷ xs) = if eqb key x then [] else x ∷ before_key key xs
@@ -152,7 +152,7 @@ heads key (x ∷ xs) there =
 previous_is_last : (keys : List ℕ) (key : ℕ) (p : Option ℕ) → is_in key keys ≡ true → IsPreviousIn keys key p → p ≡ last_of (before_key key keys)
 previous_is_last keys key p there is = is (before_key key keys) (after_key key keys) (splits key keys ∙ ap (λ xs. before_key key keys ++ xs) (heads key keys there))
 
-all_below : (e : ℕ → Parked) (n : ℕ) (front rest : List ℕ) → Rises (map e (front ++ rest)) → IfSome (last_of front) (λ k. (e k).parked ≤ n) → AllByRecursion (λ k. (e k).parked ≤ n) front
+all_below : (e : ℕ → QueueEntry) (n : ℕ) (front rest : List ℕ) → IsAscendingQueue (map e (front ++ rest)) → IfSome (last_of front) (λ k. (e k).parked ≤ n) → AllByRecursion (λ k. (e k).parked ≤ n) front
 all_below e n [] rest up last = tt
 all_below e n (x ∷ []) rest up last = (last, tt)
 all_below e n (x ∷ y ∷ ys) rest up last = let later = all_below e n (y ∷ ys) rest up.1 last in (omega (arith, up.0.0, later.0), later)
@@ -161,16 +161,16 @@ and_false : (a b : Bool) → b ≡ false → (a && b) ≡ false
 and_false true b is = is
 and_false false b is = refl
 
-none_after : (e : ℕ → Parked) (n : ℕ) (front rest : List ℕ) → AllByRecursion (λ k. (e k).parked ≤ n) front → find (is_wanted (Some n)) (map e (front ++ rest)) ≡ find (is_wanted (Some n)) (map e rest)
+none_after : (e : ℕ → QueueEntry) (n : ℕ) (front rest : List ℕ) → AllByRecursion (λ k. (e k).parked ≤ n) front → find (is_wanted (Some n)) (map e (front ++ rest)) ≡ find (is_wanted (Some n)) (map e rest)
 none_after e n [] rest all = refl
 none_after e n (x ∷ xs) rest all =
     let fails : is_wanted (Some n) (e x) ≡ false = and_false (e x).is_idle (nat_lt n (e x).parked) (le-ltb n (e x).parked all.0) in
     ap (λ b. cond b (Some (e x)) (find (is_wanted (Some n)) (map e (xs ++ rest)))) fails ∙ none_after e n xs rest all.1
 
--- where the one before was parked at the position or before it, nothing is missed
-pub start_here : (e : ℕ → Parked) (n : ℕ) (keys : List ℕ) (key : ℕ) (p : Option ℕ) → Rises (map e keys) → is_in key keys ≡ true → IsPreviousIn keys key p → IfSome p (λ k. (e k).parked ≤ n) → find (is_wanted (Some n)) (map e keys) ≡ find (is_wanted (Some n)) (map e (from_key (Some key) keys))
+-- if the one before was parked at the position or before it, nothing is missed
+pub start_here : (e : ℕ → QueueEntry) (n : ℕ) (keys : List ℕ) (key : ℕ) (p : Option ℕ) → IsAscendingQueue (map e keys) → is_in key keys ≡ true → IsPreviousIn keys key p → IfSome p (λ k. (e k).parked ≤ n) → find (is_wanted (Some n)) (map e keys) ≡ find (is_wanted (Some n)) (map e (from_key (Some key) keys))
 start_here e n keys key p up there is before =
-    let below = all_below e n (before_key key keys) (from_key (Some key) keys) (subst (λ xs. Rises (map e xs)) (splits key keys) up) (subst (λ o. IfSome o (λ k. (e k).parked ≤ n)) (previous_is_last keys key p there is) before) in
+    let below = all_below e n (before_key key keys) (from_key (Some key) keys) (subst (λ xs. IsAscendingQueue (map e xs)) (splits key keys) up) (subst (λ o. IfSome o (λ k. (e k).parked ≤ n)) (previous_is_last keys key p there is) before) in
     ap (λ xs. find (is_wanted (Some n)) (map e xs)) (splits key keys) ∙ none_after e n (before_key key keys) (from_key (Some key) keys) below
 
 -- ---- a key that leaves
@@ -186,11 +186,11 @@ last_stays key (x ∷ xs) = by_test (eqb key x) (last_stays key xs)
     by_test true later = tt
     by_test false later = last_of_two (last_of (before_key key xs)) later
 
--- the one before it is still there
+-- the one before it stays in the queue
 pub previous_stays : (keys : List ℕ) (key : ℕ) (p : Option ℕ) → is_in key keys ≡ true → IsPreviousIn keys key p → IsWithin (without key keys) p
 previous_stays keys key p there is = subst (IsWithin (without key keys)) (sym (previous_is_last keys key p there is)) (last_stays key keys)
 
--- so are the others
+-- so do the others
 pub other_stays : (other key : ℕ) (keys : List ℕ) → other ≢ key → is_in other (without key keys) ≡ is_in other keys
 other_stays other key [] apart = refl
 other_stays other key (x ∷ xs) apart =
@@ -211,7 +211,7 @@ key_is_gone key (x ∷ xs) =
       | inr differs ↦ rw (differs.0, differs.0) (key_is_gone key xs)
     ]
 
--- ---- a key that comes to the end
+-- ---- a key that enters at the end
 pub in_pushed : (key : ℕ) (keys : List ℕ) → is_in key (keys ++ key ∷ []) ≡ true
 in_pushed key [] = is_in_first key []
 in_pushed key (x ∷ xs) = is_in_later key x (xs ++ key ∷ []) (in_pushed key xs)
@@ -259,18 +259,18 @@ key_here test keys key there passes = ap (find test) (heads key keys there) ∙ 
 pub key_later : (test : ℕ → Bool) (keys : List ℕ) (key : ℕ) (next : Option ℕ) → IsStep keys key next → test key ≡ false → find test (from_key (Some key) keys) ≡ find test (from_key next keys)
 key_later test keys key next is fails = ap (find test) is.rest ∙ ap (λ b. cond b (Some key) (find test (from_key next keys))) fails
 
-none_parked : (e : ℕ → Parked) (n : ℕ) (front rest : List ℕ) → AllByRecursion (λ k. (e k).parked ≤ n) front → find (λ k. nat_lt n (e k).parked) (front ++ rest) ≡ find (λ k. nat_lt n (e k).parked) rest
+none_parked : (e : ℕ → QueueEntry) (n : ℕ) (front rest : List ℕ) → AllByRecursion (λ k. (e k).parked ≤ n) front → find (λ k. nat_lt n (e k).parked) (front ++ rest) ≡ find (λ k. nat_lt n (e k).parked) rest
 none_parked e n [] rest all = refl
 none_parked e n (x ∷ xs) rest all =
     ap (λ b. cond b (Some x) (find (λ k. nat_lt n (e k).parked) (xs ++ rest))) (le-ltb n (e x).parked all.0) ∙ none_parked e n xs rest all.1
 
--- where the one before was parked at the position or before it, none is missed
-pub start_parked : (e : ℕ → Parked) (n : ℕ) (keys : List ℕ) (key : ℕ) (p : Option ℕ) → Rises (map e keys) → is_in key keys ≡ true → IsPreviousIn keys key p → IfSome p (λ k. (e k).parked ≤ n) → find (λ k. nat_lt n (e k).parked) keys ≡ find (λ k. nat_lt n (e k).parked) (from_key (Some key) keys)
+-- if the one before was parked at the position or before it, none is missed
+pub start_parked : (e : ℕ → QueueEntry) (n : ℕ) (keys : List ℕ) (key : ℕ) (p : Option ℕ) → IsAscendingQueue (map e keys) → is_in key keys ≡ true → IsPreviousIn keys key p → IfSome p (λ k. (e k).parked ≤ n) → find (λ k. nat_lt n (e k).parked) keys ≡ find (λ k. nat_lt n (e k).parked) (from_key (Some key) keys)
 start_parked e n keys key p up there is before =
-    let below = all_below e n (before_key key keys) (from_key (Some key) keys) (subst (λ xs. Rises (map e xs)) (splits key keys) up) (subst (λ o. IfSome o (λ k. (e k).parked ≤ n)) (previous_is_last keys key p there is) before) in
+    let below = all_below e n (before_key key keys) (from_key (Some key) keys) (subst (λ xs. IsAscendingQueue (map e xs)) (splits key keys) up) (subst (λ o. IfSome o (λ k. (e k).parked ≤ n)) (previous_is_last keys key p there is) before) in
     ap (find (λ k. nat_lt n (e k).parked)) (splits key keys) ∙ none_parked e n (before_key key keys) (from_key (Some key) keys) below
 
--- ---- a key that comes where its position belongs
+-- ---- a key that enters in the order of the positions
 pub in_put_other : (other key : ℕ) (next : Option ℕ) (keys : List ℕ) → other ≢ key → is_in other (put_before next key keys) ≡ is_in other keys
 in_put_other other key next keys apart =
     elim (eqb_tells other key) [
@@ -285,7 +285,7 @@ in_put_here key next keys =
       | inr differs ↦ absurd (differs.1 refl)
     ]
 
-above_put : (e : ℕ → Parked) (n key : ℕ) (next : Option ℕ) (keys : List ℕ) → n < (e key).parked → AllByRecursion (λ q. n < q.parked) (map e keys) → AllByRecursion (λ q. n < q.parked) (map e (put_before next key keys))
+above_put : (e : ℕ → QueueEntry) (n key : ℕ) (next : Option ℕ) (keys : List ℕ) → n < (e key).parked → AllByRecursion (λ q. n < q.parked) (map e keys) → AllByRecursion (λ q. n < q.parked) (map e (put_before next key keys))
 above_put e n key next [] here above = (here, tt)
 above_put e n key next (x ∷ xs) here above = by_test (is_key next x) (above_put e n key next xs here above.1)
   where
@@ -293,7 +293,7 @@ above_put e n key next (x ∷ xs) here above = by_test (is_key next x) (above_pu
     by_test true later = (here, above)
     by_test false later = (above.0, later)
 
-above_more : (e : ℕ → Parked) (m n : ℕ) (keys : List ℕ) → m < n → AllByRecursion (λ q. n < q.parked) (map e keys) → AllByRecursion (λ q. m < q.parked) (map e keys)
+above_more : (e : ℕ → QueueEntry) (m n : ℕ) (keys : List ℕ) → m < n → AllByRecursion (λ q. n < q.parked) (map e keys) → AllByRecursion (λ q. m < q.parked) (map e keys)
 above_more e m n [] less above = tt
 above_more e m n (x ∷ xs) less above = (omega (arith, less, above.0), above_more e m n xs less above.1)
 
@@ -301,14 +301,14 @@ not_first : (x : ℕ) (xs : List ℕ) (o : Option ℕ) → is_in x xs ≡ false 
 not_first x xs None out there = refl
 not_first x xs (Some n) out there = apart_of n x xs there out
 
-pub rises_put : (e : ℕ → Parked) (key : ℕ) (keys : List ℕ) → AreDistinct keys → Rises (map e keys) → AllByRecursion (λ q. q.parked ≢ (e key).parked) (map e keys) → Rises (map e (put_before (find (λ k. nat_lt (e key).parked (e k).parked) keys) key keys))
+pub rises_put : (e : ℕ → QueueEntry) (key : ℕ) (keys : List ℕ) → AreDistinct keys → IsAscendingQueue (map e keys) → AllByRecursion (λ q. q.parked ≢ (e key).parked) (map e keys) → IsAscendingQueue (map e (put_before (find (λ k. nat_lt (e key).parked (e k).parked) keys) key keys))
 rises_put e key [] distinct up free = (tt, tt)
 rises_put e key (x ∷ xs) distinct up free = by_test (nat_lt (e key).parked (e x).parked) refl (rises_put e key xs distinct.1 up.1 free.1)
   where
     later : Option ℕ
     later = find (λ k. nat_lt (e key).parked (e k).parked) xs
 
-    by_test : (b : Bool) → nat_lt (e key).parked (e x).parked ≡ b → Rises (map e (put_before later key xs)) → Rises (map e (put_before (cond b (Some x) later) key (x ∷ xs)))
+    by_test : (b : Bool) → nat_lt (e key).parked (e x).parked ≡ b → IsAscendingQueue (map e (put_before later key xs)) → IsAscendingQueue (map e (put_before (cond b (Some x) later) key (x ∷ xs)))
     by_test true is rest =
         let less = ltb-true (e key).parked (e x).parked is in
         elim (eqb_tells x x) [

@@ -1,4 +1,4 @@
--- How a call changes the record of one object, and when it may be called.
+-- The changes that calls make to the record of one object, and the conditions of these calls.
 use Rattle.std.specs.Prelude.{◌≡◌, ◌≢◌, ℕ, ◌==◌, ◌<◌, Bool, true, false, not, if◌then◌else◌, List, map, filter, IsSomeAnd}
 use Rattle.std.specs.List.{AllByRecursion}
 use Rattle.pool_journal.specs.declared.record.Record.{Record}
@@ -10,27 +10,27 @@ use Rattle.pool_journal.specs.Queue.{is_queued, record_in}
 abbrev pub with_changed : ℕ → (Record → Record) → List Record → List Record
 with_changed i change rs = map (λ r. if i == r.id then change r else r) rs
 
--- the records but that of i
+-- the records without that of i
 abbrev pub without_id : ℕ → List Record → List Record
 without_id i rs = filter (λ r. not (i == r.id)) rs
 
--- the record of an object that is just drawn
+-- the record of an object that was just created
 abbrev pub new_record : ℕ → Phase → Record
 new_record i phase = record { id = i; phase = phase; parked = 0; since = 0; lent = 0; used = 0; is_new = true }
 
--- the object comes to the phase
+-- the record of the object in the phase
 abbrev pub phase_set : Phase → Record → Record
 phase_set phase r = record r { phase = phase; is_new = false }
 
--- the object is lent at the moment
+-- the record of the object, lent at the time
 abbrev pub lent_at : ℕ → Record → Record
 lent_at at r = record r { phase = phases.Lent; lent = at; used = at; is_new = false }
 
--- the lent object is used at the moment
+-- the record of the lent object, used at the time
 abbrev pub used_at : ℕ → Record → Record
 used_at at r = record r { used = at }
 
--- the object is parked at the position and the moment
+-- the record of the object, parked at the position and the time
 abbrev pub parked_at : ℕ → ℕ → Record → Record
 parked_at parked since r = record r { phase = phases.Idle; parked = parked; since = since; is_new = false }
 
@@ -40,7 +40,7 @@ opens_as phases.Readying = true
 opens_as phases.Adding = true
 opens_as _ = false
 
--- the phases to which an object is set that isn't idle
+-- the phases to which an object that isn't idle is set
 abbrev pub sets_to : Phase → Bool
 sets_to phases.Returning = true
 sets_to phases.Destroying = true

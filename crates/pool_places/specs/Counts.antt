@@ -1,4 +1,4 @@
--- What is counted of the objects.
+-- The counts of the objects.
 use Rattle.std.specs.Prelude.{◌≡◌, ℕ, ◌+◌, ◌<◌, ◌≤◌, ◌^◌, Bool, true, false, List, length, count_by, Option, Some, None}
 use Rattle.std.specs.Int.{from_bool}
 use Rattle.std.specs.List.{sum_by}
@@ -13,35 +13,35 @@ abbrev pub is_adding : Phase → Bool
 is_adding phases.Adding = true
 is_adding _ = false
 
--- how many entries at most an object in this phase still needs until its place is free
-abbrev pub weight : Phase → ℕ
-weight phases.Readying = 5
-weight phases.Lent = 4
-weight phases.Returning = 3
-weight phases.Testing = 3
-weight phases.Adding = 3
-weight phases.Idle = 2
-weight phases.Destroying = 1
-weight phases.Absent = 0
-weight phases.Gone = 0
+-- the most entries that an object in this phase may still need until its place is free
+abbrev pub max_remaining : Phase → ℕ
+max_remaining phases.Readying = 5
+max_remaining phases.Lent = 4
+max_remaining phases.Returning = 3
+max_remaining phases.Testing = 3
+max_remaining phases.Adding = 3
+max_remaining phases.Idle = 2
+max_remaining phases.Destroying = 1
+max_remaining phases.Absent = 0
+max_remaining phases.Gone = 0
 
--- how many all of them need
-abbrev pub owed_by : List Record → ℕ
-owed_by rs = sum_by (λ r. weight r.phase) rs
+-- the outstanding entries: the most that all objects may still need
+abbrev pub owed_for : List Record → ℕ
+owed_for rs = sum_by (λ r. max_remaining r.phase) rs
 
--- how many an object needs that may not be present
+-- the most entries that an object may still need, and 0 if it is not present
 abbrev pub weight_of : Option Record → ℕ
 weight_of None = 0
-weight_of (Some r) = weight r.phase
+weight_of (Some r) = max_remaining r.phase
 
--- the numbers of the objects that have these records
+-- c has the counts of the objects with these records
 pub record IsCounts (c : PlaceCounts) (rs : List Record) : Type 0 where
   pub present : c.present ≡ length rs
   pub queue : c.queue ≡ queue_length rs
   pub idle : c.idle ≡ count_by (λ r. is_idle r.phase) rs
   pub lent : c.lent ≡ count_by (λ r. is_lent r.phase) rs
   pub adding : c.adding ≡ count_by (λ r. is_adding r.phase) rs
-  pub owed : c.owed ≡ owed_by rs
+  pub owed : c.owed ≡ owed_for rs
 
 -- b has one object more than a, in this phase
 pub record HasOneMore (a b : PlaceCounts) (phase : Phase) : Type 0 where
@@ -50,18 +50,18 @@ pub record HasOneMore (a b : PlaceCounts) (phase : Phase) : Type 0 where
   pub idle : b.idle ≡ a.idle + from_bool (is_idle phase)
   pub lent : b.lent ≡ a.lent + from_bool (is_lent phase)
   pub adding : b.adding ≡ a.adding + from_bool (is_adding phase)
-  pub owed : b.owed ≡ a.owed + weight phase
+  pub owed : b.owed ≡ a.owed + max_remaining phase
 
--- there is at least what one object in this phase adds
+-- each count is at least that of one object in this phase
 pub record HasOne (c : PlaceCounts) (phase : Phase) : Type 0 where
   pub present : 1 ≤ c.present
   pub queue : from_bool (is_queued phase) ≤ c.queue
   pub idle : from_bool (is_idle phase) ≤ c.idle
   pub lent : from_bool (is_lent phase) ≤ c.lent
   pub adding : from_bool (is_adding phase) ≤ c.adding
-  pub owed : weight phase ≤ c.owed
+  pub owed : max_remaining phase ≤ c.owed
 
--- each number is below half of the largest
+-- each count is below 2^63
 pub record IsSmall (c : PlaceCounts) : Type 0 where
   pub present : c.present < 2 ^ 63
   pub queue : c.queue < 2 ^ 63

@@ -1,10 +1,10 @@
 ghost use Rattle.std.specs.Prelude.{◌≡◌, Some, IsSome};
-ghost use Rattle.rising_index.specs.Pairs.{key_of};
+ghost use Rattle.sorted_index.specs.Pairs.{key_of};
 
-use rising_index::RisingIndex;
+use sorted_index::SortedIndex;
 
-/// The key of an object that is present.
-pub(crate) fn key_under(index: &RisingIndex, id: u64) -> usize
+/// Returns the key of a present object.
+pub(crate) fn key_under(index: &SortedIndex, id: u64) -> usize
     requires { IsSome (key_of index.now.pairs id) }
     ensures { key_of index.now.pairs id ≡ Some result }
 {

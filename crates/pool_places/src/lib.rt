@@ -1,4 +1,4 @@
-//! The objects of a pool: what is known of each, and the values that the pool keeps.
+//! The objects of a pool: the record of each, and the values that the pool stores.
 #![tactic(auto)]
 
 mod keys;

@@ -1,29 +1,29 @@
 ghost use Rattle.std.specs.Prelude.{◌≡◌, ◌≤◌, true, count_by, find};
 ghost use Rattle.std.specs.Option.{option_map};
 ghost use Rattle.pool_places.specs.Overdue.{is_overdue, is_lent, IsBound};
-ghost use Rattle.pool_places.specs.Shelf.{records_in, IsShelf};
-ghost use Rattle.pool_places.specs.Stored.{kept_of, IsTied};
+ghost use Rattle.pool_places.specs.PlacesModel.{records_in, PlacesInvariant};
+ghost use Rattle.pool_places.specs.Stored.{kept_of, IndexInvariant};
 
 use crate::phase_tests::is_lent_phase;
 use pool_journal::Record;
 use pool_slots::Slots;
-use rising_index::RisingIndex;
+use sorted_index::SortedIndex;
 
-// Whether a lent object was not used for the timeout.
+// Whether an object is lent and, at time `at`, was not used for `timeout` (both in milliseconds).
 fn is_overdue_record(known: Record, at: u64, timeout: u64) -> bool
     ensures { result ≡ is_overdue at timeout known }
 {
     is_lent_phase(known.phase) && at.saturating_sub(known.used) >= timeout
 }
 
-/// The overdue object with the least id.
+/// Returns the least id of an abandoned object, if there is one.
 pub(crate) fn first_overdue<T>(
     slots: &Slots<T>,
-    index: &RisingIndex,
+    index: &SortedIndex,
     at: u64,
     timeout: u64,
 ) -> Option<u64>
-    requires { IsTied slots.now index.now.pairs }
+    requires { IndexInvariant slots.now index.now.pairs }
     ensures { result ≡ option_map (λ r. r.id)
         (find (is_overdue at timeout) (records_in (kept_of slots.now index.now.pairs))) }
 {
@@ -36,10 +36,10 @@ pub(crate) fn first_overdue<T>(
     None
 }
 
-/// How many objects are overdue.
-pub(crate) fn overdue_count<T>(slots: &Slots<T>, index: &RisingIndex, at: u64, timeout: u64) -> u64
-    requires tied { IsTied slots.now index.now.pairs }
-    requires shelf { IsShelf (kept_of slots.now index.now.pairs) }
+/// Returns the number of abandoned objects.
+pub(crate) fn overdue_count<T>(slots: &Slots<T>, index: &SortedIndex, at: u64, timeout: u64) -> u64
+    requires tied { IndexInvariant slots.now index.now.pairs }
+    requires shelf { PlacesInvariant (kept_of slots.now index.now.pairs) }
     ensures { result ≡ count_by (is_overdue at timeout)
         (records_in (kept_of slots.now index.now.pairs)) }
 {
@@ -52,7 +52,7 @@ pub(crate) fn overdue_count<T>(slots: &Slots<T>, index: &RisingIndex, at: u64, t
     count
 }
 
-/// The earlier of two moments.
+/// Returns the earlier of two times.
 pub(crate) fn earlier(one: u64, other: u64) -> u64
     ensures one { result ≤ one }
     ensures other { result ≤ other }
@@ -60,7 +60,7 @@ pub(crate) fn earlier(one: u64, other: u64) -> u64
     one.min(other)
 }
 
-/// When an object was last used, where it is lent; else the latest moment.
+/// Returns the time at which an object was last used, if it is lent, and otherwise `u64::MAX`.
 pub(crate) fn last_use(known: Record) -> u64
     ensures { is_lent known.phase ≡ true → result ≡ known.used }
 {
@@ -71,9 +71,9 @@ pub(crate) fn last_use(known: Record) -> u64
     }
 }
 
-/// When a lent object was last used at the earliest.
-pub(crate) fn least_use<T>(slots: &Slots<T>, index: &RisingIndex) -> u64
-    requires { IsTied slots.now index.now.pairs }
+/// Returns the earliest time at which a lent object was last used, and `u64::MAX` if none is lent.
+pub(crate) fn least_use<T>(slots: &Slots<T>, index: &SortedIndex) -> u64
+    requires { IndexInvariant slots.now index.now.pairs }
     ensures { IsBound result (records_in (kept_of slots.now index.now.pairs)) }
 {
     let mut least = u64::MAX;

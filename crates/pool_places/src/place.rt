@@ -1,6 +1,6 @@
 use pool_journal::Record;
 
-/// An object: what is known of it, and its value where the pool keeps it.
+/// An object: its record, and its value if the pool stores it.
 #[derive(Drop)]
 pub struct Place<T> {
     pub known: Record,

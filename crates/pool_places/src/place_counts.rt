@@ -6,25 +6,25 @@ use crate::phase_tests::{
 };
 use pool_journal::Phase;
 
-/// How many objects there are of each kind.
+/// The number of objects of each kind.
 #[derive(Clone, Copy, Debug, PartialEq, Eq)]
 pub struct PlaceCounts {
-    /// All that are present.
+    /// The number of present objects.
     pub present: u64,
-    /// Those of the queue: idle, or under an idle test.
+    /// The number of objects in the queue: idle, or under an idle test.
     pub queue: u64,
-    /// Those of the queue that aren't under a test.
+    /// The number of objects in the queue that aren't under a test.
     pub idle: u64,
-    /// Those with a holder.
+    /// The number of lent objects.
     pub lent: u64,
-    /// Those that are being made for the queue.
+    /// The number of objects that are being made for the queue.
     pub adding: u64,
-    /// How many entries at most all of them still need until their places are free.
+    /// The most entries that all of them together may still need until their places are free.
     pub owed: u64,
 }
 
 impl PlaceCounts {
-    /// No objects.
+    /// Returns the counts of no objects.
     pub(crate) fn none() -> Self
         ensures { IsCounts result [] }
     {
@@ -38,7 +38,7 @@ impl PlaceCounts {
         }
     }
 
-    /// Counts one object more.
+    /// Counts one more object.
     pub(crate) fn add(&mut self, phase: Phase)
         requires { IsSmall self.old }
         ensures { HasOneMore self.old self.new phase }
@@ -51,7 +51,7 @@ impl PlaceCounts {
         self.owed += weight_of_phase(phase);
     }
 
-    /// Counts one object less.
+    /// Counts one object fewer.
     pub(crate) fn remove(&mut self, phase: Phase)
         requires { HasOne self.old phase }
         ensures { HasOneMore self.new self.old phase }

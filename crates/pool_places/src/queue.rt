@@ -2,16 +2,16 @@ ghost use Rattle.std.specs.Prelude.{◌≡◌, ◌≢◌, ℕ, if◌then◌else�
 ghost use Rattle.std.specs.List.{AllByRecursion};
 ghost use Rattle.std.specs.Option.{option_map};
 ghost use Rattle.pool_journal.specs.Queue.{is_queued};
-ghost use Rattle.pool_slots.specs.Rack.{is_in, without, known_at, value_at, Sets, IsRack};
-ghost use Rattle.pool_places.specs.Kept.{IsWithin};
+ghost use Rattle.pool_slots.specs.SlotsModel.{is_in, without, known_at, value_at, Sets, SlotsInvariant};
+ghost use Rattle.pool_places.specs.RepInvariant.{IsWithin};
 ghost use Rattle.pool_places.specs.Stored.{entry_at, entry_of, first_parked, from_key, parked_of};
-ghost use Rattle.pool_places.specs.Waiting.{Rises, is_wanted};
+ghost use Rattle.pool_places.specs.QueueEntries.{IsAscendingQueue, is_wanted};
 
 use crate::phase_tests::{is_idle_phase, is_queued_phase};
 use pool_journal::{Phase, Record};
 use pool_slots::Slots;
 
-// Which key is remembered once an object leaves the queue: its own gives way to the one before it.
+// The key that is remembered after an object leaves the queue: the one before it, if its own key was remembered.
 fn passed_on<T>(slots: &Slots<T>, remembered: Option<usize>, key: usize) -> Option<usize>
     requires queued { is_in key slots.now.queue ≡ true }
     requires remembered { IsWithin slots.now.queue remembered }
@@ -25,7 +25,7 @@ fn passed_on<T>(slots: &Slots<T>, remembered: Option<usize>, key: usize) -> Opti
     }
 }
 
-/// Takes an object out of the queue, where it is in it and its new phase isn't one of the queue.
+/// Removes an object from the queue, if it is in it and its new phase isn't one of the queue.
 pub(crate) fn leave<T>(
     slots: &mut Slots<T>,
     remembered: &mut Option<usize>,
@@ -46,7 +46,7 @@ pub(crate) fn leave<T>(
     }
 }
 
-/// Notes what is now known of an object. It leaves the queue where its phase isn't one of the queue.
+/// Replaces the record of an object. The object leaves the queue if its new phase isn't one of the queue.
 pub(crate) fn change<T>(
     slots: &mut Slots<T>,
     remembered: &mut Option<usize>,
@@ -78,13 +78,13 @@ fn is_wanted_record(known: Record, after: Option<u64>) -> bool
     }
 }
 
-/// The first object that is wanted, from one of the queue on.
+/// Returns the first idle object from `from` onwards, and if `after` is given, the first that was parked after it.
 pub(crate) fn first_wanted<T>(
     slots: &Slots<T>,
     from: Option<usize>,
     after: Option<u64>,
 ) -> Option<u64>
-    requires rack { IsRack slots.now }
+    requires rack { SlotsInvariant slots.now }
     requires from { IsWithin slots.now.queue from }
     ensures { result ≡ option_map (λ q. q.id)
         (find (is_wanted after) (map (entry_at slots.now) (from_key from slots.now.queue))) }
@@ -100,9 +100,9 @@ pub(crate) fn first_wanted<T>(
     None
 }
 
-/// The last idle object, from one of the queue back.
+/// Returns the last idle object from `from` backwards.
 pub(crate) fn last_wanted<T>(slots: &Slots<T>, from: Option<usize>) -> Option<u64>
-    requires rack { IsRack slots.now }
+    requires rack { SlotsInvariant slots.now }
     requires from { IsWithin slots.now.queue from }
     ensures { result ≡ option_map (λ q. q.id) (find (λ q. q.is_idle)
         (map (entry_at slots.now) (from_key from (reverse slots.now.queue)))) }
@@ -118,11 +118,11 @@ pub(crate) fn last_wanted<T>(slots: &Slots<T>, from: Option<usize>) -> Option<u6
     None
 }
 
-/// An object of the queue before which none was parked after the position, sought from another one back.
+/// Returns an object of the queue before which none was parked after `position`, searched for from `from` backwards.
 pub(crate) fn start_after<T>(slots: &Slots<T>, from: usize, position: u64) -> usize
-    requires rack { IsRack slots.now }
+    requires rack { SlotsInvariant slots.now }
     requires from { is_in from slots.now.queue ≡ true }
-    requires rises { Rises (parked_of slots.now) }
+    requires rises { IsAscendingQueue (parked_of slots.now) }
     ensures queued { is_in result slots.now.queue ≡ true }
     ensures start { find (is_wanted (Some position)) (parked_of slots.now)
         ≡ find (is_wanted (Some position))
@@ -140,12 +140,13 @@ pub(crate) fn start_after<T>(slots: &Slots<T>, from: usize, position: u64) -> us
     start
 }
 
-/// The first object of the queue that was parked after the position, sought from another one of the queue.
+/// Returns the first object of the queue that was parked after `position`, searched for from `from`, or from the first
+/// object if `from` is `None`.
 pub(crate) fn first_after<T>(slots: &Slots<T>, from: Option<usize>, position: u64) -> Option<usize>
     requires from { IsWithin slots.now.queue from }
-    requires rises { Rises (parked_of slots.now) }
+    requires rises { IsAscendingQueue (parked_of slots.now) }
     ensures first { result ≡ first_parked slots.now position slots.now.queue }
-    ensures rack { IsRack slots.now }
+    ensures rack { SlotsInvariant slots.now }
 {
     let first = slots.first()?;
     let mut next = Some(start_after(slots, from.unwrap_or(first), position));
@@ -158,8 +159,8 @@ pub(crate) fn first_after<T>(slots: &Slots<T>, from: Option<usize>, position: u6
     None
 }
 
-/// Puts an object into the queue where its position belongs, if its phase is one of the queue. The next one is
-/// then sought from it.
+/// Puts an object into the queue in the order of the positions, if its phase is one of the queue. The next search then
+/// starts at it.
 pub(crate) fn enter<T>(
     slots: &mut Slots<T>,
     remembered: &mut Option<usize>,
@@ -168,7 +169,7 @@ pub(crate) fn enter<T>(
 )
     requires known { known_at slots.old key ≡ Some known }
     requires out { is_in key slots.old.queue ≡ false }
-    requires rises { Rises (parked_of slots.old) }
+    requires rises { IsAscendingQueue (parked_of slots.old) }
     requires free { is_queued known.phase ≡ true
         → AllByRecursion (λ q. q.parked ≢ known.parked) (parked_of slots.old) }
     requires remembered { IsWithin slots.old.queue remembered.old }
@@ -176,7 +177,7 @@ pub(crate) fn enter<T>(
     ensures here { is_in key slots.new.queue ≡ is_queued known.phase }
     ensures others { (other : ℕ) → other ≢ key →
         is_in other slots.new.queue ≡ is_in other slots.old.queue }
-    ensures rises { Rises (parked_of slots.new) }
+    ensures rises { IsAscendingQueue (parked_of slots.new) }
     ensures remembered { IsWithin slots.new.queue remembered.new }
 {
     if is_queued_phase(known.phase) {

@@ -6,37 +6,37 @@ use Rattle.std.proofs.lemmas.List.{append-nil, take_more}
 use Rattle.std.proofs.lemmas.List.Elements.{filter-append}
 use Rattle.std.proofs.lemmas.List.Sums.{fold-append}
 use Rattle.pool_journal.specs.declared.record.Record.{Record}
-use Rattle.pool_journal.specs.Queue.{is_idle, put_rising, by_rising, idle_queue, first_of, last_of}
+use Rattle.pool_journal.specs.Queue.{is_idle, insert_sorted, sort_by, idle_queue, first_of, last_of}
 use Rattle.pool_places.specs.Overdue.{is_overdue, overdue}
 
 -- a list with x inserted in order among the elements from index i on
 abbrev pub put_from : {X : Type 0} → (X → ℕ) → ℕ → List X → X → List X
-put_from key i xs x = take i xs ++ put_rising key (drop i xs) x
+put_from key i xs x = take i xs ++ insert_sorted key (drop i xs) x
 
 pub queue_none : idle_queue [] ≡ []
-unfolding by_rising
+unfolding sort_by
 queue_none = refl
 
 -- the queue with x, if it is idle
 abbrev pub with_idle : List Record → Record → List Record
-with_idle queue x = cond (is_idle x.phase) (put_rising (λ r. r.parked) queue x) queue
+with_idle queue x = cond (is_idle x.phase) (insert_sorted (λ r. r.parked) queue x) queue
 
 queue_more : (rs : List Record) (k : ℕ) (d : Record) → k < length rs
     → idle_queue (take (k + 1) rs) ≡ with_idle (idle_queue (take k rs)) (get_or rs k d)
-unfolding by_rising
+unfolding sort_by
 queue_more rs k d lt =
     ap idle_queue (take_more rs k d lt)
-    ∙ ap (fold (put_rising (λ r. r.parked)) []) (filter-append (λ r. is_idle r.phase) (take k rs) (get_or rs k d ∷ []))
-    ∙ fold-append (put_rising (λ r. r.parked)) [] (filter (λ r. is_idle r.phase) (take k rs)) _
+    ∙ ap (fold (insert_sorted (λ r. r.parked)) []) (filter-append (λ r. is_idle r.phase) (take k rs) (get_or rs k d ∷ []))
+    ∙ fold-append (insert_sorted (λ r. r.parked)) [] (filter (λ r. is_idle r.phase) (take k rs)) _
     ∙ by_test (is_idle (get_or rs k d).phase) (get_or rs k d) (idle_queue (take k rs))
   where
     by_test : (b : Bool) (r : Record) (queue : List Record)
-        → fold (put_rising (λ r. r.parked)) queue (cond b (r ∷ []) []) ≡ cond b (put_rising (λ r. r.parked) queue r) queue
+        → fold (insert_sorted (λ r. r.parked)) queue (cond b (r ∷ []) []) ≡ cond b (insert_sorted (λ r. r.parked) queue r) queue
     by_test true r queue = refl
     by_test false r queue = refl
 
 pub queue_with : (rs : List Record) (k : ℕ) (d : Record) → k < length rs → is_idle (get_or rs k d).phase ≡ true
-    → idle_queue (take (k + 1) rs) ≡ put_rising (λ r. r.parked) (idle_queue (take k rs)) (get_or rs k d)
+    → idle_queue (take (k + 1) rs) ≡ insert_sorted (λ r. r.parked) (idle_queue (take k rs)) (get_or rs k d)
 queue_with rs k d lt idle = queue_more rs k d lt ∙ rw idle refl
 
 pub queue_without : (rs : List Record) (k : ℕ) (d : Record) → k < length rs → is_idle (get_or rs k d).phase ≡ false

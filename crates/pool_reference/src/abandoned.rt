@@ -1,8 +1,7 @@
 ghost use Rattle.std.specs.Prelude.{◌≡◌, IfOk};
 ghost use Rattle.pool_places.specs.Overdue.{is_lent, is_overdue, overdue};
 ghost use Rattle.pool_journal.specs.declared.input.Input.TheVariants as inputs;
-ghost use Rattle.pool_core.specs.Reply.{forgotten_for, is_scarce, reclaims};
-ghost use Rattle.pool_reference.specs.Told.{told};
+ghost use Rattle.pool_core.specs.Reply.{reply, forgotten_for, is_scarce, reclaims};
 
 use crate::limits::is_near_limit;
 use crate::marks::is_closed;
@@ -84,7 +83,7 @@ pub fn reply_to_reclaim(
     at: u64,
     on: When,
 ) -> Result<Answer, AllocError>
-    ensures { IfOk result (λ a. a ≡ told settings.now entries.now at (inputs.Reclaim on)) }
+    ensures { IfOk result (λ a. a ≡ reply settings.now entries.now at (inputs.Reclaim on)) }
 {
     let known = records_of(alloc, entries)?;
     if is_removing(settings, is_closed(entries), &known, on) {
@@ -102,7 +101,7 @@ pub fn reply_to_reclaim_next(
     entries: &[Entry],
     at: u64,
 ) -> Result<Answer, AllocError>
-    ensures { IfOk result (λ a. a ≡ told settings.now entries.now at inputs.ReclaimNext) }
+    ensures { IfOk result (λ a. a ≡ reply settings.now entries.now at inputs.ReclaimNext) }
 {
     let known = records_of(alloc, entries)?;
     let timeout = settings.remove_abandoned_timeout_millis;

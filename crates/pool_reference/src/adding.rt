@@ -1,8 +1,7 @@
 ghost use Rattle.std.specs.Prelude.{◌≡◌, ℕ, IfOk};
 ghost use Rattle.pool_journal.specs.Journal.{drawn};
 ghost use Rattle.pool_journal.specs.declared.input.Input.TheVariants as inputs;
-ghost use Rattle.pool_core.specs.Reply.{is_below, add_reply, has_enough};
-ghost use Rattle.pool_reference.specs.Told.{told};
+ghost use Rattle.pool_core.specs.Reply.{reply, is_below, add_reply, has_min_idle};
 
 use crate::limits::is_below_limit;
 use crate::marks::is_closed;
@@ -25,7 +24,7 @@ fn make_one(settings: &Settings, entries: &[Entry], there: usize) -> Answer
 
 // Whether the objects in the queue, or on their way to it, are at least the number to keep.
 fn is_filled(settings: &Settings, known: &[Record]) -> bool
-    ensures { result ≡ has_enough settings.now known.now }
+    ensures { result ≡ has_min_idle settings.now known.now }
 {
     let least = settings.effective_min_idle();
     least < 0 || (least as usize).saturating_sub(count_queued(known)) <= count_adding(known)
@@ -37,7 +36,7 @@ pub fn reply_to_add(
     settings: &Settings,
     entries: &[Entry],
 ) -> Result<Answer, AllocError>
-    ensures { (at : ℕ) → IfOk result (λ a. a ≡ told settings.now entries.now at inputs.Add) }
+    ensures { (at : ℕ) → IfOk result (λ a. a ≡ reply settings.now entries.now at inputs.Add) }
 {
     if is_closed(entries) {
         return Ok(Answer::Refused(Cause::Closed));
@@ -52,7 +51,7 @@ pub fn reply_to_fill(
     settings: &Settings,
     entries: &[Entry],
 ) -> Result<Answer, AllocError>
-    ensures { (at : ℕ) → IfOk result (λ a. a ≡ told settings.now entries.now at inputs.Fill) }
+    ensures { (at : ℕ) → IfOk result (λ a. a ≡ reply settings.now entries.now at inputs.Fill) }
 {
     let known = records_of(alloc, entries)?;
     if is_closed(entries) || is_filled(settings, &known) {

@@ -2,8 +2,7 @@ ghost use Rattle.std.specs.Prelude.{◌≡◌, IfOk, if◌then◌else◌};
 ghost use Rattle.std.specs.Option.{option_map};
 ghost use Rattle.pool_journal.specs.Queue.{first_of, last_of};
 ghost use Rattle.pool_journal.specs.declared.input.Input.TheVariants as inputs;
-ghost use Rattle.pool_core.specs.Reply.{full_reply};
-ghost use Rattle.pool_reference.specs.Told.{told};
+ghost use Rattle.pool_core.specs.Reply.{reply, exhausted_reply};
 
 use crate::limits::{is_below_limit, is_waited};
 use crate::marks::is_closed;
@@ -27,7 +26,7 @@ fn choose(lifo: bool, queue: &[Record]) -> Option<u64>
 
 // The answer if there is no object for a borrow that has waited `waited` milliseconds.
 fn reply_when_full(settings: &Settings, waited: u64) -> Answer
-    ensures { result ≡ full_reply settings.now waited }
+    ensures { result ≡ exhausted_reply settings.now waited }
 {
     if settings.block_when_exhausted {
         if is_waited(settings.max_wait_millis, waited) {
@@ -48,7 +47,7 @@ pub fn reply_to_borrow(
     at: u64,
     began: u64,
 ) -> Result<Answer, AllocError>
-    ensures { IfOk result (λ a. a ≡ told settings.now entries.now at (inputs.Borrow began)) }
+    ensures { IfOk result (λ a. a ≡ reply settings.now entries.now at (inputs.Borrow began)) }
 {
     if is_closed(entries) {
         return Ok(Answer::Refused(Cause::Closed));

@@ -3,7 +3,7 @@ ghost use Rattle.pool_journal.specs.Journal.{records};
 ghost use Rattle.pool_journal.specs.Queue.{idle_queue};
 ghost use Rattle.pool_settings.specs.declared.settings.Settings.{Settings as Properties};
 ghost use Rattle.pool_journal.specs.declared.input.Input.TheVariants as inputs;
-ghost use Rattle.pool_reference.specs.Told.{told};
+ghost use Rattle.pool_core.specs.Reply.{reply};
 
 use crate::marks::is_closed;
 use crate::queue::{first, idle_queue_of};
@@ -23,7 +23,7 @@ fn count_idle(alloc: Global, entries: &[Entry]) -> Result<u64, AllocError>
 // The expected answer to Clear.
 pub fn reply_to_clear(alloc: Global, entries: &[Entry]) -> Result<Answer, AllocError>
     ensures { (S : Properties) (at : ℕ)
-        → IfOk result (λ a. a ≡ told S entries.now at inputs.Clear) }
+        → IfOk result (λ a. a ≡ reply S entries.now at inputs.Clear) }
 {
     Ok(Answer::Count(count_idle(alloc, entries)?))
 }
@@ -31,7 +31,7 @@ pub fn reply_to_clear(alloc: Global, entries: &[Entry]) -> Result<Answer, AllocE
 // The expected answer to ClearNext.
 pub fn reply_to_clear_next(alloc: Global, entries: &[Entry]) -> Result<Answer, AllocError>
     ensures { (S : Properties) (at : ℕ)
-        → IfOk result (λ a. a ≡ told S entries.now at inputs.ClearNext) }
+        → IfOk result (λ a. a ≡ reply S entries.now at inputs.ClearNext) }
 {
     let known = records_of(alloc, entries)?;
     let queue = idle_queue_of(alloc, &known)?;
@@ -45,7 +45,7 @@ pub fn reply_to_clear_next(alloc: Global, entries: &[Entry]) -> Result<Answer, A
 // The expected answer to Close.
 pub fn reply_to_close(alloc: Global, entries: &[Entry]) -> Result<Answer, AllocError>
     ensures { (S : Properties) (at : ℕ)
-        → IfOk result (λ a. a ≡ told S entries.now at inputs.Close) }
+        → IfOk result (λ a. a ≡ reply S entries.now at inputs.Close) }
 {
     if is_closed(entries) {
         return Ok(Answer::Nothing);

@@ -1,6 +1,5 @@
 ghost use Rattle.std.specs.Prelude.{◌≡◌, IfOk};
 ghost use Rattle.pool_core.specs.Reply.{reply};
-ghost use Rattle.pool_reference.specs.Told.{told};
 
 use crate::abandoned::{reply_to_reclaim, reply_to_reclaim_next};
 use crate::adding::{reply_to_add, reply_to_fill};
@@ -15,15 +14,19 @@ use pool_journal::{Answer, Entry, Input};
 use pool_settings::Settings;
 use std::alloc::{AllocError, Global};
 
-// The answer that is due to an input, by what the journal says.
-fn reply_by_scan(
+/// Returns the expected answer to `input` at time `at` (milliseconds) after a journal.
+///
+/// # Errors
+///
+/// An allocation failed.
+pub fn reply(
     alloc: Global,
     settings: &Settings,
     entries: &[Entry],
     at: u64,
     input: Input,
 ) -> Result<Answer, AllocError>
-    ensures { IfOk result (λ a. a ≡ told settings.now entries.now at input) }
+    ensures { IfOk result (λ a. a ≡ reply settings.now entries.now at input) }
 {
     match input {
         Input::Borrow { began } => reply_to_borrow(alloc, settings, entries, at, began),
@@ -45,21 +48,4 @@ fn reply_by_scan(
         Input::Destroyed { id } => Ok(reply_to_destroyed(entries, id)),
         Input::Close => reply_to_close(alloc, entries),
     }
-}
-
-/// Returns the expected answer to `input` at time `at` (milliseconds) after a journal.
-///
-/// # Errors
-///
-/// An allocation failed.
-pub fn reply(
-    alloc: Global,
-    settings: &Settings,
-    entries: &[Entry],
-    at: u64,
-    input: Input,
-) -> Result<Answer, AllocError>
-    ensures { IfOk result (λ a. a ≡ reply settings.now entries.now at input) }
-{
-    reply_by_scan(alloc, settings, entries, at, input)
 }

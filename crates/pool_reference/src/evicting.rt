@@ -1,7 +1,6 @@
 ghost use Rattle.std.specs.Prelude.{◌≡◌, ℕ, IfOk};
 ghost use Rattle.pool_journal.specs.declared.input.Input.TheVariants as inputs;
-ghost use Rattle.pool_core.specs.Reply.{evicts};
-ghost use Rattle.pool_reference.specs.Told.{told};
+ghost use Rattle.pool_core.specs.Reply.{reply, is_evictable};
 
 use crate::limits::{count_tests, is_exceeded};
 use crate::marks::{cursor_of, is_closed};
@@ -13,7 +12,7 @@ use std::alloc::{AllocError, Global};
 
 // Whether an idle object in a queue of length `queued` is evicted at time `at` (milliseconds).
 fn is_evicted(settings: &Settings, queued: usize, at: u64, object: Record) -> bool
-    ensures { result ≡ evicts settings.now queued at object }
+    ensures { result ≡ is_evictable settings.now queued at object }
 {
     let idle = at.saturating_sub(object.since);
     let least = settings.effective_min_idle();
@@ -28,7 +27,7 @@ pub fn reply_to_evict(
     settings: &Settings,
     entries: &[Entry],
 ) -> Result<Answer, AllocError>
-    ensures { (at : ℕ) → IfOk result (λ a. a ≡ told settings.now entries.now at inputs.Evict) }
+    ensures { (at : ℕ) → IfOk result (λ a. a ≡ reply settings.now entries.now at inputs.Evict) }
 {
     if is_closed(entries) {
         return Ok(Answer::Refused(Cause::Closed));
@@ -45,7 +44,7 @@ pub fn reply_to_evict_next(
     entries: &[Entry],
     at: u64,
 ) -> Result<Answer, AllocError>
-    ensures { IfOk result (λ a. a ≡ told settings.now entries.now at inputs.EvictNext) }
+    ensures { IfOk result (λ a. a ≡ reply settings.now entries.now at inputs.EvictNext) }
 {
     let known = records_of(alloc, entries)?;
     let queue = idle_queue_of(alloc, &known)?;

@@ -1,5 +1,5 @@
 ghost use Rattle.std.specs.Prelude.{◌≡◌};
-ghost use Rattle.pool_core.specs.Reply.{is_below, has_reached, is_past, is_nearly_full, tests};
+ghost use Rattle.pool_core.specs.Reply.{is_below, has_reached, is_past, is_nearly_full, tests_per_run};
 
 // Whether `n` is below a limit; a negative limit is no limit.
 pub fn is_below_limit(limit: i32, n: usize) -> bool
@@ -29,10 +29,10 @@ pub fn is_exceeded(limit: i64, millis: u64) -> bool
     limit > 0 && (limit as u64) < millis
 }
 
-// How many tests an eviction run makes on a queue of length `queue`: `number`, but at most `queue`; if `number` is
+// The number of tests of an eviction run on a queue of length `queue`: `number`, but at most `queue`; if `number` is
 // negative, `queue` divided by its absolute value, rounded up.
 pub fn count_tests(number: i32, queue: usize) -> usize
-    ensures { result ≡ tests number queue }
+    ensures { result ≡ tests_per_run number queue }
 {
     if number < 0 {
         queue.div_ceil(number.unsigned_abs() as usize)

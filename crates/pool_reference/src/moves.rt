@@ -1,6 +1,6 @@
 ghost use Rattle.std.specs.Prelude.{◌≡◌};
-ghost use Rattle.pool_journal.specs.Journal.{moved_by, made_to, named_to, id_of, is_of, is_borrow};
-ghost use Rattle.pool_journal.specs.Journal.{is_make_answer, is_closing, examined_by, parks, lends, uses};
+ghost use Rattle.pool_journal.specs.Entries.{move_of, made_to, named_to, id_of, is_of, is_borrow};
+ghost use Rattle.pool_journal.specs.Entries.{is_make_answer, is_closing, examined_by, parks, lends, uses};
 
 use pool_journal::{Answer, Entry, Input, Phase};
 
@@ -37,7 +37,7 @@ fn is_borrowing(input: Input) -> bool
 
 // The move of an object that is taken from the queue.
 fn takes(input: Input, id: u64) -> Option<(u64, Phase)>
-    ensures { result ≡ moved_by (Answer.Take id) input }
+    ensures { result ≡ move_of (Answer.Take id) input }
 {
     if is_borrowing(input) {
         Some((id, Phase::Readying))
@@ -59,7 +59,7 @@ fn begins(input: Input, id: u64) -> Option<(u64, Phase)>
 
 // The object that an entry moves, and the phase that it moves it to.
 pub fn move_of(answer: Answer, input: Input) -> Option<(u64, Phase)>
-    ensures { result ≡ moved_by answer input }
+    ensures { result ≡ move_of answer input }
 {
     match answer {
         Answer::Take(id) => takes(input, id),

@@ -1,7 +1,7 @@
 ghost use Rattle.std.specs.Prelude.{◌≡◌, ◌≤◌, IfOk, length, filter, find, count_by};
 ghost use Rattle.std.specs.List.{insert};
 ghost use Rattle.std.specs.Option.{option_or};
-ghost use Rattle.pool_journal.specs.Queue.{is_idle, is_queued, put_rising, queue_length, idle_queue, first_of, last_of};
+ghost use Rattle.pool_journal.specs.Queue.{is_idle, is_queued, insert_sorted, queue_length, idle_queue, first_of, last_of};
 ghost use Rattle.pool_places.specs.After.{is_after};
 ghost use Rattle.pool_places.specs.Counts.{is_adding};
 
@@ -29,7 +29,8 @@ fn is_adding_phase(phase: Phase) -> bool
 // The index at which an object enters a queue: before the first object that was parked later.
 fn place_for(queue: &[Record], object: Record) -> usize
     ensures bound { result ≤ length queue.now }
-    ensures place { insert queue.now result object ≡ put_rising (λ r. r.parked) queue.now object }
+    ensures place { insert queue.now result object
+        ≡ insert_sorted (λ r. r.parked) queue.now object }
 {
     for (index, queued) in queue.iter().enumerate() {
         if object.parked < queued.parked {
@@ -90,7 +91,8 @@ fn first_after(cursor: Option<u64>, queue: &[Record]) -> Option<Record>
 // The object of a queue that is examined next: the first that was parked after the cursor, otherwise the first.
 #[tactic(auto, using(crate::proofs::Queues::first_found))]
 pub fn examine(cursor: Option<u64>, queue: &[Record]) -> Option<Record>
-    ensures { result ≡ option_or (first_of (filter (is_after cursor) queue.now)) (first_of queue.now) }
+    ensures { result ≡ option_or (first_of (filter (is_after cursor) queue.now))
+        (first_of queue.now) }
 {
     match first_after(cursor, queue) {
         Some(record) => Some(record),

@@ -1,6 +1,6 @@
 ghost use Rattle.std.specs.Prelude.{◌≡◌, ℕ, IfOk};
 ghost use Rattle.pool_journal.specs.declared.input.Input.TheVariants as inputs;
-ghost use Rattle.pool_reference.specs.Told.{told};
+ghost use Rattle.pool_core.specs.Reply.{reply};
 
 use crate::limits::is_below_limit;
 use crate::marks::is_closed;
@@ -20,7 +20,7 @@ pub fn reply_to_park(
     outcome: Outcome,
 ) -> Result<Answer, AllocError>
     ensures { (at : ℕ)
-        → IfOk result (λ a. a ≡ told settings.now entries.now at (inputs.Park id outcome)) }
+        → IfOk result (λ a. a ≡ reply settings.now entries.now at (inputs.Park id outcome)) }
 {
     let known = records_of(alloc, entries)?;
     let room = !is_closed(entries) && is_below_limit(settings.max_idle, count_queued(&known));

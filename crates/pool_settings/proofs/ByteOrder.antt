@@ -1,4 +1,4 @@
--- The entries of a map stand in the order of their bytes.
+-- The entries of a map are in the order of their bytes.
 use Rattle.std.proofs.Common.{◌≡◌, ℕ, true, List, [], ◌∷◌, refl, string_bytes}
 use Rattle.std.specs.List.Sorted.{IsStrictlySortedBy}
 use Rattle.std.specs.Map.{keys_of}

@@ -13,7 +13,7 @@ use Rattle.pool_settings.specs.Escaped.{is_control, needs_escape, escape, escape
 pub needs_ascii : (c : ℕ) → needs_escape c ≡ true → c < 128
 needs_ascii c h = grind (arith, nat_tests)
 
--- the text told for the byte at an index, and what follows
+-- the text printed for the byte at an index, and the text after it
 pub escaped-drop : (s : List ℕ) (i : ℕ) → i < length s
     → flat_map escape (drop i s) ≡ escape (get_or s i 0) ++ flat_map escape (drop (i + 1) s)
 escaped-drop s i h = rw (drop_more s i 0 h)
@@ -40,7 +40,7 @@ escape_byte s done total start i within needed whole =
     let read = rw (escaped-drop s i within, needed) at whole in
     rw zero (simp append_assoc read)
 
--- at the end of the text, what is left is the run
+-- at the end of the text, the run is left
 pub escaped-end : (s done total : List ℕ) (start i : ℕ) → start ≤ i → i ≡ length s
     → done ++ (take (i - start) (drop start s) ++ flat_map escape (drop i s)) ≡ total
     → done ++ drop start s ≡ total
@@ -55,7 +55,7 @@ letter_clean c needed letter = grind (arith, nat_tests)
 glyph_clean : (d : ℕ) → d < 16 → is_control (digit_glyph true d) ≡ false
 glyph_clean d h = grind (arith, nat_tests)
 
--- what is told of a byte has no control character
+-- the text printed for a byte has no control character
 escape-clean : (c : ℕ) → list_any is_control (escape c) ≡ false
 escape-clean c =
     elim (cases_Bool (needs_escape c)) [
@@ -72,7 +72,7 @@ all_clean : (s : List ℕ) → list_any is_control (flat_map escape s) ≡ false
 all_clean [] = refl
 all_clean (c ∷ cs) = rw (list_any-append is_control (escape c) (flat_map escape cs), escape-clean c, all_clean cs) refl
 
--- a text is told on one line
+-- a text is printed on one line
 pub told_on_one_line : (s : List ℕ) → IsOnOneLine (escaped s)
 told_on_one_line s =
     elim (cases_Bool (list_any is_control s)) [

@@ -1,4 +1,4 @@
--- What a text says stays in its ranges.
+-- The settings of a text are in their ranges.
 use Rattle.std.proofs.Common.{◌≡◌, ℕ, ℤ, pos, negsuc, Bool, true, ◌&&◌, List, [], ◌∷◌, Result, Ok, Err, refl, subst, arith, rules, codes, int_le, unsigned_abs, bytes_eq, inl, inr}
 use Rattle.std.proofs.lemmas.Bool.{cases_Bool, and_parts}
 use Rattle.std.proofs.lemmas.Grind.{common_steps}
@@ -13,7 +13,7 @@ use Rattle.pool_settings.specs.Keys.{◌>>=◌, Setting, Rows, flag, number, cou
 use Rattle.pool_settings.specs.Ranges.{IsInRange, greatest_millis, IsBetween}
 use Rattle.pool_settings.specs.Values.{flag_in, number_in}
 
--- what a setting makes of settings in their ranges is in them
+-- a setting leads from settings in their ranges to settings in their ranges
 abbrev Keeps : Setting → Type 0
 Keeps f = (key : List ℕ) (value : Data) (s t : Settings) → IsInRange s → f key value s ≡ Ok t → IsInRange t
 

@@ -1,4 +1,4 @@
--- What a settings text answers.
+-- The settings of a text, or its first error.
 use Rattle.std.specs.Prelude.{ℕ, List, [], Option, Some, None, Result, Err}
 use Rattle.toml.specs.Data.{Members}
 use Rattle.toml.specs.Parse.{parse_document}
@@ -8,19 +8,19 @@ use Rattle.pool_settings.specs.Defaults.{defaults}
 use Rattle.pool_settings.specs.Faults.{Fault, not_toml, GivesInMemory}
 use Rattle.pool_settings.specs.Keys.{read_table, rows}
 
--- The settings that a table says, from the defaults on, or the first fault in the order of its keys' bytes.
+-- The settings of a table, starting from the defaults, or the first error in the order of its keys' bytes.
 unfoldable pub settings_of : Members → Result Settings Fault
 settings_of table = read_table [] rows table defaults
 
--- the settings that what was read says
+-- the settings of a document, if the text is one
 abbrev pub settings_of_read : Option Members → Result Settings Fault
 settings_of_read None = Err not_toml
 settings_of_read (Some table) = settings_of table
 
--- the settings that a text says
+-- the settings of a text
 abbrev pub settings_of_text : List ℕ → Result Settings Fault
 settings_of_text text = settings_of_read (parse_document text)
 
--- Ok exactly the settings that the text says, a fault exactly its first one; but want of memory may stand in place of each.
+-- The result is the settings of the text, or its first error. An allocation failure may replace each of them.
 abbrev pub IsAnswer : List ℕ → Result Settings SettingsFault → Type 0
 IsAnswer text result = GivesInMemory result (settings_of_text text)

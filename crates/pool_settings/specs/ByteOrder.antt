@@ -1,8 +1,8 @@
--- The members of a table by rising key, in the order of the keys' bytes.
+-- The members of a table by ascending key, in the order of the keys' bytes.
 use Rattle.std.specs.Prelude.{ℕ, List, if◌then◌else◌}
 use Rattle.toml.specs.Data.{Data, Members, no_members, member, is_before}
 
--- the members, with one more before the first that its key comes before
+-- the members, with one more before the first that has a greater key
 abbrev pub with_member : List ℕ → Data → Members → Members
 with_member key value no_members = member key value no_members
 with_member key value (member first held others) =

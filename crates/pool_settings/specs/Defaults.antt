@@ -1,4 +1,4 @@
--- The settings where nothing is said.
+-- The default settings.
 use Rattle.std.specs.Prelude.{true, false, pos, negsuc}
 use Rattle.pool_settings.specs.declared.settings.Settings.{Settings}
 

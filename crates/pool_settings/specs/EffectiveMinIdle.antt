@@ -1,4 +1,4 @@
--- How many idle objects are to be kept ready.
+-- The number of idle objects to be kept ready.
 use Rattle.std.specs.Prelude.{ℤ, pos, ◌&&◌, if◌then◌else◌, int_le, int_lt}
 use Rattle.pool_settings.specs.declared.settings.Settings.{Settings}
 

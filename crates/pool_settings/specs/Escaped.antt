@@ -1,4 +1,4 @@
--- A text as it is told on one line.
+-- A text as it is printed on one line.
 use Rattle.std.specs.Prelude.{◌≡◌, ℕ, Bool, false, ◌||◌, ◌==◌, nat_lt, if◌then◌else◌, List, [], ◌∷◌}
 use Rattle.std.specs.List.{flat_map, list_any}
 use Rattle.toml_writer.specs.Text.{escape_text}
@@ -12,18 +12,18 @@ is_control byte = nat_lt byte 32 || byte == 127
 abbrev pub needs_escape : ℕ → Bool
 needs_escape byte = is_control byte || byte == 92
 
--- the byte as it stands in a basic string of TOML
+-- the byte as it is written in a basic string of TOML
 abbrev pub escape : ℕ → List ℕ
 escape byte = if needs_escape byte then escape_text byte else byte ∷ []
 
--- The text with each of its control characters and backslashes escaped; as it is, where no control character stands in it.
+-- The text with each of its control characters and backslashes escaped; unchanged if it has no control character.
 abbrev pub escaped : List ℕ → List ℕ
 escaped text = if list_any is_control text then flat_map escape text else text
 
--- what is told of a text
+-- the bytes that are printed for a text
 abbrev pub shown : Escaped → List ℕ
 shown e = escaped e.text.now
 
--- No control character stands in the text, and so no line feed.
+-- The text has no control character, and so no line feed.
 abbrev pub IsOnOneLine : List ℕ → Type 0
 IsOnOneLine text = list_any is_control text ≡ false

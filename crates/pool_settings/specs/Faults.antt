@@ -1,4 +1,4 @@
--- Why a text gives no settings, with the names of keys as bytes.
+-- The errors of a settings text, with the names of keys as bytes.
 use Rattle.std.specs.Prelude.{◌≡◌, ◌≢◌, ⊤, ℕ, List, Result, Ok, Err, IsErr}
 use Rattle.pool_settings.specs.declared.fault.SettingsFault.{SettingsFault}
 use Rattle.pool_settings.specs.declared.fault.SettingsFault.TheVariants as told
@@ -17,22 +17,22 @@ fault_of (told.WrongType key) = wrong_type key.now
 fault_of (told.OutOfRange key) = out_of_range key.now
 fault_of told.OutOfMemory = out_of_memory
 
--- What a function answered is what is given.
-abbrev pub Gives : {A : Type 0} → Result A SettingsFault → Result A Fault → Type 0
-Gives (Ok x) given = given ≡ Ok x
-Gives (Err fault) given = given ≡ Err (fault_of fault)
+-- The result of a function is the given one.
+abbrev pub ReturnsReading : {A : Type 0} → Result A SettingsFault → Result A Fault → Type 0
+ReturnsReading (Ok x) given = given ≡ Ok x
+ReturnsReading (Err fault) given = given ≡ Err (fault_of fault)
 
--- The same, where want of memory may stand in place of what is given.
+-- The same, but an allocation failure may replace the given result.
 abbrev pub GivesInMemory : {A : Type 0} → Result A SettingsFault → Result A Fault → Type 0
 GivesInMemory (Ok x) given = given ≡ Ok x
 GivesInMemory (Err fault) given = fault_of fault ≢ out_of_memory → given ≡ Err (fault_of fault)
 
--- The same of what a function left behind. Want of memory stands only in place of a fault.
-abbrev pub Makes : {A : Type 0} → Result ⊤ SettingsFault → A → Result A Fault → Type 0
-Makes (Ok _) left given = given ≡ Ok left
-Makes (Err fault) left given = IsErr given × (fault_of fault ≢ out_of_memory → given ≡ Err (fault_of fault))
+-- The same of the settings after a call. An allocation failure replaces only an error.
+abbrev pub LeavesSettings : {A : Type 0} → Result ⊤ SettingsFault → A → Result A Fault → Type 0
+LeavesSettings (Ok _) left given = given ≡ Ok left
+LeavesSettings (Err fault) left given = IsErr given × (fault_of fault ≢ out_of_memory → given ≡ Err (fault_of fault))
 
--- The same of one setting, that it is put as the value given.
+-- The same of one setting, which has the given value after the call.
 abbrev pub Puts : {A B : Type 0} → (A → B) → Result ⊤ SettingsFault → B → Result A Fault → Type 0
 Puts {A} put (Ok _) left given = (x : A) × (given ≡ Ok x) × (left ≡ put x)
 Puts put (Err fault) left given = given ≡ Err (fault_of fault)

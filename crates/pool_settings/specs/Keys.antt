@@ -1,4 +1,4 @@
--- The keys of a settings text: what may stand at each, and which setting it is.
+-- The keys of a settings text: the values of each, and its setting.
 use Rattle.std.specs.Prelude.{ℕ, ℤ, pos, negsuc, Bool, true, if◌then◌else◌, List, [], ◌∷◌, ◌++◌, codes, bytes_eq, unsigned_abs, Result, Ok, Err}
 use Rattle.toml.specs.Data.{Data, table, Members, no_members, member}
 use Rattle.pool_settings.specs.declared.settings.Settings.{Settings}
@@ -12,7 +12,7 @@ abbrev pub ◌>>=◌ : {A B : Type 0} → Result A Fault → (A → Result B Fau
 (Ok x) >>= f = f x
 (Err fault) >>= f = Err fault
 
--- What the value at a key makes of the settings so far. The key is given as faults name it.
+-- The settings after the value at a key, from those before it. The key is passed in as errors name it.
 abbrev pub Setting : Type 0
 Setting = List ℕ → Data → Settings → Result Settings Fault
 
@@ -40,13 +40,13 @@ delay = number (pos 0) greatest_millis
 abbrev pub Rows : Type 0
 Rows = List (List ℕ × Setting)
 
--- The row with the key decides; a key without a row is unknown. The prefix is what faults name before the key.
+-- The row with the key decides; a key without a row is unknown. Errors print the prefix before the key.
 abbrev pub read_key : List ℕ → Rows → List ℕ → Data → Settings → Result Settings Fault
 read_key prefix [] key value s = Err (unknown_key (prefix ++ key))
 read_key prefix (row ∷ rows) key value s =
     if bytes_eq key row.0 then row.1 (prefix ++ row.0) value s else read_key prefix rows key value s
 
--- Keys one after the other: the settings after the last, or the first fault.
+-- The settings after all keys, one after the other, or the first error.
 abbrev pub read_keys : List ℕ → Rows → Members → Settings → Result Settings Fault
 read_keys prefix rows no_members s = Ok s
 read_keys prefix rows (member key value others) s = read_key prefix rows key value s >>= read_keys prefix rows others
@@ -55,7 +55,7 @@ read_keys prefix rows (member key value others) s = read_key prefix rows key val
 abbrev pub read_table : List ℕ → Rows → Members → Settings → Result Settings Fault
 read_table prefix rows members s = read_keys prefix rows (in_byte_order members) s
 
--- a table of keys of its own
+-- a table with its own keys
 abbrev pub section : List ℕ → Rows → (Settings → Settings) → Setting
 section prefix rows put key (table members) s = read_table prefix rows members (put s)
 section prefix rows put key _ s = Err (wrong_type key)

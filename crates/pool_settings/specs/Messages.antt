@@ -1,4 +1,4 @@
--- What is told of a fault.
+-- The message of an error.
 use Rattle.std.specs.Prelude.{ℕ, List, ◌++◌, codes}
 use Rattle.pool_settings.specs.Escaped.{escaped}
 use Rattle.pool_settings.specs.Faults.{Fault, not_toml, unknown_key, wrong_type, out_of_range, out_of_memory}

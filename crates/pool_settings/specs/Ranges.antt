@@ -1,4 +1,4 @@
--- The settings that a text can say.
+-- The ranges of the settings that a text can have.
 use Rattle.std.specs.Prelude.{ℤ, pos, negsuc, ◌≤◌, ◌≤ℤ◌}
 use Rattle.pool_settings.specs.declared.settings.Settings.{Settings}
 

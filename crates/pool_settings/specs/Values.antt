@@ -1,4 +1,4 @@
--- What a value must be, to stand at a key.
+-- The values that a key can have.
 use Rattle.std.specs.Prelude.{ℕ, ℤ, Bool, ◌&&◌, if◌then◌else◌, int_le, List, Result, Ok, Err}
 use Rattle.toml.specs.Data.{Data, integer, boolean}
 use Rattle.pool_settings.specs.Faults.{Fault, wrong_type, out_of_range}

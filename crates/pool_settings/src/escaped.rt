@@ -7,15 +7,15 @@ ghost use Rattle.pool_settings.specs.Escaped as Spec;
 use std::fmt;
 use std::fmt::{Formatter, Write};
 
-/// A text as it is told on one line: where a control character stands in it (U+0000 to U+001F, U+007F), each of them and each
-/// backslash stands as in a basic string of TOML (`\n`, `\u001B`, `\\`); all else as it is.
+/// A text as it is printed on one line. If it has a control character (U+0000 to U+001F, U+007F), each control
+/// character and each backslash is printed as in a basic string of TOML (`\n`, `\u001B`, `\\`). All else is unchanged.
 #[derive(Clone, Copy, Debug)]
 pub struct Escaped<'a> {
     text: &'a str,
 }
 
 impl<'a> Escaped<'a> {
-    /// The text, to be told on one line.
+    /// Returns the text, to be printed on one line.
     pub fn new(text: &'a str) -> Escaped<'a>
         ensures text { Spec.shown result ≡ Spec.escaped text.now }
         ensures one_line { Spec.IsOnOneLine (Spec.shown result) }
@@ -86,7 +86,7 @@ fn write_escape<W: Write>(f: &mut Formatter<W>, byte: u8) -> fmt::Result
     }
 }
 
-/// The letter of a short escape; 0 where there is none.
+/// Returns the letter of a short escape, or 0 if there is none.
 fn letter_of(byte: u8) -> u8
     ensures value { result ≡ escape_letter byte }
     ensures ascii { result < 128 }

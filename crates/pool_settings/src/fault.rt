@@ -3,7 +3,7 @@ use crate::key_name::KeyName;
 use std::fmt;
 use std::fmt::{Formatter, Write};
 
-/// Why a text gives no settings. A key of the table `abandoned` is told as `abandoned.<key>`.
+/// The error of a text that has no settings. A key of the table `abandoned` is printed as `abandoned.<key>`.
 #[derive(Debug, Drop)]
 pub enum SettingsFault {
     /// The text is no TOML document.
@@ -14,11 +14,11 @@ pub enum SettingsFault {
     WrongType(&'static str),
     /// The key's number isn't in its range.
     OutOfRange(&'static str),
-    /// Memory was refused.
+    /// An allocation failed.
     OutOfMemory,
 }
 
-/// The fault on one line.
+/// Prints the error on one line.
 impl fmt::Display for SettingsFault {
     ghost use Rattle.std.specs.Prelude.{Some};
     ghost use Rattle.pool_settings.specs.Faults.{fault_of};

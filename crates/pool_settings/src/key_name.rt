@@ -19,7 +19,7 @@ impl Model for KeyName {
 }
 
 impl KeyName {
-    /// The name of a key in a table whose keys are told with this prefix.
+    /// Returns the name of a key in a table whose keys are printed with this prefix.
     pub(crate) fn new(alloc: Global, prefix: &str, key: &str) -> Result<KeyName, AllocError>
         ensures { IfOk result (λ name. name ≡ prefix.now ++ key.now) }
     {
@@ -28,7 +28,7 @@ impl KeyName {
         Ok(KeyName { text })
     }
 
-    /// The name's text.
+    /// Returns the name's text.
     pub fn as_str(&self) -> &str
         ensures { result.now ≡ self.now }
     {
@@ -36,7 +36,7 @@ impl KeyName {
     }
 }
 
-/// The name on one line.
+/// Prints the name on one line.
 impl fmt::Display for KeyName {
     ghost use Rattle.std.specs.Prelude.{Some};
     ghost use Rattle.pool_settings.specs.Escaped.{escaped};

@@ -1,4 +1,4 @@
-//! How a pool is to behave: its settings, and how they are read from TOML.
+//! The settings of a pool, and how they are read from TOML.
 #![tactic(auto)]
 
 mod escaped;

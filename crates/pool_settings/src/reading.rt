@@ -1,7 +1,7 @@
-//! Settings from a table of TOML: which key is which setting.
+//! Reads settings from a table of TOML: each key and its setting.
 ghost use Rattle.std.specs.Prelude.{◌≡◌, ◌≢◌, bytes_eq, codes, [], ◌++◌, drop};
 ghost use Rattle.toml.specs.View.{table_view, view};
-ghost use Rattle.pool_settings.specs.Faults.{fault_of, out_of_memory, unknown_key, Makes};
+ghost use Rattle.pool_settings.specs.Faults.{fault_of, out_of_memory, unknown_key, LeavesSettings};
 ghost use Rattle.pool_settings.specs.Keys.{abandoned_rows, abandoned_table, read_key, read_table, rows};
 
 use crate::fault::SettingsFault;
@@ -11,13 +11,14 @@ use crate::value::{put_count, put_flag, put_limit, put_millis};
 use std::alloc::Global;
 use toml::{Table, Value};
 
-/// Puts all keys of a table into the settings, in the order of their bytes, up to the first fault.
+/// Puts all keys of a table into the settings, in the order of their bytes, up to the first error.
 pub(crate) fn put_table(
     alloc: Global,
     settings: &mut Settings,
     table: &Table,
 ) -> Result<(), SettingsFault>
-    ensures { Makes result settings.new (read_table [] rows (table_view table.now) settings.old) }
+    ensures { LeavesSettings result settings.new
+        (read_table [] rows (table_view table.now) settings.old) }
 {
     for (key, value) in table.iter() {
         put_key(alloc, settings, key.as_str(), value)?;
@@ -32,7 +33,8 @@ fn put_key(
     key: &str,
     value: &Value,
 ) -> Result<(), SettingsFault>
-    ensures { Makes result settings.new (read_key [] rows key.now (view value.now) settings.old) }
+    ensures { LeavesSettings result settings.new
+        (read_key [] rows key.now (view value.now) settings.old) }
 {
     if is_named(key, "abandoned") {
         put_abandoned(alloc, settings, value)
@@ -64,7 +66,8 @@ fn put_eviction_key(
     key: &str,
     value: &Value,
 ) -> Result<(), SettingsFault>
-    ensures { Makes result settings.new (read_key [] (drop 7 rows) key.now (view value.now) settings.old) }
+    ensures { LeavesSettings result settings.new
+        (read_key [] (drop 7 rows) key.now (view value.now) settings.old) }
 {
     if is_named(key, "minEvictableIdleMillis") {
         put_millis(
@@ -101,7 +104,8 @@ fn put_test_key(
     key: &str,
     value: &Value,
 ) -> Result<(), SettingsFault>
-    ensures { Makes result settings.new (read_key [] (drop 11 rows) key.now (view value.now) settings.old) }
+    ensures { LeavesSettings result settings.new
+        (read_key [] (drop 11 rows) key.now (view value.now) settings.old) }
 {
     if is_named(key, "testOnBorrow") {
         put_flag(&mut settings.test_on_borrow, "testOnBorrow", value)
@@ -118,7 +122,8 @@ fn put_test_key(
 
 /// Puts the table of abandoned objects into the settings.
 fn put_abandoned(alloc: Global, settings: &mut Settings, value: &Value) -> Result<(), SettingsFault>
-    ensures { Makes result settings.new (abandoned_table (codes "abandoned") (view value.now) settings.old) }
+    ensures { LeavesSettings result settings.new
+        (abandoned_table (codes "abandoned") (view value.now) settings.old) }
 {
     match value.as_table() {
         Some(table) => {
@@ -129,13 +134,13 @@ fn put_abandoned(alloc: Global, settings: &mut Settings, value: &Value) -> Resul
     }
 }
 
-/// Puts all keys of the table of abandoned objects into the settings, in the order of their bytes, up to the first fault.
+/// Puts all keys of the table `abandoned` into the settings, in the order of their bytes, up to the first error.
 fn put_abandoned_table(
     alloc: Global,
     settings: &mut Settings,
     abandoned: &Table,
 ) -> Result<(), SettingsFault>
-    ensures { Makes result settings.new
+    ensures { LeavesSettings result settings.new
         (read_table (codes "abandoned.") abandoned_rows (table_view abandoned.now) settings.old) }
 {
     for (key, value) in abandoned.iter() {
@@ -151,7 +156,7 @@ fn put_abandoned_key(
     key: &str,
     value: &Value,
 ) -> Result<(), SettingsFault>
-    ensures { Makes result settings.new
+    ensures { LeavesSettings result settings.new
         (read_key (codes "abandoned.") abandoned_rows key.now (view value.now) settings.old) }
 {
     if is_named(key, "removeAbandonedOnBorrow") {
@@ -178,16 +183,17 @@ fn put_abandoned_key(
     }
 }
 
-/// Whether a key has this name.
+/// Returns whether a key has this name.
 fn is_named(key: &str, name: &str) -> bool
     ensures { result ≡ bytes_eq key.now name.now }
 {
     key == name
 }
 
-/// The fault of a key that no setting has.
+/// Returns the error of a key that no setting has.
 fn unknown(alloc: Global, prefix: &str, key: &str) -> SettingsFault
-    ensures { fault_of result ≢ out_of_memory → fault_of result ≡ unknown_key (prefix.now ++ key.now) }
+    ensures { fault_of result ≢ out_of_memory
+        → fault_of result ≡ unknown_key (prefix.now ++ key.now) }
 {
     match KeyName::new(alloc, prefix, key) {
         Ok(name) => SettingsFault::UnknownKey(name),

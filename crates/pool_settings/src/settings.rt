@@ -8,43 +8,43 @@ use crate::fault::SettingsFault;
 use crate::reading::put_table;
 use std::alloc::Global;
 
-/// How a pool is to behave. A key of a settings text has the field's name with capitals in place of underscores, as `maxTotal`; the
-/// fields that begin with `remove_abandoned` are keys of the table `abandoned`.
+/// The settings of a pool. A key of a settings text has the field's name with capitals in place of underscores, as
+/// `maxTotal`. The fields that begin with `remove_abandoned` are keys of the table `abandoned`.
 #[derive(Clone, Copy, Debug, PartialEq, Eq)]
 pub struct Settings {
-    /// Whether lent objects that nobody uses any more can be reclaimed.
+    /// Whether lent objects that no caller uses any more can be reclaimed.
     pub abandoned: bool,
-    /// Whether a borrow waits when no object is free; else it is refused at once.
+    /// Whether a borrow waits if no object is free; otherwise it fails at once.
     pub block_when_exhausted: bool,
-    /// How many entries the journal can hold, from 1 to 2^32.
+    /// The number of entries that the journal can hold, from 1 to 2^32.
     pub journal_limit: u64,
-    /// Whether the object that was parked last is lent first; else the one that was parked first.
+    /// Whether the object that was parked last is lent first; otherwise the one that was parked first.
     pub lifo: bool,
     /// The greatest number of idle objects; negative for no limit.
     pub max_idle: i32,
-    /// The greatest number of objects that are present; negative for no limit.
+    /// The greatest number of present objects; negative for no limit.
     pub max_total: i32,
-    /// How long a borrow waits, in milliseconds up to 2^53; negative for no limit.
+    /// The longest time that a borrow waits, in milliseconds up to 2^53; negative for no limit.
     pub max_wait_millis: i64,
-    /// How long an object may be idle until it is evicted, in milliseconds up to 2^53; 0 or negative for ever.
+    /// The time that an object may be idle until it is evicted, in milliseconds up to 2^53; 0 or negative for no limit.
     pub min_evictable_idle_millis: i64,
-    /// How many idle objects are to be kept ready, as far as `max_idle` allows; not negative in a text.
+    /// The number of idle objects to be kept ready, as far as `max_idle` allows; not negative in a text.
     pub min_idle: i32,
-    /// How many idle objects an eviction run examines; at `-n`, one in n of them, rounded up.
+    /// The number of idle objects that an eviction run examines; at `-n`, one in n of them, rounded up.
     pub num_tests_per_eviction_run: i32,
-    /// Whether a borrow reclaims abandoned objects first, when few are left.
+    /// Whether a borrow reclaims abandoned objects first, if few are left.
     pub remove_abandoned_on_borrow: bool,
     /// Whether maintenance reclaims abandoned objects.
     pub remove_abandoned_on_maintenance: bool,
-    /// How long an object may be lent unused until it is abandoned, in milliseconds from 0 to 2^53.
+    /// The time that an object may be lent unused until it is abandoned, in milliseconds from 0 to 2^53.
     pub remove_abandoned_timeout_millis: i64,
-    /// The same as `min_evictable_idle_millis`, for objects beyond those that are to be kept ready.
+    /// A limit like `min_evictable_idle_millis`, for objects beyond those that are to be kept ready.
     pub soft_min_evictable_idle_millis: i64,
     /// Whether an object is validated before it is lent.
     pub test_on_borrow: bool,
     /// Whether an object is validated after it is made.
     pub test_on_create: bool,
-    /// Whether an object is validated when it is given back.
+    /// Whether an object is validated when it is returned.
     pub test_on_return: bool,
     /// Whether idle objects are validated by an eviction run.
     pub test_while_idle: bool,
@@ -78,11 +78,14 @@ impl Default for Settings {
 }
 
 impl Settings {
-    /// Reads settings from a TOML document, where what isn't said has its default.
+    /// Reads settings from a TOML document. A setting that the document doesn't have has its default.
     ///
-    /// The first fault is the answer: that of the document as a whole, then that of the first key, in the order of their bytes,
-    /// that is unknown, of the wrong type or out of its range. The keys of the table `abandoned` are looked at in that key's
-    /// place. `OutOfMemory` may stand in place of each answer, but the empty text always gives the defaults.
+    /// # Errors
+    ///
+    /// Returns the first error: that of the document as a whole, then that of the first key, in the order of their
+    /// bytes, that is unknown, of the wrong type or out of its range. The keys of the table `abandoned` are read at
+    /// that key's position. May return `OutOfMemory` in place of each result, but always returns the defaults for the
+    /// empty text.
     #[tactic(auto, using(crate::proofs::Blank::empty_document), unfolding(crate::specs::Answer::settings_of))]
     pub fn from_text(alloc: Global, text: &str) -> Result<Settings, SettingsFault>
         ensures answer { IsAnswer text.now result }
@@ -99,7 +102,7 @@ impl Settings {
         Ok(settings)
     }
 
-    /// The number of idle objects to be kept ready: `min_idle`, but no more than `max_idle` where that isn't negative.
+    /// Returns the number of idle objects to keep ready: `min_idle`, but at most `max_idle` if that isn't negative.
     pub fn effective_min_idle(&self) -> i32
         ensures { result ≡ effective_min_idle self.now }
     {
@@ -110,126 +113,127 @@ impl Settings {
         }
     }
 
-    /// Whether lent objects that nobody uses any more can be reclaimed.
+    /// Returns whether lent objects that no caller uses any more can be reclaimed.
     pub fn abandoned(&self) -> bool
         ensures { result ≡ self.now.abandoned }
     {
         self.abandoned
     }
 
-    /// Whether a borrow waits when no object is free; else it is refused at once.
+    /// Returns whether a borrow waits if no object is free; otherwise it fails at once.
     pub fn block_when_exhausted(&self) -> bool
         ensures { result ≡ self.now.block_when_exhausted }
     {
         self.block_when_exhausted
     }
 
-    /// How many entries the journal can hold, from 1 to 2^32.
+    /// Returns the number of entries that the journal can hold, from 1 to 2^32.
     pub fn journal_limit(&self) -> u64
         ensures { result ≡ self.now.journal_limit }
     {
         self.journal_limit
     }
 
-    /// Whether the object that was parked last is lent first; else the one that was parked first.
+    /// Returns whether the object that was parked last is lent first; otherwise the one that was parked first.
     pub fn lifo(&self) -> bool
         ensures { result ≡ self.now.lifo }
     {
         self.lifo
     }
 
-    /// The greatest number of idle objects; negative for no limit.
+    /// Returns the greatest number of idle objects; negative for no limit.
     pub fn max_idle(&self) -> i32
         ensures { result ≡ self.now.max_idle }
     {
         self.max_idle
     }
 
-    /// The greatest number of objects that are present; negative for no limit.
+    /// Returns the greatest number of present objects; negative for no limit.
     pub fn max_total(&self) -> i32
         ensures { result ≡ self.now.max_total }
     {
         self.max_total
     }
 
-    /// How long a borrow waits, in milliseconds up to 2^53; negative for no limit.
+    /// Returns the longest time that a borrow waits, in milliseconds up to 2^53; negative for no limit.
     pub fn max_wait_millis(&self) -> i64
         ensures { result ≡ self.now.max_wait_millis }
     {
         self.max_wait_millis
     }
 
-    /// How long an object may be idle until it is evicted, in milliseconds up to 2^53; 0 or negative for ever.
+    /// Returns the time that an object may be idle until it is evicted, in milliseconds up to 2^53; 0 or negative for
+    /// no limit.
     pub fn min_evictable_idle_millis(&self) -> i64
         ensures { result ≡ self.now.min_evictable_idle_millis }
     {
         self.min_evictable_idle_millis
     }
 
-    /// How many idle objects are to be kept ready, as far as `max_idle` allows; not negative in a text.
+    /// Returns the number of idle objects to be kept ready, as far as `max_idle` allows; not negative in a text.
     pub fn min_idle(&self) -> i32
         ensures { result ≡ self.now.min_idle }
     {
         self.min_idle
     }
 
-    /// How many idle objects an eviction run examines; at `-n`, one in n of them, rounded up.
+    /// Returns the number of idle objects that an eviction run examines; at `-n`, one in n of them, rounded up.
     pub fn num_tests_per_eviction_run(&self) -> i32
         ensures { result ≡ self.now.num_tests_per_eviction_run }
     {
         self.num_tests_per_eviction_run
     }
 
-    /// Whether a borrow reclaims abandoned objects first, when few are left.
+    /// Returns whether a borrow reclaims abandoned objects first, if few are left.
     pub fn remove_abandoned_on_borrow(&self) -> bool
         ensures { result ≡ self.now.remove_abandoned_on_borrow }
     {
         self.remove_abandoned_on_borrow
     }
 
-    /// Whether maintenance reclaims abandoned objects.
+    /// Returns whether maintenance reclaims abandoned objects.
     pub fn remove_abandoned_on_maintenance(&self) -> bool
         ensures { result ≡ self.now.remove_abandoned_on_maintenance }
     {
         self.remove_abandoned_on_maintenance
     }
 
-    /// How long an object may be lent unused until it is abandoned, in milliseconds from 0 to 2^53.
+    /// Returns the time that an object may be lent unused until it is abandoned, in milliseconds from 0 to 2^53.
     pub fn remove_abandoned_timeout_millis(&self) -> i64
         ensures { result ≡ self.now.remove_abandoned_timeout_millis }
     {
         self.remove_abandoned_timeout_millis
     }
 
-    /// The same as `min_evictable_idle_millis`, for objects beyond those that are to be kept ready.
+    /// Returns a limit like `min_evictable_idle_millis`, for objects beyond those that are to be kept ready.
     pub fn soft_min_evictable_idle_millis(&self) -> i64
         ensures { result ≡ self.now.soft_min_evictable_idle_millis }
     {
         self.soft_min_evictable_idle_millis
     }
 
-    /// Whether an object is validated before it is lent.
+    /// Returns whether an object is validated before it is lent.
     pub fn test_on_borrow(&self) -> bool
         ensures { result ≡ self.now.test_on_borrow }
     {
         self.test_on_borrow
     }
 
-    /// Whether an object is validated after it is made.
+    /// Returns whether an object is validated after it is made.
     pub fn test_on_create(&self) -> bool
         ensures { result ≡ self.now.test_on_create }
     {
         self.test_on_create
     }
 
-    /// Whether an object is validated when it is given back.
+    /// Returns whether an object is validated when it is returned.
     pub fn test_on_return(&self) -> bool
         ensures { result ≡ self.now.test_on_return }
     {
         self.test_on_return
     }
 
-    /// Whether idle objects are validated by an eviction run.
+    /// Returns whether idle objects are validated by an eviction run.
     pub fn test_while_idle(&self) -> bool
         ensures { result ≡ self.now.test_while_idle }
     {

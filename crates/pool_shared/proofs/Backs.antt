@@ -1,57 +1,82 @@
--- The trace of a return.
-use Rattle.std.proofs.Common.{◌≡◌, ℕ, false, true≢false, List, [], Option, None, Err, append-nil, refl, sym, ap, ◌∙◌, subst}
+-- The traces of a return and of an invalidation.
+use Rattle.std.proofs.Common.{◌≡◌, ℕ, true, false, true≢false, List, Option, None, Ok, Err, refl, sym, ap, ◌∙◌}
 use Rattle.pool_journal.specs.Journal.{phase}
 use Rattle.pool_journal.specs.declared.entry.Entry.{Entry}
 use Rattle.pool_journal.specs.declared.record.Phase.{Phase}
 use Rattle.pool_journal.specs.declared.record.Phase.TheVariants as phases
+use Rattle.pool_journal.specs.declared.input.Input.{Input}
+use Rattle.pool_journal.specs.declared.input.Input.TheVariants.{GiveBack, Invalidate, Park, Destroyed}
 use Rattle.pool_journal.specs.declared.input.Outcome.{Outcome}
-use Rattle.pool_journal.specs.declared.input.Input.TheVariants.{GiveBack, Park, Destroyed}
 use Rattle.pool_journal.specs.declared.answer.Answer.{Answer}
 use Rattle.pool_journal.specs.declared.answer.Answer.TheVariants as answers
 use Rattle.pool_settings.specs.declared.settings.Settings.{Settings}
 use Rattle.pool_core.specs.declared.step_fault.StepFault.{StepFault}
 use Rattle.pool_core.specs.declared.step_fault.StepFault.TheVariants.{JournalFull, OutOfMemory}
-use Rattle.pool_core.specs.Finishing.{finishes}
+use Rattle.pool_core.specs.Completion.{is_completing}
 use Rattle.pool_core.specs.Legal.{IsLegal}
 use Rattle.pool_core.specs.Reply.{reply, lent_reply}
 use Rattle.pool_core.proofs.Whole.{lent_whole}
 use Rattle.pool_history.specs.CallerStates.{CallerState}
 use Rattle.pool_shared.specs.declared.faults.ReturnFault.TheVariants as faults
+use Rattle.pool_shared.specs.declared.faults.Returned.{Returned}
 use Rattle.pool_shared.specs.declared.faults.Returned.TheVariants as returned
 use Rattle.pool_shared.specs.declared.lent.Lent.{Lent}
 use Rattle.pool_lock.specs.Sections.{AppendsAnswer, Refuses}
+use Rattle.pool_shared.specs.Walks.{Trace, EndsWithOwn}
 use Rattle.pool_shared.specs.Returns as returns
-use Rattle.pool_shared.specs.Returns.{gives, checks, destroys, done, MayComeOut, Goes_on, ReturnRow, Finishes}
-use Rattle.pool_shared.proofs.Walking.{walk_one, walk_on}
-use Rattle.pool_shared.proofs.Rowing.{full_for, short_for}
+use Rattle.pool_shared.specs.Returns.{gives, checks, destroys, done, IsPossibleOutcome, ReturnEnds, ReturnSpec}
+use Rattle.pool_shared.specs.Invalidates as invalidates
+use Rattle.pool_shared.specs.Invalidates.{begins, InvalidateEnds, InvalidateSpec}
+use Rattle.pool_shared.proofs.Walking.{walk_by, walk_on, walk_destroyed}
+use Rattle.pool_shared.proofs.Rowing.{row_at, row_none, full_for, short_for}
 
 -- a returned object is destroyed
-pub destroyed : (s : Settings) (i : ℕ) (o : Outcome) (a : Answer) (before mid after : CallerState) → MayComeOut s o → a ≡ answers.Destroy → AppendsAnswer (Park i o) a before mid → AppendsAnswer (Destroyed i) answers.Freed mid after
-    → Goes_on s i checks before after (done returned.Destroyed)
+pub destroyed : (s : Settings) (i : ℕ) (o : Outcome) (a : Answer) (before mid after : CallerState) → IsPossibleOutcome s o → a ≡ answers.Destroy → AppendsAnswer (Park i o) a before mid → AppendsAnswer (Destroyed i) answers.Freed mid after
+    → Trace (returns.IsExpected s i) returns.next checks before after (done returned.Destroyed)
 destroyed s i o a before mid after may is made freed =
-    walk_on (returns.Due s i) returns.next checks destroys (done returned.Destroyed) before mid after
-    (walk_one (returns.Due s i) returns.next checks destroys (Park i o) answers.Destroy before mid (subst (λ b. AppendsAnswer (Park i o) b before mid) is made) (λ n at. (refl, may)) (λ n at. refl))
-    (walk_one (returns.Due s i) returns.next destroys (done returned.Destroyed) (Destroyed i) answers.Freed mid after freed (λ n at. refl) (λ n at. refl))
+    walk_destroyed (returns.IsExpected s i) returns.next checks destroys (done returned.Destroyed) i (Park i o) a answers.Destroy before mid after is made freed (λ n at. (refl, may)) (λ n at. refl) (λ n at. refl) (λ n at. refl)
 
-not_lent : (s : Settings) (at i : ℕ) (observed : List Entry) → IsLegal s observed → finishes (reply s observed at (GiveBack i)) (GiveBack i) ≡ false → phase i observed ≡ phases.Lent → ⊥
-not_lent s at i observed legal unfinished lent =
-    let due : reply s observed at (GiveBack i) ≡ answers.Check = sym (lent_whole s observed legal i answers.Check) ∙ ap (λ (p : Phase). lent_reply s.abandoned p answers.Check) lent in
-    true≢false (sym (ap (λ a. finishes a (GiveBack i)) due) ∙ unfinished)
+-- a return whose object was checked
+pub checked : {T : Type 0} (s : Settings) (number : ℕ) (l : Lent T) (q : Returned) (x : Answer) (a b c : CallerState) → l.pool ≡ number → x ≡ answers.Check → AppendsAnswer (GiveBack l.id) x a b
+    → Trace (returns.IsExpected s l.id) returns.next checks b c (done q) → EndsWithOwn c → ReturnSpec s number l (Ok q) a c
+checked s number l q x a b c pool is made w ends = (
+  pool,
+  row_at (returns.IsExpected s l.id) returns.next (ReturnEnds s l.id) gives (done q) (Ok q) a c
+      (walk_on (returns.IsExpected s l.id) returns.next gives checks (done q) a b c (walk_by (returns.IsExpected s l.id) returns.next gives checks (GiveBack l.id) x answers.Check a b is made (λ n at. refl) (λ n at. refl)) w) (refl, ends),
+)
 
--- a return that failed for lack of room
-pub full_row : {T : Type 0} (s : Settings) (number : ℕ) (l : Lent T) (f : StepFault T) (out : Option T) (before after : CallerState) → f ≡ JournalFull out → l.pool ≡ number → IsLegal s after.observed → Refuses s (GiveBack l.id) None f before after
-    → ReturnRow s number l (Err (faults.JournalFull, l)) before after
-full_row s number l f out before after is pool legal refuses =
-    let full = full_for s (GiveBack l.id) f out before after is refuses in (
-      pool,
-      record { es = []; made = refuses.same ∙ sym (append-nil before.appended); due = tt; ends = tt; leaves = (full, not_lent s full.0 l.id after.observed legal full.1.unfinished) },
-    )
+-- an input that would complete a step if the object were lent
+not_lent : (s : Settings) (at i : ℕ) (input : Input) (a : Answer) (observed : List Entry) → lent_reply s.abandoned (phase i observed) a ≡ reply s observed at input → is_completing a input ≡ true → is_completing (reply s observed at input) input ≡ false
+    → phase i observed ≡ phases.Lent → ⊥
+not_lent s at i input a observed whole finished unfinished lent =
+    let due : reply s observed at input ≡ a = sym whole ∙ ap (λ (p : Phase). lent_reply s.abandoned p a) lent in
+    true≢false (sym (ap (λ x. is_completing x input) due ∙ finished) ∙ unfinished)
 
--- the same for lack of memory
-pub short_row : {T : Type 0} (s : Settings) (number : ℕ) (l : Lent T) (f : StepFault T) (out : Option T) (before after : CallerState) → f ≡ OutOfMemory out → l.pool ≡ number → IsLegal s after.observed → Refuses s (GiveBack l.id) None f before after
-    → ReturnRow s number l (Err (faults.OutOfMemory, l)) before after
-short_row s number l f out before after is pool legal refuses =
-    let short = short_for s (GiveBack l.id) f out before after is refuses in (
-      pool,
-      record { es = []; made = refuses.same ∙ sym (append-nil before.appended); due = tt; ends = tt; leaves = (short, not_lent s short.0 l.id after.observed legal short.1.unfinished) },
-    )
+module _ {T : Type 0} (s : Settings) (number : ℕ) (l : Lent T) (f : StepFault T) (out : Option T) (before after : CallerState) where
+  -- a return that failed for lack of room
+  pub return_full : f ≡ JournalFull out → l.pool ≡ number → IsLegal s after.observed → Refuses s (GiveBack l.id) None f before after → ReturnSpec s number l (Err (faults.JournalFull, l)) before after
+  return_full is pool legal refuses =
+      let full = full_for s (GiveBack l.id) f out before after is refuses in
+      let none = not_lent s full.0 l.id (GiveBack l.id) answers.Check after.observed (lent_whole s after.observed legal l.id answers.Check) refl full.1.unfinished in
+      (pool, row_none (returns.IsExpected s l.id) returns.next (ReturnEnds s l.id) gives (Err (faults.JournalFull, l)) before after refuses.same (refl, full, none))
+
+  -- the same for lack of memory
+  pub return_short : f ≡ OutOfMemory out → l.pool ≡ number → IsLegal s after.observed → Refuses s (GiveBack l.id) None f before after → ReturnSpec s number l (Err (faults.OutOfMemory, l)) before after
+  return_short is pool legal refuses =
+      let short = short_for s (GiveBack l.id) f out before after is refuses in
+      let none = not_lent s short.0 l.id (GiveBack l.id) answers.Check after.observed (lent_whole s after.observed legal l.id answers.Check) refl short.1.unfinished in
+      (pool, row_none (returns.IsExpected s l.id) returns.next (ReturnEnds s l.id) gives (Err (faults.OutOfMemory, l)) before after refuses.same (refl, short, none))
+
+  -- an invalidation that failed for lack of room
+  pub invalidate_full : f ≡ JournalFull out → l.pool ≡ number → IsLegal s after.observed → Refuses s (Invalidate l.id) None f before after → InvalidateSpec s number l (Err (faults.JournalFull, l)) before after
+  invalidate_full is pool legal refuses =
+      let full = full_for s (Invalidate l.id) f out before after is refuses in
+      let none = not_lent s full.0 l.id (Invalidate l.id) answers.Destroy after.observed (lent_whole s after.observed legal l.id answers.Destroy) refl full.1.unfinished in
+      (pool, row_none (invalidates.IsExpected l.id) invalidates.next (InvalidateEnds s l.id) begins (Err (faults.JournalFull, l)) before after refuses.same (refl, full, none))
+
+  -- the same for lack of memory
+  pub invalidate_short : f ≡ OutOfMemory out → l.pool ≡ number → IsLegal s after.observed → Refuses s (Invalidate l.id) None f before after → InvalidateSpec s number l (Err (faults.OutOfMemory, l)) before after
+  invalidate_short is pool legal refuses =
+      let short = short_for s (Invalidate l.id) f out before after is refuses in
+      let none = not_lent s short.0 l.id (Invalidate l.id) answers.Destroy after.observed (lent_whole s after.observed legal l.id answers.Destroy) refl short.1.unfinished in
+      (pool, row_none (invalidates.IsExpected l.id) invalidates.next (InvalidateEnds s l.id) begins (Err (faults.OutOfMemory, l)) before after refuses.same (refl, short, none))

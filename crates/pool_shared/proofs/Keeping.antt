@@ -1,7 +1,8 @@
--- What a borrower may rely on follows from the safety properties of what it has observed.
+-- The guarantees to a borrower follow from the safety properties of its observed history.
 use Rattle.std.proofs.Common.{◌≡◌, ◌<◌, ℕ, zero, suc, true, List, [], ◌∷◌, ◌++◌, length, slice_get, Some, Result, Ok, Err, eq-eqb, refl, sym, subst, arith}
 use Rattle.std.specs.Prelude.{IfOk}
-use Rattle.pool_journal.specs.Journal.{lends, phase}
+use Rattle.pool_journal.specs.Entries.{lends}
+use Rattle.pool_journal.specs.Journal.{phase}
 use Rattle.pool_journal.specs.declared.answer.Answer.TheVariants.{Lent as is_lent}
 use Rattle.pool_journal.specs.declared.input.Input.TheVariants.{Ready}
 use Rattle.pool_journal.specs.declared.input.Outcome.TheVariants.{Good}
@@ -17,7 +18,7 @@ use Rattle.pool_history.proofs.Ownership.{at_seam, last_here}
 use Rattle.pool_shared.specs.declared.faults.BorrowFault.{BorrowFault}
 use Rattle.pool_shared.specs.declared.lent.Lent.{Lent}
 use Rattle.pool_lock.proofs.Sections.{state_of}
-use Rattle.pool_shared.specs.Borrows.{Stage, Finishes}
+use Rattle.pool_shared.specs.Borrows.{Stage, BorrowsFrom}
 use Rattle.pool_shared.specs.Promises.{IsAlone}
 use Rattle.pool_shared.specs.Walks.{Ends}
 use Rattle.pool_shared.proofs.Sweeping.{goes_self}
@@ -44,9 +45,9 @@ alone s i me legal ends =
     }
 
 -- a borrow that lends
-pub alone_of : {T E : Type 0} (s : Settings) (number began : ℕ) (from : Stage) (r : Result (Lent T) (BorrowFault E)) (before after : CallerState) → Advances s before after → Finishes s number began from r before after → IfOk r (λ l. IsAlone l.id after)
-alone_of s number began from (Ok l) before after goes made = alone s l.id after goes.legal made.leaves
-alone_of s number began from (Err f) before after goes made = tt
+pub alone_of : {T E : Type 0} (s : Settings) (number began : ℕ) (from : Stage) (r : Result (Lent T) (BorrowFault E)) (before after : CallerState) → Advances s before after → BorrowsFrom s number began from r before after → IfOk r (λ l. IsAlone l.id after)
+alone_of s number began from (Ok l) before after goes row = alone s l.id after goes.legal row.ends.2
+alone_of s number began from (Err f) before after goes row = tt
 
 -- in the observed history the number of present objects is within the limit of the settings
 pub within : (s : Settings) (before after : CallerState) → Advances s before after → AtMostMaxTotal s after.observed

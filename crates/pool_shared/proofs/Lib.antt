@@ -3,11 +3,11 @@ pub mod Looking
 pub mod Opening
 pub mod Backs
 pub mod Sweeping
+pub mod Asking
 pub mod Removing
 pub mod Rowing
 pub mod Examining
 pub mod Removals
-pub mod Losses
 pub mod Stocking
 pub mod Upkeep
 pub mod Keeping

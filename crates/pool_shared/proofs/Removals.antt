@@ -10,49 +10,43 @@ use Rattle.pool_journal.specs.declared.record.Record.{Record}
 use Rattle.pool_settings.specs.declared.settings.Settings.{Settings}
 use Rattle.pool_core.specs.declared.step_fault.StepFault.{StepFault}
 use Rattle.pool_core.specs.declared.step_fault.StepFault.TheVariants.{JournalFull, OutOfMemory}
-use Rattle.pool_core.specs.Finishing.{finishes}
-use Rattle.pool_core.specs.Reply.{reply, forgotten, reclaim_next_reply}
+use Rattle.pool_core.specs.Completion.{is_completing}
+use Rattle.pool_core.specs.Reply.{reply, abandoned_objects, reclaim_next_reply}
 use Rattle.pool_history.specs.CallerStates.{CallerState}
 use Rattle.pool_lock.specs.Sections.{AppendsAnswer, Refuses}
 use Rattle.pool_shared.specs.declared.faults.PoolFault.{PoolFault}
 use Rattle.pool_shared.specs.declared.faults.PoolFault.TheVariants as faults
-use Rattle.pool_shared.specs.Walks.{EndsWithMade}
-use Rattle.pool_shared.specs.Reclaims as removals
-use Rattle.pool_shared.specs.Reclaims.{Stage, begins, reclaims, through, Goes_on, IsStopped, ReclaimEnds, ReclaimsFrom, ReclaimRow}
-use Rattle.pool_shared.proofs.Walking.{walk_one, walk_on}
+use Rattle.pool_shared.specs.Walks.{Trace, EndsWithOwn}
+use Rattle.pool_shared.specs.Reclaims.{begins, reclaims, through, next, IsExpected, IsStopped, ReclaimEnds, ReclaimsFrom, ReclaimSpec}
+use Rattle.pool_shared.proofs.Walking.{walk_by, walk_more}
 use Rattle.pool_shared.proofs.Rowing.{row_at, row_on, row_stopped, full_for, short_for}
 
 -- an object was reclaimed
-pub took_away : (time : When) (count left taken i : ℕ) (x : Answer) (a b c : CallerState) → 0 < left → Goes_on time (reclaims count 0) a b (reclaims left taken) → x ≡ answers.Reclaimed i → AppendsAnswer ReclaimNext x b c
-    → Goes_on time (reclaims count 0) a c (reclaims (left - 1) (taken + 1))
+pub took_away : (time : When) (count left taken i : ℕ) (x : Answer) (a b c : CallerState) → 0 < left → Trace (IsExpected time) next (reclaims count 0) a b (reclaims left taken) → x ≡ answers.Reclaimed i → AppendsAnswer ReclaimNext x b c
+    → Trace (IsExpected time) next (reclaims count 0) a c (reclaims (left - 1) (taken + 1))
 took_away time count left taken i x a b c some w is made =
-    let Due = removals.Due time in
-    walk_on Due removals.next (reclaims count 0) (reclaims left taken) (reclaims (left - 1) (taken + 1)) a b c w
-    (walk_one Due removals.next (reclaims left taken) (reclaims (left - 1) (taken + 1)) ReclaimNext (answers.Reclaimed i) b c (subst (λ y. AppendsAnswer ReclaimNext y b c) is made) (λ n at. (some, refl)) (λ n at. refl))
+    walk_more (IsExpected time) next (reclaims count 0) (reclaims left taken) (reclaims (left - 1) (taken + 1)) ReclaimNext x (answers.Reclaimed i) a b c w is made (λ n at. (some, refl)) (λ n at. refl)
 
 -- no object was left
-pub none_abandoned : (s : Settings) (time : When) (count left taken : ℕ) (x : Answer) (a b c : CallerState) → 0 < left → Goes_on time (reclaims count 0) a b (reclaims left taken) → x ≡ answers.Nothing → AppendsAnswer ReclaimNext x b c → EndsWithMade c
+pub none_abandoned : (s : Settings) (time : When) (count left taken : ℕ) (x : Answer) (a b c : CallerState) → 0 < left → Trace (IsExpected time) next (reclaims count 0) a b (reclaims left taken) → x ≡ answers.Nothing → AppendsAnswer ReclaimNext x b c → EndsWithOwn c
     → ReclaimsFrom s time (reclaims count 0) (Ok taken) a c
 none_abandoned s time count left taken x a b c some w is made ends =
-    let Due = removals.Due time in
-    row_at Due removals.next (ReclaimEnds s time) (reclaims count 0) (through taken) (Ok taken) a c
-    (walk_on Due removals.next (reclaims count 0) (reclaims left taken) (through taken) a b c w
-    (walk_one Due removals.next (reclaims left taken) (through taken) ReclaimNext answers.Nothing b c (subst (λ y. AppendsAnswer ReclaimNext y b c) is made) (λ n at. (some, refl)) (λ n at. refl)))
-    (refl, ends)
+    row_at (IsExpected time) next (ReclaimEnds s time) (reclaims count 0) (through taken) (Ok taken) a c
+    (walk_more (IsExpected time) next (reclaims count 0) (reclaims left taken) (through taken) ReclaimNext x answers.Nothing a b c w is made (λ n at. (some, refl)) (λ n at. refl)) (refl, ends)
 
 -- a removal that reclaimed up to its full number
-pub all_taken : (s : Settings) (time : When) (count left taken : ℕ) (a b : CallerState) → left ≡ 0 → taken ≡ count → Goes_on time (reclaims count 0) a b (reclaims left taken) → EndsWithMade b → ReclaimsFrom s time (reclaims count 0) (Ok count) a b
+pub all_taken : (s : Settings) (time : When) (count left taken : ℕ) (a b : CallerState) → left ≡ 0 → taken ≡ count → Trace (IsExpected time) next (reclaims count 0) a b (reclaims left taken) → EndsWithOwn b → ReclaimsFrom s time (reclaims count 0) (Ok count) a b
 all_taken s time count left taken a b none all w ends =
-    row_at (removals.Due time) removals.next (ReclaimEnds s time) (reclaims count 0) (reclaims 0 taken) (Ok count) a b (subst (λ k. Goes_on time (reclaims count 0) a b (reclaims k taken)) none w) (sym all, ends)
+    row_at (IsExpected time) next (ReclaimEnds s time) (reclaims count 0) (reclaims 0 taken) (Ok count) a b (subst (λ k. Trace (IsExpected time) next (reclaims count 0) a b (reclaims k taken)) none w) (sym all, ends)
 
-takes_none : (b : Bool) (o : Option Record) → finishes (reclaim_next_reply b o) ReclaimNext ≡ false → reclaim_next_reply b o ≡ answers.Nothing
+takes_none : (b : Bool) (o : Option Record) → is_completing (reclaim_next_reply b o) ReclaimNext ≡ false → reclaim_next_reply b o ≡ answers.Nothing
 takes_none true (Some r) is = absurd (true≢false is)
 takes_none true None is = refl
 takes_none false o is = refl
 
 -- a ReclaimNext failed that would have reclaimed nothing
-none_there : (s : Settings) (at : ℕ) (me : CallerState) → finishes (reply s me.observed at ReclaimNext) ReclaimNext ≡ false → reply s me.observed at ReclaimNext ≡ answers.Nothing
-none_there s at me unfinished = takes_none s.abandoned (first_of (forgotten s at (records_from empty_base me.observed))) unfinished
+none_there : (s : Settings) (at : ℕ) (me : CallerState) → is_completing (reply s me.observed at ReclaimNext) ReclaimNext ≡ false → reply s me.observed at ReclaimNext ≡ answers.Nothing
+none_there s at me unfinished = takes_none s.abandoned (first_of (abandoned_objects s at (records_from empty_base me.observed))) unfinished
 
 pub stops_full : {T : Type 0} (s : Settings) (f : StepFault T) (out : Option T) (b c : CallerState) → f ≡ JournalFull out → Refuses s ReclaimNext None f b c → IsStopped s faults.JournalFull c
 stops_full s f out b c is refuses = let full = full_for s ReclaimNext f out b c is refuses in (full.0, full.1, none_there s full.0 c full.1.unfinished)
@@ -61,16 +55,14 @@ pub stops_short : {T : Type 0} (s : Settings) (f : StepFault T) (out : Option T)
 stops_short s f out b c is refuses = let short = short_for s ReclaimNext f out b c is refuses in (short.0, short.1, none_there s short.0 c short.1.unfinished)
 
 -- a removal that stopped with an error
-pub stopped : (s : Settings) (time : When) (count left taken : ℕ) (f : PoolFault) (a b c : CallerState) → 0 < left → Goes_on time (reclaims count 0) a b (reclaims left taken) → c.appended ≡ b.appended → IsStopped s f c
+pub stopped : (s : Settings) (time : When) (count left taken : ℕ) (f : PoolFault) (a b c : CallerState) → 0 < left → Trace (IsExpected time) next (reclaims count 0) a b (reclaims left taken) → c.appended ≡ b.appended → IsStopped s f c
     → ReclaimsFrom s time (reclaims count 0) (Err f) a c
 stopped s time count left taken f a b c some w same room =
     let more : left ≡ suc (left - 1) = omega (arith, some) in
-    row_stopped (removals.Due time) removals.next (ReclaimEnds s time) (reclaims count 0) (reclaims (suc (left - 1)) taken) (Err f) a b c
-    (subst (λ k. Goes_on time (reclaims count 0) a b (reclaims k taken)) more w) same room
+    row_stopped (IsExpected time) next (ReclaimEnds s time) (reclaims count 0) (reclaims (suc (left - 1)) taken) (Err f) a b c
+    (subst (λ k. Trace (IsExpected time) next (reclaims count 0) a b (reclaims k taken)) more w) same room
 
 -- a whole removal
-pub removal : (s : Settings) (time : When) (n : ℕ) (r : Result ℕ PoolFault) (x : Answer) (a b c : CallerState) → x ≡ answers.Count n → AppendsAnswer (Reclaim time) x a b → ReclaimsFrom s time (reclaims n 0) r b c → ReclaimRow s time r a c
+pub removal : (s : Settings) (time : When) (n : ℕ) (r : Result ℕ PoolFault) (x : Answer) (a b c : CallerState) → x ≡ answers.Count n → AppendsAnswer (Reclaim time) x a b → ReclaimsFrom s time (reclaims n 0) r b c → ReclaimSpec s time r a c
 removal s time n r x a b c is made row =
-    let Due = removals.Due time in
-    row_on Due removals.next (ReclaimEnds s time) begins (reclaims n 0) r a b c
-    (walk_one Due removals.next begins (reclaims n 0) (Reclaim time) (answers.Count n) a b (subst (λ y. AppendsAnswer (Reclaim time) y a b) is made) (λ m at. refl) (λ m at. refl)) row
+    row_on (IsExpected time) next (ReclaimEnds s time) begins (reclaims n 0) r a b c (walk_by (IsExpected time) next begins (reclaims n 0) (Reclaim time) x (answers.Count n) a b is made (λ m at. refl) (λ m at. refl)) row

@@ -4,7 +4,7 @@ use Rattle.std.specs.Prelude.{not, OnOk}
 use Rattle.std.proofs.lemmas.List.Filters.{length-filter_both}
 use Rattle.pool_journal.specs.declared.entry.Entry.{Entry}
 use Rattle.pool_journal.specs.declared.input.Input.{Input}
-use Rattle.pool_journal.specs.declared.input.Input.TheVariants.{Fill, Added, Destroyed}
+use Rattle.pool_journal.specs.declared.input.Input.TheVariants.{Add, Fill, Added, Destroyed}
 use Rattle.pool_journal.specs.declared.input.Outcome.TheVariants as outcomes
 use Rattle.pool_journal.specs.declared.record.Phase.TheVariants as phases
 use Rattle.pool_journal.specs.declared.answer.Answer.{Answer}
@@ -20,15 +20,15 @@ use Rattle.pool_shared.specs.declared.faults.Addition.TheVariants as additions
 use Rattle.pool_shared.specs.declared.faults.AddFault.{AddFault}
 use Rattle.pool_shared.specs.declared.faults.AddFault.TheVariants as faults
 use Rattle.pool_lock.specs.Sections.{OwnsObject, AppendsAnswer, Refuses}
-use Rattle.pool_shared.specs.Walks.{walked, AllDue, EndsWithMade}
+use Rattle.pool_shared.specs.Walks.{run_stages, Trace, EndsWithOwn}
 use Rattle.pool_shared.specs.Adds as addition
-use Rattle.pool_shared.specs.Adds.{makes, ending, Leaves, IsStocked}
+use Rattle.pool_shared.specs.Adds.{makes, ending, FinalState, AddEnds, AddSpec, IsStocked}
 use Rattle.pool_shared.specs.Fills as fills
-use Rattle.pool_shared.specs.Fills.{Stage, asks, adds, adding, through, failed, lost, Goes_on, Finishes, FillRow, Turns}
-use Rattle.pool_shared.proofs.Walking.{walk_none, walk_one, walk_on}
-use Rattle.pool_shared.proofs.Rowing.{full_for, short_for}
+use Rattle.pool_shared.specs.Fills.{Stage, asks, adds, adding, through, failed, lost, after_asking, next, IsExpected, FillEnds, FillsFrom, FillSpec, FillStep}
+use Rattle.pool_shared.proofs.Walking.{walk_by, walk_on, walk_destroyed}
+use Rattle.pool_shared.proofs.Rowing.{row_at, row_none, row_on, walk_along, full_for, short_for}
 
-stocked_leaves : {E : Type 0} (s : Settings) (input : Input) (r : Result Addition (AddFault E)) (me : CallerState) → IsStocked r → EndsWithMade me → Leaves s input r me
+stocked_leaves : {E : Type 0} (s : Settings) (input : Input) (r : Result Addition (AddFault E)) (me : CallerState) → IsStocked r → EndsWithOwn me → FinalState s input r me
 stocked_leaves s input (Ok a) me is ends = ends
 stocked_leaves s input (Err faults.Closed) me is ends = absurd is
 stocked_leaves s input (Err (faults.MakeFailed f)) me is ends = ends
@@ -37,13 +37,20 @@ stocked_leaves s input (Err (faults.PassivateFailed f)) me is ends = ends
 stocked_leaves s input (Err faults.JournalFull) me is ends = absurd is
 stocked_leaves s input (Err faults.OutOfMemory) me is ends = absurd is
 
+-- an addition that found a place
+pub added : {E : Type 0} (s : Settings) (i : ℕ) (x : Answer) (r : Result Addition (AddFault E)) (a b c : CallerState) → x ≡ answers.Make i → AppendsAnswer Add x a b
+    → IsStocked r → Trace (addition.IsExpected s) addition.next (makes i) b c (ending r) → EndsWithOwn c → AddSpec s r a c
+added s i x r a b c is made stocked w ends =
+    row_at (addition.IsExpected s) addition.next (AddEnds s) addition.asks (ending r) r a c
+    (walk_on (addition.IsExpected s) addition.next addition.asks (makes i) (ending r) a b c (walk_by (addition.IsExpected s) addition.next addition.asks (makes i) Add x (answers.Make i) a b is made (λ n at. refl) (λ n at. refl)) w)
+    (refl, stocked_leaves s Add r c stocked ends)
+
 -- the pool was closed before the new object could become idle
 pub shut_out : (s : Settings) (i : ℕ) (a : Answer) (before mid after : CallerState) → a ≡ answers.Destroy → AppendsAnswer (Added i outcomes.Good) a before mid → AppendsAnswer (Destroyed i) answers.Freed mid after
-    → addition.Goes_on s (makes i) before after (addition.gone outcomes.Good)
+    → Trace (addition.IsExpected s) addition.next (makes i) before after (addition.gone outcomes.Good)
 shut_out s i a before mid after is made freed =
-    walk_on (addition.Due s) addition.next (makes i) (addition.destroys i outcomes.Good) (addition.gone outcomes.Good) before mid after
-    (walk_one (addition.Due s) addition.next (makes i) (addition.destroys i outcomes.Good) (Added i outcomes.Good) answers.Destroy before mid (subst (λ b. AppendsAnswer (Added i outcomes.Good) b before mid) is made) (λ n at. (refl, tt)) (λ n at. refl))
-    (walk_one (addition.Due s) addition.next (addition.destroys i outcomes.Good) (addition.gone outcomes.Good) (Destroyed i) answers.Freed mid after freed (λ n at. refl) (λ n at. refl))
+    walk_destroyed (addition.IsExpected s) addition.next (makes i) (addition.destroys i outcomes.Good) (addition.gone outcomes.Good) i (Added i outcomes.Good) a answers.Destroy before mid after is made freed
+    (λ n at. (refl, tt)) (λ n at. refl) (λ n at. refl) (λ n at. refl)
 
 -- the caller then owns it, and has to destroy it
 pub has_shut_out : (i : ℕ) (a : Answer) (before after : CallerState) → a ≡ answers.Destroy → AppendsAnswer (Added i outcomes.Good) a before after → (new : Bool) × OwnsObject after i phases.Destroying new
@@ -53,50 +60,46 @@ has_shut_out i a before after is made =
 
 -- an addition within a fill
 module _ (s : Settings) (n : ℕ) where
-  within : (stage : addition.Stage) (es : List Entry) → AllDue (addition.Due s) addition.next stage es
-      → (walked fills.next (adding n stage) es ≡ adding n (walked addition.next stage es)) × AllDue (fills.Due s) fills.next (adding n stage) es
-  within stage [] due = (refl, tt)
-  within addition.asks (e ∷ es) due = let r = within (addition.next addition.asks e) es due.1 in (r.0, (due.0, r.1))
-  within (addition.makes i) (e ∷ es) due = let r = within (addition.next (addition.makes i) e) es due.1 in (r.0, (due.0, r.1))
-  within (addition.destroys i o) (e ∷ es) due = let r = within (addition.next (addition.destroys i o) e) es due.1 in (r.0, (due.0, r.1))
-  within _ (e ∷ es) due = absurd due.0
+  due_within : (st : addition.Stage) (e : Entry) → addition.IsExpected s st e → IsExpected s (adding n st) e
+  due_within addition.asks e due = due
+  due_within (addition.makes i) e due = due
+  due_within (addition.destroys i o) e due = due
+  due_within _ e due = absurd due
 
-  walk_within : (from to : addition.Stage) (before after : CallerState) → addition.Goes_on s from before after to → Goes_on s (adding n from) before after (adding n to)
-  walk_within from to before after w =
-      let r = within from w.es w.due in
-      record { es = w.es; made = w.made; due = r.1; comes = r.0 ∙ ap (adding n) w.comes }
+  goes_within : (st : addition.Stage) (e : Entry) → addition.IsExpected s st e → next (adding n st) e ≡ adding n (addition.next st e)
+  goes_within addition.asks e due = refl
+  goes_within (addition.makes i) e due = refl
+  goes_within (addition.destroys i o) e due = refl
+  goes_within _ e due = absurd due
 
-  turn_made : {E : Type 0} (r : Result Addition (AddFault E)) (before after : CallerState) → IsStocked r → Goes_on s (asks n) before after (adding n (ending r)) → EndsWithMade after → Turns s n r before after
+  turn_made : {E : Type 0} (r : Result Addition (AddFault E)) (before after : CallerState) → IsStocked r → Trace (IsExpected s) next (asks n) before after (adding n (ending r)) → EndsWithOwn after → FillStep s n r before after
   turn_made (Ok additions.Idle) before after is w ends = (w, ends)
   turn_made (Ok additions.Destroyed) before after is w ends = (w, ends)
   turn_made (Ok additions.NoPlace) before after is w ends = absurd is
   turn_made (Err faults.Closed) before after is w ends = absurd is
-  turn_made (Err (faults.MakeFailed f)) before after is w ends = record { to = failed outcomes.MakeFailed; made = w; ends = tt; leaves = ends }
-  turn_made (Err faults.CreateTestFailed) before after is w ends = record { to = failed outcomes.CreateTestFailed; made = w; ends = tt; leaves = ends }
-  turn_made (Err (faults.PassivateFailed f)) before after is w ends = record { to = failed outcomes.PassivateFailed; made = w; ends = tt; leaves = ends }
+  turn_made (Err (faults.MakeFailed f)) before after is w ends = row_at (IsExpected s) next (FillEnds s) (asks n) (failed outcomes.MakeFailed) (Err (faults.MakeFailed f)) before after w (refl, ends)
+  turn_made {E} (Err faults.CreateTestFailed) before after is w ends = row_at (IsExpected s) next (FillEnds {E = E} s) (asks n) (failed outcomes.CreateTestFailed) (Err faults.CreateTestFailed) before after w (refl, ends)
+  turn_made (Err (faults.PassivateFailed f)) before after is w ends = row_at (IsExpected s) next (FillEnds s) (asks n) (failed outcomes.PassivateFailed) (Err (faults.PassivateFailed f)) before after w (refl, ends)
   turn_made (Err faults.JournalFull) before after is w ends = absurd is
   turn_made (Err faults.OutOfMemory) before after is w ends = absurd is
 
   -- a turn of a fill that found a place
   pub turned : {E : Type 0} (i : ℕ) (a : Answer) (r : Result Addition (AddFault E)) (before mid after : CallerState) → a ≡ answers.Make i → AppendsAnswer Fill a before mid
-      → IsStocked r → addition.Goes_on s (makes i) mid after (ending r) → EndsWithMade after → Turns s n r before after
+      → IsStocked r → Trace (addition.IsExpected s) addition.next (makes i) mid after (ending r) → EndsWithOwn after → FillStep s n r before after
   turned i a r before mid after is made stocked w ends =
       turn_made r before after stocked
-      (walk_on (fills.Due s) fills.next (asks n) (adds n (makes i)) (adding n (ending r)) before mid after
-      (walk_one (fills.Due s) fills.next (asks n) (adds n (makes i)) Fill (answers.Make i) before mid (subst (λ b. AppendsAnswer Fill b before mid) is made) (λ m at. refl) (λ m at. refl))
-      (walk_within (makes i) (ending r) mid after w)) ends
+      (walk_on (IsExpected s) next (asks n) (adds n (makes i)) (adding n (ending r)) before mid after (walk_by (IsExpected s) next (asks n) (adds n (makes i)) Fill a (answers.Make i) before mid is made (λ m at. refl) (λ m at. refl))
+      (walk_along (addition.IsExpected s) addition.next (IsExpected s) next (adding n) due_within goes_within (makes i) (ending r) mid after w)) ends
 
   -- a turn that failed for lack of room
-  pub full_turn : {T E : Type 0} (f : StepFault T) (out : Option T) (before after : CallerState) → f ≡ JournalFull out → Refuses s Fill None f before after → Turns {E = E} s n (Err faults.JournalFull) before after
-  full_turn f out before after is refuses =
-      record { to = asks n; made = walk_none (fills.Due s) fills.next (asks n) before after refuses.same; ends = tt; leaves = full_for s Fill f out before after is refuses }
+  pub full_turn : {T E : Type 0} (f : StepFault T) (out : Option T) (before after : CallerState) → f ≡ JournalFull out → Refuses s Fill None f before after → FillStep {E = E} s n (Err faults.JournalFull) before after
+  full_turn {T} {E} f out before after is refuses = row_none (IsExpected s) next (FillEnds {E = E} s) (asks n) (Err faults.JournalFull) before after refuses.same ((n, refl), full_for s Fill f out before after is refuses)
 
   -- the same for lack of memory
-  pub short_turn : {T E : Type 0} (f : StepFault T) (out : Option T) (before after : CallerState) → f ≡ OutOfMemory out → Refuses s Fill None f before after → Turns {E = E} s n (Err faults.OutOfMemory) before after
-  short_turn f out before after is refuses =
-      record { to = asks n; made = walk_none (fills.Due s) fills.next (asks n) before after refuses.same; ends = tt; leaves = short_for s Fill f out before after is refuses }
+  pub short_turn : {T E : Type 0} (f : StepFault T) (out : Option T) (before after : CallerState) → f ≡ OutOfMemory out → Refuses s Fill None f before after → FillStep {E = E} s n (Err faults.OutOfMemory) before after
+  short_turn {T} {E} f out before after is refuses = row_none (IsExpected s) next (FillEnds {E = E} s) (asks n) (Err faults.OutOfMemory) before after refuses.same ((n, refl), short_for s Fill f out before after is refuses)
 
--- how many are parked at a stage
+-- the number of objects parked at a stage
 reached : Stage → ℕ
 reached (asks n) = n
 reached (adds n stage) = n
@@ -111,15 +114,15 @@ reached_adding n (addition.gone outcomes.Good) = omega arith
 reached_adding n (addition.gone _) = omega arith
 reached_adding n _ = omega arith
 
-reached_asking : (n : ℕ) (a : Answer) → reached (fills.after_asking n a) ≤ n + 1
+reached_asking : (n : ℕ) (a : Answer) → reached (after_asking n a) ≤ n + 1
 unfolding reached
 reached_asking n (answers.Make i) = omega arith
 reached_asking n answers.Enough = omega arith
 reached_asking n answers.NoPlace = omega arith
 reached_asking n _ = omega arith
 
--- each entry parks one at most
-reached_next : (stage : Stage) (e : Entry) → reached (fills.next stage e) ≤ reached stage + 1
+-- each entry parks at most one object
+reached_next : (stage : Stage) (e : Entry) → reached (next stage e) ≤ reached stage + 1
 unfolding reached
 reached_next (asks n) e = reached_asking n e.answer
 reached_next (adds n stage) e = reached_adding n (addition.next stage e)
@@ -127,15 +130,15 @@ reached_next (through n) e = omega arith
 reached_next (failed o) e = omega arith
 reached_next lost e = omega arith
 
-reached_walked : (stage : Stage) (es : List Entry) → reached (walked fills.next stage es) ≤ reached stage + length es
+reached_walked : (stage : Stage) (es : List Entry) → reached (run_stages next stage es) ≤ reached stage + length es
 reached_walked stage [] = omega arith
-reached_walked stage (e ∷ es) = omega (arith, reached_next stage e, reached_walked (fills.next stage e) es)
+reached_walked stage (e ∷ es) = omega (arith, reached_next stage e, reached_walked (next stage e) es)
 
 -- a fill has parked at most one object per entry that it appended
-pub few_parked : (s : Settings) (n : ℕ) (first now : CallerState) → Goes_on s (asks 0) first now (asks n) → n ≤ length now.appended
+pub few_parked : (s : Settings) (n : ℕ) (first now : CallerState) → Trace (IsExpected s) next (asks 0) first now (asks n) → n ≤ length now.appended
 unfolding reached
 few_parked s n first now w =
-    let parked : reached (walked fills.next (asks 0) w.es) ≡ n = ap reached w.comes in
+    let parked : reached (run_stages next (asks 0) w.es) ≡ n = ap reached w.comes in
     omega (arith, parked, reached_walked (asks 0) w.es, ap length w.made, length-append first.appended w.es)
 
 own_within : (n : ℕ) (J : List Entry) → length (entries_with_number n J) ≤ length J
@@ -154,24 +157,21 @@ either_way (Err f) n few = tt
 
 -- the invariant of a fill that has parked this many: the number that it returns
 abbrev pub IsFilling : Settings → ℕ → CallerState → CallerState → Type 0
-IsFilling s told first now = (n : ℕ) × (told ≡ n) × Goes_on s (asks 0) first now (asks n)
+IsFilling s told first now = (n : ℕ) × (told ≡ n) × Trace (IsExpected s) next (asks 0) first now (asks n)
 
 -- a fill after one more turn
-module _ (s : Settings) (n told : ℕ) (first now after : CallerState) (telling : told ≡ n) (w : Goes_on s (asks 0) first now (asks n)) where
-  further : (to : Stage) → Goes_on s (asks n) now after to → Goes_on s (asks 0) first after to
-  further to more = walk_on (fills.Due s) fills.next (asks 0) (asks n) to first now after w more
+module _ (s : Settings) (n told : ℕ) (first now after : CallerState) (telling : told ≡ n) (w : Trace (IsExpected s) next (asks 0) first now (asks n)) where
+  turned_to : (a b : Addition) → a ≡ b → Trace (IsExpected s) next (asks n) now after (fills.turned n a) → Trace (IsExpected s) next (asks 0) first after (fills.turned n b)
+  turned_to a b is turn = walk_on (IsExpected s) next (asks 0) (asks n) (fills.turned n b) first now after w (subst (λ x. Trace (IsExpected s) next (asks n) now after (fills.turned n x)) is turn)
 
-  turned_to : (a b : Addition) → a ≡ b → Goes_on s (asks n) now after (fills.turned n a) → Goes_on s (asks 0) first after (fills.turned n b)
-  turned_to a b is turn = further (fills.turned n b) (subst (λ x. Goes_on s (asks n) now after (fills.turned n x)) is turn)
-
-  pub one_parked : (a : Addition) (more : ℕ) → a ≡ additions.Idle → more ≡ told + 1 → Goes_on s (asks n) now after (fills.turned n a) → IsFilling s more first after
+  pub one_parked : (a : Addition) (more : ℕ) → a ≡ additions.Idle → more ≡ told + 1 → Trace (IsExpected s) next (asks n) now after (fills.turned n a) → IsFilling s more first after
   one_parked a more is counted turn = (n + 1, omega (arith, counted, telling), turned_to a additions.Idle is turn)
 
-  pub one_lost : (a : Addition) → a ≡ additions.Destroyed → Goes_on s (asks n) now after (fills.turned n a) → IsFilling s told first after
+  pub one_lost : (a : Addition) → a ≡ additions.Destroyed → Trace (IsExpected s) next (asks n) now after (fills.turned n a) → IsFilling s told first after
   one_lost a is turn = (n, telling, turned_to a additions.Destroyed is turn)
 
-  pub all_filled : {E : Type 0} (a : Addition) → a ≡ additions.NoPlace → Goes_on s (asks n) now after (fills.turned n a) → EndsWithMade after → FillRow {E = E} s (Ok told) first after
-  all_filled a is turn ends = record { to = through n; made = turned_to a additions.NoPlace is turn; ends = telling; leaves = ends }
+  pub all_filled : {E : Type 0} (a : Addition) → a ≡ additions.NoPlace → Trace (IsExpected s) next (asks n) now after (fills.turned n a) → EndsWithOwn after → FillSpec {E = E} s (Ok told) first after
+  all_filled {E} a is turn ends = row_at (IsExpected s) next (FillEnds {E = E} s) (asks 0) (through n) (Ok told) first after (turned_to a additions.NoPlace is turn) (ap through (sym telling), ends)
 
-  pub filled_part : {E : Type 0} (f : AddFault E) → Finishes s (asks n) (Err f) now after → FillRow s (Err f) first after
-  filled_part f turn = record { to = turn.to; made = further turn.to turn.made; ends = turn.ends; leaves = turn.leaves }
+  pub filled_part : {E : Type 0} (f : AddFault E) → FillsFrom s (asks n) (Err f) now after → FillSpec s (Err f) first after
+  filled_part f turn = row_on (IsExpected s) next (FillEnds s) (asks 0) (asks n) (Err f) first now after w turn

@@ -6,25 +6,25 @@ use Rattle.pool_history.specs.CallerStates.{CallerState, Advances}
 use Rattle.pool_shared.specs.declared.evicting.EvictRun.{EvictRun}
 use Rattle.pool_shared.specs.declared.faults.AddFault.{AddFault}
 use Rattle.pool_shared.specs.declared.faults.PoolFault.{PoolFault}
-use Rattle.pool_shared.specs.Evicts.{EvictRow}
-use Rattle.pool_shared.specs.Reclaims.{ReclaimRow}
-use Rattle.pool_shared.specs.Fills.{FillRow}
-use Rattle.pool_shared.specs.Maintains.{told, in_evicting, in_reclaiming, in_filling, MaintainRow}
+use Rattle.pool_shared.specs.Evicts.{EvictSpec}
+use Rattle.pool_shared.specs.Reclaims.{ReclaimSpec}
+use Rattle.pool_shared.specs.Fills.{FillSpec}
+use Rattle.pool_shared.specs.Maintains.{reported, in_evicting, in_reclaiming, in_filling, MaintainSpec}
 
 module _ {U E : Type 0} (s : Settings) where
   -- the eviction run failed
-  pub evict_stops : (r : Result U (AddFault E)) (g : PoolFault) (a b : CallerState) → IsErrAnd r (λ f. f ≡ told g) → EvictRow s (Err g) a b → MaintainRow s r a b
+  pub evict_stops : (r : Result U (AddFault E)) (g : PoolFault) (a b : CallerState) → IsErrAnd r (λ f. f ≡ reported g) → EvictSpec s (Err g) a b → MaintainSpec s r a b
   evict_stops (Ok u) g a b is row = absurd is
   evict_stops (Err f) g a b is row = in_evicting g is row
 
   -- the removal failed
-  pub reclaim_stops : (r : Result U (AddFault E)) (run : EvictRun) (g : PoolFault) (a b c : CallerState) → IsErrAnd r (λ f. f ≡ told g) → Advances s a b → EvictRow s (Ok run) a b → ReclaimRow s times.Maintain (Err g) b c → MaintainRow s r a c
+  pub reclaim_stops : (r : Result U (AddFault E)) (run : EvictRun) (g : PoolFault) (a b c : CallerState) → IsErrAnd r (λ f. f ≡ reported g) → Advances s a b → EvictSpec s (Ok run) a b → ReclaimSpec s times.Maintain (Err g) b c → MaintainSpec s r a c
   reclaim_stops (Ok u) run g a b c is goes evicts row = absurd is
   reclaim_stops (Err f) run g a b c is goes evicts row = in_reclaiming g b is record { run = run; goes = goes; row = evicts } row
 
   -- the fill failed
-  pub fill_stops : (r : Result U (AddFault E)) (run : EvictRun) (n : ℕ) (g : AddFault E) (a b c d : CallerState) → IsErrAnd r (λ f. f ≡ g) → Advances s a b → EvictRow s (Ok run) a b → Advances s b c → ReclaimRow s times.Maintain (Ok n) b c
-      → FillRow s (Err g) c d → MaintainRow s r a d
+  pub fill_stops : (r : Result U (AddFault E)) (run : EvictRun) (n : ℕ) (g : AddFault E) (a b c d : CallerState) → IsErrAnd r (λ f. f ≡ g) → Advances s a b → EvictSpec s (Ok run) a b → Advances s b c → ReclaimSpec s times.Maintain (Ok n) b c
+      → FillSpec s (Err g) c d → MaintainSpec s r a d
   fill_stops (Ok u) run n g a b c d is there evicts then_there removes row = absurd is
   fill_stops (Err f) run n g a b c d is there evicts then_there removes row =
-      in_filling b c record { run = run; goes = there; row = evicts } record { taken = n; goes = then_there; row = removes } (subst (λ h. FillRow s (Err h) c d) (sym is) row)
+      in_filling b c record { run = run; goes = there; row = evicts } record { taken = n; goes = then_there; row = removes } (subst (λ h. FillSpec s (Err h) c d) (sym is) row)

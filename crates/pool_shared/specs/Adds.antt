@@ -15,9 +15,10 @@ use Rattle.pool_shared.specs.declared.faults.Addition.{Addition}
 use Rattle.pool_shared.specs.declared.faults.Addition.TheVariants as additions
 use Rattle.pool_shared.specs.declared.faults.AddFault.{AddFault}
 use Rattle.pool_shared.specs.declared.faults.AddFault.TheVariants as faults
-use Rattle.pool_shared.specs.declared.adding.Unfit.{Unfit}
-use Rattle.pool_shared.specs.declared.adding.Unfit.TheVariants as unfit
-use Rattle.pool_shared.specs.Walks.{Walks, EndsWithMade}
+use Rattle.pool_shared.specs.declared.adding.PrepareError.{PrepareError}
+use Rattle.pool_shared.specs.declared.adding.PrepareError.TheVariants as unfit
+use Rattle.pool_shared.specs.Walks.{EndsWithOwn}
+use Rattle.pool_shared.specs.Rows.{TraceToResult}
 
 -- the stage of an addition: it asks for a place; it makes an object; it destroys one, with this outcome; it has parked one; the
 -- object is gone again, with this outcome; it ended with this answer
@@ -46,26 +47,23 @@ next (destroys i o) e = gone o
 next stage e = stage
 
 -- the possible outcomes of making: the first test fails only if it is set
-abbrev pub MayComeOut : Settings → Outcome → Type 0
-MayComeOut s outcomes.Good = Unit {0}
-MayComeOut s outcomes.MakeFailed = Unit {0}
-MayComeOut s outcomes.CreateTestFailed = s.test_on_create ≡ true
-MayComeOut s outcomes.PassivateFailed = Unit {0}
-MayComeOut s o = ⊥
+abbrev pub IsPossibleOutcome : Settings → Outcome → Type 0
+IsPossibleOutcome s outcomes.Good = Unit {0}
+IsPossibleOutcome s outcomes.MakeFailed = Unit {0}
+IsPossibleOutcome s outcomes.CreateTestFailed = s.test_on_create ≡ true
+IsPossibleOutcome s outcomes.PassivateFailed = Unit {0}
+IsPossibleOutcome s o = ⊥
 
-abbrev pub IsMade : Settings → ℕ → Input → Type 0
-IsMade s i (Added j o) = (j ≡ i) × MayComeOut s o
-IsMade s i _ = ⊥
+abbrev pub IsAddedInput : Settings → ℕ → Input → Type 0
+IsAddedInput s i (Added j o) = (j ≡ i) × IsPossibleOutcome s o
+IsAddedInput s i _ = ⊥
 
 -- the next input
-abbrev pub Due : Settings → Stage → Entry → Type 0
-Due s asks e = e.input ≡ Add
-Due s (makes i) e = IsMade s i e.input
-Due s (destroys i o) e = e.input ≡ Destroyed i
-Due s _ e = ⊥
-
-abbrev pub Goes_on : Settings → Stage → CallerState → CallerState → Stage → Type 0
-Goes_on s from before after to = Walks (Due s) next from before after to
+abbrev pub IsExpected : Settings → Stage → Entry → Type 0
+IsExpected s asks e = e.input ≡ Add
+IsExpected s (makes i) e = IsAddedInput s i e.input
+IsExpected s (destroys i o) e = e.input ≡ Destroyed i
+IsExpected s _ e = ⊥
 
 -- the stage of an addition in which nothing failed
 abbrev pub shelved : Addition → Stage
@@ -83,35 +81,39 @@ ending (Err (faults.PassivateFailed f)) = gone outcomes.PassivateFailed
 ending (Err faults.JournalFull) = asks
 ending (Err faults.OutOfMemory) = asks
 
--- what is observed then: the last entry at the end, or, if the critical section failed, a journal in which its entry doesn't fit,
--- or does, as the error says
-abbrev pub Leaves : {A E : Type 0} → Settings → Input → Result A (AddFault E) → CallerState → Type 0
-Leaves s input (Err faults.JournalFull) me = IsFullFor s input me
-Leaves s input (Err faults.OutOfMemory) me = IsShortFor s input me
-Leaves s input _ me = EndsWithMade me
+-- the state of a caller at the end: its last entry ends the observed history, or, if the critical section failed, the journal
+-- has no room for the entry, or has room, as the error states
+abbrev pub FinalState : {A E : Type 0} → Settings → Input → Result A (AddFault E) → CallerState → Type 0
+FinalState s input (Err faults.JournalFull) me = IsFullFor s input me
+FinalState s input (Err faults.OutOfMemory) me = IsShortFor s input me
+FinalState s input _ me = EndsWithOwn me
+
+-- the result of an addition at this stage, with the state of its caller
+abbrev pub AddEnds : {E : Type 0} → Settings → Stage → Result Addition (AddFault E) → CallerState → Type 0
+AddEnds s stage result me = (stage ≡ ending result) × FinalState s Add result me
 
 -- the trace of an addition
-abbrev pub AddRow : {E : Type 0} → Settings → Result Addition (AddFault E) → CallerState → CallerState → Type 0
-AddRow s result before after = Goes_on s asks before after (ending result) × Leaves s Add result after
+abbrev pub AddSpec : {E : Type 0} → Settings → Result Addition (AddFault E) → CallerState → CallerState → Type 0
+AddSpec s result before after = TraceToResult (IsExpected s) next (AddEnds s) asks result before after
 
--- the factory's errors are from the calls that they report
+-- an error of the factory is from the call that failed, `make` or `passivate`
 abbrev pub IsAddFaultFrom : {E : Type 0} → (E → Type 0) → (E → Type 0) → AddFault E → Type 0
 IsAddFaultFrom make passivate (faults.MakeFailed f) = make f
 IsAddFaultFrom make passivate (faults.PassivateFailed f) = passivate f
 IsAddFaultFrom make passivate _ = Unit {0}
 
--- why a made object can't become idle: its first test, which is set, or the factory's error
-abbrev pub IsWhyUnfit : {E : Type 0} → Settings → (E → Type 0) → Unfit E → Type 0
+-- the reason why a made object can't become idle: its first test, which is set, or the factory's error
+abbrev pub IsWhyUnfit : {E : Type 0} → Settings → (E → Type 0) → PrepareError E → Type 0
 IsWhyUnfit s passivate unfit.Test = s.test_on_create ≡ true
 IsWhyUnfit s passivate (unfit.Passivate f) = passivate f
 
--- how an object fails that was made
+-- an outcome with which a made object fails
 abbrev pub IsFailure : Settings → Outcome → Type 0
 IsFailure s outcomes.CreateTestFailed = s.test_on_create ≡ true
 IsFailure s outcomes.PassivateFailed = Unit {0}
 IsFailure s o = ⊥
 
--- there was a place
+-- the addition found a free place
 abbrev pub IsPlaced : Addition → Type 0
 IsPlaced additions.NoPlace = ⊥
 IsPlaced _ = Unit {0}

@@ -1,8 +1,8 @@
 -- The critical sections of a borrow.
-use Rattle.std.specs.Prelude.{◌≡◌, ℕ, zero, suc, ◌-◌, if◌then◌else◌, Bool, true, false, List, ◌++◌, Option, Some, None, Result, Ok, Err}
+use Rattle.std.specs.Prelude.{◌≡◌, ℕ, zero, if◌then◌else◌, Bool, true, false, Option, Some, None, Result, Ok, Err}
 use Rattle.pool_journal.specs.declared.entry.Entry.{Entry}
 use Rattle.pool_journal.specs.declared.input.Input.{Input}
-use Rattle.pool_journal.specs.declared.input.Input.TheVariants.{Borrow, Ready, Reclaim, ReclaimNext, Destroyed}
+use Rattle.pool_journal.specs.declared.input.Input.TheVariants.{Borrow, Ready, Destroyed}
 use Rattle.pool_journal.specs.declared.input.When.TheVariants as times
 use Rattle.pool_journal.specs.declared.input.Outcome.{Outcome}
 use Rattle.pool_journal.specs.declared.input.Outcome.TheVariants as outcomes
@@ -14,17 +14,19 @@ use Rattle.pool_history.specs.CallerStates.{CallerState}
 use Rattle.pool_shared.specs.declared.faults.BorrowFault.{BorrowFault}
 use Rattle.pool_shared.specs.declared.faults.BorrowFault.TheVariants as faults
 use Rattle.pool_shared.specs.declared.lent.Lent.{Lent}
-use Rattle.pool_shared.specs.declared.borrowing.Unready.{Unready}
-use Rattle.pool_shared.specs.declared.borrowing.Unready.TheVariants as unready
+use Rattle.pool_shared.specs.declared.borrowing.ActivateError.{ActivateError}
+use Rattle.pool_shared.specs.declared.borrowing.ActivateError.TheVariants as unready
 use Rattle.pool_history.specs.Answers.{IsPossibleAnswer}
-use Rattle.pool_lock.specs.Sections.{IsFullFor, IsShortFor}
-use Rattle.pool_shared.specs.Walks.{walked, AllDue, Walks, Ends, EndsWithMade}
+use Rattle.pool_shared.specs.declared.faults.PoolFault.{PoolFault}
+use Rattle.pool_shared.specs.declared.faults.PoolFault.TheVariants as pool_faults
+use Rattle.pool_shared.specs.Walks.{Ends, EndsWithOwn}
+use Rattle.pool_shared.specs.Rows.{TraceToResult, IsRoomFault}
+use Rattle.pool_shared.specs.Reclaims as removal
 
--- the stage of a borrow: it removes abandoned objects; it reclaims up to this number; it asks; it makes an object ready, a new
--- one or one that it took; it destroys one, with this outcome; it has lent one; it failed; it ended with this answer
+-- the stage of a borrow: it removes abandoned objects; it asks; it makes an object ready, a new one or one that it took; it
+-- destroys one, with this outcome; it has lent one; it failed; it ended with this answer
 pub data Stage : Type 0 where
-  removes : Stage
-  reclaims : ℕ → Stage
+  removes : removal.Stage → Stage
   asks : Stage
   readies : ℕ → Bool → Stage
   destroys : ℕ → Bool → Outcome → Stage
@@ -32,19 +34,11 @@ pub data Stage : Type 0 where
   failed : Outcome → Stage
   refused : Answer → Stage
 
--- a removal of up to this number; with 0 it is complete
-abbrev pub reclaiming : ℕ → Stage
-reclaiming zero = asks
-reclaiming (suc n) = reclaims (suc n)
-
-abbrev pub after_removing : Answer → Stage
-after_removing (answers.Count n) = reclaiming n
-after_removing a = refused a
-
-abbrev pub after_reclaiming : ℕ → Answer → Stage
-after_reclaiming left (answers.Reclaimed i) = reclaiming (left - 1)
-after_reclaiming left answers.Nothing = asks
-after_reclaiming left a = refused a
+-- its stage with a removal: it asks when the removal is complete
+abbrev pub removing : removal.Stage → Stage
+removing (removal.reclaims zero taken) = asks
+removing (removal.through taken) = asks
+removing stage = removes stage
 
 abbrev pub after_asking : Answer → Stage
 after_asking (answers.Take i) = readies i false
@@ -64,8 +58,7 @@ after_destroying true o = failed o
 after_destroying false o = asks
 
 abbrev pub next : Stage → Entry → Stage
-next removes e = after_removing e.answer
-next (reclaims left) e = after_reclaiming left e.answer
+next (removes stage) e = removing (removal.next stage e)
 next asks e = after_asking e.answer
 next (readies i new) e = after_readying i new e.input e.answer
 next (destroys i new o) e = after_destroying new o
@@ -73,95 +66,71 @@ next stage e = stage
 
 -- the possible outcomes of making ready: only a new object can fail to be made or fail its first test, and a test fails only if
 -- it is set
-abbrev pub MayComeOut : Settings → Bool → Outcome → Type 0
-MayComeOut s new outcomes.Good = Unit {0}
-MayComeOut s new outcomes.MakeFailed = new ≡ true
-MayComeOut s new outcomes.CreateTestFailed = (new ≡ true) × (s.test_on_create ≡ true)
-MayComeOut s new outcomes.ActivateFailed = Unit {0}
-MayComeOut s new outcomes.TestFailed = s.test_on_borrow ≡ true
-MayComeOut s new outcomes.PassivateFailed = ⊥
+abbrev pub IsPossibleOutcome : Settings → Bool → Outcome → Type 0
+IsPossibleOutcome s new outcomes.Good = Unit {0}
+IsPossibleOutcome s new outcomes.MakeFailed = new ≡ true
+IsPossibleOutcome s new outcomes.CreateTestFailed = (new ≡ true) × (s.test_on_create ≡ true)
+IsPossibleOutcome s new outcomes.ActivateFailed = Unit {0}
+IsPossibleOutcome s new outcomes.TestFailed = s.test_on_borrow ≡ true
+IsPossibleOutcome s new outcomes.PassivateFailed = ⊥
 
 abbrev pub IsReady : Settings → ℕ → Bool → Input → Type 0
-IsReady s i new (Ready j o) = (j ≡ i) × MayComeOut s new o
+IsReady s i new (Ready j o) = (j ≡ i) × IsPossibleOutcome s new o
 IsReady s i new _ = ⊥
 
 -- the next input
-abbrev pub Due : Settings → ℕ → Stage → Entry → Type 0
-Due s began removes e = e.input ≡ Reclaim times.Borrow
-Due s began (reclaims left) e = e.input ≡ ReclaimNext
-Due s began asks e = e.input ≡ Borrow began
-Due s began (readies i new) e = IsReady s i new e.input
-Due s began (destroys i new o) e = e.input ≡ Destroyed i
-Due s began _ e = ⊥
+abbrev pub IsExpected : Settings → ℕ → Stage → Entry → Type 0
+IsExpected s began (removes stage) e = removal.IsExpected times.Borrow stage e
+IsExpected s began asks e = e.input ≡ Borrow began
+IsExpected s began (readies i new) e = IsReady s i new e.input
+IsExpected s began (destroys i new o) e = e.input ≡ Destroyed i
+IsExpected s began _ e = ⊥
 
-abbrev pub Goes_on : Settings → ℕ → Stage → CallerState → CallerState → Stage → Type 0
-Goes_on s began from before after to = Walks (Due s began) next from before after to
+-- a critical section failed with this error: one of its removal, or the one in which it asks
+abbrev pub IsStopped : Settings → ℕ → PoolFault → Stage → CallerState → Type 0
+IsStopped s began f (removes stage) me = removal.ReclaimEnds s times.Borrow stage (Err f) me
+IsStopped s began f asks me = IsRoomFault s (Borrow began) f me
+IsStopped s began f _ me = ⊥
 
--- a critical section failed
-abbrev pub IsRoomFault : {E : Type 0} → BorrowFault E → Type 0
-IsRoomFault faults.JournalFull = Unit {0}
-IsRoomFault faults.OutOfMemory = Unit {0}
-IsRoomFault _ = ⊥
-
--- the result of a borrow at this stage; if it removes or asks, its next critical section failed
-abbrev pub IsResult : {T E : Type 0} → ℕ → Stage → Result (Lent T) (BorrowFault E) → Type 0
-IsResult number (lent i) (Ok l) = (l.pool ≡ number) × (l.id ≡ i)
-IsResult number (refused (answers.Refused causes.Closed)) (Err faults.Closed) = Unit {0}
-IsResult number (refused answers.Exhausted) (Err faults.Exhausted) = Unit {0}
-IsResult number (refused answers.TimedOut) (Err faults.TimedOut) = Unit {0}
-IsResult number (failed outcomes.MakeFailed) (Err (faults.MakeFailed f)) = Unit {0}
-IsResult number (failed outcomes.CreateTestFailed) (Err faults.CreateTestFailed) = Unit {0}
-IsResult number (failed outcomes.ActivateFailed) (Err (faults.ActivateFailed f)) = Unit {0}
-IsResult number (failed outcomes.TestFailed) (Err faults.BorrowTestFailed) = Unit {0}
-IsResult number removes (Err f) = IsRoomFault f
-IsResult number (reclaims left) (Err f) = IsRoomFault f
-IsResult number asks (Err f) = IsRoomFault f
-IsResult number _ _ = ⊥
-
--- the next critical section failed for this reason
-abbrev pub IsRefusedThere : (Settings → Input → CallerState → Type 0) → Settings → ℕ → Stage → CallerState → Type 0
-IsRefusedThere Why s began removes me = Why s (Reclaim times.Borrow) me
-IsRefusedThere Why s began (reclaims left) me = Why s ReclaimNext me
-IsRefusedThere Why s began asks me = Why s (Borrow began) me
-IsRefusedThere Why s began _ me = ⊥
-
--- what is observed then: the last entry at the end, which lends the object if there is one, or, if a critical section failed, a
--- journal in which its entry doesn't fit, or does, as the error says
-abbrev pub Leaves : {T E : Type 0} → Settings → ℕ → Stage → Result (Lent T) (BorrowFault E) → CallerState → Type 0
-Leaves s began stage (Ok l) me = Ends (Ready l.id outcomes.Good) answers.Lent me
-Leaves s began stage (Err faults.JournalFull) me = IsRefusedThere IsFullFor s began stage me
-Leaves s began stage (Err faults.OutOfMemory) me = IsRefusedThere IsShortFor s began stage me
-Leaves s began stage (Err _) me = EndsWithMade me
+-- the result of a borrow at this stage, with the state of its caller: its last entry ends the observed history, and lends the
+-- object if there is one, unless a critical section failed
+abbrev pub BorrowEnds : {T E : Type 0} → Settings → ℕ → ℕ → Stage → Result (Lent T) (BorrowFault E) → CallerState → Type 0
+BorrowEnds s number began stage (Ok l) me = (stage ≡ lent l.id) × (l.pool ≡ number) × Ends (Ready l.id outcomes.Good) answers.Lent me
+BorrowEnds s number began stage (Err faults.Closed) me = (stage ≡ refused (answers.Refused causes.Closed)) × EndsWithOwn me
+BorrowEnds s number began stage (Err faults.Exhausted) me = (stage ≡ refused answers.Exhausted) × EndsWithOwn me
+BorrowEnds s number began stage (Err faults.TimedOut) me = (stage ≡ refused answers.TimedOut) × EndsWithOwn me
+BorrowEnds s number began stage (Err (faults.MakeFailed f)) me = (stage ≡ failed outcomes.MakeFailed) × EndsWithOwn me
+BorrowEnds s number began stage (Err faults.CreateTestFailed) me = (stage ≡ failed outcomes.CreateTestFailed) × EndsWithOwn me
+BorrowEnds s number began stage (Err (faults.ActivateFailed f)) me = (stage ≡ failed outcomes.ActivateFailed) × EndsWithOwn me
+BorrowEnds s number began stage (Err faults.BorrowTestFailed) me = (stage ≡ failed outcomes.TestFailed) × EndsWithOwn me
+BorrowEnds s number began stage (Err faults.JournalFull) me = IsStopped s began pool_faults.JournalFull stage me
+BorrowEnds s number began stage (Err faults.OutOfMemory) me = IsStopped s began pool_faults.OutOfMemory stage me
 
 -- the trace of a borrow from one stage to its result
-pub record Finishes {T E : Type 0} (s : Settings) (number began : ℕ) (from : Stage) (result : Result (Lent T) (BorrowFault E)) (before after : CallerState) : Type 0 where
-  pub es : List Entry
-  pub made : after.appended ≡ before.appended ++ es
-  pub due : AllDue (Due s began) next from es
-  pub ends : IsResult number (walked next from es) result
-  pub leaves : Leaves s began (walked next from es) result after
+abbrev pub BorrowsFrom : {T E : Type 0} → Settings → ℕ → ℕ → Stage → Result (Lent T) (BorrowFault E) → CallerState → CallerState → Type 0
+BorrowsFrom s number began from result before after = TraceToResult (IsExpected s began) next (BorrowEnds s number began) from result before after
 
 -- the first stage of a borrow
-abbrev pub start : Settings → Stage
-start s = if s.remove_abandoned_on_borrow then removes else asks
+abbrev pub first_stage : Settings → Stage
+first_stage s = if s.remove_abandoned_on_borrow then removes removal.begins else asks
 
 -- the trace of a whole borrow
-abbrev pub BorrowRow : {T E : Type 0} → Settings → ℕ → Result (Lent T) (BorrowFault E) → CallerState → CallerState → Type 0
-BorrowRow s number result before after = (began : ℕ) × Finishes s number began (start s) result before after
+abbrev pub BorrowSpec : {T E : Type 0} → Settings → ℕ → Result (Lent T) (BorrowFault E) → CallerState → CallerState → Type 0
+BorrowSpec s number result before after = (began : ℕ) × BorrowsFrom s number began (first_stage s) result before after
 
 -- the value is active, and valid if that was tested
 pub record IsLentWell {T : Type 0} (s : Settings) (active valid : T → Type 0) (value : T) : Type 0 where
   pub is_active : active value
   pub is_valid : s.test_on_borrow ≡ true → valid value
 
--- the factory's errors are from the calls that they report
+-- an error of the factory is from the call that failed, `make` or `activate`
 abbrev pub IsFaultFrom : {E : Type 0} → (E → Type 0) → (E → Type 0) → BorrowFault E → Type 0
 IsFaultFrom make activate (faults.MakeFailed f) = make f
 IsFaultFrom make activate (faults.ActivateFailed f) = activate f
 IsFaultFrom make activate _ = Unit {0}
 
--- why an object was not made ready: the factory's error, or a test that is set
-abbrev pub IsWhyUnready : {E : Type 0} → Settings → (E → Type 0) → Unready E → Type 0
+-- the reason why an object was not made ready: the factory's error, or a test that is set
+abbrev pub IsWhyUnready : {E : Type 0} → Settings → (E → Type 0) → ActivateError E → Type 0
 IsWhyUnready s activate (unready.Activate f) = activate f
 IsWhyUnready s activate unready.Test = s.test_on_borrow ≡ true
 
@@ -175,8 +144,8 @@ abbrev pub taken_to : {T : Type 0} → ℕ → Option (Lent T) → Stage
 taken_to i (Some l) = lent i
 taken_to i None = asks
 
--- how making ready fails, for an object that was made or taken
+-- an outcome with which making ready fails, for an object that was made or taken
 abbrev pub IsFailure : Settings → Bool → Outcome → Type 0
 IsFailure s new outcomes.Good = ⊥
 IsFailure s new outcomes.MakeFailed = ⊥
-IsFailure s new o = MayComeOut s new o
+IsFailure s new o = IsPossibleOutcome s new o

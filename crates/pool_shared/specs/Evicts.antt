@@ -13,16 +13,15 @@ use Rattle.pool_core.specs.Reply.{reply}
 use Rattle.pool_history.specs.CallerStates.{CallerState}
 use Rattle.pool_history.specs.Ownership.{IsTestOutcome}
 use Rattle.pool_shared.specs.declared.evicting.EvictRun.{EvictRun}
-use Rattle.pool_shared.specs.declared.evicting.Fate.{Fate}
-use Rattle.pool_shared.specs.declared.evicting.Fate.TheVariants as fates
+use Rattle.pool_shared.specs.declared.evicting.Disposition.{Disposition}
+use Rattle.pool_shared.specs.declared.evicting.Disposition.TheVariants as fates
 use Rattle.pool_shared.specs.declared.faults.PoolFault.{PoolFault}
 use Rattle.pool_shared.specs.declared.faults.PoolFault.TheVariants as faults
-use Rattle.pool_shared.specs.Walks.{Walks, EndsWithMade}
-use Rattle.pool_shared.specs.Rows.{Row}
-use Rattle.pool_shared.specs.Clears.{IsRoomFault, IsRoomFaultAt}
+use Rattle.pool_shared.specs.Walks.{EndsWithOwn}
+use Rattle.pool_shared.specs.Rows.{TraceToResult, IsRoomFault, IsRoomFaultAt}
 
--- the stage of an eviction run: it begins; it examines up to this many more objects, with these counts; it tests one; it destroys
--- one; it is complete; the pool is closed
+-- the stage of an eviction run: it begins; it examines up to this many more objects, with these counts; it tests one; it
+-- destroys one; it is complete; the pool is closed
 pub data Stage : Type 0 where
   begins : Stage
   examines : ℕ → EvictRun → Stage
@@ -67,21 +66,18 @@ next (tests i left run) e = after_testing i left run e.answer
 next (destroys i left run) e = examines left (one_gone run)
 next stage e = stage
 
--- the outcome of a test is reported
+-- the input reports the outcome of the object's test
 abbrev pub IsTest : ℕ → Input → Type 0
 IsTest i (Tested j o) = (j ≡ i) × IsTestOutcome o
 IsTest i _ = ⊥
 
 -- the next input
-abbrev pub Due : Stage → Entry → Type 0
-Due begins e = e.input ≡ Evict
-Due (examines left run) e = (0 < left) × (e.input ≡ EvictNext)
-Due (tests i left run) e = IsTest i e.input
-Due (destroys i left run) e = e.input ≡ Destroyed i
-Due _ e = ⊥
-
-abbrev pub Goes_on : Stage → CallerState → CallerState → Stage → Type 0
-Goes_on from before after to = Walks Due next from before after to
+abbrev pub IsExpected : Stage → Entry → Type 0
+IsExpected begins e = e.input ≡ Evict
+IsExpected (examines left run) e = (0 < left) × (e.input ≡ EvictNext)
+IsExpected (tests i left run) e = IsTest i e.input
+IsExpected (destroys i left run) e = e.input ≡ Destroyed i
+IsExpected _ e = ⊥
 
 -- an EvictNext with this answer destroys nothing
 abbrev pub IsSpared : Answer → Type 0
@@ -92,43 +88,43 @@ IsSpared a = Unit {0}
 abbrev pub IsStopped : Settings → PoolFault → CallerState → Type 0
 IsStopped s f me = (at : ℕ) × IsRoomFaultAt s EvictNext f me at × IsSpared (reply s me.observed at EvictNext)
 
--- the result of an eviction run at this stage, and what is observed then
+-- the result of an eviction run at this stage, with the state of its caller
 abbrev pub EvictEnds : Settings → Stage → Result EvictRun PoolFault → CallerState → Type 0
-EvictEnds s closed (Err faults.Closed) me = EndsWithMade me
-EvictEnds s (through run) (Ok r) me = (r ≡ run) × EndsWithMade me
-EvictEnds s (examines zero run) (Ok r) me = (r ≡ run) × EndsWithMade me
+EvictEnds s closed (Err faults.Closed) me = EndsWithOwn me
+EvictEnds s (through run) (Ok r) me = (r ≡ run) × EndsWithOwn me
+EvictEnds s (examines zero run) (Ok r) me = (r ≡ run) × EndsWithOwn me
 EvictEnds s begins (Err f) me = IsRoomFault s Evict f me
 EvictEnds s (examines (suc left) run) (Err f) me = IsStopped s f me
 EvictEnds s _ _ me = ⊥
 
 -- the trace of an eviction run from one stage to its result
 abbrev pub EvictsFrom : Settings → Stage → Result EvictRun PoolFault → CallerState → CallerState → Type 0
-EvictsFrom s from result before after = Row Due next (EvictEnds s) from result before after
+EvictsFrom s from result before after = TraceToResult IsExpected next (EvictEnds s) from result before after
 
 -- the trace of a whole eviction run
-abbrev pub EvictRow : Settings → Result EvictRun PoolFault → CallerState → CallerState → Type 0
-EvictRow s result before after = EvictsFrom s begins result before after
+abbrev pub EvictSpec : Settings → Result EvictRun PoolFault → CallerState → CallerState → Type 0
+EvictSpec s result before after = EvictsFrom s begins result before after
 
 -- the counts of a run, with this fate of the last object that it examined
-abbrev pub fared : EvictRun → Fate → EvictRun
+abbrev pub fared : EvictRun → Disposition → EvictRun
 fared run fates.Kept = run
 fared run fates.Destroyed = one_gone run
 
 -- the stage of a run after a test
-abbrev pub after_test : ℕ → EvictRun → Fate → Stage
+abbrev pub after_test : ℕ → EvictRun → Disposition → Stage
 after_test left run fate = examines left (fared run fate)
 
 -- the stage of a run that examined one object, or found none
-abbrev pub after_one : ℕ → EvictRun → Option Fate → Stage
+abbrev pub after_one : ℕ → EvictRun → Option Disposition → Stage
 after_one left run (Some fate) = examines (left - 1) (fared (one_more run) fate)
 after_one left run None = through run
 
--- how a test fails
+-- an outcome of a failed test
 abbrev pub IsFailedTest : Outcome → Type 0
 IsFailedTest outcomes.Good = ⊥
 IsFailedTest o = IsTestOutcome o
 
--- how a value fails that is activated and tested
+-- an outcome with which the activation or the test of a value fails
 abbrev pub IsUnfit : Outcome → Type 0
 IsUnfit outcomes.ActivateFailed = Unit {0}
 IsUnfit outcomes.TestFailed = Unit {0}

@@ -12,9 +12,10 @@ use Rattle.pool_shared.specs.declared.faults.Addition.{Addition}
 use Rattle.pool_shared.specs.declared.faults.Addition.TheVariants as additions
 use Rattle.pool_shared.specs.declared.faults.AddFault.{AddFault}
 use Rattle.pool_shared.specs.declared.faults.AddFault.TheVariants as faults
-use Rattle.pool_shared.specs.Walks.{Walks, EndsWithMade}
+use Rattle.pool_shared.specs.Walks.{Trace, EndsWithOwn}
+use Rattle.pool_shared.specs.Rows.{TraceToResult}
 use Rattle.pool_shared.specs.Adds as addition
-use Rattle.pool_shared.specs.Adds.{Leaves}
+use Rattle.pool_shared.specs.Adds.{FinalState}
 
 -- the stage of a fill that has parked this many: it asks for a place; it makes an addition; it is complete; an object failed,
 -- with this outcome
@@ -45,44 +46,37 @@ next (adds n stage) e = adding n (addition.next stage e)
 next stage e = stage
 
 -- the next input
-abbrev pub Due : Settings → Stage → Entry → Type 0
-Due s (asks n) e = e.input ≡ Fill
-Due s (adds n stage) e = addition.Due s stage e
-Due s _ e = ⊥
+abbrev pub IsExpected : Settings → Stage → Entry → Type 0
+IsExpected s (asks n) e = e.input ≡ Fill
+IsExpected s (adds n stage) e = addition.IsExpected s stage e
+IsExpected s _ e = ⊥
 
-abbrev pub Goes_on : Settings → Stage → CallerState → CallerState → Stage → Type 0
-Goes_on s from before after to = Walks (Due s) next from before after to
+-- a fill that asks
+abbrev pub IsAsking : Stage → Type 0
+IsAsking stage = (n : ℕ) × (stage ≡ asks n)
 
--- a critical section failed
-abbrev pub IsRoomFault : {E : Type 0} → AddFault E → Type 0
-IsRoomFault faults.JournalFull = Unit {0}
-IsRoomFault faults.OutOfMemory = Unit {0}
-IsRoomFault _ = ⊥
-
--- the error of an object that is gone again: the first thing that failed
-abbrev pub IsFaultOf : {E : Type 0} → Outcome → AddFault E → Type 0
-IsFaultOf outcomes.MakeFailed (faults.MakeFailed f) = Unit {0}
-IsFaultOf outcomes.CreateTestFailed faults.CreateTestFailed = Unit {0}
-IsFaultOf outcomes.PassivateFailed (faults.PassivateFailed f) = Unit {0}
-IsFaultOf _ _ = ⊥
-
--- the result of a fill at this stage; if it asks, that critical section failed
+-- a fill at this stage allows this result: the number that it parked, or the error of an object whose place is free again; if a
+-- critical section failed, it asked
 abbrev pub IsResult : {E : Type 0} → Stage → Result ℕ (AddFault E) → Type 0
-IsResult (through n) (Ok told) = told ≡ n
-IsResult (failed o) (Err f) = IsFaultOf o f
-IsResult (asks n) (Err f) = IsRoomFault f
-IsResult _ _ = ⊥
+IsResult stage (Ok n) = stage ≡ through n
+IsResult stage (Err faults.Closed) = ⊥
+IsResult stage (Err (faults.MakeFailed f)) = stage ≡ failed outcomes.MakeFailed
+IsResult stage (Err faults.CreateTestFailed) = stage ≡ failed outcomes.CreateTestFailed
+IsResult stage (Err (faults.PassivateFailed f)) = stage ≡ failed outcomes.PassivateFailed
+IsResult stage (Err faults.JournalFull) = IsAsking stage
+IsResult stage (Err faults.OutOfMemory) = IsAsking stage
+
+-- the result of a fill at this stage, with the state of its caller
+abbrev pub FillEnds : {E : Type 0} → Settings → Stage → Result ℕ (AddFault E) → CallerState → Type 0
+FillEnds s stage result me = IsResult stage result × FinalState s Fill result me
 
 -- the trace of a fill from one stage to its result
-pub record Finishes {E : Type 0} (s : Settings) (from : Stage) (result : Result ℕ (AddFault E)) (before after : CallerState) : Type 0 where
-  pub to : Stage
-  pub made : Goes_on s from before after to
-  pub ends : IsResult to result
-  pub leaves : Leaves s Fill result after
+abbrev pub FillsFrom : {E : Type 0} → Settings → Stage → Result ℕ (AddFault E) → CallerState → CallerState → Type 0
+FillsFrom s from result before after = TraceToResult (IsExpected s) next (FillEnds s) from result before after
 
 -- the trace of a whole fill
-abbrev pub FillRow : {E : Type 0} → Settings → Result ℕ (AddFault E) → CallerState → CallerState → Type 0
-FillRow s result before after = Finishes s (asks 0) result before after
+abbrev pub FillSpec : {E : Type 0} → Settings → Result ℕ (AddFault E) → CallerState → CallerState → Type 0
+FillSpec s result before after = FillsFrom s (asks 0) result before after
 
 -- the stage of a fill after one turn: there was no place, or none was missing, or it continues
 abbrev pub turned : ℕ → Addition → Stage
@@ -91,6 +85,6 @@ turned n additions.Destroyed = asks n
 turned n additions.NoPlace = through n
 
 -- the trace of one turn of a fill
-abbrev pub Turns : {E : Type 0} → Settings → ℕ → Result Addition (AddFault E) → CallerState → CallerState → Type 0
-Turns s n (Ok a) before after = Goes_on s (asks n) before after (turned n a) × EndsWithMade after
-Turns s n (Err f) before after = Finishes s (asks n) (Err f) before after
+abbrev pub FillStep : {E : Type 0} → Settings → ℕ → Result Addition (AddFault E) → CallerState → CallerState → Type 0
+FillStep s n (Ok a) before after = Trace (IsExpected s) next (asks n) before after (turned n a) × EndsWithOwn after
+FillStep s n (Err f) before after = FillsFrom s (asks n) (Err f) before after

@@ -8,35 +8,35 @@ use Rattle.pool_shared.specs.declared.faults.AddFault.{AddFault}
 use Rattle.pool_shared.specs.declared.faults.AddFault.TheVariants as faults
 use Rattle.pool_shared.specs.declared.faults.PoolFault.{PoolFault}
 use Rattle.pool_shared.specs.declared.faults.PoolFault.TheVariants as pool_faults
-use Rattle.pool_shared.specs.Evicts.{EvictRow}
-use Rattle.pool_shared.specs.Reclaims.{ReclaimRow}
-use Rattle.pool_shared.specs.Fills.{FillRow}
+use Rattle.pool_shared.specs.Evicts.{EvictSpec}
+use Rattle.pool_shared.specs.Reclaims.{ReclaimSpec}
+use Rattle.pool_shared.specs.Fills.{FillSpec}
 
 -- an error of an eviction run or of a removal, as maintenance returns it
-abbrev pub told : {E : Type 0} → PoolFault → AddFault E
-told pool_faults.Closed = faults.Closed
-told pool_faults.JournalFull = faults.JournalFull
-told pool_faults.OutOfMemory = faults.OutOfMemory
+abbrev pub reported : {E : Type 0} → PoolFault → AddFault E
+reported pool_faults.Closed = faults.Closed
+reported pool_faults.JournalFull = faults.JournalFull
+reported pool_faults.OutOfMemory = faults.OutOfMemory
 
 -- an eviction run succeeded
 pub record HasEvicted (s : Settings) (before after : CallerState) : Type 0 where
   pub run : EvictRun
   pub goes : Advances s before after
-  pub row : EvictRow s (Ok run) before after
+  pub row : EvictSpec s (Ok run) before after
 
 -- a removal of abandoned objects succeeded
 pub record HasReclaimed (s : Settings) (before after : CallerState) : Type 0 where
   pub taken : ℕ
   pub goes : Advances s before after
-  pub row : ReclaimRow s times.Maintain (Ok taken) before after
+  pub row : ReclaimSpec s times.Maintain (Ok taken) before after
 
--- how maintenance fails: the eviction run, the removal after it or the fill after both is the first that fails
+-- failed maintenance: the eviction run, the removal after it or the fill after both is the first that fails
 pub data Fails {E : Type 0} (s : Settings) (f : AddFault E) (before after : CallerState) : Type 0 where
-  in_evicting : (g : PoolFault) → f ≡ told g → EvictRow s (Err g) before after → Fails s f before after
-  in_reclaiming : (g : PoolFault) (mid : CallerState) → f ≡ told g → HasEvicted s before mid → ReclaimRow s times.Maintain (Err g) mid after → Fails s f before after
-  in_filling : (mid later : CallerState) → HasEvicted s before mid → HasReclaimed s mid later → FillRow s (Err f) later after → Fails s f before after
+  in_evicting : (g : PoolFault) → f ≡ reported g → EvictSpec s (Err g) before after → Fails s f before after
+  in_reclaiming : (g : PoolFault) (mid : CallerState) → f ≡ reported g → HasEvicted s before mid → ReclaimSpec s times.Maintain (Err g) mid after → Fails s f before after
+  in_filling : (mid later : CallerState) → HasEvicted s before mid → HasReclaimed s mid later → FillSpec s (Err f) later after → Fails s f before after
 
 -- the trace of whole maintenance: an eviction run, a removal and a fill, or these up to the first error
-abbrev pub MaintainRow : {U E : Type 0} → Settings → Result U (AddFault E) → CallerState → CallerState → Type 0
-MaintainRow {U} {E} s (Ok u) before after = (mid : CallerState) × (later : CallerState) × (n : ℕ) × HasEvicted s before mid × HasReclaimed s mid later × FillRow {E = E} s (Ok n) later after
-MaintainRow s (Err f) before after = Fails s f before after
+abbrev pub MaintainSpec : {U E : Type 0} → Settings → Result U (AddFault E) → CallerState → CallerState → Type 0
+MaintainSpec {U} {E} s (Ok u) before after = (mid : CallerState) × (later : CallerState) × (n : ℕ) × HasEvicted s before mid × HasReclaimed s mid later × FillSpec {E = E} s (Ok n) later after
+MaintainSpec s (Err f) before after = Fails s f before after

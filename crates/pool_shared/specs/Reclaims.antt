@@ -9,9 +9,8 @@ use Rattle.pool_settings.specs.declared.settings.Settings.{Settings}
 use Rattle.pool_core.specs.Reply.{reply}
 use Rattle.pool_history.specs.CallerStates.{CallerState}
 use Rattle.pool_shared.specs.declared.faults.PoolFault.{PoolFault}
-use Rattle.pool_shared.specs.Walks.{Walks, EndsWithMade}
-use Rattle.pool_shared.specs.Rows.{Row}
-use Rattle.pool_shared.specs.Clears.{IsRoomFault, IsRoomFaultAt}
+use Rattle.pool_shared.specs.Walks.{EndsWithOwn}
+use Rattle.pool_shared.specs.Rows.{TraceToResult, IsRoomFault, IsRoomFaultAt}
 
 -- the stage of a removal: it begins; it reclaims up to this many more objects, after this many; it is complete
 pub data Stage : Type 0 where
@@ -35,30 +34,27 @@ next (reclaims left taken) e = after_reclaiming left taken e.answer
 next stage e = stage
 
 -- the next input, in a removal on this occasion
-abbrev pub Due : When → Stage → Entry → Type 0
-Due time begins e = e.input ≡ Reclaim time
-Due time (reclaims left taken) e = (0 < left) × (e.input ≡ ReclaimNext)
-Due time _ e = ⊥
-
-abbrev pub Goes_on : When → Stage → CallerState → CallerState → Stage → Type 0
-Goes_on time from before after to = Walks (Due time) next from before after to
+abbrev pub IsExpected : When → Stage → Entry → Type 0
+IsExpected time begins e = e.input ≡ Reclaim time
+IsExpected time (reclaims left taken) e = (0 < left) × (e.input ≡ ReclaimNext)
+IsExpected time _ e = ⊥
 
 -- a ReclaimNext failed at a time at which no object was abandoned
 abbrev pub IsStopped : Settings → PoolFault → CallerState → Type 0
 IsStopped s f me = (at : ℕ) × IsRoomFaultAt s ReclaimNext f me at × (reply s me.observed at ReclaimNext ≡ answers.Nothing)
 
--- the result of a removal at this stage, and what is observed then; a ReclaimNext fails only if it would reclaim nothing
+-- the result of a removal at this stage, with the state of its caller; a ReclaimNext fails only if it would reclaim nothing
 abbrev pub ReclaimEnds : Settings → When → Stage → Result ℕ PoolFault → CallerState → Type 0
-ReclaimEnds s time (through taken) (Ok n) me = (n ≡ taken) × EndsWithMade me
-ReclaimEnds s time (reclaims zero taken) (Ok n) me = (n ≡ taken) × EndsWithMade me
+ReclaimEnds s time (through taken) (Ok n) me = (n ≡ taken) × EndsWithOwn me
+ReclaimEnds s time (reclaims zero taken) (Ok n) me = (n ≡ taken) × EndsWithOwn me
 ReclaimEnds s time begins (Err f) me = IsRoomFault s (Reclaim time) f me
 ReclaimEnds s time (reclaims (suc left) taken) (Err f) me = IsStopped s f me
 ReclaimEnds s time _ _ me = ⊥
 
 -- the trace of a removal from one stage to its result
 abbrev pub ReclaimsFrom : Settings → When → Stage → Result ℕ PoolFault → CallerState → CallerState → Type 0
-ReclaimsFrom s time from result before after = Row (Due time) next (ReclaimEnds s time) from result before after
+ReclaimsFrom s time from result before after = TraceToResult (IsExpected time) next (ReclaimEnds s time) from result before after
 
 -- the trace of a whole removal
-abbrev pub ReclaimRow : Settings → When → Result ℕ PoolFault → CallerState → CallerState → Type 0
-ReclaimRow s time result before after = ReclaimsFrom s time begins result before after
+abbrev pub ReclaimSpec : Settings → When → Result ℕ PoolFault → CallerState → CallerState → Type 0
+ReclaimSpec s time result before after = ReclaimsFrom s time begins result before after

@@ -1,12 +1,27 @@
--- The trace of an operation of several critical sections, and its end.
-use Rattle.std.specs.Prelude.{◌≡◌, List, ◌++◌}
+-- The trace of a call: its critical sections from one stage to its result.
+use Rattle.std.specs.Prelude.{◌≡◌, ℕ, List, ◌++◌}
 use Rattle.pool_journal.specs.declared.entry.Entry.{Entry}
+use Rattle.pool_journal.specs.declared.input.Input.{Input}
+use Rattle.pool_settings.specs.declared.settings.Settings.{Settings}
 use Rattle.pool_history.specs.CallerStates.{CallerState}
-use Rattle.pool_shared.specs.Walks.{walked, AllDue}
+use Rattle.pool_lock.specs.Sections.{LacksRoom, LacksMemory}
+use Rattle.pool_shared.specs.declared.faults.PoolFault.{PoolFault}
+use Rattle.pool_shared.specs.declared.faults.PoolFault.TheVariants as faults
+use Rattle.pool_shared.specs.Walks.{run_stages, AllExpected}
 
 -- from one stage on, the caller appended entries, each expected at its stage, and the last stage allows the result
-pub record Row {A R : Type 0} (Due : A → Entry → Type 0) (next : A → Entry → A) (Ends : A → R → CallerState → Type 0) (from : A) (result : R) (before after : CallerState) : Type 0 where
+pub record TraceToResult {A R : Type 0} (Due : A → Entry → Type 0) (next : A → Entry → A) (Ends : A → R → CallerState → Type 0) (from : A) (result : R) (before after : CallerState) : Type 0 where
   pub es : List Entry
   pub made : after.appended ≡ before.appended ++ es
-  pub due : AllDue Due next from es
-  pub ends : Ends (walked next from es) result after
+  pub due : AllExpected Due next from es
+  pub ends : Ends (run_stages next from es) result after
+
+-- the next critical section failed at this time, with this error
+abbrev pub IsRoomFaultAt : Settings → Input → PoolFault → CallerState → ℕ → Type 0
+IsRoomFaultAt s input faults.JournalFull me at = LacksRoom s input me at
+IsRoomFaultAt s input faults.OutOfMemory me at = LacksMemory s input me at
+IsRoomFaultAt s input faults.Closed me at = ⊥
+
+-- the next critical section failed with this error, at some time
+abbrev pub IsRoomFault : Settings → Input → PoolFault → CallerState → Type 0
+IsRoomFault s input f me = (at : ℕ) × IsRoomFaultAt s input f me at

@@ -12,10 +12,10 @@ use Rattle.pool_shared.specs.declared.faults.Touched.TheVariants as touched
 use Rattle.pool_lock.specs.Sections.{AppendsAnswer, IsFullFor, IsShortFor}
 
 -- one entry, or none if the object is of another pool or the critical section failed
-abbrev pub TouchRow : Settings → ℕ → ℕ → ℕ → Result Touched ReturnFault → CallerState → CallerState → Type 0
-TouchRow s number pool i (Ok touched.Noted) before after = (pool ≡ number) × AppendsAnswer (Use i) answers.Noted before after
-TouchRow s number pool i (Ok touched.Gone) before after = (pool ≡ number) × AppendsAnswer (Use i) answers.Gone before after
-TouchRow s number pool i (Err faults.ForeignObject) before after = (pool ≢ number) × (after ≡ before)
-TouchRow s number pool i (Err faults.NotLent) before after = (pool ≡ number) × AppendsAnswer (Use i) (answers.Refused causes.NotLent) before after
-TouchRow s number pool i (Err faults.JournalFull) before after = (pool ≡ number) × (after.appended ≡ before.appended) × IsFullFor s (Use i) after
-TouchRow s number pool i (Err faults.OutOfMemory) before after = (pool ≡ number) × (after.appended ≡ before.appended) × IsShortFor s (Use i) after
+abbrev pub TouchSpec : Settings → ℕ → ℕ → ℕ → Result Touched ReturnFault → CallerState → CallerState → Type 0
+TouchSpec s number pool i (Ok touched.Noted) before after = (pool ≡ number) × AppendsAnswer (Use i) answers.Noted before after
+TouchSpec s number pool i (Ok touched.Gone) before after = (pool ≡ number) × AppendsAnswer (Use i) answers.Gone before after
+TouchSpec s number pool i (Err faults.ForeignObject) before after = (pool ≢ number) × (after ≡ before)
+TouchSpec s number pool i (Err faults.NotLent) before after = (pool ≡ number) × AppendsAnswer (Use i) (answers.Refused causes.NotLent) before after
+TouchSpec s number pool i (Err faults.JournalFull) before after = (pool ≡ number) × (after.appended ≡ before.appended) × IsFullFor s (Use i) after
+TouchSpec s number pool i (Err faults.OutOfMemory) before after = (pool ≡ number) × (after.appended ≡ before.appended) × IsShortFor s (Use i) after

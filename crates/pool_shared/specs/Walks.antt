@@ -7,23 +7,23 @@ use Rattle.pool_core.specs.Legal.{entry_of}
 use Rattle.pool_history.specs.CallerStates.{CallerState}
 
 -- the stage of an operation after its entries
-abbrev pub walked : {A : Type 0} → (A → Entry → A) → A → List Entry → A
-walked next stage [] = stage
-walked next stage (e ∷ es) = walked next (next stage e) es
+abbrev pub run_stages : {A : Type 0} → (A → Entry → A) → A → List Entry → A
+run_stages next stage [] = stage
+run_stages next stage (e ∷ es) = run_stages next (next stage e) es
 
 -- each entry is expected at the stage before it
-abbrev pub AllDue : {A : Type 0} → (A → Entry → Type 0) → (A → Entry → A) → A → List Entry → Type 0
-AllDue Due next stage [] = Unit {0}
-AllDue Due next stage (e ∷ es) = Due stage e × AllDue Due next (next stage e) es
+abbrev pub AllExpected : {A : Type 0} → (A → Entry → Type 0) → (A → Entry → A) → A → List Entry → Type 0
+AllExpected Due next stage [] = Unit {0}
+AllExpected Due next stage (e ∷ es) = Due stage e × AllExpected Due next (next stage e) es
 
 -- the caller appended entries that lead from one stage to another, and no others
-pub record Walks {A : Type 0} (Due : A → Entry → Type 0) (next : A → Entry → A) (from : A) (before after : CallerState) (to : A) : Type 0 where
+pub record Trace {A : Type 0} (Due : A → Entry → Type 0) (next : A → Entry → A) (from : A) (before after : CallerState) (to : A) : Type 0 where
   pub es : List Entry
   pub made : after.appended ≡ before.appended ++ es
-  pub due : AllDue Due next from es
-  pub comes : walked next from es ≡ to
+  pub due : AllExpected Due next from es
+  pub comes : run_stages next from es ≡ to
 
--- the last entry that the caller appended is at the end of what it has observed
+-- the last entry that the caller appended is at the end of its observed history
 pub record Ends (input : Input) (a : Answer) (me : CallerState) : Type 0 where
   pub at : ℕ
   pub made : List Entry
@@ -31,5 +31,5 @@ pub record Ends (input : Input) (a : Answer) (me : CallerState) : Type 0 where
   pub last_made : me.appended ≡ made ++ entry_of me.number at input a ∷ []
   pub last_seen : me.observed ≡ found ++ entry_of me.number at input a ∷ []
 
-abbrev pub EndsWithMade : CallerState → Type 0
-EndsWithMade me = (input : Input) × (a : Answer) × Ends input a me
+abbrev pub EndsWithOwn : CallerState → Type 0
+EndsWithOwn me = (input : Input) × (a : Answer) × Ends input a me

@@ -4,19 +4,19 @@ ghost use Rattle.pool_journal.specs.declared.input.Outcome.TheVariants as outcom
 ghost use Rattle.pool_journal.specs.declared.record.Phase.TheVariants as phases;
 ghost use Rattle.pool_history.specs.CallerStates.{Advances};
 ghost use Rattle.pool_lock.specs.Sections.{OwnsObject};
-ghost use Rattle.pool_shared.specs.Walks.{EndsWithMade};
-ghost use Rattle.pool_shared.specs.Adds.{makes, gone, shelved, ending, Goes_on, AddRow, IsAddFaultFrom, IsWhyUnfit, IsFailure, IsPlaced, IsStocked};
+ghost use Rattle.pool_shared.specs.Walks.{Trace, EndsWithOwn};
+ghost use Rattle.pool_shared.specs.Adds.{makes, gone, next, IsExpected, shelved, ending, AddSpec, IsAddFaultFrom, IsWhyUnfit, IsFailure, IsPlaced, IsStocked};
 
-use crate::faults::{AddFault, Addition, NoRoom};
+use crate::faults::{AddFault, Addition, SectionError};
 use crate::pool::SharedPool;
 use pool_history::{Caller, Room};
 use pool_journal::{Answer, Cause, Input, Outcome};
 use pool_lock::{Clock, Factory};
 use std::sync::Wait;
 
-/// Why a new object can't become idle.
+/// The error of a new object that can't become idle.
 #[derive(Drop)]
-pub(crate) enum Unfit<E> {
+pub(crate) enum PrepareError<E> {
     Test,
     Passivate(E),
 }
@@ -29,29 +29,29 @@ impl<T: Drop, E: Drop, F: Factory<T, E> + Drop, C: Clock + Drop, B: Room> Shared
     B,
 > {
     // Makes a new value passive, after its first test if that is set.
-    fn prepare(&self, value: &mut T) -> Result<(), Unfit<E>>
+    fn prepare(&self, value: &mut T) -> Result<(), PrepareError<E>>
         ensures tested { OnOk result (B.settings.test_on_create ≡ true → F.valid value.old) }
         ensures passive { OnOk result (F.passive value.new) }
-        ensures why { IfErr result (IsWhyUnfit B.settings F.from_passivate) }
+        ensures error { IfErr result (IsWhyUnfit B.settings F.from_passivate) }
     {
         if self.settings.test_on_create && !self.factory.validate(value) {
-            return Err(Unfit::Test);
+            return Err(PrepareError::Test);
         }
         match self.factory.passivate(value) {
             Ok(()) => Ok(()),
-            Err(fault) => Err(Unfit::Passivate(fault)),
+            Err(fault) => Err(PrepareError::Passivate(fault)),
         }
     }
 
     // Destroys a new object that can't become idle.
-    fn reject<R: Wait>(&self, rt: &R, me: &mut Caller<B>, id: u64, outcome: Outcome, value: T)
-        requires hand { (new : _) × OwnsObject me.old id phases.Adding new }
+    fn destroy_new<R: Wait>(&self, rt: &R, me: &mut Caller<B>, id: u64, outcome: Outcome, value: T)
+        requires owns { (new : _) × OwnsObject me.old id phases.Adding new }
         requires outcome { IsFailure B.settings outcome }
-        ensures goes { Advances B.settings me.old me.new }
-        ensures walk { Goes_on B.settings (makes id) me.old me.new (gone outcome) }
-        ensures ends { EndsWithMade me.new }
+        ensures advances { Advances B.settings me.old me.new }
+        ensures trace { Trace (IsExpected B.settings) next (makes id) me.old me.new (gone outcome) }
+        ensures ends { EndsWithOwn me.new }
     {
-        match self.carry_on(rt, me, Input::Added { id, outcome }) {
+        match self.complete(rt, me, Input::Added { id, outcome }) {
             Answer::Destroy => {
                 self.destroy_held(rt, me, id, value);
             }
@@ -60,16 +60,17 @@ impl<T: Drop, E: Drop, F: Factory<T, E> + Drop, C: Clock + Drop, B: Room> Shared
     }
 
     // Makes a passive new object idle if the pool is open, and destroys it otherwise.
-    fn shelve<R: Wait>(&self, rt: &R, me: &mut Caller<B>, id: u64, value: T) -> Addition
-        requires hand { (new : _) × OwnsObject me.old id phases.Adding new }
+    fn park_new<R: Wait>(&self, rt: &R, me: &mut Caller<B>, id: u64, value: T) -> Addition
+        requires owns { (new : _) × OwnsObject me.old id phases.Adding new }
         requires passive { F.passive value }
-        ensures goes { Advances B.settings me.old me.new }
+        ensures advances { Advances B.settings me.old me.new }
         ensures placed { IsPlaced result }
-        ensures walk { Goes_on B.settings (makes id) me.old me.new (shelved result) }
-        ensures ends { EndsWithMade me.new }
+        ensures trace { Trace (IsExpected B.settings) next (makes id) me.old me.new
+            (shelved result) }
+        ensures ends { EndsWithOwn me.new }
     {
         let outcome = Outcome::Good;
-        match self.ask(rt, me, Input::Added { id, outcome }, Some(value)) {
+        match self.run_section(rt, me, Input::Added { id, outcome }, Some(value)) {
             Ok((Answer::Parked, _)) => {
                 self.changed.notify_all();
                 Addition::Idle
@@ -91,46 +92,48 @@ impl<T: Drop, E: Drop, F: Factory<T, E> + Drop, C: Clock + Drop, B: Room> Shared
         id: u64,
         made: T,
     ) -> Result<Addition, AddFault<E>>
-        requires hand { (new : _) × OwnsObject me.old id phases.Adding new }
-        ensures goes { Advances B.settings me.old me.new }
-        ensures made { IsStocked result }
-        ensures walk { Goes_on B.settings (makes id) me.old me.new (ending result) }
-        ensures ends { EndsWithMade me.new }
+        requires owns { (new : _) × OwnsObject me.old id phases.Adding new }
+        ensures advances { Advances B.settings me.old me.new }
+        ensures appended { IsStocked result }
+        ensures trace { Trace (IsExpected B.settings) next (makes id) me.old me.new
+            (ending result) }
+        ensures ends { EndsWithOwn me.new }
         ensures fault { IfErr result (IsAddFaultFrom F.from_make F.from_passivate) }
     {
         let mut value = made;
         match self.prepare(&mut value) {
-            Ok(()) => Ok(self.shelve(rt, me, id, value)),
-            Err(Unfit::Test) => {
-                self.reject(rt, me, id, Outcome::CreateTestFailed, value);
+            Ok(()) => Ok(self.park_new(rt, me, id, value)),
+            Err(PrepareError::Test) => {
+                self.destroy_new(rt, me, id, Outcome::CreateTestFailed, value);
                 Err(AddFault::CreateTestFailed)
             }
-            Err(Unfit::Passivate(fault)) => {
-                self.reject(rt, me, id, Outcome::PassivateFailed, value);
+            Err(PrepareError::Passivate(fault)) => {
+                self.destroy_new(rt, me, id, Outcome::PassivateFailed, value);
                 Err(AddFault::PassivateFailed(fault))
             }
         }
     }
 
-    // Makes a new object for the place that was found.
-    pub(crate) fn stock<R: Wait>(
+    // Makes a new object for the free place that was found, and makes it idle if it passes its checks.
+    pub(crate) fn make_idle<R: Wait>(
         &self,
         rt: &R,
         me: &mut Caller<B>,
         id: u64,
     ) -> Result<Addition, AddFault<E>>
-        requires hand { (new : _) × OwnsObject me.old id phases.Adding new }
-        ensures goes { Advances B.settings me.old me.new }
-        ensures made { IsStocked result }
-        ensures walk { Goes_on B.settings (makes id) me.old me.new (ending result) }
-        ensures ends { EndsWithMade me.new }
+        requires owns { (new : _) × OwnsObject me.old id phases.Adding new }
+        ensures advances { Advances B.settings me.old me.new }
+        ensures appended { IsStocked result }
+        ensures trace { Trace (IsExpected B.settings) next (makes id) me.old me.new
+            (ending result) }
+        ensures ends { EndsWithOwn me.new }
         ensures fault { IfErr result (IsAddFaultFrom F.from_make F.from_passivate) }
     {
         match self.factory.make(id) {
             Ok(made) => self.stock_made(rt, me, id, made),
             Err(fault) => {
                 let outcome = Outcome::MakeFailed;
-                match self.carry_on(rt, me, Input::Added { id, outcome }) {
+                match self.complete(rt, me, Input::Added { id, outcome }) {
                     Answer::Freed => {
                         self.changed.notify_all();
                         Err(AddFault::MakeFailed(fault))
@@ -147,19 +150,19 @@ impl<T: Drop, E: Drop, F: Factory<T, E> + Drop, C: Clock + Drop, B: Room> Shared
     /// # Errors
     ///
     /// `Closed`. `MakeFailed`, `CreateTestFailed` and `PassivateFailed`, whichever comes first; the place is then free
-    /// again. `JournalFull` and `OutOfMemory`, before there is an object.
+    /// again. `JournalFull` and `OutOfMemory`, before an object is made.
     pub fn add<R: Wait>(&self, rt: &R, me: &mut Caller<B>) -> Result<Addition, AddFault<E>>
-        ensures goes { Advances B.settings me.old me.new }
-        ensures row { AddRow B.settings result me.old me.new }
+        ensures advances { Advances B.settings me.old me.new }
+        ensures spec { AddSpec B.settings result me.old me.new }
         ensures fault { IfErr result (IsAddFaultFrom F.from_make F.from_passivate) }
     {
-        match self.ask_plainly(rt, me, Input::Add) {
-            Ok(Answer::Make(id)) => self.stock(rt, me, id),
+        match self.run_section_without_value(rt, me, Input::Add) {
+            Ok(Answer::Make(id)) => self.make_idle(rt, me, id),
             Ok(Answer::NoPlace) => Ok(Addition::NoPlace),
             Ok(Answer::Refused(Cause::Closed)) => Err(AddFault::Closed),
             Ok(_) => unreachable!(),
-            Err(NoRoom::JournalFull) => Err(AddFault::JournalFull),
-            Err(NoRoom::OutOfMemory) => Err(AddFault::OutOfMemory),
+            Err(SectionError::JournalFull) => Err(AddFault::JournalFull),
+            Err(SectionError::OutOfMemory) => Err(AddFault::OutOfMemory),
         }
     }
 }

@@ -10,8 +10,9 @@ ghost use Rattle.pool_history.specs.CallerStates.{Advances};
 ghost use Rattle.pool_history.specs.Answers.{IsPossibleAnswer};
 ghost use Rattle.pool_lock.specs.Sections.{OwnsObject, IsPermitted, AppendsAnswer, ReturnsValue, IsWhy, continues_object};
 ghost use Rattle.pool_shared.specs.Promises.{IsAlone};
-ghost use Rattle.pool_shared.specs.Walks.{Ends};
-ghost use Rattle.pool_shared.specs.Borrows.{removes, asks, readies, lent, after_asking, after_destroying, Goes_on, Finishes, BorrowRow, IsLentWell, IsFaultFrom, IsWhyUnready, IsFound, taken_to, IsFailure};
+ghost use Rattle.pool_shared.specs.Walks.{Trace, Ends};
+ghost use Rattle.pool_shared.specs.Reclaims.{begins};
+ghost use Rattle.pool_shared.specs.Borrows.{removes, asks, readies, lent, after_asking, after_destroying, next, IsExpected, BorrowsFrom, BorrowSpec, IsLentWell, IsFaultFrom, IsWhyUnready, IsFound, taken_to, IsFailure};
 
 use crate::faults::{BorrowFault, PoolFault};
 use crate::lent::Lent;
@@ -23,9 +24,9 @@ use pool_journal::{Answer, Cause, Input, Outcome, When};
 use pool_lock::{Clock, Factory, LockedPool};
 use std::sync::{MutexGuard, Wait};
 
-/// Why an object was not made ready.
+/// The error of an object that was not made ready.
 #[derive(Drop)]
-pub(crate) enum Unready<E> {
+pub(crate) enum ActivateError<E> {
     Activate(E),
     Test,
 }
@@ -37,17 +38,17 @@ impl<T: Drop, E: Drop, F: Factory<T, E> + Drop, C: Clock + Drop, B: Room> Shared
     C,
     B,
 > {
-    // A critical section in which the caller continues its object. It never fails.
-    pub(crate) fn carry_on<R: Wait>(&self, rt: &R, me: &mut Caller<B>, input: Input) -> Answer
-        requires may { IsPermitted me.old input }
+    // Runs a critical section in which the caller continues its object. It never fails.
+    pub(crate) fn complete<R: Wait>(&self, rt: &R, me: &mut Caller<B>, input: Input) -> Answer
+        requires permitted { IsPermitted me.old input }
         requires on { continues_object input ≡ true }
         requires empty { carries input ≡ false }
-        ensures goes { Advances B.settings me.old me.new }
-        ensures asked { IsPossibleAnswer input result }
-        ensures made { AppendsAnswer input result me.old me.new }
+        ensures advances { Advances B.settings me.old me.new }
+        ensures possible_answer { IsPossibleAnswer input result }
+        ensures appended { AppendsAnswer input result me.old me.new }
         ensures ends { Ends input result me.new }
     {
-        match self.ask(rt, me, input, None) {
+        match self.run_section(rt, me, input, None) {
             Ok((answer, _)) => answer,
             Err(_) => unreachable!(),
         }
@@ -75,18 +76,21 @@ impl<T: Drop, E: Drop, F: Factory<T, E> + Drop, C: Clock + Drop, B: Room> Shared
     }
 
     // Asks for an object, and waits while there is none.
-    fn look<R: Wait>(
+    fn acquire<R: Wait>(
         &self,
         rt: &R,
         me: &mut Caller<B>,
         began: u64,
     ) -> Result<(Answer, Option<T>), StepFault<T>>
-        ensures goes { Advances B.settings me.old me.new }
+        ensures advances { Advances B.settings me.old me.new }
         ensures found { IfOk result (λ r. IsFound r.0) }
-        ensures walk { IfOk result (λ r. Goes_on B.settings began asks me.old me.new (after_asking r.0)) }
+        ensures trace { IfOk result (λ r. Trace
+            (IsExpected B.settings began) next asks me.old me.new
+            (after_asking r.0)) }
         ensures ends { IfOk result (λ r. Ends (inputs.Borrow began) r.0 me.new) }
-        ensures out { IfOk result (λ r. ReturnsValue F.passive r.0 None r.1) }
-        ensures none { IfErr result (λ f. Goes_on B.settings began asks me.old me.new asks) }
+        ensures returned { IfOk result (λ r. ReturnsValue F.passive r.0 None r.1) }
+        ensures none { IfErr result (λ f. Trace
+            (IsExpected B.settings began) next asks me.old me.new asks) }
         ensures refused { IfErr result (λ f. IsWhy B.settings (inputs.Borrow began) None f me.new) }
     {
         let input = Input::Borrow { began };
@@ -104,30 +108,30 @@ impl<T: Drop, E: Drop, F: Factory<T, E> + Drop, C: Clock + Drop, B: Room> Shared
     }
 
     // Activates a value for a holder, and tests it if that is set.
-    fn activate(&self, value: &mut T) -> Result<(), Unready<E>>
+    fn activate(&self, value: &mut T) -> Result<(), ActivateError<E>>
         ensures ok { OnOk result (IsLentWell B.settings F.active F.valid value.new) }
         ensures err { IfErr result (IsWhyUnready B.settings F.from_activate) }
     {
         match self.factory.activate(value) {
             Ok(()) => {
                 if self.settings.test_on_borrow && !self.factory.validate(value) {
-                    Err(Unready::Test)
+                    Err(ActivateError::Test)
                 } else {
                     Ok(())
                 }
             }
-            Err(fault) => Err(Unready::Activate(fault)),
+            Err(fault) => Err(ActivateError::Activate(fault)),
         }
     }
 
     // Frees the place of a destroyed object, and notifies the waiting threads.
-    pub(crate) fn give_up<R: Wait>(&self, rt: &R, me: &mut Caller<B>, id: u64)
+    pub(crate) fn free_place<R: Wait>(&self, rt: &R, me: &mut Caller<B>, id: u64)
         requires { (new : Bool) × OwnsObject me.old id phases.Destroying new }
-        ensures goes { Advances B.settings me.old me.new }
-        ensures made { AppendsAnswer (inputs.Destroyed id) answers.Freed me.old me.new }
+        ensures advances { Advances B.settings me.old me.new }
+        ensures appended { AppendsAnswer (inputs.Destroyed id) answers.Freed me.old me.new }
         ensures ends { Ends (inputs.Destroyed id) answers.Freed me.new }
     {
-        match self.carry_on(rt, me, Input::Destroyed { id }) {
+        match self.complete(rt, me, Input::Destroyed { id }) {
             Answer::Freed => self.changed.notify_all(),
             _ => unreachable!(),
         }
@@ -136,22 +140,32 @@ impl<T: Drop, E: Drop, F: Factory<T, E> + Drop, C: Clock + Drop, B: Room> Shared
     // Destroys the value of an object, and frees its place.
     pub(crate) fn destroy_held<R: Wait>(&self, rt: &R, me: &mut Caller<B>, id: u64, value: T)
         requires { (new : Bool) × OwnsObject me.old id phases.Destroying new }
-        ensures goes { Advances B.settings me.old me.new }
-        ensures made { AppendsAnswer (inputs.Destroyed id) answers.Freed me.old me.new }
+        ensures advances { Advances B.settings me.old me.new }
+        ensures appended { AppendsAnswer (inputs.Destroyed id) answers.Freed me.old me.new }
         ensures ends { Ends (inputs.Destroyed id) answers.Freed me.new }
     {
         self.factory.destroy(value);
-        self.give_up(rt, me, id);
+        self.free_place(rt, me, id);
     }
 
     // Destroys an object that was not made ready.
-    fn fail<R: Wait>(&self, rt: &R, me: &mut Caller<B>, id: u64, outcome: Outcome, value: T)
-        requires { (new : Bool) × OwnsObject me.old id phases.Readying new × IsFailure B.settings new outcome }
-        ensures goes { Advances B.settings me.old me.new }
-        ensures walk { (began : ℕ) (new : Bool) → IsFailure B.settings new outcome → Goes_on B.settings began (readies id new) me.old me.new (after_destroying new outcome) }
+    fn destroy_unready<R: Wait>(
+        &self,
+        rt: &R,
+        me: &mut Caller<B>,
+        id: u64,
+        outcome: Outcome,
+        value: T,
+    )
+        requires { (new : Bool) × OwnsObject me.old id phases.Readying new
+            × IsFailure B.settings new outcome }
+        ensures advances { Advances B.settings me.old me.new }
+        ensures trace { (began : ℕ) (new : Bool) → IsFailure B.settings new outcome
+            → Trace (IsExpected B.settings began) next (readies id new) me.old me.new
+            (after_destroying new outcome) }
         ensures ends { Ends (inputs.Destroyed id) answers.Freed me.new }
     {
-        match self.carry_on(rt, me, Input::Ready { id, outcome }) {
+        match self.complete(rt, me, Input::Ready { id, outcome }) {
             Answer::Destroy => {
                 self.destroy_held(rt, me, id, value);
             }
@@ -161,14 +175,15 @@ impl<T: Drop, E: Drop, F: Factory<T, E> + Drop, C: Clock + Drop, B: Room> Shared
 
     // Lends a ready object.
     fn lend<R: Wait>(&self, rt: &R, me: &mut Caller<B>, id: u64, value: T) -> Lent<T>
-        requires hand { (new : Bool) × OwnsObject me.old id phases.Readying new }
-        ensures goes { Advances B.settings me.old me.new }
-        ensures walk { (began : ℕ) (new : Bool) → Goes_on B.settings began (readies id new) me.old me.new (lent id) }
+        requires owns { (new : Bool) × OwnsObject me.old id phases.Readying new }
+        ensures advances { Advances B.settings me.old me.new }
+        ensures trace { (began : ℕ) (new : Bool)
+            → Trace (IsExpected B.settings began) next (readies id new) me.old me.new (lent id) }
         ensures ends { Ends (inputs.Ready id outcomes.Good) answers.Lent me.new }
         ensures lent { result ≡ record { pool = self.now.number; id = id; value = value } }
     {
         let outcome = Outcome::Good;
-        match self.carry_on(rt, me, Input::Ready { id, outcome }) {
+        match self.complete(rt, me, Input::Ready { id, outcome }) {
             Answer::Lent => Lent {
                 pool: self.number,
                 id,
@@ -180,21 +195,24 @@ impl<T: Drop, E: Drop, F: Factory<T, E> + Drop, C: Clock + Drop, B: Room> Shared
 
     // Lends an object that was idle, or destroys it.
     fn lend_taken<R: Wait>(&self, rt: &R, me: &mut Caller<B>, id: u64, value: T) -> Option<Lent<T>>
-        requires hand { OwnsObject me.old id phases.Readying false }
-        ensures goes { Advances B.settings me.old me.new }
-        ensures walk { (began : ℕ) → Goes_on B.settings began (readies id false) me.old me.new (taken_to id result) }
-        ensures lent { IfSome result (λ l. (l.pool ≡ self.now.number) × (l.id ≡ id) × IsLentWell B.settings F.active F.valid l.value) }
-        ensures ends { IfSome result (λ l. Ends (inputs.Ready l.id outcomes.Good) answers.Lent me.new) }
+        requires owns { OwnsObject me.old id phases.Readying false }
+        ensures advances { Advances B.settings me.old me.new }
+        ensures trace { (began : ℕ) → Trace (IsExpected B.settings began) next
+            (readies id false) me.old me.new (taken_to id result) }
+        ensures lent { IfSome result (λ l. (l.pool ≡ self.now.number) × (l.id ≡ id)
+            × IsLentWell B.settings F.active F.valid l.value) }
+        ensures ends { IfSome result (λ l. Ends
+            (inputs.Ready l.id outcomes.Good) answers.Lent me.new) }
     {
         let mut value = value;
         match self.activate(&mut value) {
             Ok(()) => Some(self.lend(rt, me, id, value)),
-            Err(Unready::Activate(_)) => {
-                self.fail(rt, me, id, Outcome::ActivateFailed, value);
+            Err(ActivateError::Activate(_)) => {
+                self.destroy_unready(rt, me, id, Outcome::ActivateFailed, value);
                 None
             }
-            Err(Unready::Test) => {
-                self.fail(rt, me, id, Outcome::TestFailed, value);
+            Err(ActivateError::Test) => {
+                self.destroy_unready(rt, me, id, Outcome::TestFailed, value);
                 None
             }
         }
@@ -207,9 +225,10 @@ impl<T: Drop, E: Drop, F: Factory<T, E> + Drop, C: Clock + Drop, B: Room> Shared
         me: &mut Caller<B>,
         id: u64,
     ) -> Result<Lent<T>, BorrowFault<E>>
-        requires hand { OwnsObject me.old id phases.Readying true }
-        ensures goes { Advances B.settings me.old me.new }
-        ensures row { (began : ℕ) → Finishes B.settings self.now.number began (readies id true) result me.old me.new }
+        requires owns { OwnsObject me.old id phases.Readying true }
+        ensures advances { Advances B.settings me.old me.new }
+        ensures spec { (began : ℕ) → BorrowsFrom B.settings self.now.number began
+            (readies id true) result me.old me.new }
         ensures lent { IfOk result (λ l. IsLentWell B.settings F.active F.valid l.value) }
         ensures fault { IfErr result (IsFaultFrom F.from_make F.from_activate) }
     {
@@ -217,7 +236,7 @@ impl<T: Drop, E: Drop, F: Factory<T, E> + Drop, C: Clock + Drop, B: Room> Shared
             Ok(made) => self.lend_new(rt, me, id, made),
             Err(fault) => {
                 let outcome = Outcome::MakeFailed;
-                match self.carry_on(rt, me, Input::Ready { id, outcome }) {
+                match self.complete(rt, me, Input::Ready { id, outcome }) {
                     Answer::Freed => {
                         self.changed.notify_all();
                         Err(BorrowFault::MakeFailed(fault))
@@ -236,44 +255,49 @@ impl<T: Drop, E: Drop, F: Factory<T, E> + Drop, C: Clock + Drop, B: Room> Shared
         id: u64,
         made: T,
     ) -> Result<Lent<T>, BorrowFault<E>>
-        requires hand { OwnsObject me.old id phases.Readying true }
-        ensures goes { Advances B.settings me.old me.new }
-        ensures row { (began : ℕ) → Finishes B.settings self.now.number began (readies id true) result me.old me.new }
+        requires owns { OwnsObject me.old id phases.Readying true }
+        ensures advances { Advances B.settings me.old me.new }
+        ensures spec { (began : ℕ) → BorrowsFrom B.settings self.now.number began
+            (readies id true) result me.old me.new }
         ensures lent { IfOk result (λ l. IsLentWell B.settings F.active F.valid l.value) }
         ensures fault { IfErr result (IsFaultFrom F.from_make F.from_activate) }
     {
         let mut value = made;
         if self.settings.test_on_create && !self.factory.validate(&value) {
-            self.fail(rt, me, id, Outcome::CreateTestFailed, value);
+            self.destroy_unready(rt, me, id, Outcome::CreateTestFailed, value);
             return Err(BorrowFault::CreateTestFailed);
         }
         match self.activate(&mut value) {
             Ok(()) => Ok(self.lend(rt, me, id, value)),
-            Err(Unready::Activate(fault)) => {
-                self.fail(rt, me, id, Outcome::ActivateFailed, value);
+            Err(ActivateError::Activate(fault)) => {
+                self.destroy_unready(rt, me, id, Outcome::ActivateFailed, value);
                 Err(BorrowFault::ActivateFailed(fault))
             }
-            Err(Unready::Test) => {
-                self.fail(rt, me, id, Outcome::TestFailed, value);
+            Err(ActivateError::Test) => {
+                self.destroy_unready(rt, me, id, Outcome::TestFailed, value);
                 Err(BorrowFault::BorrowTestFailed)
             }
         }
     }
 
-    // One round of a borrow. It has no result if an idle object was not made ready.
-    fn try_once<R: Wait>(
+    // Runs one round of a borrow. Returns `None` if an idle object was not made ready.
+    fn borrow_once<R: Wait>(
         &self,
         rt: &R,
         me: &mut Caller<B>,
         began: u64,
     ) -> Option<Result<Lent<T>, BorrowFault<E>>>
-        ensures goes { Advances B.settings me.old me.new }
-        ensures row { IfSome result (λ r. Finishes B.settings self.now.number began asks r me.old me.new) }
-        ensures again { IfNone result (Goes_on B.settings began asks me.old me.new asks) }
-        ensures lent { IfSome result (λ r. IfOk r (λ l. IsLentWell B.settings F.active F.valid l.value)) }
+        ensures advances { Advances B.settings me.old me.new }
+        ensures spec { IfSome result (λ r. BorrowsFrom B.settings self.now.number began asks r
+            me.old
+            me.new) }
+        ensures again { IfNone result (Trace
+            (IsExpected B.settings began) next asks me.old me.new asks) }
+        ensures lent { IfSome result (λ r. IfOk r
+            (λ l. IsLentWell B.settings F.active F.valid l.value)) }
         ensures fault { IfSome result (λ r. IfErr r (IsFaultFrom F.from_make F.from_activate)) }
     {
-        match self.look(rt, me, began) {
+        match self.acquire(rt, me, began) {
             Ok((Answer::Take(id), Some(value))) => match self.lend_taken(rt, me, id, value) {
                 Some(lent) => Some(Ok(lent)),
                 None => None,
@@ -288,20 +312,20 @@ impl<T: Drop, E: Drop, F: Factory<T, E> + Drop, C: Clock + Drop, B: Room> Shared
         }
     }
 
-    // Repeats rounds until there is a result.
-    fn keep_asking<R: Wait>(
+    // Repeats rounds until one has a result, and returns it.
+    fn borrow_until_result<R: Wait>(
         &self,
         rt: &R,
         me: &mut Caller<B>,
         began: u64,
     ) -> Result<Lent<T>, BorrowFault<E>>
-        ensures goes { Advances B.settings me.old me.new }
-        ensures row { Finishes B.settings self.now.number began asks result me.old me.new }
+        ensures advances { Advances B.settings me.old me.new }
+        ensures spec { BorrowsFrom B.settings self.now.number began asks result me.old me.new }
         ensures lent { IfOk result (λ l. IsLentWell B.settings F.active F.valid l.value) }
         ensures fault { IfErr result (IsFaultFrom F.from_make F.from_activate) }
     {
         for _ in rt.forever() {
-            match self.try_once(rt, me, began) {
+            match self.borrow_once(rt, me, began) {
                 Some(done) => return done,
                 None => {}
             }
@@ -310,10 +334,12 @@ impl<T: Drop, E: Drop, F: Factory<T, E> + Drop, C: Clock + Drop, B: Room> Shared
     }
 
     // Reclaims abandoned objects, if a borrow begins with that.
-    fn remove<R: Wait>(&self, rt: &R, me: &mut Caller<B>) -> Result<(), BorrowFault<E>>
-        ensures goes { Advances B.settings me.old me.new }
-        ensures walk { OnOk result ((began : ℕ) → Goes_on B.settings began removes me.old me.new asks) }
-        ensures row { IfErr result (λ f. (number began : ℕ) → Finishes {T = T} B.settings number began removes (Err f) me.old me.new) }
+    fn reclaim_first<R: Wait>(&self, rt: &R, me: &mut Caller<B>) -> Result<(), BorrowFault<E>>
+        ensures advances { Advances B.settings me.old me.new }
+        ensures trace { OnOk result ((began : ℕ)
+            → Trace (IsExpected B.settings began) next (removes begins) me.old me.new asks) }
+        ensures spec { IfErr result (λ f. (number began : ℕ)
+            → BorrowsFrom {T = T} B.settings number began (removes begins) (Err f) me.old me.new) }
         ensures fault { IfErr result (IsFaultFrom F.from_make F.from_activate) }
     {
         match self.reclaim_on(rt, me, When::Borrow) {
@@ -326,9 +352,14 @@ impl<T: Drop, E: Drop, F: Factory<T, E> + Drop, C: Clock + Drop, B: Room> Shared
 
     /// Lends an object: an idle one, or a new one if there is a free place. No other caller holds it, and at most
     /// `maxTotal` objects are present.
+    ///
+    /// # Errors
+    ///
+    /// `Closed`, `Exhausted` and `TimedOut`. `MakeFailed`, `CreateTestFailed`, `ActivateFailed` and `BorrowTestFailed`
+    /// of a new object; its place is then free again. `JournalFull` and `OutOfMemory`.
     pub fn borrow<R: Wait>(&self, rt: &R, me: &mut Caller<B>) -> Result<Lent<T>, BorrowFault<E>>
-        ensures goes { Advances B.settings me.old me.new }
-        ensures row { BorrowRow B.settings self.now.number result me.old me.new }
+        ensures advances { Advances B.settings me.old me.new }
+        ensures spec { BorrowSpec B.settings self.now.number result me.old me.new }
         ensures alone { IfOk result (λ l. IsAlone l.id me.new) }
         ensures within { AtMostMaxTotal B.settings me.new.observed }
         ensures lent { IfOk result (λ l. IsLentWell B.settings F.active F.valid l.value) }
@@ -336,12 +367,12 @@ impl<T: Drop, E: Drop, F: Factory<T, E> + Drop, C: Clock + Drop, B: Room> Shared
     {
         let began = self.clock.now();
         if self.settings.remove_abandoned_on_borrow {
-            match self.remove(rt, me) {
-                Ok(()) => self.keep_asking(rt, me, began),
+            match self.reclaim_first(rt, me) {
+                Ok(()) => self.borrow_until_result(rt, me, began),
                 Err(fault) => Err(fault),
             }
         } else {
-            self.keep_asking(rt, me, began)
+            self.borrow_until_result(rt, me, began)
         }
     }
 }

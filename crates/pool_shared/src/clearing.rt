@@ -2,10 +2,10 @@
 ghost use Rattle.std.specs.Prelude.{◌≡◌, ℕ, IfOk};
 ghost use Rattle.pool_journal.specs.declared.input.Input.TheVariants as inputs;
 ghost use Rattle.pool_history.specs.CallerStates.{Advances, IsConsistent};
-ghost use Rattle.pool_shared.specs.Walks.{EndsWithMade};
-ghost use Rattle.pool_shared.specs.Clears.{Sweeps, ClearRow, CloseRow};
+ghost use Rattle.pool_shared.specs.Walks.{EndsWithOwn};
+ghost use Rattle.pool_shared.specs.Clears.{Sweeps, ClearSpec, CloseSpec};
 
-use crate::faults::{NoRoom, PoolFault};
+use crate::faults::{PoolFault, SectionError};
 use crate::pool::SharedPool;
 use pool_core::StepFault;
 use pool_history::{Caller, Room};
@@ -20,21 +20,22 @@ impl<T: Drop, E: Drop, F: Factory<T, E> + Drop, C: Clock + Drop, B: Room> Shared
     C,
     B,
 > {
-    // Destroys idle objects until `count` are destroyed or none is left. Returns how many it destroyed.
-    fn sweep<R: Wait>(
+    // Destroys idle objects until `count` are destroyed or none is left. Returns the number that it destroyed.
+    fn destroy_idle<R: Wait>(
         &self,
         rt: &R,
         me: &mut Caller<B>,
         count: u64,
     ) -> Result<u64, (u64, PoolFault)>
         requires knows { IsConsistent B.settings me.old }
-        requires ended { EndsWithMade me.old }
-        ensures goes { Advances B.settings me.old me.new }
-        ensures walk { (first : inputs.the_data) → Sweeps B.settings first count result me.old me.new }
-        ensures ends { IfOk result (λ n. EndsWithMade me.new) }
+        requires ended { EndsWithOwn me.old }
+        ensures advances { Advances B.settings me.old me.new }
+        ensures trace { (first : inputs.the_data)
+            → Sweeps B.settings first count result me.old me.new }
+        ensures ends { IfOk result (λ n. EndsWithOwn me.new) }
     {
         for taken in 0..count {
-            match self.ask(rt, me, Input::ClearNext, None) {
+            match self.run_section(rt, me, Input::ClearNext, None) {
                 Ok((Answer::DestroyIdle(id), Some(value))) => {
                     self.destroy_held(rt, me, id, value);
                 }
@@ -47,39 +48,47 @@ impl<T: Drop, E: Drop, F: Factory<T, E> + Drop, C: Clock + Drop, B: Room> Shared
         Ok(count)
     }
 
-    /// Destroys the idle objects. Returns how many.
+    /// Destroys the idle objects. Returns their number.
+    ///
+    /// # Errors
+    ///
+    /// `JournalFull` and `OutOfMemory`, also in the middle: the work done before remains.
     pub fn clear<R: Wait>(&self, rt: &R, me: &mut Caller<B>) -> Result<u64, PoolFault>
-        ensures goes { Advances B.settings me.old me.new }
-        ensures row { ClearRow B.settings result me.old me.new }
+        ensures advances { Advances B.settings me.old me.new }
+        ensures spec { ClearSpec B.settings result me.old me.new }
     {
-        match self.ask_plainly(rt, me, Input::Clear) {
-            Ok(Answer::Count(count)) => match self.sweep(rt, me, count) {
+        match self.run_section_without_value(rt, me, Input::Clear) {
+            Ok(Answer::Count(count)) => match self.destroy_idle(rt, me, count) {
                 Ok(taken) => Ok(taken),
                 Err((_, fault)) => Err(fault),
             },
             Ok(_) => unreachable!(),
-            Err(NoRoom::JournalFull) => Err(PoolFault::JournalFull),
-            Err(NoRoom::OutOfMemory) => Err(PoolFault::OutOfMemory),
+            Err(SectionError::JournalFull) => Err(PoolFault::JournalFull),
+            Err(SectionError::OutOfMemory) => Err(PoolFault::OutOfMemory),
         }
     }
 
-    /// Closes the pool, and destroys the idle objects. Returns how many.
+    /// Closes the pool, and destroys the idle objects. Returns their number. A second close returns 0.
+    ///
+    /// # Errors
+    ///
+    /// `JournalFull` and `OutOfMemory`, only if the pool is closed already.
     pub fn close<R: Wait>(&self, rt: &R, me: &mut Caller<B>) -> Result<u64, PoolFault>
-        ensures goes { Advances B.settings me.old me.new }
-        ensures row { CloseRow B.settings result me.old me.new }
+        ensures advances { Advances B.settings me.old me.new }
+        ensures spec { CloseSpec B.settings result me.old me.new }
     {
-        match self.ask_plainly(rt, me, Input::Close) {
+        match self.run_section_without_value(rt, me, Input::Close) {
             Ok(Answer::Count(count)) => {
                 self.changed.notify_all();
-                match self.sweep(rt, me, count) {
+                match self.destroy_idle(rt, me, count) {
                     Ok(taken) => Ok(taken),
                     Err((taken, _)) => Ok(taken),
                 }
             }
             Ok(Answer::Nothing) => Ok(0),
             Ok(_) => unreachable!(),
-            Err(NoRoom::JournalFull) => Err(PoolFault::JournalFull),
-            Err(NoRoom::OutOfMemory) => Err(PoolFault::OutOfMemory),
+            Err(SectionError::JournalFull) => Err(PoolFault::JournalFull),
+            Err(SectionError::OutOfMemory) => Err(PoolFault::OutOfMemory),
         }
     }
 }

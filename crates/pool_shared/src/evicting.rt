@@ -3,12 +3,12 @@ ghost use Rattle.std.specs.Prelude.{◌≡◌, ◌<◌, ℕ, IfOk, OnOk, IfErr, 
 ghost use Rattle.pool_journal.specs.declared.record.Phase.TheVariants as phases;
 ghost use Rattle.pool_history.specs.CallerStates.{Advances, IsConsistent};
 ghost use Rattle.pool_lock.specs.Sections.{OwnsObject};
-ghost use Rattle.pool_shared.specs.Walks.{EndsWithMade};
+ghost use Rattle.pool_shared.specs.Walks.{Trace, EndsWithOwn};
 ghost use Rattle.pool_shared.specs.declared.evicting.EvictRun.{EvictRun};
-ghost use Rattle.pool_shared.specs.declared.evicting.Fate.TheVariants as fates;
-ghost use Rattle.pool_shared.specs.Evicts.{examines, tests, none_yet, one_more, fared, after_test, after_one, Goes_on, IsStopped, EvictsFrom, EvictRow, IsFailedTest, IsUnfit};
+ghost use Rattle.pool_shared.specs.declared.evicting.Disposition.TheVariants as fates;
+ghost use Rattle.pool_shared.specs.Evicts.{examines, tests, none_yet, one_more, next, IsExpected, fared, after_test, after_one, IsStopped, EvictsFrom, EvictSpec, IsFailedTest, IsUnfit};
 
-use crate::faults::{NoRoom, PoolFault};
+use crate::faults::{PoolFault, SectionError};
 use crate::pool::SharedPool;
 use pool_core::StepFault;
 use pool_history::{Caller, Room};
@@ -16,7 +16,7 @@ use pool_journal::{Answer, Cause, Input, Outcome};
 use pool_lock::{Clock, Factory};
 use std::sync::Wait;
 
-/// How many objects an eviction run examined, and how many of them it destroyed.
+/// The number of objects that an eviction run examined, and the number of these that it destroyed.
 #[derive(Clone, Copy, Debug)]
 pub struct EvictRun {
     pub examined: u64,
@@ -25,21 +25,21 @@ pub struct EvictRun {
 
 // The fate of an examined object.
 #[derive(Clone, Copy)]
-pub(crate) enum Fate {
+pub(crate) enum Disposition {
     Kept,
     Destroyed,
 }
 
 impl EvictRun {
     // Counts one more examined object.
-    fn count_in(self, fate: Fate) -> EvictRun
+    fn count_in(self, fate: Disposition) -> EvictRun
         requires examined { self.examined < u64.MAX }
         requires destroyed { self.destroyed < u64.MAX }
         ensures { result ≡ fared (one_more self) fate }
     {
         let destroyed = match fate {
-            Fate::Kept => self.destroyed,
-            Fate::Destroyed => self.destroyed + 1,
+            Disposition::Kept => self.destroyed,
+            Disposition::Destroyed => self.destroyed + 1,
         };
         EvictRun {
             examined: self.examined + 1,
@@ -56,7 +56,7 @@ impl<T: Drop, E: Drop, F: Factory<T, E> + Drop, C: Clock + Drop, B: Room> Shared
     B,
 > {
     // Activates a value and tests it.
-    fn wake(&self, value: &mut T) -> Result<(), Outcome>
+    fn activate_and_test(&self, value: &mut T) -> Result<(), Outcome>
         ensures ok { OnOk result (F.active value.new × F.valid value.new) }
         ensures err { IfErr result IsUnfit }
     {
@@ -73,11 +73,11 @@ impl<T: Drop, E: Drop, F: Factory<T, E> + Drop, C: Clock + Drop, B: Room> Shared
     }
 
     // Activates a value, tests it and passivates it.
-    fn try_out(&self, value: &mut T) -> Result<(), Outcome>
+    fn run_idle_test(&self, value: &mut T) -> Result<(), Outcome>
         ensures ok { OnOk result (F.passive value.new) }
         ensures err { IfErr result IsFailedTest }
     {
-        self.wake(value)?;
+        self.activate_and_test(value)?;
         match self.factory.passivate(value) {
             Ok(()) => Ok(()),
             Err(_) => Err(Outcome::PassivateFailed),
@@ -86,13 +86,15 @@ impl<T: Drop, E: Drop, F: Factory<T, E> + Drop, C: Clock + Drop, B: Room> Shared
 
     // Destroys an object that failed its test.
     fn fail_test<R: Wait>(&self, rt: &R, me: &mut Caller<B>, id: u64, outcome: Outcome, value: T)
-        requires hand { (new : _) × OwnsObject me.old id phases.Testing new }
+        requires owns { (new : _) × OwnsObject me.old id phases.Testing new }
         requires outcome { IsFailedTest outcome }
-        ensures goes { Advances B.settings me.old me.new }
-        ensures walk { (left : ℕ) (run : EvictRun) → Goes_on (tests id left run) me.old me.new (after_test left run fates.Destroyed) }
-        ensures ends { EndsWithMade me.new }
+        ensures advances { Advances B.settings me.old me.new }
+        ensures trace { (left : ℕ) (run : EvictRun)
+            → Trace IsExpected next (tests id left run) me.old me.new
+            (after_test left run fates.Destroyed) }
+        ensures ends { EndsWithOwn me.new }
     {
-        match self.carry_on(rt, me, Input::Tested { id, outcome }) {
+        match self.complete(rt, me, Input::Tested { id, outcome }) {
             Answer::Destroy => {
                 self.destroy_held(rt, me, id, value);
             }
@@ -101,22 +103,23 @@ impl<T: Drop, E: Drop, F: Factory<T, E> + Drop, C: Clock + Drop, B: Room> Shared
     }
 
     // Makes an object that passed its test idle again if the pool is still open, and destroys it otherwise.
-    fn keep<R: Wait>(&self, rt: &R, me: &mut Caller<B>, id: u64, value: T) -> Fate
-        requires hand { (new : _) × OwnsObject me.old id phases.Testing new }
+    fn end_idle_test<R: Wait>(&self, rt: &R, me: &mut Caller<B>, id: u64, value: T) -> Disposition
+        requires owns { (new : _) × OwnsObject me.old id phases.Testing new }
         requires passive { F.passive value }
-        ensures goes { Advances B.settings me.old me.new }
-        ensures walk { (left : ℕ) (run : EvictRun) → Goes_on (tests id left run) me.old me.new (after_test left run result) }
-        ensures ends { EndsWithMade me.new }
+        ensures advances { Advances B.settings me.old me.new }
+        ensures trace { (left : ℕ) (run : EvictRun)
+            → Trace IsExpected next (tests id left run) me.old me.new (after_test left run result) }
+        ensures ends { EndsWithOwn me.new }
     {
         let outcome = Outcome::Good;
-        match self.ask(rt, me, Input::Tested { id, outcome }, Some(value)) {
+        match self.run_section(rt, me, Input::Tested { id, outcome }, Some(value)) {
             Ok((Answer::Kept, _)) => {
                 self.changed.notify_all();
-                Fate::Kept
+                Disposition::Kept
             }
             Ok((Answer::Destroy, Some(value))) => {
                 self.destroy_held(rt, me, id, value);
-                Fate::Destroyed
+                Disposition::Destroyed
             }
             Ok(_) => unreachable!(),
             Err(_) => unreachable!(),
@@ -124,35 +127,41 @@ impl<T: Drop, E: Drop, F: Factory<T, E> + Drop, C: Clock + Drop, B: Room> Shared
     }
 
     // Tests an object.
-    fn test<R: Wait>(&self, rt: &R, me: &mut Caller<B>, id: u64, value: T) -> Fate
-        requires hand { (new : _) × OwnsObject me.old id phases.Testing new }
-        ensures goes { Advances B.settings me.old me.new }
-        ensures walk { (left : ℕ) (run : EvictRun) → Goes_on (tests id left run) me.old me.new (after_test left run result) }
-        ensures ends { EndsWithMade me.new }
+    fn test<R: Wait>(&self, rt: &R, me: &mut Caller<B>, id: u64, value: T) -> Disposition
+        requires owns { (new : _) × OwnsObject me.old id phases.Testing new }
+        ensures advances { Advances B.settings me.old me.new }
+        ensures trace { (left : ℕ) (run : EvictRun)
+            → Trace IsExpected next (tests id left run) me.old me.new (after_test left run result) }
+        ensures ends { EndsWithOwn me.new }
     {
         let mut value = value;
-        match self.try_out(&mut value) {
-            Ok(()) => self.keep(rt, me, id, value),
+        match self.run_idle_test(&mut value) {
+            Ok(()) => self.end_idle_test(rt, me, id, value),
             Err(outcome) => {
                 self.fail_test(rt, me, id, outcome, value);
-                Fate::Destroyed
+                Disposition::Destroyed
             }
         }
     }
 
     // Examines the next idle object, if there is one.
-    fn examine_next<R: Wait>(&self, rt: &R, me: &mut Caller<B>) -> Result<Option<Fate>, PoolFault>
-        ensures goes { Advances B.settings me.old me.new }
-        ensures walk { IfOk result (λ fate. (left : ℕ) (run : EvictRun) → 0 < left → Goes_on (examines left run) me.old me.new (after_one left run fate)) }
-        ensures ends { OnOk result (EndsWithMade me.new) }
+    fn examine_next<R: Wait>(
+        &self,
+        rt: &R,
+        me: &mut Caller<B>,
+    ) -> Result<Option<Disposition>, PoolFault>
+        ensures advances { Advances B.settings me.old me.new }
+        ensures trace { IfOk result (λ fate. (left : ℕ) (run : EvictRun) → 0 < left
+            → Trace IsExpected next (examines left run) me.old me.new (after_one left run fate)) }
+        ensures ends { OnOk result (EndsWithOwn me.new) }
         ensures same { OnErr result (me.new.appended ≡ me.old.appended) }
         ensures refused { IfErr result (λ f. IsStopped B.settings f me.new) }
     {
-        match self.ask(rt, me, Input::EvictNext, None) {
-            Ok((Answer::KeptIdle(_), _)) => Ok(Some(Fate::Kept)),
+        match self.run_section(rt, me, Input::EvictNext, None) {
+            Ok((Answer::KeptIdle(_), _)) => Ok(Some(Disposition::Kept)),
             Ok((Answer::DestroyIdle(id), Some(value))) => {
                 self.destroy_held(rt, me, id, value);
-                Ok(Some(Fate::Destroyed))
+                Ok(Some(Disposition::Destroyed))
             }
             Ok((Answer::Test(id), Some(value))) => Ok(Some(self.test(rt, me, id, value))),
             Ok((Answer::Nothing, _)) => Ok(None),
@@ -170,9 +179,9 @@ impl<T: Drop, E: Drop, F: Factory<T, E> + Drop, C: Clock + Drop, B: Room> Shared
         count: u64,
     ) -> Result<EvictRun, PoolFault>
         requires knows { IsConsistent B.settings me.old }
-        requires ended { EndsWithMade me.old }
-        ensures goes { Advances B.settings me.old me.new }
-        ensures row { EvictsFrom B.settings (examines count none_yet) result me.old me.new }
+        requires ended { EndsWithOwn me.old }
+        ensures advances { Advances B.settings me.old me.new }
+        ensures spec { EvictsFrom B.settings (examines count none_yet) result me.old me.new }
     {
         let mut run = EvictRun {
             examined: 0,
@@ -188,23 +197,24 @@ impl<T: Drop, E: Drop, F: Factory<T, E> + Drop, C: Clock + Drop, B: Room> Shared
         Ok(run)
     }
 
-    /// Examines the number of idle objects that the settings say, and continues after the one that the last run
-    /// examined last. It destroys each that was idle for too long, or that fails its test if idle objects are tested.
+    /// Examines the number of idle objects that the settings specify, and continues after the one that the last run
+    /// examined last. Destroys each that was idle for too long, or that fails its test if idle objects are tested.
+    /// Returns the numbers of examined and destroyed objects.
     ///
     /// # Errors
     ///
-    /// `Closed`, if the pool is closed; `JournalFull` and `OutOfMemory`, also in the middle: what was done before
+    /// `Closed`, if the pool is closed; `JournalFull` and `OutOfMemory`, also in the middle: the work done before
     /// remains.
     pub fn evict<R: Wait>(&self, rt: &R, me: &mut Caller<B>) -> Result<EvictRun, PoolFault>
-        ensures goes { Advances B.settings me.old me.new }
-        ensures row { EvictRow B.settings result me.old me.new }
+        ensures advances { Advances B.settings me.old me.new }
+        ensures spec { EvictSpec B.settings result me.old me.new }
     {
-        match self.ask_plainly(rt, me, Input::Evict) {
+        match self.run_section_without_value(rt, me, Input::Evict) {
             Ok(Answer::Count(count)) => self.examine(rt, me, count),
             Ok(Answer::Refused(Cause::Closed)) => Err(PoolFault::Closed),
             Ok(_) => unreachable!(),
-            Err(NoRoom::JournalFull) => Err(PoolFault::JournalFull),
-            Err(NoRoom::OutOfMemory) => Err(PoolFault::OutOfMemory),
+            Err(SectionError::JournalFull) => Err(PoolFault::JournalFull),
+            Err(SectionError::OutOfMemory) => Err(PoolFault::OutOfMemory),
         }
     }
 }

@@ -2,9 +2,9 @@
 ghost use Rattle.std.specs.Prelude.{ℕ, ◌+◌, ◌<◌, ◌^◌, length, OnOk, IfErr};
 ghost use Rattle.pool_history.specs.CallerStates.{Advances};
 ghost use Rattle.pool_shared.specs.Adds.{IsAddFaultFrom};
-ghost use Rattle.pool_shared.specs.Fills.{Turns, FillRow};
+ghost use Rattle.pool_shared.specs.Fills.{FillStep, FillSpec};
 
-use crate::faults::{AddFault, Addition, NoRoom};
+use crate::faults::{AddFault, Addition, SectionError};
 use crate::pool::SharedPool;
 use pool_history::{Caller, Room};
 use pool_journal::{Answer, Input};
@@ -18,34 +18,34 @@ impl<T: Drop, E: Drop, F: Factory<T, E> + Drop, C: Clock + Drop, B: Room> Shared
     C,
     B,
 > {
-    // One turn of a fill. The result is `NoPlace` if there is no place or no object is missing.
+    // Takes one turn of a fill. Returns `NoPlace` if no place is free or no object is missing.
     fn add_missing<R: Wait>(&self, rt: &R, me: &mut Caller<B>) -> Result<Addition, AddFault<E>>
-        ensures goes { Advances B.settings me.old me.new }
-        ensures turn { (n : ℕ) → Turns B.settings n result me.old me.new }
-        ensures few { OnOk result (length me.old.appended + 1 < 2 ^ 64) }
+        ensures advances { Advances B.settings me.old me.new }
+        ensures turn { (n : ℕ) → FillStep B.settings n result me.old me.new }
+        ensures bounded { OnOk result (length me.old.appended + 1 < 2 ^ 64) }
         ensures fault { IfErr result (IsAddFaultFrom F.from_make F.from_passivate) }
     {
-        match self.ask_plainly(rt, me, Input::Fill) {
-            Ok(Answer::Make(id)) => self.stock(rt, me, id),
+        match self.run_section_without_value(rt, me, Input::Fill) {
+            Ok(Answer::Make(id)) => self.make_idle(rt, me, id),
             Ok(Answer::Enough) => Ok(Addition::NoPlace),
             Ok(Answer::NoPlace) => Ok(Addition::NoPlace),
             Ok(_) => unreachable!(),
-            Err(NoRoom::JournalFull) => Err(AddFault::JournalFull),
-            Err(NoRoom::OutOfMemory) => Err(AddFault::OutOfMemory),
+            Err(SectionError::JournalFull) => Err(AddFault::JournalFull),
+            Err(SectionError::OutOfMemory) => Err(AddFault::OutOfMemory),
         }
     }
 
     /// Makes objects and parks them, until the number that the settings require is idle, or on its way there, or there
-    /// is no free place. Returns how many it parked. On a closed pool that is 0.
+    /// is no free place. Returns the number of objects that it parked. On a closed pool that is 0.
     ///
     /// # Errors
     ///
     /// `MakeFailed`, `CreateTestFailed` and `PassivateFailed` of the first object that fails; the place is then free
-    /// again. `JournalFull` and `OutOfMemory`, between two objects. What was parked before remains. It is never
+    /// again. `JournalFull` and `OutOfMemory`, between two objects. The work done before remains. It is never
     /// `Closed`.
     pub fn fill<R: Wait>(&self, rt: &R, me: &mut Caller<B>) -> Result<u64, AddFault<E>>
-        ensures goes { Advances B.settings me.old me.new }
-        ensures row { FillRow B.settings result me.old me.new }
+        ensures advances { Advances B.settings me.old me.new }
+        ensures spec { FillSpec B.settings result me.old me.new }
         ensures fault { IfErr result (IsAddFaultFrom F.from_make F.from_passivate) }
     {
         let mut parked = 0u64;

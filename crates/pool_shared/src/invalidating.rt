@@ -1,9 +1,9 @@
 // An invalidation, in critical sections.
 ghost use Rattle.std.specs.Prelude.{◌≡◌, IfErr};
 ghost use Rattle.pool_history.specs.CallerStates.{Advances};
-ghost use Rattle.pool_shared.specs.Invalidates.{InvalidateRow};
+ghost use Rattle.pool_shared.specs.Invalidates.{InvalidateSpec};
 
-use crate::faults::{NoRoom, ReturnFault, Returned};
+use crate::faults::{ReturnFault, Returned, SectionError};
 use crate::lent::Lent;
 use crate::pool::SharedPool;
 use pool_history::{Caller, Room};
@@ -18,28 +18,28 @@ impl<T: Drop, E: Drop, F: Factory<T, E> + Drop, C: Clock + Drop, B: Room> Shared
     C,
     B,
 > {
-    /// Returns a lent object that can't be used any more to the pool, which destroys it: `Destroyed`, or `Gone` if it
-    /// was reclaimed before. It is never parked.
+    /// Invalidates a lent object that can't be used any more: the pool destroys it, and never parks it. Returns
+    /// `Destroyed`, or `Gone` if the object was reclaimed before.
     ///
     /// # Errors
     ///
-    /// The object is returned with `ForeignObject` if it is of another pool, and there is no entry; with `NotLent`;
-    /// and, only if it isn't lent any more, with `JournalFull` and `OutOfMemory`.
+    /// The call returns the object with the error: `ForeignObject` if it is of another pool, and no entry is appended;
+    /// `NotLent`; and, only if it isn't lent any more, `JournalFull` and `OutOfMemory`.
     pub fn invalidate<R: Wait>(
         &self,
         rt: &R,
         me: &mut Caller<B>,
         lent: Lent<T>,
     ) -> Result<Returned, (ReturnFault, Lent<T>)>
-        ensures goes { Advances B.settings me.old me.new }
-        ensures row { InvalidateRow B.settings self.now.number lent result me.old me.new }
-        ensures back { IfErr result (λ r. r.1 ≡ lent) }
+        ensures advances { Advances B.settings me.old me.new }
+        ensures spec { InvalidateSpec B.settings self.now.number lent result me.old me.new }
+        ensures returns_argument { IfErr result (λ r. r.1 ≡ lent) }
     {
         let _ = &me.pass;
         if lent.pool != self.number {
             return Err((ReturnFault::ForeignObject, lent));
         }
-        match self.ask_plainly(rt, me, Input::Invalidate { id: lent.id }) {
+        match self.run_section_without_value(rt, me, Input::Invalidate { id: lent.id }) {
             Ok(Answer::Destroy) => {
                 let Lent { pool: _, id, value } = lent;
                 self.destroy_held(rt, me, id, value);
@@ -56,8 +56,8 @@ impl<T: Drop, E: Drop, F: Factory<T, E> + Drop, C: Clock + Drop, B: Room> Shared
             }
             Ok(Answer::Refused(Cause::NotLent)) => Err((ReturnFault::NotLent, lent)),
             Ok(_) => unreachable!(),
-            Err(NoRoom::JournalFull) => Err((ReturnFault::JournalFull, lent)),
-            Err(NoRoom::OutOfMemory) => Err((ReturnFault::OutOfMemory, lent)),
+            Err(SectionError::JournalFull) => Err((ReturnFault::JournalFull, lent)),
+            Err(SectionError::OutOfMemory) => Err((ReturnFault::OutOfMemory, lent)),
         }
     }
 }

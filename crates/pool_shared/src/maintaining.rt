@@ -2,7 +2,7 @@
 ghost use Rattle.std.specs.Prelude.{IfErr};
 ghost use Rattle.pool_history.specs.CallerStates.{Advances};
 ghost use Rattle.pool_shared.specs.Adds.{IsAddFaultFrom};
-ghost use Rattle.pool_shared.specs.Maintains.{MaintainRow};
+ghost use Rattle.pool_shared.specs.Maintains.{MaintainSpec};
 
 use crate::faults::{AddFault, PoolFault};
 use crate::pool::SharedPool;
@@ -12,9 +12,9 @@ use std::sync::Wait;
 
 impl<E> From<PoolFault> for AddFault<E> {
     ghost use Rattle.std.specs.Prelude.{◌≡◌};
-    ghost use Rattle.pool_shared.specs.Maintains.{told};
+    ghost use Rattle.pool_shared.specs.Maintains.{reported};
 
-    ghost from_gives = { λ f e. e ≡ told f };
+    ghost from_gives = { λ f e. e ≡ reported f };
 
     fn from(fault: PoolFault) -> AddFault<E> {
         match fault {
@@ -32,15 +32,15 @@ impl<T: Drop, E: Drop, F: Factory<T, E> + Drop, C: Clock + Drop, B: Room> Shared
     C,
     B,
 > {
-    /// Does an eviction run, then a removal of abandoned objects, then a fill.
+    /// Maintains the pool: an eviction run, then a removal of abandoned objects, then a fill.
     ///
     /// # Errors
     ///
-    /// The first error of the three ends it, and what was done before remains: `Closed`, `JournalFull` and
+    /// The first error of the three ends it, and the work done before remains: `Closed`, `JournalFull` and
     /// `OutOfMemory` of each, and those of an object that the fill made.
     pub fn maintain<R: Wait>(&self, rt: &R, me: &mut Caller<B>) -> Result<(), AddFault<E>>
-        ensures goes { Advances B.settings me.old me.new }
-        ensures row { MaintainRow B.settings result me.old me.new }
+        ensures advances { Advances B.settings me.old me.new }
+        ensures spec { MaintainSpec B.settings result me.old me.new }
         ensures fault { IfErr result (IsAddFaultFrom F.from_make F.from_passivate) }
     {
         self.evict(rt, me)?;

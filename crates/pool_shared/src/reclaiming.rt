@@ -3,10 +3,10 @@ ghost use Rattle.std.specs.Prelude.{◌≡◌};
 ghost use Rattle.pool_journal.specs.declared.input.When.{When};
 ghost use Rattle.pool_journal.specs.declared.input.When.TheVariants as times;
 ghost use Rattle.pool_history.specs.CallerStates.{Advances, IsConsistent};
-ghost use Rattle.pool_shared.specs.Walks.{EndsWithMade};
-ghost use Rattle.pool_shared.specs.Reclaims.{reclaims, ReclaimsFrom, ReclaimRow};
+ghost use Rattle.pool_shared.specs.Walks.{EndsWithOwn};
+ghost use Rattle.pool_shared.specs.Reclaims.{reclaims, ReclaimsFrom, ReclaimSpec};
 
-use crate::faults::{NoRoom, PoolFault};
+use crate::faults::{PoolFault, SectionError};
 use crate::pool::SharedPool;
 use pool_history::{Caller, Room};
 use pool_journal::{Answer, Input, When};
@@ -20,7 +20,7 @@ impl<T: Drop, E: Drop, F: Factory<T, E> + Drop, C: Clock + Drop, B: Room> Shared
     C,
     B,
 > {
-    // Reclaims abandoned objects until `count` are reclaimed or none is left. Returns how many it reclaimed.
+    // Reclaims abandoned objects until `count` are reclaimed or none is left. Returns the number that it reclaimed.
     fn reclaim_some<R: Wait>(
         &self,
         rt: &R,
@@ -28,48 +28,49 @@ impl<T: Drop, E: Drop, F: Factory<T, E> + Drop, C: Clock + Drop, B: Room> Shared
         count: u64,
     ) -> Result<u64, PoolFault>
         requires knows { IsConsistent B.settings me.old }
-        requires ended { EndsWithMade me.old }
-        ensures goes { Advances B.settings me.old me.new }
-        ensures row { (time : When) → ReclaimsFrom B.settings time (reclaims count 0) result me.old me.new }
+        requires ended { EndsWithOwn me.old }
+        ensures advances { Advances B.settings me.old me.new }
+        ensures spec { (time : When) → ReclaimsFrom B.settings time
+            (reclaims count 0) result me.old me.new }
     {
         for taken in 0..count {
-            match self.ask_plainly(rt, me, Input::ReclaimNext) {
+            match self.run_section_without_value(rt, me, Input::ReclaimNext) {
                 Ok(Answer::Reclaimed(_)) => self.changed.notify_all(),
                 Ok(Answer::Nothing) => return Ok(taken),
                 Ok(_) => unreachable!(),
-                Err(NoRoom::JournalFull) => return Err(PoolFault::JournalFull),
-                Err(NoRoom::OutOfMemory) => return Err(PoolFault::OutOfMemory),
+                Err(SectionError::JournalFull) => return Err(PoolFault::JournalFull),
+                Err(SectionError::OutOfMemory) => return Err(PoolFault::OutOfMemory),
             }
         }
         Ok(count)
     }
 
-    // Reclaims abandoned objects, in a borrow or in maintenance. Returns how many.
+    // Reclaims abandoned objects, in a borrow or in maintenance. Returns their number.
     pub(crate) fn reclaim_on<R: Wait>(
         &self,
         rt: &R,
         me: &mut Caller<B>,
         on: When,
     ) -> Result<u64, PoolFault>
-        ensures goes { Advances B.settings me.old me.new }
-        ensures row { ReclaimRow B.settings on result me.old me.new }
+        ensures advances { Advances B.settings me.old me.new }
+        ensures spec { ReclaimSpec B.settings on result me.old me.new }
     {
-        match self.ask_plainly(rt, me, Input::Reclaim { on }) {
+        match self.run_section_without_value(rt, me, Input::Reclaim { on }) {
             Ok(Answer::Count(count)) => self.reclaim_some(rt, me, count),
             Ok(_) => unreachable!(),
-            Err(NoRoom::JournalFull) => Err(PoolFault::JournalFull),
-            Err(NoRoom::OutOfMemory) => Err(PoolFault::OutOfMemory),
+            Err(SectionError::JournalFull) => Err(PoolFault::JournalFull),
+            Err(SectionError::OutOfMemory) => Err(PoolFault::OutOfMemory),
         }
     }
 
-    /// Reclaims abandoned objects, if that is set for maintenance. Returns how many.
+    /// Reclaims abandoned objects, if that is set for maintenance. Returns their number.
     ///
     /// # Errors
     ///
-    /// `JournalFull` and `OutOfMemory`, also in the middle: what was done before remains.
+    /// `JournalFull` and `OutOfMemory`, also in the middle: the work done before remains.
     pub fn reclaim<R: Wait>(&self, rt: &R, me: &mut Caller<B>) -> Result<u64, PoolFault>
-        ensures goes { Advances B.settings me.old me.new }
-        ensures row { ReclaimRow B.settings times.Maintain result me.old me.new }
+        ensures advances { Advances B.settings me.old me.new }
+        ensures spec { ReclaimSpec B.settings times.Maintain result me.old me.new }
     {
         self.reclaim_on(rt, me, When::Maintain)
     }

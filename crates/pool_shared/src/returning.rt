@@ -6,11 +6,11 @@ ghost use Rattle.pool_journal.specs.declared.input.Outcome.TheVariants as outcom
 ghost use Rattle.pool_journal.specs.declared.record.Phase.TheVariants as phases;
 ghost use Rattle.pool_history.specs.CallerStates.{Advances};
 ghost use Rattle.pool_lock.specs.Sections.{OwnsObject};
-ghost use Rattle.pool_shared.specs.Walks.{EndsWithMade};
-ghost use Rattle.pool_shared.specs.Returns.{checks, done, MayComeOut, Goes_on, ReturnRow};
+ghost use Rattle.pool_shared.specs.Walks.{Trace, EndsWithOwn};
+ghost use Rattle.pool_shared.specs.Returns.{checks, done, next, IsPossibleOutcome, IsExpected, ReturnSpec};
 ghost use Rattle.pool_shared.specs.declared.faults.Returned.TheVariants as returned;
 
-use crate::faults::{NoRoom, ReturnFault, Returned};
+use crate::faults::{ReturnFault, Returned, SectionError};
 use crate::lent::Lent;
 use crate::pool::SharedPool;
 use pool_history::{Caller, Room};
@@ -26,14 +26,22 @@ impl<T: Drop, E: Drop, F: Factory<T, E> + Drop, C: Clock + Drop, B: Room> Shared
     B,
 > {
     // Destroys a returned object that did not pass its check.
-    fn discard<R: Wait>(&self, rt: &R, me: &mut Caller<B>, id: u64, outcome: Outcome, value: T)
-        requires hand { (new : _) × OwnsObject me.old id phases.Returning new }
-        requires outcome { (outcome ≢ outcomes.Good) × MayComeOut B.settings outcome }
-        ensures goes { Advances B.settings me.old me.new }
-        ensures walk { Goes_on B.settings id checks me.old me.new (done returned.Destroyed) }
-        ensures ends { EndsWithMade me.new }
+    fn destroy_returned<R: Wait>(
+        &self,
+        rt: &R,
+        me: &mut Caller<B>,
+        id: u64,
+        outcome: Outcome,
+        value: T,
+    )
+        requires owns { (new : _) × OwnsObject me.old id phases.Returning new }
+        requires outcome { (outcome ≢ outcomes.Good) × IsPossibleOutcome B.settings outcome }
+        ensures advances { Advances B.settings me.old me.new }
+        ensures trace { Trace (IsExpected B.settings id) next checks me.old me.new
+            (done returned.Destroyed) }
+        ensures ends { EndsWithOwn me.new }
     {
-        match self.carry_on(rt, me, Input::Park { id, outcome }) {
+        match self.complete(rt, me, Input::Park { id, outcome }) {
             Answer::Destroy => {
                 self.destroy_held(rt, me, id, value);
             }
@@ -43,14 +51,14 @@ impl<T: Drop, E: Drop, F: Factory<T, E> + Drop, C: Clock + Drop, B: Room> Shared
 
     // Makes a passive object idle if there is room for it, and destroys it otherwise.
     fn park<R: Wait>(&self, rt: &R, me: &mut Caller<B>, id: u64, value: T) -> Returned
-        requires hand { (new : _) × OwnsObject me.old id phases.Returning new }
+        requires owns { (new : _) × OwnsObject me.old id phases.Returning new }
         requires passive { F.passive value }
-        ensures goes { Advances B.settings me.old me.new }
-        ensures walk { Goes_on B.settings id checks me.old me.new (done result) }
-        ensures ends { EndsWithMade me.new }
+        ensures advances { Advances B.settings me.old me.new }
+        ensures trace { Trace (IsExpected B.settings id) next checks me.old me.new (done result) }
+        ensures ends { EndsWithOwn me.new }
     {
         let outcome = Outcome::Good;
-        match self.ask(rt, me, Input::Park { id, outcome }, Some(value)) {
+        match self.run_section(rt, me, Input::Park { id, outcome }, Some(value)) {
             Ok((Answer::Parked, _)) => {
                 self.changed.notify_all();
                 Returned::Parked
@@ -66,41 +74,46 @@ impl<T: Drop, E: Drop, F: Factory<T, E> + Drop, C: Clock + Drop, B: Room> Shared
 
     // Checks a returned object.
     fn check<R: Wait>(&self, rt: &R, me: &mut Caller<B>, id: u64, value: T) -> Returned
-        requires hand { (new : _) × OwnsObject me.old id phases.Returning new }
-        ensures goes { Advances B.settings me.old me.new }
-        ensures walk { Goes_on B.settings id checks me.old me.new (done result) }
-        ensures ends { EndsWithMade me.new }
+        requires owns { (new : _) × OwnsObject me.old id phases.Returning new }
+        ensures advances { Advances B.settings me.old me.new }
+        ensures trace { Trace (IsExpected B.settings id) next checks me.old me.new (done result) }
+        ensures ends { EndsWithOwn me.new }
     {
         let mut value = value;
         if self.settings.test_on_return && !self.factory.validate(&value) {
-            self.discard(rt, me, id, Outcome::TestFailed, value);
+            self.destroy_returned(rt, me, id, Outcome::TestFailed, value);
             return Returned::Destroyed;
         }
         match self.factory.passivate(&mut value) {
             Ok(()) => self.park(rt, me, id, value),
             Err(_) => {
-                self.discard(rt, me, id, Outcome::PassivateFailed, value);
+                self.destroy_returned(rt, me, id, Outcome::PassivateFailed, value);
                 Returned::Destroyed
             }
         }
     }
 
-    /// Returns a lent object to the pool.
+    /// Returns a lent object to the pool. The result is `Parked`, `Destroyed`, or `Gone` if it was reclaimed before.
+    ///
+    /// # Errors
+    ///
+    /// The call returns the object with the error: `ForeignObject` if it is of another pool, and no entry is appended;
+    /// `NotLent`; and, only if it isn't lent any more, `JournalFull` and `OutOfMemory`.
     pub fn give_back<R: Wait>(
         &self,
         rt: &R,
         me: &mut Caller<B>,
         lent: Lent<T>,
     ) -> Result<Returned, (ReturnFault, Lent<T>)>
-        ensures goes { Advances B.settings me.old me.new }
-        ensures row { ReturnRow B.settings self.now.number lent result me.old me.new }
-        ensures back { IfErr result (λ r. r.1 ≡ lent) }
+        ensures advances { Advances B.settings me.old me.new }
+        ensures spec { ReturnSpec B.settings self.now.number lent result me.old me.new }
+        ensures returns_argument { IfErr result (λ r. r.1 ≡ lent) }
     {
         let _ = &me.pass;
         if lent.pool != self.number {
             return Err((ReturnFault::ForeignObject, lent));
         }
-        match self.ask_plainly(rt, me, Input::GiveBack { id: lent.id }) {
+        match self.run_section_without_value(rt, me, Input::GiveBack { id: lent.id }) {
             Ok(Answer::Check) => {
                 let Lent { pool: _, id, value } = lent;
                 Ok(self.check(rt, me, id, value))
@@ -116,8 +129,8 @@ impl<T: Drop, E: Drop, F: Factory<T, E> + Drop, C: Clock + Drop, B: Room> Shared
             }
             Ok(Answer::Refused(Cause::NotLent)) => Err((ReturnFault::NotLent, lent)),
             Ok(_) => unreachable!(),
-            Err(NoRoom::JournalFull) => Err((ReturnFault::JournalFull, lent)),
-            Err(NoRoom::OutOfMemory) => Err((ReturnFault::OutOfMemory, lent)),
+            Err(SectionError::JournalFull) => Err((ReturnFault::JournalFull, lent)),
+            Err(SectionError::OutOfMemory) => Err((ReturnFault::OutOfMemory, lent)),
         }
     }
 }

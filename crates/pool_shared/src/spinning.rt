@@ -2,10 +2,11 @@
 use crossbeam_utils::Backoff;
 use std::sync::{Condvar, Mutex, MutexGuard, Wait};
 
-/// How often a thread tries the lock, or looks for a notification, before it sleeps.
+/// The number of times that a thread tries the lock, or looks for a notification, before it sleeps.
 const TRIES: u32 = 16;
 
-/// Takes the lock. A thread tries it several times, with growing pauses, before it waits in the lock.
+/// Takes the lock, and returns its guard. A thread tries it several times, with growing pauses, before it waits in the
+/// lock.
 pub(crate) fn lock<'a, T, R: Wait>(rt: &R, mutex: &'a Mutex<T>) -> MutexGuard<'a, T> {
     let backoff = Backoff::new();
     for _ in 0..TRIES {
@@ -17,7 +18,8 @@ pub(crate) fn lock<'a, T, R: Wait>(rt: &R, mutex: &'a Mutex<T>) -> MutexGuard<'a
     mutex.lock(rt)
 }
 
-/// Waits for a notification, and may return without one. A thread looks for it several times, with growing pauses, before it sleeps.
+/// Waits for a notification, and returns the guard of the lock. It may return without a notification. A thread looks
+/// for it several times, with growing pauses, before it sleeps.
 pub(crate) fn wait<'a, T, R: Wait>(
     rt: &R,
     changed: &Condvar,

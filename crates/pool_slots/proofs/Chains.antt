@@ -1,9 +1,9 @@
--- What a change of links makes of a chain.
+-- A chain after a change of links.
 use Rattle.std.proofs.Common.{◌≡◌, ◌≢◌, ℕ, zero, suc, ◌≤◌, true, false, eqb, List, [], ◌∷◌, ◌++◌, length, Option, Some, None, IfSome, unwrap_or, refl, sym, ap, ◌∙◌, inl, inr, subst, arith}
 use Rattle.std.proofs.lemmas.Bool.{eqb-false}
 use Rattle.std.proofs.lemmas.Bool.Decides.{eqb_tells}
 use Rattle.pool_journal.specs.Queue.{first_of, last_of}
-use Rattle.pool_slots.specs.Rack.{is_in, without, put_before, AreDistinct}
+use Rattle.pool_slots.specs.SlotsModel.{is_in, without, put_before, AreDistinct}
 use Rattle.pool_slots.specs.Links.{Linked, IsChain, Leads, walk}
 use Rattle.pool_slots.proofs.Keys.{neither, is_in_first, is_in_later, without_none}
 
@@ -15,12 +15,12 @@ pub chain_first : (a b : Links) (p : Option ℕ) (xs : List ℕ) → IsChain a b
 chain_first a b p [] chain = chain.forward
 chain_first a b p (x ∷ xs) chain = chain.0.forward
 
--- the second place leads back to the first
+-- the second position leads back to the first
 pub chain_begins : (a b : Links) (p : Option ℕ) (xs : List ℕ) (e : Option ℕ) → IsChain a b p xs e → b (a p) ≡ p
 chain_begins a b p [] e chain = ap b chain.forward ∙ chain.backward
 chain_begins a b p (x ∷ xs) e chain = ap b chain.0.forward ∙ chain.0.backward
 
--- the last place but one leads to the last
+-- the position before the last leads to the last
 pub chain_ends : (a b : Links) (p : Option ℕ) (xs : List ℕ) (e : Option ℕ) → IsChain a b p xs e → a (b e) ≡ e
 chain_ends a b p [] e chain = ap a chain.backward ∙ chain.forward
 chain_ends a b p (x ∷ xs) e chain = chain_ends a b (Some x) xs e chain.1
@@ -33,7 +33,7 @@ walk-chain a b p (x ∷ xs) (suc n) chain few =
     ap (λ o. walk a o (suc n)) chain.0.forward ∙ ap (λ ys. x ∷ ys) (walk-chain a b (Some x) xs n chain.1 (omega arith))
 
 -- ---- neighbours
--- what stands last in a list behind p
+-- the last key after p, or p if there is none
 abbrev ending : Option ℕ → Option ℕ → Option ℕ
 ending None p = p
 ending (Some x) p = Some x
@@ -80,7 +80,7 @@ chain_same a b a2 b2 forth back p [] e chain =
 chain_same a b a2 b2 forth back p (x ∷ xs) e chain =
     (record { forward = forth p ∙ chain.0.forward; backward = back (Some x) ∙ chain.0.backward }, chain_same a b a2 b2 forth back (Some x) xs e chain.1)
 
--- neighbours stay linked that aren't the key
+-- neighbours other than the key stay linked
 abbrev pub Stay : Links → Links → Links → Links → ℕ → Type 0
 Stay a b a2 b2 key =
     (p n : Option ℕ) → p ≢ Some key → n ≢ Some key → Linked a b p n → Linked a2 b2 p n
@@ -99,7 +99,7 @@ chain_stays a b a2 b2 key stay p (x ∷ xs) e from to out chain =
     let here = some_apart key x apart.0 in
     (stay p (Some x) from here chain.0, chain_stays a b a2 b2 key stay (Some x) xs e here to apart.1 chain.1)
 
--- what is around a key of a chain leads to it
+-- the neighbours of a key of a chain lead to it
 pub record Around (a b : Links) (P : Option ℕ → Type 0) (key : ℕ) : Type 0 where
   pub to_key : a (b (Some key)) ≡ Some key
   pub back_to_key : b (a (Some key)) ≡ Some key
@@ -111,7 +111,7 @@ next_is a b P p [] e chain last each = subst P (sym chain.forward) last
 next_is a b P p (x ∷ xs) e chain last each =
     subst P (sym chain.0.forward) (each x (is_in_first x xs))
 
--- what stands before the end
+-- a property of p and of all keys holds of the position before the end
 pub end_is : (a b : Links) (P : Option ℕ → Type 0) (p : Option ℕ) (xs : List ℕ) (e : Option ℕ) → IsChain a b p xs e → P p → ((x : ℕ) → is_in x xs ≡ true → P (Some x)) → P (b e)
 end_is a b P p [] e chain first each = subst P (sym chain.backward) first
 end_is a b P p (x ∷ xs) e chain first each =
@@ -148,7 +148,7 @@ joined_stay a b a2 b2 P key here joined p n from to linked = record {
       joined.backward.others n (λ same. from (sym linked.backward ∙ ap b same ∙ here.back_to_key)) ∙ linked.backward;
 }
 
--- the key's neighbours, p and n, come to be linked
+-- the key's neighbours, p and n, are linked afterwards
 joined_linked : (a b a2 b2 : Links) (key : ℕ) → Joined a b a2 b2 key → (p n : Option ℕ) → b (Some key) ≡ p → a (Some key) ≡ n → Linked a2 b2 p n
 joined_linked a b a2 b2 key joined p n before after = record {
   forward = ap a2 (sym before) ∙ joined.forward.changed ∙ after;
@@ -213,14 +213,14 @@ pub chain_push : (a b a1 b1 a2 b2 : Links) (key : ℕ) → Appended a b a1 b1 a2
 chain_push a b a1 b1 a2 b2 key done xs out chain =
     chain_appended a b a1 b1 a2 b2 key done (chain_ends a b None xs None chain) None xs (none_apart key) out chain
 
--- the key is joined to what stands before n, and then to n
+-- the key is joined to the position before n, and then to n
 pub record Between (a b a1 b1 a2 b2 : Links) (key : ℕ) (n : Option ℕ) : Type 0 where
   pub forward : Leads a a1 (b n) (Some key)
   pub backward : Leads b b1 (Some key) (b n)
   pub to_next : Leads a1 a2 (Some key) n
   pub from_next : Leads b1 b2 n (Some key)
 
--- neighbours stay linked whose second isn't n
+-- neighbours stay linked if the second isn't n
 between_stays : (a b a1 b1 a2 b2 : Links) (key : ℕ) (n : Option ℕ) → Between a b a1 b1 a2 b2 key n → a (b n) ≡ n → (p m : Option ℕ) → p ≢ Some key → m ≢ Some key → m ≢ n → Linked a b p m → Linked a2 b2 p m
 between_stays a b a1 b1 a2 b2 key n done ends p m from to apart linked = record {
   forward =
@@ -268,7 +268,7 @@ chain_at_end a b a1 b1 a2 b2 key done xs out chain =
     let end : Appended a b a1 b1 a2 b2 key = record { forward = done.forward; backward = done.backward; to_end = done.to_next; from_end = done.from_next } in
     subst (λ ys. IsChain a2 b2 None ys None) (sym (put_end key xs)) (chain_push a b a1 b1 a2 b2 key end xs out chain)
 
--- a chain whose key came right before n
+-- a chain with the key inserted right before n
 pub chain_put : (a b a1 b1 a2 b2 : Links) (key : ℕ) (n : Option ℕ) → Between a b a1 b1 a2 b2 key n → (xs : List ℕ) → is_in key xs ≡ false → IfSome n (λ k. is_in k xs ≡ true) → AreDistinct xs → IsChain a b None xs None → IsChain a2 b2 None (put_before n key xs) None
 chain_put a b a1 b1 a2 b2 key None done xs out found distinct chain = chain_at_end a b a1 b1 a2 b2 key done xs out chain
 chain_put a b a1 b1 a2 b2 key (Some k) done xs out found distinct chain =

@@ -5,7 +5,7 @@ use Rattle.std.proofs.Math.ListN.{get_or-map}
 use Rattle.std.proofs.lemmas.List.Sums.{sum_by-cons}
 use Rattle.slab.specs.Slab.{Slab, get, slab_len, Updates}
 use Rattle.pool_slots.specs.declared.slot.Slot.{Slot}
-use Rattle.pool_slots.specs.Rack.{item_at, item_count, Sets}
+use Rattle.pool_slots.specs.SlotsModel.{item_at, item_count, Sets}
 use Rattle.pool_slots.specs.Links.{item_of, items_of, rack_of}
 
 module _ {T : Type 0} where
@@ -15,7 +15,7 @@ module _ {T : Type 0} where
   pub item_found : (s : Slab (Slot T)) (f : Option ℕ) (key : ℕ) (slot : Slot T) → get s key ≡ Some slot → item_at (rack_of s f) key ≡ Some (item_of slot)
   item_found s f key slot found = item_is s f key ∙ ap (option_map item_of) found
 
-  -- an entry's change is its object's
+  -- a change of an entry is the same change of its object
   pub sets : (s s2 : Slab (Slot T)) (f f2 : Option ℕ) (key : ℕ) (slot : Option (Slot T)) → Updates s s2 key slot → Sets (rack_of s f) (rack_of s2 f2) key (option_map item_of slot)
   sets s s2 f f2 key slot updates = record {
     changed = item_is s2 f2 key ∙ ap (option_map item_of) updates.changed;

@@ -6,7 +6,7 @@ use Rattle.std.proofs.lemmas.Bool.{eqb-true, eq-eqb, eqb-false, ne_eqb}
 use Rattle.std.proofs.lemmas.List.Folds.{list_any-append, list_any_at}
 use Rattle.std.proofs.lemmas.List.FromFn.{length-range_with_len, get_or-range_with_len}
 use Rattle.std.proofs.lemmas.Map.Made.{length-le_from_is_member}
-use Rattle.pool_slots.specs.Rack.{is_in, is_key, without, put_before, AreDistinct}
+use Rattle.pool_slots.specs.SlotsModel.{is_in, is_key, without, put_before, AreDistinct}
 
 -- neither is true
 pub neither : (a b : Bool) → (a || b) ≡ false → (a ≡ false) × (b ≡ false)
@@ -22,7 +22,7 @@ or_true : (a b : Bool) → b ≡ true → (a || b) ≡ true
 or_true true b holds = refl
 or_true false b holds = holds
 
--- a test tells, and its opposite
+-- a test is true or false
 pub true_or_false : (a : Bool) → (a ≡ true) ⊎ (a ≡ false)
 true_or_false true = inl refl
 true_or_false false = inr refl

@@ -1,17 +1,17 @@
--- The queue that the links make, and which changes leave it.
+-- The queue that the links form, and the changes that leave it unchanged.
 use Rattle.std.proofs.Common.{◌≡◌, ◌≢◌, ℕ, true, false, List, length, Option, Some, None, IsSome, is_some, refl, sym, ap, ◌∙◌, inl, inr, subst}
 use Rattle.std.specs.Option.{option_and_then}
 use Rattle.std.proofs.lemmas.Bool.Decides.{eqb_tells}
 use Rattle.slab.specs.Slab.{Slab, get, Updates}
 use Rattle.slab.proofs.SlabLemmas.{ContainsKey-within}
 use Rattle.pool_slots.specs.declared.slot.Slot.{Slot}
-use Rattle.pool_slots.specs.Rack.{is_in}
+use Rattle.pool_slots.specs.SlotsModel.{is_in}
 use Rattle.pool_slots.specs.Links.{after_of, before_of, queue_of, IsQueue}
 use Rattle.pool_slots.proofs.Keys.{few_distinct, true_or_false}
 use Rattle.pool_slots.proofs.Chains.{walk-chain, chain_same, chain_stays, none_apart}
 
 module _ {T : Type 0} where
-  -- a walk along the links gives the queue
+  -- a walk along the links returns the queue
   pub queue_is : (s : Slab (Slot T)) (f l : Option ℕ) (queue : List ℕ) → IsQueue s f l queue → queue_of s f ≡ queue
   queue_is s f l queue is =
       walk-chain (after_of s f) (before_of s l) None queue (length s.slots) is.chain (few_distinct (length s.slots) queue is.distinct (λ key found. ContainsKey-within s key (is.present key found)))
@@ -27,7 +27,7 @@ module _ {T : Type 0} where
         | inr out ↦ out
       ]
 
-  -- what an entry's change leaves of a part of each entry
+  -- a change that leaves a part of one entry leaves this part of each entry
   part_same : (s s2 : Slab (Slot T)) (key : ℕ) (old new : Slot T) (part : Slot T → Option ℕ) → Updates s s2 key (Some new) → get s key ≡ Some old → part new ≡ part old → (other : ℕ) → option_and_then part (get s2 other) ≡ option_and_then part (get s other)
   part_same s s2 key old new part updates found same other =
       elim (eqb_tells other key) [
@@ -53,7 +53,7 @@ module _ {T : Type 0} where
         | inr differs ↦ ap is_some (updates.others other differs.1) ∙ present
       ]
 
-  -- an entry is changed but for its links
+  -- an entry is changed, except its links
   pub queue_written : (s s2 : Slab (Slot T)) (f l : Option ℕ) (queue : List ℕ) (key : ℕ) (old new : Slot T) → Updates s s2 key (Some new) → get s key ≡ Some old → new.links.after ≡ old.links.after → new.links.before ≡ old.links.before → IsQueue s f l queue → IsQueue s2 f l queue
   queue_written s s2 f l queue key old new updates found after before is = record {
     chain = chain_same _ _ _ _ (after_same s s2 f key old new updates found after) (before_same s s2 l key old new updates found before) None queue None is.chain;
@@ -75,7 +75,7 @@ module _ {T : Type 0} where
   present_apart s s2 queue key slot updates out other found present =
       ap is_some (updates.others other (λ same. cc (found, out, ap (λ k. is_in k queue) same))) ∙ present
 
-  -- an entry comes or goes that isn't in the queue
+  -- an entry that isn't in the queue is added or removed
   pub queue_apart : (s s2 : Slab (Slot T)) (f l : Option ℕ) (queue : List ℕ) (key : ℕ) (slot : Option (Slot T)) → Updates s s2 key slot → is_in key queue ≡ false → IsQueue s f l queue → IsQueue s2 f l queue
   queue_apart s s2 f l queue key slot updates out is =
       record {

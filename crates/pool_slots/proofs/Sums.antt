@@ -1,7 +1,7 @@
 -- A sum over all objects, when one of them changes. For callers.
 use Rattle.std.proofs.Common.{◌≡◌, ◌≢◌, ℕ, zero, suc, ◌+◌, List, [], ◌∷◌, get_or, Option, None, sum_by, refl, sym, ap, ◌∙◌, arith}
 use Rattle.std.proofs.lemmas.List.Sums.{sum_by-cons}
-use Rattle.pool_slots.specs.Rack.{Item, Rack, item_at, Sets}
+use Rattle.pool_slots.specs.SlotsModel.{Item, SlotsModel, item_at, Sets}
 
 module _ {X : Type 0} (g : Option X → ℕ) (none : g None ≡ 0) where
   sum_same : (xs ys : List (Option X)) → ((k : ℕ) → get_or ys k None ≡ get_or xs k None) → sum_by g ys ≡ sum_by g xs
@@ -34,7 +34,7 @@ module _ {X : Type 0} (g : Option X → ℕ) (none : g None ≡ 0) where
   sum_changed (x ∷ xs) (y ∷ ys) (suc key) others =
       omega (arith, sum_by-cons g x xs, sum_by-cons g y ys, sum_changed xs ys key (λ k apart. others (suc k) (next_apart k key apart)), ap g (others 0 (first_apart key)))
 
--- the sum loses what the old object gave, and gains what the new one gives
-pub sum_sets : {T : Type 0} (g : Option (Item T) → ℕ) → g None ≡ 0 → (old new : Rack T) (key : ℕ) (item : Option (Item T)) → Sets old new key item → sum_by g new.items + g (item_at old key) ≡ sum_by g old.items + g item
+-- the sum loses the number of the old object, and gains that of the new one
+pub sum_sets : {T : Type 0} (g : Option (Item T) → ℕ) → g None ≡ 0 → (old new : SlotsModel T) (key : ℕ) (item : Option (Item T)) → Sets old new key item → sum_by g new.items + g (item_at old key) ≡ sum_by g old.items + g item
 sum_sets g none old new key item done =
     sum_changed g none old.items new.items key done.others ∙ ap (λ o. sum_by g old.items + g o) done.changed

@@ -1,3 +1,3 @@
 pub mod Links
 pub mod Neighbours
-pub mod Rack
+pub mod SlotsModel

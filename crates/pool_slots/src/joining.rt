@@ -5,7 +5,7 @@ ghost use Rattle.pool_slots.specs.Links.{after_of, before_of, items_of, Leads};
 use crate::slot::Slot;
 use slab::Slab;
 
-// Lets `after` come after `before`, and nothing else. At `None` that is the first.
+// Makes `after` the successor of `before`, and changes nothing else. If `before` is `None`, `after` is the first key.
 fn set_after<T>(
     slots: &mut Slab<Slot<T>>,
     first: &mut Option<usize>,
@@ -13,7 +13,8 @@ fn set_after<T>(
     after: Option<usize>,
 )
     requires { IfSome before (λ key. ContainsKey slots.old key) }
-    ensures forward { Leads (after_of slots.old first.old) (after_of slots.new first.new) before after }
+    ensures forward { Leads (after_of slots.old first.old)
+        (after_of slots.new first.new) before after }
     ensures backward { (last p : Option ℕ) →
         before_of slots.new last p ≡ before_of slots.old last p }
     ensures items { items_of slots.new ≡ items_of slots.old }
@@ -28,7 +29,7 @@ fn set_after<T>(
     }
 }
 
-// Lets `before` come before `after`, and nothing else. At `None` that is the last.
+// Makes `before` the predecessor of `after`, and changes nothing else. If `after` is `None`, `before` is the last key.
 fn set_before<T>(
     slots: &mut Slab<Slot<T>>,
     last: &mut Option<usize>,
@@ -36,7 +37,8 @@ fn set_before<T>(
     before: Option<usize>,
 )
     requires { IfSome after (λ key. ContainsKey slots.old key) }
-    ensures backward { Leads (before_of slots.old last.old) (before_of slots.new last.new) after before }
+    ensures backward { Leads (before_of slots.old last.old)
+        (before_of slots.new last.new) after before }
     ensures forward { (first p : Option ℕ) →
         after_of slots.new first p ≡ after_of slots.old first p }
     ensures items { items_of slots.new ≡ items_of slots.old }
@@ -51,7 +53,7 @@ fn set_before<T>(
     }
 }
 
-/// The key before another one. Before nothing stands the last.
+/// Returns the key before `after`, and the last key if `after` is `None`.
 pub(crate) fn place_before<T>(
     slots: &Slab<Slot<T>>,
     last: Option<usize>,
@@ -66,7 +68,7 @@ pub(crate) fn place_before<T>(
     }
 }
 
-/// Lets two keys follow one another in the queue. `None` stands before the first and after the last.
+/// Makes `after` the successor of `before` in the queue. `None` is before the first key and after the last one.
 pub(crate) fn join<T>(
     slots: &mut Slab<Slot<T>>,
     first: &mut Option<usize>,
@@ -76,8 +78,10 @@ pub(crate) fn join<T>(
 )
     requires before { IfSome before (λ key. ContainsKey slots.old key) }
     requires after { IfSome after (λ key. ContainsKey slots.old key) }
-    ensures forward { Leads (after_of slots.old first.old) (after_of slots.new first.new) before after }
-    ensures backward { Leads (before_of slots.old last.old) (before_of slots.new last.new) after before }
+    ensures forward { Leads (after_of slots.old first.old)
+        (after_of slots.new first.new) before after }
+    ensures backward { Leads (before_of slots.old last.old)
+        (before_of slots.new last.new) after before }
     ensures items { items_of slots.new ≡ items_of slots.old }
     ensures capacity { slots.new.capacity ≡ slots.old.capacity }
 {

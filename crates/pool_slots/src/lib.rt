@@ -1,4 +1,4 @@
-//! Objects under keys, some of them in a queue. No call walks through them.
+//! Objects under keys, some of them in a queue. No call iterates over them.
 #![tactic(auto)]
 
 mod joining;

@@ -24,7 +24,7 @@ impl Model for Links {
 }
 
 impl Links {
-    /// No neighbours.
+    /// Returns links without neighbours.
     pub(crate) fn none() -> Links
         ensures before { result.before ≡ None }
         ensures after { result.after ≡ None }

@@ -1,7 +1,7 @@
 ghost use Rattle.std.specs.Prelude.{◌≡◌, ◌≤◌, ◌<◌, ◌+◌, ◌++◌, ◌∷◌, [], IfSome, IsSome, IsSomeAnd, Some, None, true, false, OnOk, OnErr};
 ghost use Rattle.std.specs.Option.{option_map};
 ghost use Rattle.pool_journal.specs.Queue.{first_of, last_of};
-ghost use Rattle.pool_slots.specs.Rack.{is_in, without, put_before, item_at, known_at, value_at, item_count, new_item, with_known, with_value, Sets, IsRack, IsNextIn, IsPreviousIn};
+ghost use Rattle.pool_slots.specs.SlotsModel.{is_in, without, put_before, item_at, known_at, value_at, item_count, new_item, with_known, with_value, Sets, SlotsInvariant, IsNextIn, IsPreviousIn};
 
 use crate::joining::{join, place_before};
 use crate::linking::Links;
@@ -13,8 +13,8 @@ use std::marker::Model;
 
 /// Objects under keys, some of them in one queue.
 ///
-/// Each call takes the same time, however many objects there are. A key is given out again only
-/// once its object is removed.
+/// Each call takes the same time, however many objects there are. A key is used again only after its object is
+/// removed.
 #[derive(Drop)]
 pub struct Slots<T> {
     slots: Slab<Slot<T>>,
@@ -24,9 +24,9 @@ pub struct Slots<T> {
 }
 
 impl<T> Model for Slots<T> {
-    ghost use Rattle.pool_slots.specs.Rack.{Rack};
+    ghost use Rattle.pool_slots.specs.SlotsModel.{SlotsModel};
 
-    ghost Value = { Rack T };
+    ghost Value = { SlotsModel T };
 
     ghost use Rattle.pool_slots.specs.Links.{rack_of, queue_of, IsQueue};
 
@@ -36,7 +36,7 @@ impl<T> Model for Slots<T> {
 }
 
 impl<T> Slots<T> {
-    /// No objects.
+    /// Returns slots without objects.
     pub fn new(alloc: Global) -> Self
         ensures items { result.items ≡ [] }
         ensures queue { result.queue ≡ [] }
@@ -49,19 +49,19 @@ impl<T> Slots<T> {
         }
     }
 
-    /// How many objects there are.
+    /// Returns the number of objects.
     pub fn len(&self) -> usize
         ensures count { result ≡ item_count self.now }
-        ensures rack { IsRack self.now }
+        ensures rack { SlotsInvariant self.now }
     {
         self.slots.len()
     }
 
-    /// Makes sure that there is memory for one more object. Where there is none, nothing changes.
+    /// Reserves memory for one more object. If there is no memory, nothing changes.
     ///
     /// # Errors
     ///
-    /// There is no room, and no memory either.
+    /// There is no room, and the allocation failed.
     pub fn reserve_one(&mut self) -> Result<(), AllocError>
         ensures ok { OnOk result (1 ≤ self.new.room) }
         ensures full { OnErr result (self.old.room ≡ 0) }
@@ -71,11 +71,11 @@ impl<T> Slots<T> {
         self.slots.reserve(1)
     }
 
-    /// Makes sure that there is memory for so many more objects. Where there is not, nothing changes.
+    /// Reserves memory for `count` more objects. If there is no memory, nothing changes.
     ///
     /// # Errors
     ///
-    /// There is no room for so many, and no memory either.
+    /// There is no room for `count` objects, and the allocation failed.
     pub fn reserve(&mut self, count: usize) -> Result<(), AllocError>
         ensures ok { OnOk result (count ≤ self.new.room) }
         ensures full { OnErr result (self.old.room < count) }
@@ -88,7 +88,7 @@ impl<T> Slots<T> {
         self.slots.reserve(count)
     }
 
-    /// Puts an object under a key that was free, in the memory that was reserved. It has no value,
+    /// Puts an object under a free key, in the memory that was reserved, and returns the key. The object has no value,
     /// and isn't in the queue.
     pub fn insert(&mut self, known: Record) -> usize
         requires { 1 ≤ self.old.room }
@@ -102,12 +102,13 @@ impl<T> Slots<T> {
         self.insert_with(known, None)
     }
 
-    /// Puts an object under a key that was free, in the memory that was reserved, with its value where it
-    /// has one. It isn't in the queue.
+    /// Puts an object under a free key, in the memory that was reserved, with its value if it has one, and returns the
+    /// key. The object isn't in the queue.
     pub fn insert_with(&mut self, known: Record, value: Option<T>) -> usize
         requires { 1 ≤ self.old.room }
         ensures vacant { item_at self.old result ≡ None }
-        ensures sets { Sets self.old self.new result (Some (record { known = known; value = value })) }
+        ensures sets { Sets self.old self.new result
+            (Some (record { known = known; value = value })) }
         ensures count { item_count self.new ≡ item_count self.old + 1 }
         ensures out { is_in result self.new.queue ≡ false }
         ensures queue { self.new.queue ≡ self.old.queue }
@@ -120,7 +121,7 @@ impl<T> Slots<T> {
         })
     }
 
-    /// Takes an object out that keeps no value and isn't in the queue. Its key is free again.
+    /// Removes an object that has no value and isn't in the queue. Its key is free again.
     pub fn remove(&mut self, key: usize)
         requires empty { IsSomeAnd (item_at self.old key) (λ item. item.value ≡ None) }
         requires out { is_in key self.old.queue ≡ false }
@@ -140,7 +141,7 @@ impl<T> Slots<T> {
         }
     }
 
-    /// What is known of an object.
+    /// Returns the record of an object.
     pub fn known(&self, key: usize) -> Record
         requires { IsSome (item_at self.now key) }
         ensures { known_at self.now key ≡ Some result }
@@ -148,7 +149,7 @@ impl<T> Slots<T> {
         self.slots[key].known
     }
 
-    /// Notes what is now known of an object.
+    /// Replaces the record of an object.
     pub fn set_known(&mut self, key: usize, known: Record)
         requires { IsSome (item_at self.old key) }
         ensures sets { Sets self.old self.new key
@@ -161,7 +162,7 @@ impl<T> Slots<T> {
         slot.known = known;
     }
 
-    /// Keeps a value for an object that has none.
+    /// Stores a value for an object that has none.
     pub fn put(&mut self, key: usize, value: T)
         requires { IsSomeAnd (item_at self.old key) (λ item. item.value ≡ None) }
         ensures sets { Sets self.old self.new key
@@ -177,7 +178,7 @@ impl<T> Slots<T> {
         }
     }
 
-    /// Takes the value that is kept for an object.
+    /// Removes the stored value of an object and returns it.
     pub fn take(&mut self, key: usize) -> T
         requires { IsSome (value_at self.old key) }
         ensures value { value_at self.old key ≡ Some result }
@@ -214,7 +215,7 @@ impl<T> Slots<T> {
         );
     }
 
-    /// Puts an object into the queue, right before another one of it or at its end.
+    /// Puts an object into the queue, right before `next`, or at the end of the queue if `next` is `None`.
     pub fn link_before(&mut self, next: Option<usize>, key: usize)
         requires present { IsSome (item_at self.old key) }
         requires out { is_in key self.old.queue ≡ false }
@@ -238,7 +239,7 @@ impl<T> Slots<T> {
         );
     }
 
-    /// Takes an object out of the queue, wherever it stands there.
+    /// Removes an object from the queue, at any position.
     pub fn unlink(&mut self, key: usize)
         requires { is_in key self.old.queue ≡ true }
         ensures { self.new ≡ record self.old { queue = without key self.old.queue } }
@@ -255,23 +256,23 @@ impl<T> Slots<T> {
         );
     }
 
-    /// The first key of the queue.
+    /// Returns the first key of the queue.
     pub fn first(&self) -> Option<usize>
         ensures first { result ≡ first_of self.now.queue }
-        ensures rack { IsRack self.now }
+        ensures rack { SlotsInvariant self.now }
     {
         self.first
     }
 
-    /// The last key of the queue.
+    /// Returns the last key of the queue.
     pub fn last(&self) -> Option<usize>
         ensures last { result ≡ last_of self.now.queue }
-        ensures rack { IsRack self.now }
+        ensures rack { SlotsInvariant self.now }
     {
         self.last
     }
 
-    /// The key after another one in the queue.
+    /// Returns the key after another one in the queue.
     pub fn after(&self, key: usize) -> Option<usize>
         requires { is_in key self.now.queue ≡ true }
         ensures { IsNextIn self.now.queue key result }
@@ -279,7 +280,7 @@ impl<T> Slots<T> {
         self.slots[key].links.after()
     }
 
-    /// The key before another one in the queue.
+    /// Returns the key before another one in the queue.
     pub fn before(&self, key: usize) -> Option<usize>
         requires { is_in key self.now.queue ≡ true }
         ensures { IsPreviousIn self.now.queue key result }

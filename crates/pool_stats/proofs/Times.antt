@@ -1,4 +1,4 @@
--- What one more entry does to the lendings.
+-- The loans after one more entry.
 use Rattle.std.proofs.Common.{◌≡◌, ℕ, ◌+◌, ◌-◌, ◌^◌, if◌then◌else◌, Option, Some, None, List, [], ◌∷◌, ◌++◌, length}
 use Rattle.std.proofs.Common.{take, refl, ap, sym, ◌∙◌, arith, append-nil}
 use Rattle.std.specs.Prelude.{unwrap_or, filter_map, max, min}
@@ -8,15 +8,15 @@ use Rattle.std.proofs.lemmas.List.{take_at, take-append-le}
 use Rattle.std.proofs.lemmas.List.Elements.{filter_map-append}
 use Rattle.std.proofs.lemmas.List.Sums.{fold_push, sum_by-append}
 use Rattle.pool_journal.proofs.Latest.{latest_push_if, enumerate_from_push, numbers_below}
-use Rattle.pool_journal.specs.Latest.{latest}
-use Rattle.pool_journal.specs.Journal.{is_of}
+use Rattle.pool_journal.specs.Latest.{last_some}
+use Rattle.pool_journal.specs.Entries.{is_of}
 use Rattle.pool_journal.specs.declared.entry.Entry.{Entry}
 use Rattle.pool_stats.specs.Lendings.{begun_by, ended_by, begun, time_since, time_ended, times}
 use Rattle.pool_stats.specs.Running.{Walked}
 use Rattle.pool_stats.specs.Statistics.{greatest, bounded_sum}
 
 begun_none : (i : ℕ) → begun i [] ≡ None
-unfolding begun latest
+unfolding begun last_some
 begun_none i = refl
 
 begun-push : (i : ℕ) (J : List Entry) (e : Entry) → begun i (J ++ e ∷ []) ≡
@@ -24,7 +24,7 @@ begun-push : (i : ℕ) (J : List Entry) (e : Entry) → begun i (J ++ e ∷ []) 
 unfolding begun
 begun-push i J e = latest_push_if _ _ None J e
 
--- two functions that agree on each element give the same
+-- two functions that agree on each element have the same result
 filter_map_agree : {X Y : Type 0} (f g : X → Option Y) (xs : List X) → AllByRecursion (λ x. f x ≡ g x) xs
     → filter_map f xs ≡ filter_map g xs
 filter_map_agree f g [] same = refl
@@ -66,7 +66,7 @@ walked_none moments none =
       total_is = ap bounded_sum (sym times_none);
     }
 
--- the time of a lending hangs on the moments alone at which lendings began
+-- the duration of a loan depends only on the times at which loans began
 same_time : (moments : ℕ → Option ℕ) (K : List Entry) (at : ℕ) (o : Option ℕ) → ((i : ℕ) → moments i ≡ begun i K)
     → unwrap_or (option_map (λ i. time_since (moments i) at) o) 0 ≡ unwrap_or (option_map (λ i. time_since (begun i K) at) o) 0
 same_time moments K at None same = refl

@@ -1,13 +1,14 @@
--- How many objects of a journal are at an end.
+-- The numbers of objects that were destroyed, evicted and reclaimed in a journal.
 use Rattle.std.specs.Prelude.{ℕ, ◌+◌, ◌<◌, ◌^◌, Bool, if◌then◌else◌, List}
 use Rattle.pool_journal.specs.declared.entry.Entry.{Entry}
 use Rattle.pool_journal.specs.declared.input.Input.{Input}
 use Rattle.pool_journal.specs.declared.answer.Answer.{Answer}
-use Rattle.pool_stats.specs.Answers.{is_freed, is_reclaimed, is_evicting, count_answers, count_entries}
-use Rattle.pool_stats.specs.declared.ended.Ended.{Ended}
+use Rattle.pool_stats.specs.Answers.{count_answers, count_entries}
+use Rattle.pool_journal.specs.Totals.{is_freed, is_reclaimed, is_evicting}
+use Rattle.pool_stats.specs.declared.ended.RemovalTotals.{RemovalTotals}
 
--- how many entries have the answers that are counted
-abbrev pub ended_of : List Entry → Ended
+-- the number of entries of each kind
+abbrev pub ended_of : List Entry → RemovalTotals
 ended_of J =
     record {
       destroyed = count_answers is_freed J;
@@ -15,12 +16,12 @@ ended_of J =
       reclaimed = count_answers is_reclaimed J;
     }
 
--- one more, where the test holds
+-- the number, plus one if the test holds
 abbrev pub one_more_if : Bool → ℕ → ℕ
 one_more_if b n = n + (if b then 1 else 0)
 
--- the numbers after an answer more
-abbrev pub ended_after : Answer → Input → Ended → Ended
+-- the numbers after one more entry, with this answer and input
+abbrev pub ended_after : Answer → Input → RemovalTotals → RemovalTotals
 ended_after answer input n =
     record {
       destroyed = one_more_if (is_freed answer) n.destroyed;
@@ -29,7 +30,7 @@ ended_after answer input n =
     }
 
 -- each of the numbers may grow by one
-pub record MayGrow (n : Ended) : Type 0 where
+pub record MayGrow (n : RemovalTotals) : Type 0 where
   pub destroyed : n.destroyed + 1 < 2 ^ 64
   pub evicted : n.evicted + 1 < 2 ^ 64
   pub reclaimed : n.reclaimed + 1 < 2 ^ 64

@@ -1,4 +1,4 @@
--- What is kept of entries that are taken one by one.
+-- The tally of entries that are taken one by one.
 use Rattle.std.specs.Prelude.{◌≡◌, ℕ, List, length, Option}
 use Rattle.std.specs.BTreeMap.{is_at}
 use Rattle.std.specs.Map.{lookup}
@@ -10,18 +10,18 @@ use Rattle.pool_stats.specs.Tallied.{tally_of}
 use Rattle.pool_stats.specs.declared.statistics.Statistics.{Statistics}
 use Rattle.pool_stats.specs.declared.tally.Tally.{Tally}
 
--- how many entries were taken, what they say of the use of a pool, and for each object that was lent when its last lending began
-pub record Running : Type 0 where
+-- the number of entries taken, their statistics, and for each object that was lent the time at which its last loan began
+pub record RunningTallyModel : Type 0 where
   pub taken : ℕ
   pub statistics : Statistics
   pub begun : List (ℕ × ℕ)
 
--- when the last lending of i began
+-- the time at which the last loan of i began
 abbrev pub moment_of : List (ℕ × ℕ) → ℕ → Option ℕ
 moment_of moments i = lookup (is_at (nat_cmp i)) moments
 
--- it is what the entries J come to
-pub record IsTallyOf (t : Running) (J : List Entry) : Type 0 where
+-- t is the tally of the entries J
+pub record IsTallyOf (t : RunningTallyModel) (J : List Entry) : Type 0 where
   pub counted : t.taken ≡ length J
   pub told : t.statistics ≡ statistics_of J
   pub moments : (i : ℕ) → moment_of t.begun i ≡ begun i J
@@ -41,13 +41,13 @@ statistics_with n longest total =
       total = total;
     }
 
--- what a walk over the entries keeps, from the moments that it has noted
+-- the results of a walk over the entries J: the times at which loans began, the longest duration and the sum
 pub record Walked (J : List Entry) (moments : ℕ → Option ℕ) (longest total : ℕ) : Type 0 where
   pub begun_is : (i : ℕ) → moments i ≡ begun i J
   pub longest_is : longest ≡ greatest (times J)
   pub total_is : total ≡ bounded_sum (times J)
 
--- there are entries that come to this
+-- some list of entries has this tally
 pub record IsSomeTally (taken : ℕ) (tally : Tally) (moments : ℕ → Option ℕ) (longest total : ℕ) : Type 0 where
   pub entries : List Entry
   pub counted : taken ≡ length entries

@@ -1,6 +1,7 @@
--- How many entries of a list are of each kind that is counted.
+-- The number of entries of each kind that is counted, in a list.
 use Rattle.std.specs.Prelude.{◌+◌, ◌<◌, ◌^◌, List}
-use Rattle.pool_journal.specs.Journal.{drawn, is_lent_answer, is_make_answer}
+use Rattle.pool_journal.specs.Entries.{is_lent_answer, is_make_answer}
+use Rattle.pool_journal.specs.Journal.{drawn}
 use Rattle.pool_journal.specs.declared.entry.Entry.{Entry}
 use Rattle.pool_journal.specs.declared.input.Input.{Input}
 use Rattle.pool_journal.specs.declared.answer.Answer.{Answer}
@@ -8,7 +9,7 @@ use Rattle.pool_stats.specs.Answers.{is_check, is_failing, count_answers, count_
 use Rattle.pool_stats.specs.Ended.{ended_of, ended_after, one_more_if, MayGrow}
 use Rattle.pool_stats.specs.declared.tally.Tally.{Tally}
 
--- how many entries have the answers that are counted
+-- the number of entries of each kind
 abbrev pub tally_of : List Entry → Tally
 tally_of J =
     record {
@@ -19,7 +20,7 @@ tally_of J =
       ended = ended_of J;
     }
 
--- the numbers after an answer more
+-- the numbers after one more entry, with this answer and input
 abbrev pub tally_after : Answer → Input → Tally → Tally
 tally_after answer input n =
     record {

@@ -1,4 +1,4 @@
--- Counts as a row of numbers.
+-- Counts as a list of numbers.
 use Rattle.std.specs.Prelude.{ℕ, List, [], ◌∷◌}
 use Rattle.pool_stats.specs.declared.counts.Counts.{Counts}
 

@@ -1,21 +1,21 @@
-/// How many of each a journal tells of.
+/// The counts of a journal.
 #[derive(Clone, Copy, Debug, PartialEq, Eq)]
 pub struct Counts {
-    /// All entries.
+    /// The number of entries.
     pub steps: u64,
-    /// The objects that lie idle, or are under an idle test.
+    /// The number of objects that are idle or under an idle test.
     pub idle: u64,
-    /// Those with a holder.
+    /// The number of lent objects.
     pub lent: u64,
-    /// Those that are being made or readied, returned or destroyed.
+    /// The number of objects that are being made, activated, returned or destroyed.
     pub reserved: u64,
-    /// The objects that were to be made, also those whose making failed.
+    /// The number of objects that were to be made, including those whose making failed.
     pub created: u64,
-    /// Those whose places were given up after they were destroyed or could not be made.
+    /// The number of places that were freed after the object was destroyed or could not be made.
     pub destroyed: u64,
-    /// The idle objects that were to be destroyed by an eviction run, for their time or for a failed test.
+    /// The number of idle objects that an eviction run was to destroy, for their idle time or for a failed test.
     pub evicted: u64,
-    /// The abandoned objects that lost their places.
+    /// The number of abandoned objects that were reclaimed.
     pub reclaimed: u64,
 }
 
@@ -23,7 +23,7 @@ impl Counts {
     ghost use Rattle.std.specs.Prelude.{◌≡◌};
     ghost use Rattle.pool_stats.specs.Words.{words_of};
 
-    /// The eight numbers, in the order of the fields.
+    /// Returns the eight numbers, in the order of the fields.
     pub fn to_words(&self) -> [u64; 8]
         ensures { result ≡ words_of self.now }
     {
@@ -39,7 +39,7 @@ impl Counts {
         ]
     }
 
-    /// The counts with these numbers.
+    /// Returns the counts with these numbers, given in the order of the fields.
     pub fn from_words(words: [u64; 8]) -> Counts
         ensures { words_of result ≡ words }
     {

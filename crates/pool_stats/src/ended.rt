@@ -1,38 +1,38 @@
 use crate::counting::{is_evicting, is_freeing, is_reclaiming};
 use pool_journal::{Answer, Input};
 
-/// How many objects of a journal are at an end.
+/// The numbers of objects that were destroyed, evicted and reclaimed in a journal.
 #[derive(Clone, Copy, Debug, PartialEq, Eq)]
-pub struct Ended {
-    /// Those whose places were given up after they were destroyed or could not be made.
+pub struct RemovalTotals {
+    /// The number of places that were freed after the object was destroyed or could not be made.
     pub destroyed: u64,
-    /// The idle objects that were to be destroyed by an eviction run, for their time or for a failed test.
+    /// The number of idle objects that an eviction run was to destroy, for their idle time or for a failed test.
     pub evicted: u64,
-    /// The abandoned objects that lost their places.
+    /// The number of abandoned objects that were reclaimed.
     pub reclaimed: u64,
 }
 
-impl Ended {
+impl RemovalTotals {
     ghost use Rattle.std.specs.Prelude.{◌≡◌, []};
     ghost use Rattle.pool_stats.specs.Ended.{ended_of, ended_after, MayGrow};
 
-    /// None, before the first entry.
-    pub fn none() -> Ended
+    /// Returns the numbers before the first entry: all are 0.
+    pub fn none() -> RemovalTotals
         ensures { result ≡ ended_of [] }
     {
-        Ended {
+        RemovalTotals {
             destroyed: 0,
             evicted: 0,
             reclaimed: 0,
         }
     }
 
-    /// The numbers with one entry more, which gives this answer to this input.
-    pub fn after(self, input: Input, answer: Answer) -> Ended
+    /// Returns the numbers after one more entry, with this input and this answer.
+    pub fn after(self, input: Input, answer: Answer) -> RemovalTotals
         requires { MayGrow self }
         ensures { result ≡ ended_after answer input self }
     {
-        Ended {
+        RemovalTotals {
             destroyed: self.destroyed + u64::from(is_freeing(answer)),
             evicted: self.evicted + u64::from(is_evicting(answer, input)),
             reclaimed: self.reclaimed + u64::from(is_reclaiming(answer)),

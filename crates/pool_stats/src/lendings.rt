@@ -2,14 +2,14 @@ ghost use Rattle.std.specs.Prelude.{◌≡◌, ℕ, if◌then◌else◌, unwrap_
 ghost use Rattle.std.specs.BTreeMap.{get};
 ghost use Rattle.std.specs.Option.{option_map};
 ghost use Rattle.std.specs.Ordering.{nat_cmp};
-ghost use Rattle.pool_journal.specs.Journal.{is_of};
+ghost use Rattle.pool_journal.specs.Entries.{is_of};
 ghost use Rattle.pool_stats.specs.Lendings.{begun_by, ended_by, time_since};
 
 use pool_journal::{Answer, Entry, Input};
 use std::alloc::AllocError;
 use std::collections::BTreeMap;
 
-/// The object whose lending an entry begins.
+/// Returns the object whose loan an entry begins.
 fn begun_by(entry: &Entry) -> Option<u64>
     ensures { result ≡ begun_by entry.now.answer entry.now.input }
 {
@@ -19,7 +19,7 @@ fn begun_by(entry: &Entry) -> Option<u64>
     }
 }
 
-/// The object whose lending an entry ends.
+/// Returns the object whose loan an entry ends.
 fn ended_by(entry: &Entry) -> Option<u64>
     ensures { result ≡ ended_by entry.now.answer entry.now.input }
 {
@@ -31,7 +31,7 @@ fn ended_by(entry: &Entry) -> Option<u64>
     }
 }
 
-/// The time since a moment: none has passed where there is no such moment, or it is later.
+/// Returns the time from `moment` to `at`, and 0 if `moment` is `None` or later than `at`.
 fn time_since(moment: Option<u64>, at: u64) -> u64
     ensures { result ≡ time_since moment at }
 {
@@ -41,8 +41,7 @@ fn time_since(moment: Option<u64>, at: u64) -> u64
     }
 }
 
-/// The time of the lending that an entry ends, by the moments at which lendings began, and 0 where it
-/// ends none.
+/// Returns the duration of the loan that an entry ends, by the times at which loans began, and 0 if it ends none.
 pub(crate) fn time_ended(begun: &BTreeMap<u64, u64>, entry: &Entry) -> u64
     ensures { result ≡ unwrap_or (option_map
         (λ i. time_since (get nat_cmp begun.now i) entry.now.at)
@@ -54,7 +53,11 @@ pub(crate) fn time_ended(begun: &BTreeMap<u64, u64>, entry: &Entry) -> u64
     }
 }
 
-/// Notes the moment at which a lending began, where the entry begins one.
+/// Records the time at which a loan began, if the entry begins one.
+///
+/// # Errors
+///
+/// An allocation failed. The times are unchanged.
 pub(crate) fn note_begun(begun: &mut BTreeMap<u64, u64>, entry: &Entry) -> Result<(), AllocError>
     ensures noted { OnOk result ((i : ℕ) → get nat_cmp begun.new i
         ≡ (if is_of i (begun_by entry.now.answer entry.now.input) then Some entry.now.at

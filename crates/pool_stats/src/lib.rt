@@ -1,4 +1,4 @@
-//! The counts of a journal, and what a list of entries says of the use of a pool.
+//! The counts of a journal, and the statistics of the use of a pool.
 #![tactic(auto)]
 
 mod counting;
@@ -10,6 +10,6 @@ mod statistics;
 mod tally;
 
 pub use counts::Counts;
-pub use ended::Ended;
+pub use ended::RemovalTotals;
 pub use running_tally::RunningTally;
 pub use statistics::Statistics;

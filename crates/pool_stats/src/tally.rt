@@ -1,27 +1,27 @@
 use crate::counting::{is_checking, is_failing, is_lending, is_making};
-use crate::ended::Ended;
+use crate::ended::RemovalTotals;
 use pool_journal::{Answer, Input};
 
-/// How many entries there are of each kind that is counted.
+/// The number of entries of each kind that is counted.
 #[derive(Clone, Copy)]
 pub(crate) struct Tally {
-    /// How often an object was lent.
+    /// The number of times that an object was lent.
     pub borrowed: u64,
-    /// How often a lent object came back.
+    /// The number of times that a lent object was returned.
     pub returned: u64,
-    /// How many objects were to be made.
+    /// The number of objects that were to be made.
     pub created: u64,
-    /// How many objects were to be destroyed because they failed their test for a borrow.
+    /// The number of objects that were to be destroyed because they failed their test for a borrow.
     pub borrow_test_failed: u64,
-    pub ended: Ended,
+    pub ended: RemovalTotals,
 }
 
 impl Tally {
     ghost use Rattle.std.specs.Prelude.{◌≡◌, []};
     ghost use Rattle.pool_stats.specs.Tallied.{tally_of, tally_after, MayTally};
 
-    /// None, before the first entry.
-    #[tactic(auto, unfolding(pool_journal::specs::Journal::drawn))]
+    /// Returns the numbers before the first entry: all are 0.
+    #[tactic(auto, unfolding(pool_journal::specs::Base::drawn_from))]
     pub(crate) fn none() -> Tally
         ensures { result ≡ tally_of [] }
     {
@@ -30,11 +30,11 @@ impl Tally {
             returned: 0,
             created: 0,
             borrow_test_failed: 0,
-            ended: Ended::none(),
+            ended: RemovalTotals::none(),
         }
     }
 
-    /// The numbers with one entry more, which gives this answer to this input.
+    /// Returns the numbers after one more entry, with this input and this answer.
     pub(crate) fn after(self, input: Input, answer: Answer) -> Tally
         requires { MayTally self }
         ensures { result ≡ tally_after answer input self }

@@ -22,7 +22,7 @@ abbrev pub ends_with_return : List ℕ → Bool
 ends_with_return line =
     nat_lt 1 (length line) && slice_index line (length line - 2) == 13 && slice_index line (length line - 1) == 10
 
--- what a line would be elsewhere
+-- the kind of a line that would be valid elsewhere
 abbrev pub kind_of : List ℕ → Option LineKind
 kind_of line =
     if is_ok (head_at line) then Some Head
@@ -43,7 +43,7 @@ is_of_journal engines.OutOfMemory = false
 is_of_journal engines.Write = false
 is_of_journal _ = true
 
--- the file with the error, unless the line of the error says it
+-- the file with the error, unless the line of the error names it
 abbrev pub path_of : Fault → Option (List ℕ)
 path_of (faults.Settings path fault) = if is_of_file fault then Some path.now else None
 path_of (faults.Engine path fault) = if is_of_journal fault then option_map (λ text. text.now) path else None
@@ -69,7 +69,7 @@ settings_advice files.NotUtf8 _ = Some (codes "settings are UTF-8")
 settings_advice (files.Text settings.NotToml) (Some _) = Some (codes "this is a script or a journal: SETTINGS comes first")
 settings_advice _ _ = None
 
--- what to do, from the error and the kind of the line with it
+-- the advice for an error and the kind of the line with it
 abbrev pub advice_of : Fault → Option LineKind → Option (List ℕ)
 advice_of faults.WrongArguments _ = Some (codes "try pool --help")
 advice_of faults.WrongNumbers _ = Some (codes "WORKERS is 1 to 1023, and ROUNDS is 1 to 1000000")

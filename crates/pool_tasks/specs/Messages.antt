@@ -1,7 +1,10 @@
 -- The line of an error, and the exit status of the program.
-use Rattle.std.specs.Prelude.{ℕ, List, ◌++◌, codes, Option, None, Some}
+use Rattle.std.specs.List.{slice_get}
+use Rattle.std.specs.Prelude.{ℕ, List, ◌++◌, codes, Option, None, Some, option_map}
 use Rattle.pool_settings.specs.Escaped.{escaped}
 use Rattle.pool_engines.specs.Messages.{file_text}
+use Rattle.pool_engines.specs.declared.check_fault.CheckFault.{CheckFault}
+use Rattle.pool_engines.specs.declared.check_fault.CheckFault.TheVariants as checks
 use Rattle.pool_tasks.specs.declared.fault.Fault.{Fault}
 use Rattle.pool_tasks.specs.declared.fault.Fault.TheVariants.{WrongArguments, Asked, WrongNumbers, Unopened, OutOfMemory, Settings, Engine, Load}
 
@@ -21,3 +24,15 @@ status_of WrongArguments = 2
 status_of Asked = 2
 status_of WrongNumbers = 2
 status_of _ = 3
+
+-- the path of the file that could not be opened, or was not read to its end
+abbrev pub file_of : Fault → Option (List ℕ)
+file_of (Unopened path) = Some path.now
+file_of (Engine path _) = option_map (λ text. text.now) path
+file_of _ = None
+
+-- the path of the file that an error of a check has the number of
+abbrev pub numbered_file : List (List ℕ) → CheckFault → Option (List ℕ)
+numbered_file paths (checks.Unopened number) = slice_get paths number
+numbered_file paths (checks.File number _) = slice_get paths number
+numbered_file paths (checks.Untold _) = None

@@ -28,9 +28,10 @@ pub enum Fault<'a> {
     /// There is no file at this path that may be read, or no memory to open it.
     Unopened(&'a str),
     OutOfMemory,
-    /// The file at this path gives no settings.
+    /// No settings were read from the file at this path.
     Settings(&'a str, FileFault),
-    /// A journal or a script was not read to its end. The path is that of its file, if that is known.
+    /// A journal or a script was not read to its end. The path is that of its file: there is none for standard input,
+    /// and for an error of the output.
     Engine(Option<&'a str>, EngineFault),
     Load(LoadFault),
 }
@@ -54,10 +55,12 @@ impl<'a> Fault<'a> {
         }
     }
 
-    /// Writes the line of the error, and the hint after it. Control characters of a key or a path in the line are escaped.
+    /// Writes the line of the error, and the hint after it. Control characters of a key or a path in the line are
+    /// escaped.
     pub(crate) fn tell<W: Write>(&self, hint: &Hint<'_>, writer: &mut W) -> io::Result<()>
         ensures line { OnOk result (IfSome (text_of self.now)
-            (λ text. Appends (W.contents writer.old) (W.contents writer.new) (text ++ 10 ∷ shown hint.now))) }
+            (λ text. Appends (W.contents writer.old) (W.contents writer.new)
+            (text ++ 10 ∷ shown hint.now))) }
         ensures one_line { IfSome (text_of self.now) IsOnOneLine }
     {
         write!(writer, "{self}\n{hint}")

@@ -1,53 +1,76 @@
-//! Files that are checked in parallel.
+//! The files of a check.
 ghost use Rattle.std.specs.Prelude.{map, None};
 
-use crate::progress::{Progress, Watched};
+use crate::fault::Fault;
+use crate::progress::Progress;
+use crate::runs::open;
+use crate::watched::{Reading, Watched};
 use pool_engines::Segments;
 use std::fs::File;
 use std::io::ErrorKind;
 use std::{fs, io};
 
-/// The files at these paths. Each is opened whenever it is read.
+/// The most files that stay open until the check ends.
+const MOST_OPEN: usize = 500;
+
+/// The files at these paths.
 #[derive(Drop)]
-pub(crate) struct Files<'a, 'p, 'r> {
+pub(crate) struct Files<'a, 'w, 'o, 'p, 'r> {
     pub rt: &'r HostRuntime,
-    pub paths: &'p [&'a str],
+    pub paths: &'w [&'a str],
+    /// The first of them, which are open. Each of the others is opened whenever it is read.
+    pub opened: &'o [File],
+    /// Whether they are regular. Files that are not may be read only once.
+    pub are_regular: bool,
     pub progress: &'p Progress<'r>,
 }
 
-impl<'a, 'p, 'r> Segments<Watched<'a, 'p, 'r>> for Files<'a, 'p, 'r> {
+impl<'o> Files<'_, '_, 'o, '_, '_> {
+    /// Returns how to read the file of this number, at this path.
+    fn reading(&self, number: usize, path: &str) -> io::Result<Reading<'o>> {
+        match self.opened.get(number) {
+            Some(file) if self.are_regular => Ok(Reading::Placed(file, 0)),
+            Some(file) => Ok(Reading::InTurn(file)),
+            None => Ok(Reading::Opened(File::open(self.rt, path)?)),
+        }
+    }
+}
+
+impl<'a, 'w, 'o, 'p, 'r> Segments<Watched<'o, 'p, 'r>> for Files<'a, 'w, 'o, 'p, 'r> {
     ghost files = { λ files. map (λ path. None) files.paths.now };
 
     fn count(&self) -> usize {
         self.paths.len()
     }
 
-    fn open(&self, number: usize) -> io::Result<Watched<'a, 'p, 'r>> {
+    fn open(&self, number: usize) -> io::Result<Watched<'o, 'p, 'r>> {
         let Some(path) = self.paths.get(number) else {
             return Err(io::Error::from(ErrorKind::NotFound));
         };
-        let path = *path;
-        let file = File::open(self.rt, path)?;
+        let reading = self.reading(number, path)?;
         Ok(Watched {
-            rt: self.rt,
-            path,
-            file: Some(file),
-            is_lost: false,
+            reading,
             progress: self.progress,
         })
     }
 }
 
-impl<'a> Files<'a, '_, '_> {
-    /// Returns the first of the files that cannot be opened now.
-    pub fn first_lost(&self) -> Option<&'a str> {
-        for path in self.paths {
-            if File::open(self.rt, path).is_err() {
-                return Some(*path);
-            }
+/// Opens the files at these paths, in their order, and returns the first `MOST_OPEN`: there may be more files than may
+/// be open at once.
+pub(crate) fn open_all<'a>(
+    rt: &HostRuntime,
+    paths: &[&'a str],
+    progress: &Progress<'_>,
+) -> Result<Vec<File>, Fault<'a>> {
+    let mut opened = Vec::new(rt.alloc());
+    for path in paths {
+        let file = open(rt, path)?;
+        progress.expect(&file);
+        if opened.len() < MOST_OPEN && opened.push(file).is_err() {
+            return Err(Fault::OutOfMemory);
         }
-        None
     }
+    Ok(opened)
 }
 
 /// Returns whether there is a regular file at this path.

@@ -3,17 +3,17 @@
 use crate::fault::Fault;
 use crate::files::is_regular;
 use crate::line_kind::{LineKind, kind_of};
-use pool_engines::{EngineFault, FileFault, stats};
+use pool_engines::{EngineFault, FileFault};
 use pool_journal::LineFault;
 use pool_settings::SettingsFault;
 use std::fs;
 use std::fs::File;
-use std::io::{BufRead, BufReader, IsTerminal};
+use std::io::{BufRead, BufReader};
 
-/// What was found at the place of an error.
+/// The findings at the position of an error.
 #[derive(Clone, Copy, Debug)]
 pub(crate) struct Found {
-    /// The number of the line, from 1, if the line of the error does not say it.
+    /// The number of the line, from 1, if the line of the error does not state it.
     pub line: Option<u64>,
     /// The kind of that line. Of a settings file it is that of its first line.
     pub kind: Option<LineKind>,
@@ -79,36 +79,4 @@ fn line_of(rt: &HostRuntime, path: &str, number: u64) -> Option<Vec<u8>> {
         }
     }
     Some(line)
-}
-
-/// Returns the first of the files whose lines cannot be read with this error. If there are several, it
-/// reads them again, and only at a terminal.
-pub(crate) fn first_faulty<'a>(
-    rt: &HostRuntime,
-    paths: &[&'a str],
-    fault: &EngineFault,
-) -> Option<&'a str> {
-    if paths.len() == 1 {
-        return Some(paths[0]);
-    }
-    if !rt.stderr().is_terminal() {
-        return None;
-    }
-    for path in paths {
-        if is_faulty(rt, path, fault) {
-            return Some(*path);
-        }
-    }
-    None
-}
-
-/// Returns whether the lines of a file cannot be read with this error.
-fn is_faulty(rt: &HostRuntime, path: &str, fault: &EngineFault) -> bool {
-    if !is_regular(rt, path) {
-        return false;
-    }
-    let Ok(mut file) = File::open(rt, path) else {
-        return false;
-    };
-    stats(rt.alloc(), &mut file, &mut Vec::new(rt.alloc())) == Err(*fault)
 }

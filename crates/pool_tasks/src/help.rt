@@ -1,4 +1,4 @@
-//! What the program prints if its arguments ask for help or for the version.
+//! The output of the program if its arguments ask for help or for the version.
 ghost use Rattle.std.specs.Prelude.{◌≡◌, drop, map, string_bytes};
 ghost use Rattle.std.specs.List.{list_any};
 ghost use Rattle.pool_tasks.specs.Help as Spec;
@@ -47,8 +47,8 @@ fn has_help_option(words: &[String]) -> bool
     words.iter().any(|word| is_help_option(word))
 }
 
-/// Returns whether the arguments ask for the version: the first word does, and no word asks for help. The first argument is the
-/// program's name.
+/// Returns whether the arguments ask for the version: the first word does, and no word asks for help. The first
+/// argument is the program's name.
 pub(crate) fn asks_for_version(arguments: &[String]) -> bool
     ensures { result ≡ Spec.asks_for_version (drop 1 (map string_bytes arguments.now)) }
 {

@@ -14,7 +14,7 @@ use std::fmt::{Formatter, Write};
 
 const FULL: &str = "a larger journalLimit in the settings makes room";
 
-/// What the line of an error does not say: the file with the error, the line there, and what to do.
+/// The facts that the line of an error does not state: the file with the error, the line there, and what to do.
 #[derive(Clone, Copy, Debug)]
 pub(crate) struct Hint<'a> {
     path: Option<&'a str>,
@@ -23,7 +23,7 @@ pub(crate) struct Hint<'a> {
 }
 
 impl<'a> Hint<'a> {
-    /// Returns the hint for an error, from what was found at its place. The hint is empty unless it is for a terminal.
+    /// Returns the hint for an error, from the findings at its position. The hint is empty unless it is for a terminal.
     pub(crate) fn of(fault: &Fault<'a>, found: Found, is_terminal: bool) -> Hint<'a>
         ensures { Spec.shown result ≡ Spec.hint_of is_terminal fault.now found }
     {
@@ -74,7 +74,7 @@ fn write_advice<W: Write>(f: &mut Formatter<W>, advice: Option<&'static str>) ->
     }
 }
 
-/// Returns the path of the file with the error, unless the line of the error says it.
+/// Returns the path of the file with the error, unless the line of the error names it.
 fn path_of<'a>(fault: &Fault<'a>) -> Option<&'a str>
     ensures { option_map (λ text. text.now) result ≡ Spec.path_of fault.now }
 {

@@ -1,5 +1,5 @@
-//! The parts of the program that need no shared pool: runs, checks and statistics over files, the lines of each error with hints at a
-//! terminal, and help.
+//! The parts of the program that need no shared pool: runs, checks and statistics over files, the lines of each error
+//! with hints at a terminal, and help.
 #![tactic(auto)]
 
 mod checks;
@@ -12,6 +12,7 @@ mod line_kind;
 mod progress;
 mod runs;
 mod telling;
+mod watched;
 
 pub use checks::check_journal;
 pub use fault::{Fault, engine_result};

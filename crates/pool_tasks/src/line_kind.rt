@@ -3,7 +3,7 @@ ghost use Rattle.pool_tasks.specs.Hints as Spec;
 
 use pool_journal::{read_entry, read_head, read_input};
 
-/// A line that is invalid at its place, but would be valid elsewhere.
+/// The kind of a line that is invalid at its position, but would be valid elsewhere.
 #[derive(Clone, Copy, Debug)]
 pub(crate) enum LineKind {
     /// The first line of a segment.
@@ -12,7 +12,7 @@ pub(crate) enum LineKind {
     Request,
     /// A line of a journal.
     Entry,
-    /// It ends with a carriage return and a line feed.
+    /// A line that ends with a carriage return and a line feed.
     CarriageReturn,
 }
 

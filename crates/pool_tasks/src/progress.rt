@@ -1,10 +1,10 @@
 //! The progress of a long check, printed at a terminal.
 ghost use Rattle.std.specs.Prelude.{true};
 
-use pool_engines::{Sink, Source, flush_past_signals, read_past_signals, write_past_signals};
+use pool_engines::{Sink, flush_past_signals, write_past_signals};
 use std::fs::File;
 use std::io;
-use std::io::{IsTerminal, Read, Stdout, Write};
+use std::io::{IsTerminal, Stdout, Write};
 use std::sync::atomic::{AtomicBool, AtomicU64, Ordering};
 use std::time::Instant;
 
@@ -19,7 +19,7 @@ pub(crate) struct Progress<'a> {
     /// The length of the files in bytes, as far as the system knows.
     length: AtomicU64,
     read: AtomicU64,
-    /// When the check began. `None` if no message is printed.
+    /// The time at which the check began, or `None` if no message is printed.
     began: Option<Instant>,
     /// The number of seconds from then to the last message.
     told: AtomicU64,
@@ -50,8 +50,9 @@ impl<'a> Progress<'a> {
         self.length.fetch_add(length, Ordering::SeqCst);
     }
 
-    /// Notes that `count` bytes were read, and prints a message if the last one was printed `PERIOD` seconds ago or earlier.
-    fn note(&self, count: usize) {
+    /// Notes that `count` bytes were read, and prints a message if the last one was printed `PERIOD` seconds ago or
+    /// earlier.
+    pub fn note(&self, count: usize) {
         self.read.fetch_add(count as u64, Ordering::SeqCst);
         let Some(began) = self.began else {
             return;
@@ -66,7 +67,8 @@ impl<'a> Progress<'a> {
         }
     }
 
-    /// Returns whether this thread is to print: notes the time `passed`, in seconds, unless another thread has printed since.
+    /// Returns whether this thread is to print: notes the time `passed`, in seconds, unless another thread has printed
+    /// since.
     fn is_first_to_tell(&self, told: u64, passed: u64) -> bool {
         self.told
             .compare_exchange(told, passed, Ordering::SeqCst, Ordering::SeqCst)
@@ -93,58 +95,14 @@ impl<'a> Progress<'a> {
     }
 }
 
-/// A file whose reading is reported. It is closed at its end.
+/// Standard output. The message is wiped before anything is written to it.
 #[derive(Drop)]
-pub(crate) struct Watched<'a, 'p, 'r> {
-    pub rt: &'r HostRuntime,
-    pub path: &'a str,
-    /// `None` if it is not open.
-    pub file: Option<File>,
-    /// Whether it could not be opened when it was to be read.
-    pub is_lost: bool,
+pub(crate) struct Wiped<'p, 'r> {
+    pub out: Stdout,
     pub progress: &'p Progress<'r>,
 }
 
-impl Watched<'_, '_, '_> {
-    /// Returns the file, and opens it if it is not open.
-    fn take(&mut self) -> io::Result<File> {
-        if let Some(file) = self.file.take() {
-            return Ok(file);
-        }
-        let opened = File::open(self.rt, self.path);
-        self.is_lost = opened.is_err();
-        opened
-    }
-}
-
-impl Read for Watched<'_, '_, '_> {
-    fn read(&mut self, buf: &mut [u8]) -> io::Result<usize> {
-        let mut file = self.take()?;
-        let read = file.read(buf);
-        if !matches!(read, Ok(0)) {
-            self.file = Some(file);
-        }
-        self.progress.note(*read.as_ref().unwrap_or(&0));
-        read
-    }
-}
-
-impl Source for Watched<'_, '_, '_> {
-    ghost may_have_failed = { λ _. true };
-
-    fn read_some(&mut self, buffer: &mut [u8]) -> io::Result<usize> {
-        read_past_signals(self, buffer)
-    }
-}
-
-/// Standard output. The message is wiped before anything is written to it.
-#[derive(Drop)]
-pub(crate) struct Wiped<'a> {
-    pub out: Stdout,
-    pub progress: &'a Progress<'a>,
-}
-
-impl Write for Wiped<'_> {
+impl Write for Wiped<'_, '_> {
     fn write(&mut self, buf: &[u8]) -> io::Result<usize> {
         self.progress.wipe();
         self.out.write(buf)
@@ -155,7 +113,7 @@ impl Write for Wiped<'_> {
     }
 }
 
-impl Sink for Wiped<'_> {
+impl Sink for Wiped<'_, '_> {
     ghost may_have_failed = { λ _. true };
 
     fn write_some(&mut self, bytes: &[u8]) -> io::Result<usize> {

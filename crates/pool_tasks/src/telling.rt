@@ -1,4 +1,4 @@
-//! What the program prints on wrong arguments and on errors.
+//! The output of the program on wrong arguments and on errors.
 
 use crate::fault::Fault;
 use crate::found::{NOTHING, look};
@@ -7,8 +7,8 @@ use crate::hint::Hint;
 use std::io::{IsTerminal, Write};
 use std::process::ExitCode;
 
-/// Returns the error of wrong arguments. If they ask for help or for the version, writes the uses or the version first, and
-/// ignores a failed write.
+/// Returns the error of wrong arguments. If they ask for help or for the version, writes the uses or the version first,
+/// and ignores a failed write.
 pub fn refuse<'a>(rt: &HostRuntime, arguments: &[String]) -> Fault<'a> {
     let answer = if asks_for_help(arguments) {
         USES
@@ -21,7 +21,8 @@ pub fn refuse<'a>(rt: &HostRuntime, arguments: &[String]) -> Fault<'a> {
     Fault::Asked
 }
 
-/// Prints the error on standard error, with a hint if that is a terminal, and returns the exit status. A failed write is ignored.
+/// Prints the error on standard error, with a hint if that is a terminal, and returns the exit status. A failed write
+/// is ignored.
 pub fn tell(rt: &HostRuntime, fault: &Fault<'_>) -> ExitCode {
     let is_terminal = rt.stderr().is_terminal();
     let found = if is_terminal {

@@ -1,4 +1,5 @@
-// Journals that are cut, and pools that are opened from the state after them. `bindings/c/play.c` and `crates/test_counts` cut the cases too.
+// Journals that are cut, and pools that are opened from the state after them. `bindings/c/play.c` and
+// `crates/test_counts` cut the cases too.
 use crate::playing::{
     base_of, come_to, counted, cut, entries, from_base, given, length, opened, play, refuses,
     settings_of,
@@ -108,7 +109,7 @@ fn cut_behind_one_way(rt: &impl Abort, alloc: Global) -> Core<u64> {
     core
 }
 
-// After the cut there is room for as many entries again, and the ids go on.
+// After the cut there is room for the same number of entries again, and the ids continue.
 #[test]
 fn cut_behind_an_object_s_way(rt: HostRuntime) {
     for line in ["0 0 borrow 0 = take 0\n", "0 0 add = make 1\n"] {
@@ -117,7 +118,7 @@ fn cut_behind_an_object_s_way(rt: HostRuntime) {
     }
 }
 
-// A second cut gives no entries, and the base after those of the first.
+// A second cut returns no entries, and the base after those of the first.
 #[test]
 fn cut_twice(rt: HostRuntime) {
     let mut core = cut_behind_one_way(&rt, rt.alloc());

@@ -1,4 +1,5 @@
-// The engines as the tests call them, with readers and writers that pass few bytes at a time, fail, are interrupted, or count their calls.
+// The engines as the tests call them, with readers and writers that pass few bytes at a time, fail, are interrupted, or
+// count their calls.
 mod calls;
 mod counted;
 mod failing;
@@ -24,7 +25,7 @@ pub fn run<R: Source, W: Sink>(
     pool_engines::run(alloc, settings, reader, writer)
 }
 
-/// Judges a journal.
+/// Checks a journal.
 pub fn check<R: Source, W: Sink>(
     alloc: Global,
     settings: Settings,

@@ -8,7 +8,7 @@ use pool_settings::Settings;
 use std::alloc::Global;
 use std::process::Abort;
 
-// The values of the idle objects of a base, where the value of object i is i.
+// The values of the idle objects of a base: that of object i is i.
 fn values_of(rt: &impl Abort, alloc: Global, base: &Base) -> Vec<(u64, u64)> {
     let mut values = Vec::new(alloc);
     for known in base.records.as_slice() {
@@ -39,7 +39,7 @@ fn open_again(rt: &impl Abort, alloc: Global, settings: Settings, core: &mut Cor
     *core = opened_from(rt, alloc, settings, base);
 }
 
-// Opens a pool again, cuts it, or leaves it as it is.
+// Opens a pool again, cuts it, or leaves it unchanged.
 fn interrupt(rt: &impl Abort, alloc: Global, settings: Settings, core: &mut Core<u64>, how: u64) {
     match how {
         0 => open_again(rt, alloc, settings, core),

@@ -182,7 +182,7 @@ fn is_handed_back(rt: &impl Abort, fault: StepFault<u64>, input: Input, room: u6
     }
 }
 
-// Takes a step, and returns whether it succeeded. A failed step leaves the journal as it was.
+// Takes a step, and returns whether it succeeded. A failed step leaves the journal unchanged.
 fn may_step(rt: &impl Abort, core: &mut Core<u64>, at: u64, input: Input) -> bool {
     let before = length(core);
     let left = room(core);
@@ -286,7 +286,8 @@ fn all_that_was_begun_can_end(rt: HostRuntime) {
 /// A borrow that has just begun.
 const NEW: Input = Input::Borrow { began: 0 };
 
-// Compares the room of the opened pool, and its room with one object in phase readying; `None` if that borrow must fail.
+// Compares the room of the opened pool, and its room with one object in phase readying; `None` if that borrow must
+// fail.
 fn has_room(rt: &impl Abort, core: &mut Core<u64>, opened: u64, with_one: Option<u64>) {
     assert!(rt; room(core) == opened);
     match with_one {

@@ -1,7 +1,7 @@
 // The statistics of journals after each entry. tests/cases/stats has those of whole journals.
 use crate::playing::{entries, given};
 use pool_journal::{Answer, Entry, Input, Outcome};
-use pool_stats::{Ended, RunningTally, Statistics};
+use pool_stats::{RemovalTotals, RunningTally, Statistics};
 use std::alloc::Global;
 use std::process::Abort;
 
@@ -26,7 +26,7 @@ const DESTROYED: &str = "0 0 borrow 0 = make 0\n\
     1 8 tested 4 good = destroy\n\
     1 9 ready 5 activatefail = destroy\n";
 
-// Object 0 is lent for 15 milliseconds, and then until a time before that lending began. Object 1 is still lent.
+// Object 0 is lent for 15 milliseconds, and then until a time before that loan began. Object 1 is still lent.
 const LENT_AGAIN: &str = "0 0 borrow 0 = make 0\n\
     0 10 ready 0 good = lent\n\
     0 25 return 0 = check\n\
@@ -38,7 +38,7 @@ const LENT_AGAIN: &str = "0 0 borrow 0 = make 0\n\
     1 20 return 0 = check\n\
     1 21 park 0 good = parked\n";
 
-/// The statistics with these numbers, in the order of the fields.
+/// Returns the statistics with these numbers, in the order of the fields.
 fn numbers(all: [u64; 9]) -> Statistics {
     let [
         borrowed,
@@ -64,7 +64,7 @@ fn numbers(all: [u64; 9]) -> Statistics {
     }
 }
 
-// Ends the test unless the statistics of a journal are the wanted ones.
+// Ends the test unless the statistics of a journal are the expected ones.
 fn come_to(rt: &impl Abort, journal: &str, found: Statistics, wanted: Statistics) {
     assert_eq!(rt; found, wanted, "at {journal}");
 }
@@ -113,13 +113,13 @@ fn told_one_by_one(rt: HostRuntime) {
 #[test]
 fn ends_one_by_one(rt: HostRuntime) {
     let outcome = Outcome::TestFailed;
-    let ended = Ended::none()
+    let ended = RemovalTotals::none()
         .after(Input::Tested { id: 0, outcome }, Answer::Destroy)
         .after(Input::Destroyed { id: 0 }, Answer::Freed)
         .after(Input::EvictNext, Answer::DestroyIdle(1))
         .after(Input::ReclaimNext, Answer::Reclaimed(2))
         .after(Input::EvictNext, Answer::KeptIdle(3));
-    let wanted = Ended {
+    let wanted = RemovalTotals {
         destroyed: 1,
         evicted: 2,
         reclaimed: 1,

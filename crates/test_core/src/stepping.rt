@@ -71,7 +71,7 @@ fn take_step(rt: &impl Abort, stepper: &mut Stepper<u64>, wanted: &Entry) -> (En
     }
 }
 
-// Takes the steps of entries, and compares each entry, and the answer that `due` gave before.
+// Takes the steps of entries, and compares each entry, and the answer that `due` returned before.
 fn takes(rt: &impl Abort, stepper: &mut Stepper<u64>, entries: &[Entry]) {
     for wanted in entries {
         let before = taken(stepper);
@@ -137,7 +137,7 @@ fn cuts(rt: &impl Abort, alloc: Global, stepper: &mut Stepper<u64>) {
     is_base(rt, alloc, &base, ONE_IDLE);
 }
 
-// After a cut the number of steps is zero, the counts go on, and there is room again.
+// After a cut the number of steps is zero, the counts continue, and there is room again.
 fn goes_on_behind_a_cut(rt: &impl Abort, alloc: Global, stepper: &mut Stepper<u64>) {
     plays(rt, alloc, stepper, PLAIN_LIFE);
     cuts(rt, alloc, stepper);
@@ -168,7 +168,7 @@ fn is_refused(rt: &impl Abort, alloc: Global, base: &mut Base, id: u64) -> bool 
     from_base(rt, alloc, base, id).is_err()
 }
 
-// If opening fails, the base stays as it was, and the values are returned.
+// If opening fails, the base is unchanged, and the values are returned.
 #[test]
 fn refused_without_a_journal(rt: HostRuntime) {
     let mut base = base_of(&rt, rt.alloc(), ONE_IDLE);
@@ -191,7 +191,7 @@ fn goes_on(rt: &impl Abort, stepper: &mut Stepper<u64>, next: &[Entry]) {
     assert!(rt; counted(stepper).steps == 5);
 }
 
-// A stepper that is opened from a base goes on as the one that was cut, also after an opening that failed.
+// A stepper that is opened from a base continues as the one that was cut, also after an opening that failed.
 #[test]
 fn opened_without_a_journal(rt: HostRuntime) {
     let mut base = base_of(&rt, rt.alloc(), ONE_IDLE);

@@ -5,12 +5,13 @@ use pool_settings::Settings;
 use pool_stats::Counts;
 use std::alloc::{AllocError, Global};
 
-/// Takes the steps of the entries on a pool that is cut, and opened again from its base, after each of them. Returns its counts.
+/// Takes the steps of the entries on a pool that is cut, and opened again from its base, after each of them. Returns
+/// its counts.
 ///
 /// # Errors
 ///
-/// A step fails or has another answer than the entry, a cut returns more than the one entry after the base before it, or no pool
-/// opens from the base after it.
+/// A step fails or has another answer than the entry, a cut returns more than the one entry after the base before it,
+/// or no pool opens from the base after it.
 pub fn cut_counts(alloc: Global, settings: Settings, entries: &[Entry]) -> Result<Counts, Fault> {
     let mut core = Core::open(alloc, settings)?;
     for entry in entries {

@@ -6,7 +6,8 @@ use pool_settings::Settings;
 use pool_stats::Counts;
 use std::alloc::Global;
 
-/// The calls from a pool that is cut to one that is opened from the base of a segment and takes its steps, in their order.
+/// The calls from a pool that is cut to one that is opened from the base of a segment and takes its steps, in their
+/// order.
 #[derive(Clone, Copy)]
 pub enum Call {
     /// `Core::step`, with the entries of a journal.
@@ -42,8 +43,8 @@ impl Call {
 ///
 /// # Errors
 ///
-/// A step fails or has another answer than its entry, the cut returns other entries, the base after them differs from the one that is
-/// read of the segment or from its lines there, or no pool opens from it.
+/// A step fails or has another answer than its entry, the cut returns other entries, the base after them differs from
+/// the one that is read from the segment or from its lines in the segment, or no pool opens from it.
 pub fn opened_counts(
     alloc: Global,
     settings: Settings,

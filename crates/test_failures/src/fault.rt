@@ -1,7 +1,7 @@
 use std::fmt;
 use std::fmt::Display;
 
-/// Why a life failed its test.
+/// The error of a life that failed its test.
 #[derive(Clone, Copy, Debug)]
 pub enum Fault {
     /// A call had an impossible result.

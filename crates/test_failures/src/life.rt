@@ -1,4 +1,5 @@
-// The calls of one caller on a pool. A call that fails for lack of memory is made again, after the state that it left was checked.
+// The calls of one caller on a pool. A call that fails for lack of memory is made again, after the state that it left
+// was checked.
 use crate::TRIES;
 use crate::fault::Fault;
 use crate::parts::{Notes, Part};
@@ -28,7 +29,7 @@ enum Told {
     Wrong,
 }
 
-/// The result of a call in the end.
+/// The final result of a call.
 #[derive(Clone, Copy, Debug, PartialEq, Eq)]
 pub enum End {
     Done,
@@ -76,7 +77,7 @@ fn told_of_run<A: Drop>(told: Result<A, PoolFault>) -> Told {
 pub struct Life<B: Room> {
     me: Caller<B>,
     held: Option<Lent<Thing>>,
-    /// How many objects it borrowed and has not returned, reclaimed ones among them.
+    /// The number of objects that it borrowed and has not returned, including reclaimed ones.
     loans: u64,
     /// The segment that was cut from the journal.
     segment: Option<Segment>,
@@ -116,7 +117,7 @@ impl<B: Room> Life<B> {
         }
     }
 
-    // The result of a return or an invalidation. One that failed leaves the object with its holder.
+    // Returns the result of a return or an invalidation. If it failed, the object stays with its holder.
     fn ended(&mut self, ended: Result<Returned, (ReturnFault, Lent<Thing>)>) -> Told {
         match ended {
             Ok(Returned::Gone) => Told::Done,
@@ -161,7 +162,7 @@ impl<B: Room> Life<B> {
         }
     }
 
-    // Cuts the journal. A cut that fails changes no count.
+    // Cuts the journal, and checks that a cut that fails changes no count.
     fn cut<R: Wait>(&mut self, rt: &R, alloc: Global, pool: &Pool<B>) -> Told {
         let before = pool.counts(rt, &mut self.me);
         match pool.cut(rt, alloc, &mut self.me) {
@@ -174,7 +175,8 @@ impl<B: Room> Life<B> {
         }
     }
 
-    // Cuts the journal if it has less room than the most that there is, so always. A cut that fails changes no count.
+    // Cuts the journal if it has less room than `u64::MAX`, so always, and checks that a cut that fails changes no
+    // count.
     fn cut_below<R: Wait>(&mut self, rt: &R, alloc: Global, pool: &Pool<B>) -> Told {
         let before = pool.counts(rt, &mut self.me);
         match pool.cut_below(rt, alloc, &mut self.me, u64::MAX) {
@@ -229,7 +231,8 @@ impl<B: Room> Life<B> {
         Err(Fault::OutOfMemory)
     }
 
-    // Checks the state after a call: no object is half-processed, and each object that was lent is lent or was reclaimed.
+    // Checks the state after a call: no object is half-processed, and each object that was lent is lent or was
+    // reclaimed.
     fn look<R: Wait>(&mut self, rt: &R, pool: &Pool<B>) -> Result<(), Fault> {
         let counts = pool.counts(rt, &mut self.me);
         if counts.reserved != 0 {
@@ -259,7 +262,7 @@ impl<B: Room> Life<B> {
         }
     }
 
-    /// Makes a call, again if it fails for lack of memory. In the end it is done, or there is no room for it.
+    /// Makes a call, again if it fails for lack of memory. Returns `Done`, or `Refused` if there is no room for it.
     pub fn call<R: Wait>(
         &mut self,
         rt: &R,

@@ -1,9 +1,10 @@
-//! A test program: one caller makes each call of a shared pool, when the journal has memory or room for few more entries.
+//! A test program: one caller makes each call of a shared pool, when the journal has memory or room for few more
+//! entries.
 //!
-//! After each call it checks that no object is half-processed, and that each object that was lent is lent or was reclaimed.
-//! After each call that failed, and at the end, it checks that a new core returns the answers of the journal, cut entries
-//! included, and has the pool's counts. A call that failed for lack of memory is then made again, so the output is the same
-//! whichever allocation fails. Standard error has the name of that call.
+//! After each call it checks that no object is half-processed, and that each object that was lent is lent or was
+//! reclaimed. After each call that failed, and at the end, it checks that a new core returns the answers of the
+//! journal, cut entries included, and has the pool's counts. A call that failed for lack of memory is then made again,
+//! so the output is the same whichever allocation fails. Standard error has the name of that call.
 #![tactic(auto)]
 
 ghost use Rattle.std.specs.Prelude.{◌≡◌};
@@ -30,7 +31,7 @@ use std::sync::atomic::{AtomicU64, Ordering};
 use std::{fmt, io};
 use things::{Hands, Thing, Things};
 
-/// How often a call is tried that fails for lack of memory.
+/// The number of times that a call is tried if it fails for lack of memory.
 const TRIES: u32 = 3;
 
 /// The calls, each made in the middle of a life.
@@ -51,16 +52,16 @@ const CALLS: [Part; 14] = [
     Part::CutBelow,
 ];
 
-/// The most entries for which there is memory or room left.
+/// The maximum number of entries for which memory or room is left.
 const MOST_SPARE: u64 = 4;
 
 /// A time at which an object that was lent at 0 is abandoned.
 const LATE: u64 = 1_000;
 
-/// The number that tells this pool from others.
+/// The number that distinguishes this pool from others.
 const NUMBER: u64 = 1;
 
-/// What a call can lack.
+/// The resource that a call lacks.
 #[derive(Clone, Copy, Debug, PartialEq, Eq)]
 enum Lack {
     Memory,
@@ -132,7 +133,7 @@ fn prepare<B: Room, R: Wait>(
     Ok(())
 }
 
-// Returns how many objects were created, by the entries that were cut and those that are stored.
+// Returns the number of objects that were created, by the cut entries and the stored ones.
 fn count_made(
     alloc: Global,
     segment: &Option<Segment>,
@@ -167,7 +168,8 @@ fn is_replayed(
     Ok(())
 }
 
-// Checks that no object is left, and that the journal has the base, the answers, the counts and the statistics of the pool.
+// Checks that no object is left, and that the journal has the base, the answers, the counts and the statistics of the
+// pool.
 fn judge(
     alloc: Global,
     settings: Settings,
@@ -265,7 +267,7 @@ fn make_calls<B: Room, R: Wait>(
     Ok(end)
 }
 
-// Does so on a new cell. If an allocation of the opening fails, it opens the pool again.
+// Runs a life on a new cell. If an allocation of the opening fails, it opens the pool again.
 fn try_life<R: Wait>(
     rt: &R,
     alloc: Global,

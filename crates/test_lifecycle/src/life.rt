@@ -8,13 +8,13 @@ use pool_journal::{Answer, Entry, Input, Outcome, Segment};
 use pool_settings::Settings;
 use std::alloc::{AllocError, Global};
 
-/// How many steps a life tries before its pool is opened again, and again after that.
+/// The number of steps that a life tries before its pool is opened again, and that it tries again after that.
 const HALF: u64 = 40;
 
 /// The time at which all work is completed.
 const END: u64 = 80;
 
-/// How often a step is tried that fails for lack of memory.
+/// The number of times that a step is tried if it fails for lack of memory.
 const TRIES: u64 = 3;
 
 /// A pool, with the segment from before it was opened again.
@@ -27,7 +27,7 @@ pub struct Life {
     closed: bool,
 }
 
-/// The value that an input carries.
+/// Returns the value that an input carries.
 fn value_of(input: Input) -> Option<u64>
     ensures { is_some result ≡ carries input }
 {

@@ -1,8 +1,9 @@
-//! A test program: it runs pools at random to the last lines that their journals have room for, and then completes all work.
+//! A test program: it runs pools at random to the last lines that their journals have room for, and then completes all
+//! work.
 //!
-//! In the middle of each run it cuts the journal, and opens the pool again from the state after it. It makes each run twice. A
-//! step, a cut or an opening that fails for lack of memory is tried again, so both runs are the same, even if an allocation
-//! fails in one of them. It writes a line with the result for each limit of the journal.
+//! In the middle of each run it cuts the journal, and opens the pool again from the state after it. It makes each run
+//! twice. A step, a cut or an opening that fails for lack of memory is tried again, so both runs are the same, even if
+//! an allocation fails in one of them. It writes a line with the result for each limit of the journal.
 #![tactic(auto)]
 
 mod dice;

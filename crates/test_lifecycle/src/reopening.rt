@@ -47,7 +47,8 @@ fn front_again(alloc: Global) -> Result<Vec<u8>, AllocError> {
     }
 }
 
-// Returns the text of the base of a pool, after `FRONT`. If an allocation fails, the text is unchanged, and the base is printed again.
+// Returns the text of the base of a pool, after `FRONT`. If an allocation fails, the text is unchanged, and the base is
+// printed again.
 fn text_again(alloc: Global, core: &Core<u64>) -> Result<Vec<u8>, AllocError> {
     let mut text = front_again(alloc)?;
     if !core.journal().is_empty() {
@@ -88,8 +89,8 @@ fn base_again(alloc: Global, core: &Core<u64>) -> Result<Base, AllocError> {
     }
 }
 
-/// Opens a pool from the base of one that was just cut, as it is read from its text. If an allocation fails, it tries again with the
-/// base and the values that were returned.
+/// Opens a pool from the base of one that was just cut, as it is read from its text. If an allocation fails, it tries
+/// again with the base and the values that were returned.
 pub fn opened_again(
     alloc: Global,
     settings: Settings,

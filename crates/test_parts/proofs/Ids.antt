@@ -1,7 +1,7 @@
--- What a pair that is taken out changes for the ids.
+-- The bound on the ids is preserved if a pair is removed.
 use Rattle.std.proofs.Common.{ℕ, ◌<◌, eqb, Bool, true, false, not, cond, List, [], ◌∷◌}
-use Rattle.rising_index.specs.declared.pair.Pair.{Pair}
-use Rattle.rising_index.specs.Pairs.{without, IdsBelow}
+use Rattle.sorted_index.specs.declared.pair.Pair.{Pair}
+use Rattle.sorted_index.specs.Pairs.{without, IdsBelow}
 
 pub below_without : (n i : ℕ) (ps : List Pair) → IdsBelow n ps → IdsBelow n (without i ps)
 below_without n i [] below = tt

@@ -1,4 +1,5 @@
-//! Tests of the parts below the core: settings as text, the lines of journals and bases, and places with their slots and ids.
+//! Tests of the parts below the core: settings as text, the lines of journals and bases, and places with their slots
+//! and ids.
 #![tactic(auto)]
 
 #[cfg(test)]

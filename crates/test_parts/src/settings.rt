@@ -7,7 +7,7 @@ fn read(rt: &(impl AllocGlobal + Abort), text: &str) -> Settings {
     Settings::from_text(rt.alloc(), text).expect(rt, text)
 }
 
-/// The numbers of settings except the journal limit, in the alphabetical order of their keys.
+/// Returns the numbers of settings except the journal limit, in the alphabetical order of their keys.
 fn numbers(settings: &Settings) -> [i64; 8] {
     [
         settings.max_idle() as i64,
@@ -21,7 +21,7 @@ fn numbers(settings: &Settings) -> [i64; 8] {
     ]
 }
 
-/// The settings that are true or false, in the alphabetical order of their keys.
+/// Returns the settings that are true or false, in the alphabetical order of their keys.
 fn flags(settings: &Settings) -> [bool; 9] {
     [
         settings.abandoned(),
@@ -85,8 +85,12 @@ fn every_key_is_read(rt: HostRuntime) {
     expect_equal(&rt, settings.effective_min_idle(), 3);
 }
 
-/// Texts with one flag each, and one with the bare section. None has `blockWhenExhausted`.
-const FLAGS_ALONE: [(&str, [bool; 9]); 8] = [
+/// Texts with one flag each, and one with the bare section.
+const FLAGS_ALONE: [(&str, [bool; 9]); 9] = [
+    (
+        "blockWhenExhausted = false",
+        [false, false, true, false, false, false, false, false, false],
+    ),
     (
         "lifo = false",
         [false, true, false, false, false, false, false, false, false],

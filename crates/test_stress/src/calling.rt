@@ -15,16 +15,17 @@ use std::sync::{Mutex, Wait};
 
 pub type Pool<'a, B> = SharedPool<Thing, (), Fickle<'a>, Ticking, B>;
 
-/// How many calls each caller makes.
+/// The number of calls that each caller makes.
 const CALLS: u32 = 2_000;
 
-/// The most marks of a caller: three for each call, one for each object that it still holds, and one for the close.
+/// The maximum number of marks of a caller: three for each call, one for each object that it still holds, and one for
+/// the close.
 const MARKS: usize = 8_001;
 
 /// The segments that were cut, in their order. While a caller holds the lock, no other caller cuts.
 pub type Segments = Mutex<Vec<Segment>>;
 
-/// What callers do if the pool has no object for them.
+/// The behaviour of callers if the pool has no object for them.
 #[derive(Clone, Copy, PartialEq, Eq)]
 pub enum Manner {
     /// Their borrows fail. They may hold several objects, and forget some.
@@ -114,7 +115,8 @@ impl<'a, B: Room> Player<'a, B> {
         Err(Fault::Untold)
     }
 
-    // Checks the journal after a call that failed for lack of memory: it has all earlier calls, and of this call at most its first steps.
+    // Checks the journal after a call that failed for lack of memory: it has all earlier calls, and of this call at
+    // most its first steps.
     fn look_back<R: Wait>(
         &mut self,
         rt: &R,
@@ -164,7 +166,7 @@ impl<'a, B: Room> Player<'a, B> {
         }
     }
 
-    // The result of a return or an invalidation. The caller keeps the object if an allocation failed.
+    // Marks the result of a return or an invalidation. The caller keeps the object if an allocation failed.
     fn ended<R: Wait>(
         &mut self,
         rt: &R,
@@ -271,7 +273,7 @@ impl<'a, B: Room> Player<'a, B> {
         }
     }
 
-    // The result of a reclaim or a clear, which has one mark.
+    // Marks the result of a reclaim or a clear, which has one mark.
     fn sweep<R: Wait>(
         &mut self,
         rt: &R,
@@ -390,7 +392,8 @@ impl<'a, B: Room> Player<'a, B> {
         self.give_all_back(rt, pool)
     }
 
-    /// Makes all calls. If one fails its check, it closes the pool, so that no caller waits for an object that it holds.
+    /// Makes all calls. If one fails its check, it closes the pool, so that no caller waits for an object that it
+    /// holds.
     pub fn play<R: Wait>(&mut self, rt: &R, pool: &Pool<B>) {
         self.end = self.make_calls(rt, pool);
         if self.end.is_err() {

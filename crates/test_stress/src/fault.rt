@@ -1,7 +1,7 @@
 use pool_shared::OpenFault;
 use std::alloc::{AllocError, AllocFailed};
 
-/// Why a seed has no verdict.
+/// The error of a seed that has no verdict.
 #[derive(Clone, Copy, Debug)]
 pub enum Fault {
     NotOpened,

@@ -13,7 +13,7 @@ use std::alloc::Global;
 use std::fmt;
 use std::fmt::Display;
 
-/// The most bytes that a verdict has.
+/// The maximum length of a verdict, in bytes.
 const VERDICT: usize = 256;
 
 /// The result of the check.
@@ -91,7 +91,7 @@ fn text_of(alloc: Global, segments: &[Segment], stored: &[Entry]) -> Result<Vec<
     Ok(text)
 }
 
-// Whether each answer in a journal's text is the one that a pool with these settings gives.
+// Returns whether each answer in a journal's text is the expected one for a pool with these settings.
 fn is_legal(alloc: Global, settings: Settings, text: &[u8]) -> Result<bool, Fault> {
     for _ in 0..TRIES {
         match judge_text(alloc, settings, text) {
@@ -102,7 +102,7 @@ fn is_legal(alloc: Global, settings: Settings, text: &[u8]) -> Result<bool, Faul
     Err(Fault::Starved)
 }
 
-// Whether a journal has the calls of each caller, in its order.
+// Returns whether a journal has the calls of each caller, in its order.
 fn tells_all(segments: &[Segment], stored: &[Entry], all: &[Played]) -> bool {
     all.iter().all(|played| tells(segments, stored, played.number, &played.marks))
 }

@@ -1,10 +1,11 @@
 //! A test program: four threads call a shared pool at random, over a factory that fails at random.
 //!
-//! They also cut its journal, and store the segments. For each seed the engine of `pool check` checks the journal, segments and
-//! stored entries, and a second pool takes the same steps and is cut at the same positions. The calls of each thread are
-//! compared with its entries, and the objects are counted. A line has the verdict; nothing in it depends on the schedule of the
-//! threads, or on which allocations fail. A call that fails for lack of memory is not made again, and the journal is compared
-//! with it too. Work before and after all calls is tried again. Standard error has the number of such failures by kind of call.
+//! They also cut its journal, and store the segments. For each seed the engine of `pool check` checks the journal,
+//! segments and stored entries, and a second pool takes the same steps and is cut at the same positions. The calls of
+//! each thread are compared with its entries, and the objects are counted. A line has the verdict; nothing in it
+//! depends on the schedule of the threads, or on which allocations fail. A call that fails for lack of memory is not
+//! made again, and the journal is compared with it too. Work before and after all calls is tried again. Standard error
+//! has the number of such failures by kind of call.
 #![tactic(auto)]
 
 ghost use Rattle.std.specs.Prelude.{◌≡◌};
@@ -36,13 +37,13 @@ const SEEDS: u64 = 20;
 
 const CALLERS: u32 = 4;
 
-/// The most segments that there is memory for: one for each call of the callers.
+/// The maximum number of segments that there is memory for: one for each call of the callers.
 const CUTS: usize = 8_000;
 
-/// How often a call that must succeed is tried if it fails for lack of memory.
+/// The number of times that a call that must succeed is tried if it fails for lack of memory.
 const TRIES: u32 = 10_000;
 
-/// A pool in which a borrow fails if there is no object for it.
+/// Returns the settings of a pool in which a borrow fails if there is no object for it.
 fn refusing() -> Settings {
     Settings {
         max_total: 4,
@@ -63,7 +64,7 @@ fn refusing() -> Settings {
     }
 }
 
-/// A pool in which such a borrow waits.
+/// Returns the settings of a pool in which such a borrow waits.
 fn waiting() -> Settings {
     Settings {
         max_total: 1,
@@ -161,7 +162,7 @@ fn play<B: Room + Send + Sync, R: Threads + Wait + Sync>(
     judge(alloc, settings, &segments, &core, all.as_slice(), tally)
 }
 
-// Does so on a new cell.
+// Runs all callers on one pool, on a new cell.
 fn play_anew<R: Threads + Wait + Sync>(
     rt: &R,
     alloc: Global,

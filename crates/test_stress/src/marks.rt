@@ -22,7 +22,7 @@ pub enum Mark {
     Closes,
 }
 
-// The result of a borrow, by an answer.
+// Returns the mark of a borrow that has no object, by its answer.
 fn borrow_mark(answer: Answer) -> Option<Mark> {
     match answer {
         Answer::Exhausted | Answer::TimedOut | Answer::Refused(_) => Some(Mark::Denied),
@@ -69,7 +69,7 @@ fn mark_of(entry: &Entry) -> Option<Mark> {
     }
 }
 
-// Whether the entries of one caller have the next of its marks. Those marks are taken.
+// Returns whether the entries of one caller have the next of its marks, and takes those marks.
 fn tells_next(entries: &[Entry], caller: u32, left: &mut Iter<Mark>) -> bool {
     for entry in entries {
         if entry.caller == caller {

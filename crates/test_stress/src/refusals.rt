@@ -1,4 +1,4 @@
-// Which calls failed for lack of memory, and how often.
+// The numbers of calls that failed for lack of memory.
 ghost use Rattle.std.specs.Prelude.{◌<◌};
 
 use std::fmt;
@@ -23,7 +23,7 @@ pub enum Call {
     Cut,
 }
 
-/// All of them, each at its index.
+/// All calls that can fail for lack of memory, each at its index.
 pub const CALLS: [Call; 14] = [
     Call::Open,
     Call::Borrow,
@@ -85,7 +85,7 @@ impl Display for Call {
     }
 }
 
-/// How often each call failed for lack of memory.
+/// The number of times that each call failed for lack of memory.
 #[derive(Clone, Copy, Debug)]
 pub struct Refusals {
     counts: [u64; 14],

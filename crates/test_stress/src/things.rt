@@ -50,7 +50,7 @@ pub struct Fickle<'a> {
 }
 
 impl Fickle<'_> {
-    // Whether a call fails. Now and then other threads run first.
+    // Returns whether a call fails. Now and then other threads run first.
     fn fails(&self) -> bool {
         let call = self.tally.calls.fetch_add(1, Ordering::SeqCst);
         let mut dice = Dice::new(self.seed.wrapping_add(call));

@@ -1,8 +1,8 @@
 // Three callers in parallel, each in its own thread, or fewer if some do nothing.
 ghost use Rattle.std.specs.Prelude.{◌≡◌};
 
+use crate::actions::{Action, Expectation, Reply, borrows, counts, cut, does, expects, gives_back};
 use crate::clocks::TestClock;
-use crate::deeds::{Deed, Reply, Row, borrows, counts, cut, does, expects, gives_back};
 use crate::items::{Failing, Item, Items, Record, Waiting};
 use crate::openings::{NUMBER, Pool, finished, open, settings_of, site, three};
 use crate::turns::{Flag, Flags, TURNS};
@@ -136,25 +136,25 @@ fn does_beside<B: Room, R: Wait>(
     flags: &Flags,
     me: &mut Caller<B>,
     held: &mut Option<Lent<Item>>,
-    deed: Deed,
+    action: Action,
 ) -> Reply {
-    match deed {
-        Deed::StepsAtLeast(steps) => of_wait(counts(rt, pool, me).steps >= steps),
-        Deed::UntilSteps(steps) => of_wait(turns_until_steps(rt, pool, me, steps)),
-        Deed::UntilLent => of_wait(turns_until_lent(rt, pool, me)),
-        Deed::UntilSet(flag) => of_wait(flags.turn_until_set(flag)),
-        Deed::Set(flag) => {
+    match action {
+        Action::StepsAtLeast(steps) => of_wait(counts(rt, pool, me).steps >= steps),
+        Action::UntilSteps(steps) => of_wait(turns_until_steps(rt, pool, me, steps)),
+        Action::UntilLent => of_wait(turns_until_lent(rt, pool, me)),
+        Action::UntilSet(flag) => of_wait(flags.turn_until_set(flag)),
+        Action::Set(flag) => {
             flags.set(flag);
             ("done", 0)
         }
-        Deed::SetTime(time) => {
+        Action::SetTime(time) => {
             flags.set_time(time);
             ("done", 0)
         }
-        Deed::BorrowOrTimeOut => borrows_or_times_out(rt, pool, flags, me, held),
-        Deed::TakeTurns(rounds) => takes_turns(rt, pool, me, rounds),
-        Deed::Watch(looks) => watches(rt, pool, me, looks),
-        _ => does(rt, pool, me, held, deed),
+        Action::BorrowOrTimeOut => borrows_or_times_out(rt, pool, flags, me, held),
+        Action::TakeTurns(rounds) => takes_turns(rt, pool, me, rounds),
+        Action::Watch(looks) => watches(rt, pool, me, looks),
+        _ => does(rt, pool, me, held, action),
     }
 }
 
@@ -167,11 +167,11 @@ fn does_any<B: Room, R: Wait>(
     me: &mut Caller<B>,
     held: &mut Option<Lent<Item>>,
     segments: &mut Vec<Segment>,
-    deed: Deed,
+    action: Action,
 ) -> Reply {
-    match deed {
-        Deed::Cut(times) => cuts(rt, alloc, pool, me, segments, times),
-        _ => does_beside(rt, pool, flags, me, held, deed),
+    match action {
+        Action::Cut(times) => cuts(rt, alloc, pool, me, segments, times),
+        _ => does_beside(rt, pool, flags, me, held, action),
     }
 }
 
@@ -182,12 +182,12 @@ fn takes_part<B: Room, R: Wait + Abort>(
     pool: &Pool<B>,
     flags: &Flags,
     me: Caller<B>,
-    rows: &[Row],
+    rows: &[Expectation],
 ) -> (Caller<B>, Vec<Segment>) {
     let mut caller = me;
     let mut held = None;
     let mut segments = Vec::new(alloc);
-    for (deed, word, number) in rows {
+    for (action, word, number) in rows {
         let told = does_any(
             rt,
             alloc,
@@ -196,9 +196,9 @@ fn takes_part<B: Room, R: Wait + Abort>(
             &mut caller,
             &mut held,
             &mut segments,
-            *deed,
+            *action,
         );
-        expects(rt, *deed, told, (word, *number));
+        expects(rt, *action, told, (word, *number));
     }
     (caller, segments)
 }
@@ -207,7 +207,7 @@ fn takes_part<B: Room, R: Wait + Abort>(
 pub type Left = (Core<Item>, Vec<Segment>);
 
 /// The rows of the callers of a test.
-pub type Parts<'a> = [&'a [Row]; 3];
+pub type Parts<'a> = [&'a [Expectation]; 3];
 
 // The callers 0, 1 and 2 again.
 fn together<B: Room>(
@@ -232,8 +232,8 @@ fn both<B: Room + Send + Sync, R: Threads + Wait + Abort + Sync>(
     flags: &Flags,
     one: Caller<B>,
     two: Caller<B>,
-    second: &[Row],
-    third: &[Row],
+    second: &[Expectation],
+    third: &[Expectation],
 ) -> (Caller<B>, Caller<B>, Vec<Segment>) {
     let (one, two) = thread::join(
         rt,
@@ -284,7 +284,7 @@ fn lives<B: Room + Send + Sync, R: Threads + Wait + Abort + Sync>(
     (finished(rt, pool, callers), segments)
 }
 
-/// What waits at the gate of a test.
+/// The part of a test that waits at its gate.
 #[derive(Clone, Copy)]
 pub enum Gated {
     Nothing,
@@ -311,8 +311,8 @@ fn clock(gated: Gated, flags: &Flags) -> TestClock<'_> {
     }
 }
 
-/// Runs the rows of three callers of a new pool, with this factory and the settings of a text. Nothing waits at the gate until the turns
-/// run out. Returns the core at the end, and the segments that the third caller cut.
+/// Runs the rows of three callers of a new pool, with this factory and the settings of a text. Nothing waits at the
+/// gate until the turns run out. Returns the core at the end, and the segments that the third caller cut.
 pub fn tries<R: Threads + Wait + Abort + Sync>(
     rt: &R,
     alloc: Global,

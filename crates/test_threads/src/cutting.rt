@@ -1,9 +1,9 @@
 // Journals that are cut: by the only caller, and in parallel with two callers that borrow and return.
 ghost use Rattle.std.specs.Prelude.{◌≡◌};
 
+use crate::actions::{Action, Expectation, copied, cut, expect_equal, goes_through};
 use crate::beside::{Gated, Parts, tries};
 use crate::clocks::TestClock;
-use crate::deeds::{Deed, Row, copied, cut, expect_equal, goes_through};
 use crate::items::{Failing, Item, Items, Record, Waiting};
 use crate::openings::{NUMBER, Pool, finished, open, settings_of, site};
 use pool_core::Core;
@@ -17,30 +17,30 @@ use std::process::Abort;
 use std::sync::Wait;
 
 // After a borrow and a return there is room only for the close.
-const BEFORE: [Row; 3] = [
-    (Deed::Borrow, "lent", 0),
-    (Deed::GiveBack, "parked", 0),
-    (Deed::Borrow, "full", 0),
+const BEFORE: [Expectation; 3] = [
+    (Action::Borrow, "lent", 0),
+    (Action::GiveBack, "parked", 0),
+    (Action::Borrow, "full", 0),
 ];
 
-fn before() -> &'static [Row] {
+fn before() -> &'static [Expectation] {
     &BEFORE
 }
 
 // After the cut there is room again, and the object is still idle.
-const BEHIND: [Row; 9] = [
-    (Deed::Steps, "steps", 4),
-    (Deed::Idle, "idle", 1),
-    (Deed::Lent, "lent", 0),
-    (Deed::Reserved, "reserved", 0),
-    (Deed::Created, "created", 1),
-    (Deed::Destroyed, "destroyed", 0),
-    (Deed::Evicted, "evicted", 0),
-    (Deed::Reclaimed, "reclaimed", 0),
-    (Deed::Borrow, "lent", 0),
+const BEHIND: [Expectation; 9] = [
+    (Action::Steps, "steps", 4),
+    (Action::Idle, "idle", 1),
+    (Action::Lent, "lent", 0),
+    (Action::Reserved, "reserved", 0),
+    (Action::Created, "created", 1),
+    (Action::Destroyed, "destroyed", 0),
+    (Action::Evicted, "evicted", 0),
+    (Action::Reclaimed, "reclaimed", 0),
+    (Action::Borrow, "lent", 0),
 ];
 
-fn behind() -> &'static [Row] {
+fn behind() -> &'static [Expectation] {
     &BEHIND
 }
 
@@ -172,9 +172,9 @@ pub fn plays_again(
     core.counts()
 }
 
-const TURNS: [Row; 1] = [(Deed::TakeTurns(500), "done", 500)];
+const TURNS: [Expectation; 1] = [(Action::TakeTurns(500), "done", 500)];
 
-const CUTS: [Row; 1] = [(Deed::Cut(200), "done", 200)];
+const CUTS: [Expectation; 1] = [(Action::Cut(200), "done", 200)];
 
 // Two callers borrow and return, and the third cuts.
 fn parts() -> Parts<'static> {

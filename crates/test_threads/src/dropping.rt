@@ -1,8 +1,8 @@
 // A pool, its callers and a lent object are dropped in each order, and no object stays.
 ghost use Rattle.std.specs.Prelude.{◌≡◌};
 
+use crate::actions::expect_equal;
 use crate::clocks::TestClock;
-use crate::deeds::expect_equal;
 use crate::openings::{NUMBER, site};
 use pool_settings::Settings;
 use pool_shared::{Caller, Factory, Lent, Room, SharedPool, Site};

@@ -1,8 +1,10 @@
 // A factory whose calls fail in turn: no call leaves an object half-processed, and each object is destroyed once.
 ghost use Rattle.std.specs.Prelude.{◌≡◌};
 
+use crate::actions::{
+    Action, Expectation, borrows, counts, does, expect_equal, gives_back, goes_through,
+};
 use crate::clocks::TestClock;
-use crate::deeds::{Deed, Row, borrows, counts, does, expect_equal, gives_back, goes_through};
 use crate::items::{Failing, Items, Record, Waiting};
 use crate::openings::{NUMBER, Pool, open, settings_of, single, site};
 use pool_settings::Settings;
@@ -15,15 +17,15 @@ use std::sync::Wait;
 const ALL_TESTS: &str =
     "testOnCreate = true\ntestOnBorrow = true\ntestOnReturn = true\ntestWhileIdle = true\n";
 
-/// How many calls of the factory can fail in the test, if none does: 4 and 2 for the first loan, 2 and 2 for the second,
-/// 3 for the addition, 3 for the idle test of each of the two objects.
+/// The number of calls of the factory that can fail in the test, if none does: 4 and 2 for the first loan, 2 and 2 for
+/// the second, 3 for the addition, 3 for the idle test of each of the two objects.
 const CALLS: u64 = 19;
 
-const ONE_LENT: [Row; 2] = [(Deed::Reserved, "reserved", 0), (Deed::Lent, "lent", 1)];
+const ONE_LENT: [Expectation; 2] = [(Action::Reserved, "reserved", 0), (Action::Lent, "lent", 1)];
 
-const NONE_LENT: [Row; 2] = [(Deed::Reserved, "reserved", 0), (Deed::Lent, "lent", 0)];
+const NONE_LENT: [Expectation; 2] = [(Action::Reserved, "reserved", 0), (Action::Lent, "lent", 0)];
 
-const NONE_RESERVED: [Row; 1] = [(Deed::Reserved, "reserved", 0)];
+const NONE_RESERVED: [Expectation; 1] = [(Action::Reserved, "reserved", 0)];
 
 // Borrows, and returns the lent object.
 fn borrows_and_gives_back<B: Room, R: Wait + Abort>(rt: &R, pool: &Pool<B>, me: &mut Caller<B>) {
@@ -45,12 +47,12 @@ fn is_run(word: &str) -> bool {
 // Adds an object, examines the idle ones, and closes the pool.
 fn adds_and_ends<B: Room, R: Wait + Abort>(rt: &R, pool: &Pool<B>, me: &mut Caller<B>) {
     let mut held = None;
-    does(rt, pool, me, &mut held, Deed::Add);
+    does(rt, pool, me, &mut held, Action::Add);
     goes_through(rt, pool, me, &mut held, &NONE_RESERVED);
-    let (word, _) = does(rt, pool, me, &mut held, Deed::Evict);
+    let (word, _) = does(rt, pool, me, &mut held, Action::Evict);
     assert!(rt; is_run(word));
     goes_through(rt, pool, me, &mut held, &NONE_RESERVED);
-    let (word, _) = does(rt, pool, me, &mut held, Deed::Close);
+    let (word, _) = does(rt, pool, me, &mut held, Action::Close);
     assert!(rt; word == "count");
     let counts = counts(rt, pool, me);
     expect_equal(rt, counts.reserved, 0);

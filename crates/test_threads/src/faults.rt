@@ -1,8 +1,8 @@
 // The errors of each call, by one caller of a new pool.
 ghost use Rattle.std.specs.Prelude.{◌≡◌};
 
+use crate::actions::Action;
 use crate::clocks::TestClock;
-use crate::deeds::Deed;
 use crate::items::{
     Call, Failing, Items, NOT_ACTIVATED, NOT_MADE, NOT_PASSIVATED, Record, Waiting,
 };
@@ -89,14 +89,17 @@ fn a_borrow_is_refused(rt: HostRuntime) {
         ("journalLimit = 6", never, "full", 0),
         ("journalLimit = 7", never, "lent", 0),
     ] {
-        let rows = [(Deed::Borrow, word, number)];
+        let rows = [(Action::Borrow, word, number)];
         tries(&rt, rt.alloc(), settings, failing, &rows);
     }
 }
 
 #[test]
 fn what_stays_awake_is_destroyed(rt: HostRuntime) {
-    let rows = [(Deed::Borrow, "lent", 0), (Deed::GiveBack, "destroyed", 0)];
+    let rows = [
+        (Action::Borrow, "lent", 0),
+        (Action::GiveBack, "destroyed", 0),
+    ];
     let failing = Failing::All(Call::Passivate);
     assert!(rt; tries(&rt, rt.alloc(), "", failing, &rows));
 }
@@ -133,7 +136,7 @@ fn an_addition_is_refused(rt: HostRuntime) {
         ("journalLimit = 4", never, "full", 0),
         ("journalLimit = 5", never, "idle", 0),
     ] {
-        let rows = [(Deed::Add, word, number)];
+        let rows = [(Action::Add, word, number)];
         tries(&rt, rt.alloc(), settings, failing, &rows);
     }
 }
@@ -141,11 +144,11 @@ fn an_addition_is_refused(rt: HostRuntime) {
 #[test]
 fn a_closed_pool_takes_nothing_on(rt: HostRuntime) {
     let rows = [
-        (Deed::Close, "count", 0),
-        (Deed::Evict, "closed", 0),
-        (Deed::Add, "closed", 0),
-        (Deed::Fill, "count", 0),
-        (Deed::Maintain, "closed", 0),
+        (Action::Close, "count", 0),
+        (Action::Evict, "closed", 0),
+        (Action::Add, "closed", 0),
+        (Action::Fill, "count", 0),
+        (Action::Maintain, "closed", 0),
     ];
     tries(&rt, rt.alloc(), "minIdle = 1", Failing::Never, &rows);
 }

@@ -1,6 +1,7 @@
-// Which work runs in parallel. Each test waits for a flag that only another thread sets, and gives up after a number of turns.
+// Which work runs in parallel. Each test waits for a flag that only another thread sets, and gives up after a number of
+// turns.
+use crate::actions::{Action, Expectation};
 use crate::beside::{Gated, Parts, tries};
-use crate::deeds::{Deed, Row};
 use crate::items::Failing;
 use crate::turns::Flag;
 use std::alloc::Global;
@@ -13,15 +14,15 @@ fn pass<R: Threads + Wait + Abort + Sync>(rt: &R, alloc: Global, gated: Gated, p
     tries(rt, alloc, "", Failing::Never, gated, parts);
 }
 
-const NOTHING: [Row; 0] = [];
+const NOTHING: [Expectation; 0] = [];
 
-const BORROWS: [Row; 1] = [(Deed::Borrow, "lent", 0)];
+const BORROWS: [Expectation; 1] = [(Action::Borrow, "lent", 0)];
 
 // Object 0 is made once object 1 is lent.
-const OPENS: [Row; 3] = [
-    (Deed::UntilSteps(1), "done", 0),
-    (Deed::Borrow, "lent", 1),
-    (Deed::Set(Flag::Gate), "done", 0),
+const OPENS: [Expectation; 3] = [
+    (Action::UntilSteps(1), "done", 0),
+    (Action::Borrow, "lent", 1),
+    (Action::Set(Flag::Gate), "done", 0),
 ];
 
 fn makes() -> Parts<'static> {
@@ -34,18 +35,18 @@ fn objects_are_made_side_by_side(rt: HostRuntime) {
 }
 
 // A caller borrows and returns, and reads the counts after each call.
-const LOOKS_AFTER_ITSELF: [Row; 5] = [
-    (Deed::Borrow, "lent", 0),
-    (Deed::Set(Flag::Begun), "done", 0),
-    (Deed::StepsAtLeast(2), "done", 0),
-    (Deed::GiveBack, "parked", 0),
-    (Deed::StepsAtLeast(4), "done", 0),
+const LOOKS_AFTER_ITSELF: [Expectation; 5] = [
+    (Action::Borrow, "lent", 0),
+    (Action::Set(Flag::Begun), "done", 0),
+    (Action::StepsAtLeast(2), "done", 0),
+    (Action::GiveBack, "parked", 0),
+    (Action::StepsAtLeast(4), "done", 0),
 ];
 
 // Another caller reads them once that borrow has its result.
-const LOOKS_AT_ANOTHER: [Row; 2] = [
-    (Deed::UntilSet(Flag::Begun), "done", 0),
-    (Deed::StepsAtLeast(2), "done", 0),
+const LOOKS_AT_ANOTHER: [Expectation; 2] = [
+    (Action::UntilSet(Flag::Begun), "done", 0),
+    (Action::StepsAtLeast(2), "done", 0),
 ];
 
 fn counts() -> Parts<'static> {
@@ -57,13 +58,13 @@ fn counts_know_what_has_returned(rt: HostRuntime) {
     pass(&rt, rt.alloc(), Gated::Nothing, counts());
 }
 
-const RECLAIMS: [Row; 1] = [(Deed::Reclaim, "count", 0)];
+const RECLAIMS: [Expectation; 1] = [(Action::Reclaim, "count", 0)];
 
 // The clock returns the time, in a critical section, once another caller has read the counts.
-const COUNTS: [Row; 3] = [
-    (Deed::UntilSet(Flag::Read), "done", 0),
-    (Deed::Steps, "steps", 0),
-    (Deed::Set(Flag::Gate), "done", 0),
+const COUNTS: [Expectation; 3] = [
+    (Action::UntilSet(Flag::Read), "done", 0),
+    (Action::Steps, "steps", 0),
+    (Action::Set(Flag::Gate), "done", 0),
 ];
 
 fn counts_beside() -> Parts<'static> {

@@ -32,7 +32,7 @@ pub enum Call {
     Passivate,
 }
 
-/// Which of these calls fail.
+/// The calls that fail.
 #[derive(Clone, Copy, Debug)]
 pub enum Failing {
     Never,
@@ -42,7 +42,7 @@ pub enum Failing {
     Nth(u64),
 }
 
-/// The work of a factory: how many of its calls could fail, and how often each object was made and destroyed.
+/// The work of a factory: the number of its calls that could fail, and how often each object was made and destroyed.
 #[derive(Drop)]
 pub struct Record {
     calls: AtomicU64,
@@ -73,7 +73,7 @@ impl Record {
         }
     }
 
-    /// Returns how many calls there were that can fail.
+    /// Returns the number of calls so far that can fail.
     pub fn calls(&self) -> u64 {
         self.calls.load(Ordering::SeqCst)
     }
@@ -99,7 +99,7 @@ impl Record {
     }
 }
 
-/// Where a factory waits at the gate.
+/// The work during which a factory waits at the gate.
 #[derive(Clone, Copy)]
 pub enum Waiting<'a> {
     Nowhere,

@@ -2,13 +2,13 @@
 #![tactic(auto)]
 
 #[cfg(test)]
+mod actions;
+#[cfg(test)]
 mod beside;
 #[cfg(test)]
 mod clocks;
 #[cfg(test)]
 mod cutting;
-#[cfg(test)]
-mod deeds;
 #[cfg(test)]
 mod dropping;
 #[cfg(test)]

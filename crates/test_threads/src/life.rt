@@ -1,8 +1,8 @@
 // One life of a pool, with two callers in one thread. The journal's length is tested after each call.
 ghost use Rattle.std.specs.Prelude.{◌≡◌};
 
+use crate::actions::{Action, Expectation, copied, expect_equal, goes_through};
 use crate::clocks::TestClock;
-use crate::deeds::{Deed, Row, copied, expect_equal, goes_through};
 use crate::items::{Failing, Item, Items, Record, Waiting};
 use crate::openings::{NUMBER, Pool, finished, open, pair, settings_of, site};
 use pool_core::Core;
@@ -15,61 +15,64 @@ use std::process::Abort;
 use std::sync::Wait;
 
 // The first caller borrows, notes a use and returns; maintains the idle objects, and clears them.
-const FIRST: [Row; 26] = [
-    (Deed::Borrow, "lent", 0),
-    (Deed::Steps, "steps", 2),
-    (Deed::Idle, "idle", 0),
-    (Deed::Lent, "lent", 1),
-    (Deed::Reserved, "reserved", 0),
-    (Deed::Created, "created", 1),
-    (Deed::Destroyed, "destroyed", 0),
-    (Deed::Evicted, "evicted", 0),
-    (Deed::Reclaimed, "reclaimed", 0),
-    (Deed::Touch, "noted", 0),
-    (Deed::Steps, "steps", 3),
-    (Deed::GiveBack, "parked", 0),
-    (Deed::Steps, "steps", 5),
-    (Deed::Add, "idle", 0),
-    (Deed::Steps, "steps", 7),
-    (Deed::Fill, "count", 0),
-    (Deed::Steps, "steps", 8),
-    (Deed::Evict, "examined", 2),
-    (Deed::Steps, "steps", 11),
-    (Deed::Reclaim, "count", 0),
-    (Deed::Steps, "steps", 12),
-    (Deed::Maintain, "done", 0),
-    (Deed::Steps, "steps", 17),
-    (Deed::Clear, "count", 2),
-    (Deed::Steps, "steps", 22),
-    (Deed::Held, "nothing held", 0),
+const FIRST: [Expectation; 26] = [
+    (Action::Borrow, "lent", 0),
+    (Action::Steps, "steps", 2),
+    (Action::Idle, "idle", 0),
+    (Action::Lent, "lent", 1),
+    (Action::Reserved, "reserved", 0),
+    (Action::Created, "created", 1),
+    (Action::Destroyed, "destroyed", 0),
+    (Action::Evicted, "evicted", 0),
+    (Action::Reclaimed, "reclaimed", 0),
+    (Action::Touch, "noted", 0),
+    (Action::Steps, "steps", 3),
+    (Action::GiveBack, "parked", 0),
+    (Action::Steps, "steps", 5),
+    (Action::Add, "idle", 0),
+    (Action::Steps, "steps", 7),
+    (Action::Fill, "count", 0),
+    (Action::Steps, "steps", 8),
+    (Action::Evict, "examined", 2),
+    (Action::Steps, "steps", 11),
+    (Action::Reclaim, "count", 0),
+    (Action::Steps, "steps", 12),
+    (Action::Maintain, "done", 0),
+    (Action::Steps, "steps", 17),
+    (Action::Clear, "count", 2),
+    (Action::Steps, "steps", 22),
+    (Action::Held, "nothing held", 0),
 ];
 
-fn first() -> &'static [Row] {
+fn first() -> &'static [Expectation] {
     &FIRST
 }
 
 // The second caller borrows, and invalidates the object.
-const SECOND: [Row; 4] = [
-    (Deed::Borrow, "lent", 2),
-    (Deed::Steps, "steps", 24),
-    (Deed::Invalidate, "destroyed", 0),
-    (Deed::Steps, "steps", 26),
+const SECOND: [Expectation; 4] = [
+    (Action::Borrow, "lent", 2),
+    (Action::Steps, "steps", 24),
+    (Action::Invalidate, "destroyed", 0),
+    (Action::Steps, "steps", 26),
 ];
 
-fn second() -> &'static [Row] {
+fn second() -> &'static [Expectation] {
     &SECOND
 }
 
 // The first caller closes the pool, and can borrow no more.
-const END: [Row; 2] = [(Deed::Close, "count", 0), (Deed::Steps, "steps", 27)];
+const END: [Expectation; 2] = [(Action::Close, "count", 0), (Action::Steps, "steps", 27)];
 
-fn end() -> &'static [Row] {
+fn end() -> &'static [Expectation] {
     &END
 }
 
-const BEHIND_THE_END: [Row; 2] = [(Deed::Borrow, "closed", 0), (Deed::Steps, "steps", 28)];
+const BEHIND_THE_END: [Expectation; 2] = [
+    (Action::Borrow, "closed", 0),
+    (Action::Steps, "steps", 28),
+];
 
-fn behind_the_end() -> &'static [Row] {
+fn behind_the_end() -> &'static [Expectation] {
     &BEHIND_THE_END
 }
 

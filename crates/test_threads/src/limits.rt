@@ -1,6 +1,6 @@
 // A borrow whose wait has a limit. At each wake it looks at the clock, which the test sets.
+use crate::actions::{Action, Expectation};
 use crate::beside::{Gated, Parts, tries};
-use crate::deeds::{Deed, Row};
 use crate::items::Failing;
 use crate::turns::Flag;
 use std::alloc::Global;
@@ -45,28 +45,28 @@ fn passes<R: Threads + Wait + Abort + Sync>(rt: &R, alloc: Global, settings: &st
     tries(rt, alloc, settings, Failing::Never, Gated::Nothing, parts);
 }
 
-// Caller 0 takes the only object, and caller 1 waits for it: the third entry of the journal says so. The journal would be full after a
-// while if caller 1 did not sleep. Then caller 0 sets the clock and ends the wait.
+// Caller 0 takes the only object, and caller 1 waits for it: the third entry of the journal records this. The journal
+// would be full after a while if caller 1 did not sleep. Then caller 0 sets the clock and ends the wait.
 fn ends_wait<R: Threads + Wait + Abort + Sync>(
     rt: &R,
     alloc: Global,
     waking: Waking,
-    ending: Row,
+    ending: Expectation,
     word: &'static str,
 ) {
     let (settings, time) = waking;
     let ends = [
-        (Deed::Borrow, "lent", 0),
-        (Deed::UntilSteps(3), "done", 0),
-        (Deed::Watch(10_000), "done", 10_000),
-        (Deed::SetTime(time), "done", 0),
+        (Action::Borrow, "lent", 0),
+        (Action::UntilSteps(3), "done", 0),
+        (Action::Watch(10_000), "done", 10_000),
+        (Action::SetTime(time), "done", 0),
         ending,
-        (Deed::UntilSet(Flag::Answered), "done", 0),
+        (Action::UntilSet(Flag::Answered), "done", 0),
     ];
     let waits = [
-        (Deed::UntilSteps(2), "done", 0),
-        (Deed::Borrow, word, 0),
-        (Deed::Set(Flag::Answered), "done", 0),
+        (Action::UntilSteps(2), "done", 0),
+        (Action::Borrow, word, 0),
+        (Action::Set(Flag::Answered), "done", 0),
     ];
     let parts = [ends.as_slice(), waits.as_slice(), [].as_slice()];
     passes(rt, alloc, settings, parts);
@@ -76,7 +76,7 @@ fn ends_wait<R: Threads + Wait + Abort + Sync>(
 fn ends_each_wait<R: Threads + Wait + Abort + Sync>(
     rt: &R,
     alloc: Global,
-    ending: Row,
+    ending: Expectation,
     word: &'static str,
 ) {
     for waking in before() {
@@ -86,25 +86,25 @@ fn ends_each_wait<R: Threads + Wait + Abort + Sync>(
 
 #[test]
 fn a_return_ends_a_wait_with_a_limit(rt: HostRuntime) {
-    let ending = (Deed::GiveBack, "parked", 0);
+    let ending = (Action::GiveBack, "parked", 0);
     ends_each_wait(&rt, rt.alloc(), ending, "lent");
 }
 
 #[test]
 fn a_close_ends_a_wait_with_a_limit(rt: HostRuntime) {
-    let ending = (Deed::Close, "count", 0);
+    let ending = (Action::Close, "count", 0);
     ends_each_wait(&rt, rt.alloc(), ending, "closed");
 }
 
 /// The actions of callers 1 and 2 on the only object, and those of caller 0 once it has returned it.
 #[derive(Clone, Copy)]
 struct Contest {
-    rows: &'static [Row],
-    looks: Deed,
+    rows: &'static [Expectation],
+    looks: Action,
 }
 
-// Caller 0 returns the only object at this time, while callers 1 and 2 wait for it since time 0: the third and the fourth entry of the
-// journal say so. Both are woken, and one of them gets the object.
+// Caller 0 returns the only object at this time, while callers 1 and 2 wait for it since time 0: the third and the
+// fourth entry of the journal record this. Both are woken, and one of them gets the object.
 fn returns_to_two<R: Threads + Wait + Abort + Sync>(
     rt: &R,
     alloc: Global,
@@ -113,30 +113,30 @@ fn returns_to_two<R: Threads + Wait + Abort + Sync>(
 ) {
     let (settings, time) = waking;
     let returns = [
-        (Deed::Borrow, "lent", 0),
-        (Deed::UntilSteps(4), "done", 0),
-        (Deed::SetTime(time), "done", 0),
-        (Deed::GiveBack, "parked", 0),
+        (Action::Borrow, "lent", 0),
+        (Action::UntilSteps(4), "done", 0),
+        (Action::SetTime(time), "done", 0),
+        (Action::GiveBack, "parked", 0),
         (contest.looks, "done", 0),
     ];
     let parts = [returns.as_slice(), contest.rows, contest.rows];
     passes(rt, alloc, settings, parts);
 }
 
-// Once a caller has the object, the journal has eight entries. The caller keeps the object until the ninth says that the other waits
-// on. Once that one has the object too, the journal has 13.
-const WAITS_ON: [Row; 5] = [
-    (Deed::UntilSteps(2), "done", 0),
-    (Deed::Borrow, "lent", 0),
-    (Deed::UntilSteps(9), "done", 0),
-    (Deed::GiveBack, "parked", 0),
-    (Deed::UntilSteps(13), "done", 0),
+// Once a caller has the object, the journal has eight entries. The caller keeps the object until the ninth records that
+// the other waits on. Once that one has the object too, the journal has 13.
+const WAITS_ON: [Expectation; 5] = [
+    (Action::UntilSteps(2), "done", 0),
+    (Action::Borrow, "lent", 0),
+    (Action::UntilSteps(9), "done", 0),
+    (Action::GiveBack, "parked", 0),
+    (Action::UntilSteps(13), "done", 0),
 ];
 
 fn waits_on() -> Contest {
     Contest {
         rows: &WAITS_ON,
-        looks: Deed::UntilSteps(8),
+        looks: Action::UntilSteps(8),
     }
 }
 
@@ -148,17 +148,17 @@ fn a_wake_before_the_limit_is_no_timeout(rt: HostRuntime) {
 }
 
 // One caller keeps the object until the other has timed out.
-const TIMES_OUT: [Row; 4] = [
-    (Deed::UntilSteps(2), "done", 0),
-    (Deed::BorrowOrTimeOut, "done", 0),
-    (Deed::UntilSet(Flag::Lent), "done", 0),
-    (Deed::UntilSet(Flag::TimedOut), "done", 0),
+const TIMES_OUT: [Expectation; 4] = [
+    (Action::UntilSteps(2), "done", 0),
+    (Action::BorrowOrTimeOut, "done", 0),
+    (Action::UntilSet(Flag::Lent), "done", 0),
+    (Action::UntilSet(Flag::TimedOut), "done", 0),
 ];
 
 fn times_out() -> Contest {
     Contest {
         rows: &TIMES_OUT,
-        looks: Deed::UntilSet(Flag::TimedOut),
+        looks: Action::UntilSet(Flag::TimedOut),
     }
 }
 
@@ -169,20 +169,20 @@ fn a_wake_at_the_limit_is_a_timeout(rt: HostRuntime) {
     }
 }
 
-const LENDS_THE_ONLY_ONE: [Row; 2] = [
-    (Deed::Borrow, "lent", 0),
-    (Deed::UntilSet(Flag::Answered), "done", 0),
+const LENDS_THE_ONLY_ONE: [Expectation; 2] = [
+    (Action::Borrow, "lent", 0),
+    (Action::UntilSet(Flag::Answered), "done", 0),
 ];
 
 // The one entry of the borrow is the third of the journal.
-const TIMES_OUT_AT_ONCE: [Row; 4] = [
-    (Deed::UntilSteps(2), "done", 0),
-    (Deed::Borrow, "timed out", 0),
-    (Deed::Steps, "steps", 3),
-    (Deed::Set(Flag::Answered), "done", 0),
+const TIMES_OUT_AT_ONCE: [Expectation; 4] = [
+    (Action::UntilSteps(2), "done", 0),
+    (Action::Borrow, "timed out", 0),
+    (Action::Steps, "steps", 3),
+    (Action::Set(Flag::Answered), "done", 0),
 ];
 
-const NOTHING: [Row; 0] = [];
+const NOTHING: [Expectation; 0] = [];
 
 fn without_a_wait() -> Parts<'static> {
     [&LENDS_THE_ONLY_ONE, &TIMES_OUT_AT_ONCE, &NOTHING]

@@ -1,4 +1,4 @@
-use crate::deeds::expect_equal;
+use crate::actions::expect_equal;
 use crate::openings::settings_of;
 use crate::turns::TURNS;
 use pool_load::{Gate, LoadFault, LoadReport, load};
@@ -11,7 +11,7 @@ use std::sync::atomic::{AtomicU64, Ordering};
 use std::thread;
 use std::thread::Threads;
 
-/// Holds no worker back. Counts those that pass, and the most that pass at a time.
+/// A gate that holds no worker back. It counts those that pass, and the most that pass at a time.
 #[derive(Drop)]
 struct Counter {
     passed: AtomicU64,
@@ -40,7 +40,7 @@ impl Gate for Counter {
     }
 }
 
-/// Holds each worker until all of them are at the gate. Notes whether one waited in vain.
+/// A gate that holds each worker until all of them have arrived. It notes whether one waited in vain.
 #[derive(Drop)]
 struct Meeting {
     workers: u64,
@@ -61,7 +61,7 @@ impl Gate for Meeting {
     }
 }
 
-/// Notes the sum of the numbers of all rounds, and of all workers, that pass.
+/// A gate that notes the sum of the numbers of all rounds, and of all workers, that pass.
 #[derive(Drop)]
 struct Numbers {
     workers: AtomicU64,

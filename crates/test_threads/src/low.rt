@@ -1,10 +1,10 @@
-// Journals that are cut if little room is left. The room is the limit less the stored and the outstanding entries: one to close the
-// pool, four for a lent object, two for an idle one.
+// Journals that are cut if little room is left. The room is the limit less the stored and the outstanding entries: one
+// to close the pool, four for a lent object, two for an idle one.
 ghost use Rattle.std.specs.Prelude.{◌≡◌};
 
+use crate::actions::{Action, Expectation, Reply, cuts_below, does, expect_equal, expects};
 use crate::clocks::TestClock;
 use crate::cutting::plays_again;
-use crate::deeds::{Deed, Reply, Row, cuts_below, does, expect_equal, expects};
 use crate::items::{Failing, Item, Items, Record, Waiting};
 use crate::openings::{NUMBER, Pool, finished, open, settings_of, site};
 use pool_core::Core;
@@ -16,41 +16,41 @@ use std::marker::Brand;
 use std::process::Abort;
 use std::sync::Wait;
 
-// The room is 6; 0; 2 after a cut; 1; still 1 after a return, which has two entries and leaves two fewer outstanding; 4 after a cut; 0; and
-// 2 after a cut.
-const SMALL: [Row; 17] = [
-    (Deed::CutBelow(6), "room", 0),
-    (Deed::Borrow, "lent", 0),
-    (Deed::CutBelow(0), "room", 0),
-    (Deed::Touch, "full", 0),
-    (Deed::CutBelow(1), "cut", 2),
-    (Deed::CutBelow(2), "room", 0),
-    (Deed::Touch, "noted", 0),
-    (Deed::CutBelow(1), "room", 0),
-    (Deed::GiveBack, "parked", 0),
-    (Deed::CutBelow(1), "room", 0),
-    (Deed::CutBelow(2), "cut", 3),
-    (Deed::CutBelow(4), "room", 0),
-    (Deed::Borrow, "lent", 0),
-    (Deed::CutBelow(u64::MAX), "cut", 2),
-    (Deed::CutBelow(u64::MAX), "cut", 0),
-    (Deed::GiveBack, "parked", 0),
-    (Deed::CutBelow(2), "room", 0),
+// The room is 6; 0; 2 after a cut; 1; still 1 after a return, which has two entries and leaves two fewer outstanding; 4
+// after a cut; 0; and 2 after a cut.
+const SMALL: [Expectation; 17] = [
+    (Action::CutBelow(6), "room", 0),
+    (Action::Borrow, "lent", 0),
+    (Action::CutBelow(0), "room", 0),
+    (Action::Touch, "full", 0),
+    (Action::CutBelow(1), "cut", 2),
+    (Action::CutBelow(2), "room", 0),
+    (Action::Touch, "noted", 0),
+    (Action::CutBelow(1), "room", 0),
+    (Action::GiveBack, "parked", 0),
+    (Action::CutBelow(1), "room", 0),
+    (Action::CutBelow(2), "cut", 3),
+    (Action::CutBelow(4), "room", 0),
+    (Action::Borrow, "lent", 0),
+    (Action::CutBelow(u64::MAX), "cut", 2),
+    (Action::CutBelow(u64::MAX), "cut", 0),
+    (Action::GiveBack, "parked", 0),
+    (Action::CutBelow(2), "room", 0),
 ];
 
-fn small() -> &'static [Row] {
+fn small() -> &'static [Expectation] {
     &SMALL
 }
 
 // The room is 4294967295, and then 4294967289.
-const GREATEST: [Row; 4] = [
-    (Deed::CutBelow(4_294_967_295), "room", 0),
-    (Deed::Borrow, "lent", 0),
-    (Deed::CutBelow(4_294_967_289), "room", 0),
-    (Deed::CutBelow(4_294_967_290), "cut", 2),
+const GREATEST: [Expectation; 4] = [
+    (Action::CutBelow(4_294_967_295), "room", 0),
+    (Action::Borrow, "lent", 0),
+    (Action::CutBelow(4_294_967_289), "room", 0),
+    (Action::CutBelow(4_294_967_290), "cut", 2),
 ];
 
-fn greatest() -> &'static [Row] {
+fn greatest() -> &'static [Expectation] {
     &GREATEST
 }
 
@@ -60,15 +60,15 @@ maxIdle = -1
 maxTotal = -1
 ";
 
-// The limit is a million entries. Stored are two for each of 20,000 objects, and one that says that they are enough; outstanding are two
-// for each, and one.
-const STOCK: [Row; 3] = [
-    (Deed::Fill, "count", 20_000),
-    (Deed::CutBelow(919_998), "room", 0),
-    (Deed::CutBelow(919_999), "cut", 40_001),
+// The limit is a million entries. Stored are two for each of 20,000 objects, and one that records that they are enough;
+// outstanding are two for each, and one.
+const STOCK: [Expectation; 3] = [
+    (Action::Fill, "count", 20_000),
+    (Action::CutBelow(919_998), "room", 0),
+    (Action::CutBelow(919_999), "cut", 40_001),
 ];
 
-fn stock() -> &'static [Row] {
+fn stock() -> &'static [Expectation] {
     &STOCK
 }
 
@@ -80,11 +80,11 @@ fn comes_to<B: Room, R: Wait + Abort>(
     me: &mut Caller<B>,
     held: &mut Option<Lent<Item>>,
     segments: &mut Vec<Segment>,
-    deed: Deed,
+    action: Action,
 ) -> Reply {
-    match deed {
-        Deed::CutBelow(least) => cuts_below(rt, alloc, pool, me, segments, least),
-        _ => does(rt, pool, me, held, deed),
+    match action {
+        Action::CutBelow(least) => cuts_below(rt, alloc, pool, me, segments, least),
+        _ => does(rt, pool, me, held, action),
     }
 }
 
@@ -94,13 +94,13 @@ fn goes_through_cuts<B: Room, R: Wait + Abort>(
     alloc: Global,
     pool: &Pool<B>,
     me: &mut Caller<B>,
-    rows: &[Row],
+    rows: &[Expectation],
 ) -> Vec<Segment> {
     let mut segments = Vec::new(alloc);
     let mut held = None;
-    for &(deed, word, number) in rows {
-        let told = comes_to(rt, alloc, pool, me, &mut held, &mut segments, deed);
-        expects(rt, deed, told, (word, number));
+    for &(action, word, number) in rows {
+        let told = comes_to(rt, alloc, pool, me, &mut held, &mut segments, action);
+        expects(rt, action, told, (word, number));
     }
     segments
 }
@@ -112,7 +112,7 @@ fn lives<B: Room, R: Wait + Abort>(
     site: Site,
     settings: Settings,
     items: Items,
-    rows: &[Row],
+    rows: &[Expectation],
 ) -> (Core<Item>, Vec<Segment>)
     requires { (site ≡ B.table) × (settings ≡ B.settings) × (1 ≡ B.callers) }
 {
@@ -123,9 +123,9 @@ fn lives<B: Room, R: Wait + Abort>(
     (finished(rt, pool, callers), segments)
 }
 
-// Does the actions of rows with the settings of a text. The segments and the stored entries are one history: a new core that takes its
-// steps has the same counts.
-fn tries<R: Wait + Abort>(rt: &R, alloc: Global, settings: &str, rows: &[Row]) {
+// Does the actions of rows with the settings of a text. The segments and the stored entries are one history: a new core
+// that takes its steps has the same counts.
+fn tries<R: Wait + Abort>(rt: &R, alloc: Global, settings: &str, rows: &[Expectation]) {
     let site = site(rt, alloc);
     let settings = settings_of(rt, alloc, settings);
     let record = Record::new(rt, alloc, 8);

@@ -50,13 +50,13 @@ pub fn finished<B: Room, R: Wait + Abort>(
     pool.finish(rt, callers).ok().expect(rt, "a core")
 }
 
-/// The only caller.
+/// Returns the only caller.
 pub fn single<B: Room>(rt: &impl Abort, callers: Vec<Caller<B>>) -> Caller<B> {
     let mut callers = callers;
     callers.pop().expect(rt, "a caller")
 }
 
-/// The callers 0 and 1, of two.
+/// Returns the callers 0 and 1, of two.
 pub fn pair<B: Room>(rt: &impl Abort, callers: Vec<Caller<B>>) -> (Caller<B>, Caller<B>) {
     let mut callers = callers;
     let one = callers.pop().expect(rt, "two callers");
@@ -64,7 +64,7 @@ pub fn pair<B: Room>(rt: &impl Abort, callers: Vec<Caller<B>>) -> (Caller<B>, Ca
     (zero, one)
 }
 
-/// The callers 0, 1 and 2, of three.
+/// Returns the callers 0, 1 and 2, of three.
 pub fn three<B: Room>(
     rt: &impl Abort,
     callers: Vec<Caller<B>>,

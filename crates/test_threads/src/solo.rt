@@ -1,8 +1,8 @@
 // The only caller of a new pool.
 ghost use Rattle.std.specs.Prelude.{◌≡◌};
 
+use crate::actions::{Expectation, goes_through};
 use crate::clocks::TestClock;
-use crate::deeds::{Row, goes_through};
 use crate::items::{Failing, Items, Record, Waiting};
 use crate::openings::{NUMBER, open, settings_of, single, site};
 use pool_settings::Settings;
@@ -18,7 +18,7 @@ fn lives<B: Room, R: Wait + Abort>(
     site: Site,
     settings: Settings,
     items: Items,
-    rows: &[Row],
+    rows: &[Expectation],
 )
     requires { (site ≡ B.table) × (settings ≡ B.settings) × (1 ≡ B.callers) }
 {
@@ -29,13 +29,14 @@ fn lives<B: Room, R: Wait + Abort>(
     goes_through(rt, &pool, &mut me, &mut held, rows);
 }
 
-/// Does the actions of rows with this factory and the settings of a text. Returns whether each created object was destroyed once.
+/// Does the actions of rows with this factory and the settings of a text. Returns whether each created object was
+/// destroyed once.
 pub fn tries<R: Wait + Abort>(
     rt: &R,
     alloc: Global,
     settings: &str,
     failing: Failing,
-    rows: &[Row],
+    rows: &[Expectation],
 ) -> bool {
     let site = site(rt, alloc);
     let settings = settings_of(rt, alloc, settings);

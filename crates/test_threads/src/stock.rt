@@ -1,5 +1,5 @@
 // Objects that are made for the idle queue: added one by one, and up to the number to keep.
-use crate::deeds::Deed;
+use crate::actions::Action;
 use crate::items::{Call, Failing, NOT_MADE, NOT_PASSIVATED};
 use crate::solo::tries;
 
@@ -9,13 +9,13 @@ const ONE_PLACE: &str = "maxTotal = 1\ntestOnCreate = true";
 #[test]
 fn added(rt: HostRuntime) {
     let rows = [
-        (Deed::Add, "idle", 0),
-        (Deed::Idle, "idle", 1),
-        (Deed::Destroyed, "destroyed", 0),
-        (Deed::Add, "no place", 0),
-        (Deed::Close, "count", 1),
-        (Deed::Add, "closed", 0),
-        (Deed::Fill, "count", 0),
+        (Action::Add, "idle", 0),
+        (Action::Idle, "idle", 1),
+        (Action::Destroyed, "destroyed", 0),
+        (Action::Add, "no place", 0),
+        (Action::Close, "count", 1),
+        (Action::Add, "closed", 0),
+        (Action::Fill, "count", 0),
     ];
     tries(&rt, rt.alloc(), ONE_PLACE, Failing::Never, &rows);
 }
@@ -28,19 +28,19 @@ fn none_added(rt: HostRuntime) {
         (Call::Passivate, "not passivated", u64::from(NOT_PASSIVATED)),
     ] {
         let rows = [
-            (Deed::Add, word, number),
-            (Deed::Idle, "idle", 0),
-            (Deed::Destroyed, "destroyed", 1),
-            (Deed::Close, "count", 0),
-            (Deed::Add, "closed", 0),
-            (Deed::Fill, "count", 0),
+            (Action::Add, word, number),
+            (Action::Idle, "idle", 0),
+            (Action::Destroyed, "destroyed", 1),
+            (Action::Close, "count", 0),
+            (Action::Add, "closed", 0),
+            (Action::Fill, "count", 0),
         ];
         tries(&rt, rt.alloc(), ONE_PLACE, Failing::All(failing), &rows);
     }
 }
 
-// Up to the number to keep, to the last place, and to a make that fails: the third call of the factory that can fail makes the second
-// object.
+// Up to the number to keep, to the last place, and to a make that fails: the third call of the factory that can fail
+// makes the second object.
 #[test]
 fn filled(rt: HostRuntime) {
     for (settings, failing, word, number, idle) in [
@@ -54,7 +54,7 @@ fn filled(rt: HostRuntime) {
             1,
         ),
     ] {
-        let rows = [(Deed::Fill, word, number), (Deed::Idle, "idle", idle)];
+        let rows = [(Action::Fill, word, number), (Action::Idle, "idle", idle)];
         tries(&rt, rt.alloc(), settings, failing, &rows);
     }
 }
@@ -70,11 +70,11 @@ numTestsPerEvictionRun = -1
 #[test]
 fn stocked_with_many(rt: HostRuntime) {
     let rows = [
-        (Deed::Fill, "count", 20_000),
-        (Deed::Evict, "examined", 20_000),
-        (Deed::Idle, "idle", 20_000),
-        (Deed::Clear, "count", 20_000),
-        (Deed::Destroyed, "destroyed", 20_000),
+        (Action::Fill, "count", 20_000),
+        (Action::Evict, "examined", 20_000),
+        (Action::Idle, "idle", 20_000),
+        (Action::Clear, "count", 20_000),
+        (Action::Destroyed, "destroyed", 20_000),
     ];
     tries(&rt, rt.alloc(), MANY, Failing::Never, &rows);
 }

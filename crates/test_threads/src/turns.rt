@@ -2,7 +2,7 @@
 use std::sync::atomic::{AtomicBool, AtomicU64, Ordering};
 use std::thread;
 
-/// How often a test reads a flag or the counts before it gives up.
+/// The number of times that a test reads a flag or the counts before it gives up.
 pub const TURNS: u32 = 1_000_000;
 
 /// The name of a flag that one caller sets and another waits for.
@@ -62,7 +62,7 @@ impl Flags {
         self.named(flag).store(true, Ordering::SeqCst);
     }
 
-    /// Waits until a flag is set. Returns whether it was within the turns.
+    /// Waits until a flag is set. Returns whether it was set within the turns.
     pub fn turn_until_set(&self, flag: Flag) -> bool {
         let flag = self.named(flag);
         for _ in 0..TURNS {
@@ -84,14 +84,14 @@ impl Flags {
         self.time.load(Ordering::SeqCst)
     }
 
-    /// Waits until the gate is open, or the turns run out, which is noted.
+    /// Waits until the gate is open or the turns run out, and notes the latter.
     pub fn wait_at_the_gate(&self) {
         if !self.turn_until_set(Flag::Gate) {
             self.ran_out.store(true, Ordering::SeqCst);
         }
     }
 
-    /// Whether a wait at the gate has run out of turns.
+    /// Returns whether a wait at the gate has run out of turns.
     pub fn have_run_out(&self) -> bool {
         self.ran_out.load(Ordering::SeqCst)
     }

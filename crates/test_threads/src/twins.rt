@@ -1,8 +1,8 @@
-// Two pools of one kind: only its own pool takes an object back.
+// Two pools of one kind: an object can be returned only to its own pool.
 ghost use Rattle.std.specs.Prelude.{◌≡◌};
 
+use crate::actions::{Action, goes_through};
 use crate::clocks::TestClock;
-use crate::deeds::{Deed, goes_through};
 use crate::items::{Failing, Items, Record, Waiting};
 use crate::openings::{Pool, open, single, site};
 use pool_settings::Settings;
@@ -33,7 +33,8 @@ fn opens<'a, B: Room, R: Wait + Abort>(
     (pool, single(rt, callers))
 }
 
-// An object of a pool with the number 5 is passed to another pool, with this number, which rejects it as not lent, or as foreign.
+// An object of a pool with the number 5 is passed to another pool, with this number, which rejects it as not lent, or
+// as foreign.
 fn is_offered<A: Room, B: Room, R: Wait + Abort>(
     rt: &R,
     own: &Pool<A>,
@@ -43,16 +44,16 @@ fn is_offered<A: Room, B: Room, R: Wait + Abort>(
     number: u64,
 ) {
     let mut held = None;
-    let mine = [(Deed::Borrow, "lent", 0)];
+    let mine = [(Action::Borrow, "lent", 0)];
     goes_through(rt, own, me, &mut held, &mine);
     let why = if number == 5 { "not lent" } else { "foreign" };
     let offered = [
-        (Deed::Invalidate, why, 0),
-        (Deed::GiveBack, why, 0),
-        (Deed::Held, "awake", 0),
+        (Action::Invalidate, why, 0),
+        (Action::GiveBack, why, 0),
+        (Action::Held, "awake", 0),
     ];
     goes_through(rt, other, stranger, &mut held, &offered);
-    let back = [(Deed::GiveBack, "parked", 0)];
+    let back = [(Action::GiveBack, "parked", 0)];
     goes_through(rt, own, me, &mut held, &back);
 }
 

@@ -1,5 +1,5 @@
 // Eviction runs, reclaims and maintenance.
-use crate::deeds::Deed;
+use crate::actions::Action;
 use crate::items::{Call, Failing};
 use crate::solo::tries;
 
@@ -23,9 +23,9 @@ fn evicted(rt: HostRuntime) {
         ),
     ] {
         let rows = [
-            (Deed::Fill, "count", 2),
-            (Deed::Evict, word, 2),
-            (Deed::Evicted, "evicted", evicted),
+            (Action::Fill, "count", 2),
+            (Action::Evict, word, 2),
+            (Action::Evicted, "evicted", evicted),
         ];
         tries(&rt, rt.alloc(), settings, failing, &rows);
     }
@@ -42,11 +42,11 @@ removeAbandonedTimeoutMillis = 0
 #[test]
 fn maintained(rt: HostRuntime) {
     let rows = [
-        (Deed::Borrow, "lent", 0),
-        (Deed::Reclaim, "count", 1),
-        (Deed::GiveBack, "gone", 0),
-        (Deed::Maintain, "done", 0),
-        (Deed::Idle, "idle", 3),
+        (Action::Borrow, "lent", 0),
+        (Action::Reclaim, "count", 1),
+        (Action::GiveBack, "gone", 0),
+        (Action::Maintain, "done", 0),
+        (Action::Idle, "idle", 3),
     ];
     tries(&rt, rt.alloc(), FORGETFUL, Failing::Never, &rows);
 }
@@ -55,10 +55,10 @@ fn maintained(rt: HostRuntime) {
 #[test]
 fn closed(rt: HostRuntime) {
     let rows = [
-        (Deed::Close, "count", 0),
-        (Deed::Evict, "closed", 0),
-        (Deed::Reclaim, "count", 0),
-        (Deed::Maintain, "closed", 0),
+        (Action::Close, "count", 0),
+        (Action::Evict, "closed", 0),
+        (Action::Reclaim, "count", 0),
+        (Action::Maintain, "closed", 0),
     ];
     tries(&rt, rt.alloc(), "", Failing::Never, &rows);
 }
@@ -67,10 +67,10 @@ fn closed(rt: HostRuntime) {
 #[test]
 fn short_of_room(rt: HostRuntime) {
     let rows = [
-        (Deed::Evict, "examined", 0),
-        (Deed::Evict, "full", 0),
-        (Deed::Reclaim, "full", 0),
-        (Deed::Maintain, "full", 0),
+        (Action::Evict, "examined", 0),
+        (Action::Evict, "full", 0),
+        (Action::Reclaim, "full", 0),
+        (Action::Maintain, "full", 0),
     ];
     tries(&rt, rt.alloc(), "journalLimit = 2", Failing::Never, &rows);
 }

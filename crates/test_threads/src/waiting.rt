@@ -1,6 +1,7 @@
-// A borrow that waits is woken: by an object that is returned, by a place that is free again, and by the close of the pool.
+// A borrow that waits is woken: by an object that is returned, by a place that is free again, and by the close of the
+// pool.
+use crate::actions::{Action, Expectation};
 use crate::beside::{Gated, tries};
-use crate::deeds::{Deed, Row};
 use crate::items::Failing;
 use std::alloc::Global;
 use std::process::Abort;
@@ -15,24 +16,25 @@ removeAbandonedOnMaintenance = true
 removeAbandonedTimeoutMillis = 0
 ";
 
-// One caller takes the only place, and ends the wait of the other, whose first entry, the third of the journal, says that it waits.
+// One caller takes the only place, and ends the wait of the other, whose first entry, the third of the journal, records
+// that it waits.
 fn wakes<R: Threads + Wait + Abort + Sync>(
     rt: &R,
     alloc: Global,
-    ending: Row,
-    has_come: Deed,
+    ending: Expectation,
+    has_come: Action,
     came: (&'static str, u64),
 ) {
     let ends = [
-        (Deed::Borrow, "lent", 0),
-        (Deed::UntilSteps(3), "done", 0),
+        (Action::Borrow, "lent", 0),
+        (Action::UntilSteps(3), "done", 0),
         ending,
         (has_come, "done", 0),
     ];
     let (word, number) = came;
     let waits = [
-        (Deed::UntilSteps(2), "done", 0),
-        (Deed::Borrow, word, number),
+        (Action::UntilSteps(2), "done", 0),
+        (Action::Borrow, word, number),
     ];
     let parts = [ends.as_slice(), waits.as_slice(), [].as_slice()];
     tries(rt, alloc, SETTINGS, Failing::Never, Gated::Nothing, parts);
@@ -40,24 +42,30 @@ fn wakes<R: Threads + Wait + Abort + Sync>(
 
 #[test]
 fn what_comes_back_goes_to_who_waits(rt: HostRuntime) {
-    let ending = (Deed::GiveBack, "parked", 0);
-    wakes(&rt, rt.alloc(), ending, Deed::UntilLent, ("lent", 0));
+    let ending = (Action::GiveBack, "parked", 0);
+    wakes(&rt, rt.alloc(), ending, Action::UntilLent, ("lent", 0));
 }
 
 #[test]
 fn the_place_of_a_broken_object_goes_to_who_waits(rt: HostRuntime) {
-    let ending = (Deed::Invalidate, "destroyed", 0);
-    wakes(&rt, rt.alloc(), ending, Deed::UntilLent, ("lent", 1));
+    let ending = (Action::Invalidate, "destroyed", 0);
+    wakes(&rt, rt.alloc(), ending, Action::UntilLent, ("lent", 1));
 }
 
 #[test]
 fn the_place_of_a_forgotten_object_goes_to_who_waits(rt: HostRuntime) {
-    let ending = (Deed::Reclaim, "count", 1);
-    wakes(&rt, rt.alloc(), ending, Deed::UntilLent, ("lent", 1));
+    let ending = (Action::Reclaim, "count", 1);
+    wakes(&rt, rt.alloc(), ending, Action::UntilLent, ("lent", 1));
 }
 
 #[test]
 fn who_waits_learns_of_the_end(rt: HostRuntime) {
-    let ending = (Deed::Close, "count", 0);
-    wakes(&rt, rt.alloc(), ending, Deed::UntilSteps(5), ("closed", 0));
+    let ending = (Action::Close, "count", 0);
+    wakes(
+        &rt,
+        rt.alloc(),
+        ending,
+        Action::UntilSteps(5),
+        ("closed", 0),
+    );
 }

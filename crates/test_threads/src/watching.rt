@@ -1,11 +1,11 @@
 // A third caller reads the counts, while two borrow and return.
+use crate::actions::{Action, Expectation, expect_equal};
 use crate::beside::{Gated, Parts, tries};
-use crate::deeds::{Deed, Row, expect_equal};
 use crate::items::Failing;
 
-const TURNS: [Row; 1] = [(Deed::TakeTurns(1_000), "done", 1_000)];
+const TURNS: [Expectation; 1] = [(Action::TakeTurns(1_000), "done", 1_000)];
 
-const LOOKS: [Row; 1] = [(Deed::Watch(10_000), "done", 10_000)];
+const LOOKS: [Expectation; 1] = [(Action::Watch(10_000), "done", 10_000)];
 
 fn parts() -> Parts<'static> {
     [&TURNS, &TURNS, &LOOKS]

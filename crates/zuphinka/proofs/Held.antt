@@ -1,4 +1,4 @@
--- What a handle holds is nothing, at null, or a pool in a block, whose place may be compared with null. Assumes `Logic`.
+-- A handle owns nothing, at null, or a pool in a block, whose address may be compared with null. Assumes `Logic`.
 use Rattle.std.proofs.Common.{◌≡◌, ℕ, List, ◌∷◌, refl, Option, Some, None}
 use seplogic.Ra.Ura.{Ura}
 use mir.Raw.{raw as bare}
@@ -12,18 +12,18 @@ use denote.RawPtr.{Ptr, block_ptr, null_ptr, lies_at, Testable, in_a_block}
 use Rattle.std.specs.declared.alloc.Global.{Global}
 use Rattle.std.specs.contracts.impls.GlobalAllocator.TheImpl.{ghosts}
 use Rattle.std.proofs.GlobalToken.{dealloc_token-Testable}
-use Rattle.pool_core.specs.Pool.{Pool}
+use Rattle.pool_core.specs.Pool.{CoreModel}
 use Rattle.zuphinka.specs.Holding.{Cores, holds}
 
-module _ {M : Type 1} {𝓤 : Ura M} (𝓛 : Logic 𝓤) (a : Global) (x : Pool ℕ) where
+module _ {M : Type 1} {𝓤 : Ura M} (𝓛 : Logic 𝓤) (a : Global) (x : CoreModel ℕ) where
   testable : (p : Ptr) → ent 𝓤 (sem 𝓛 (holds a p (Some x))) (guard 𝓤 (Testable p) (sem 𝓛 (holds a p (Some x))))
   testable p = fact_use 𝓤 (Testable p)
       (via 𝓤 _ (snd∗ 𝓤 (sem 𝓛 (lies_at Cores full_share p x)) (sem 𝓛 (ghosts.dealloc_token a (bare (lone Cores.mir)) p))) (dealloc_token-Testable 𝓛 a (bare (lone Cores.mir)) p))
       (guard_i 𝓤 (Testable p) (sem 𝓛 (holds a p (Some x))))
 
 module _ {M : Type 1} {𝓤 : Ura M} {𝓛 : Logic 𝓤} {K : Type 0} {Γ : List (Item 𝓤)} {G : Goal 𝓤 𝓛.H} (t : K) (a : Global) (p : Ptr) where
-  pub either : (c : Option (Pool ℕ)) → (c ≡ None → p ≡ null_ptr → Seq K 𝓛 Γ G)
-      → ((x : Pool ℕ) (b o : ℕ) → c ≡ Some x → p ≡ block_ptr b o → Testable (block_ptr b o) → Seq K 𝓛 (‵ (holds a (block_ptr b o) (Some x)) ∷ Γ) G)
+  pub either : (c : Option (CoreModel ℕ)) → (c ≡ None → p ≡ null_ptr → Seq K 𝓛 Γ G)
+      → ((x : CoreModel ℕ) (b o : ℕ) → c ≡ Some x → p ≡ block_ptr b o → Testable (block_ptr b o) → Seq K 𝓛 (‵ (holds a (block_ptr b o) (Some x)) ∷ Γ) G)
       → Seq K 𝓛 (‵ (holds a p c) ∷ Γ) G
   either None empty full = feq_l t (λ e. empty refl e)
   either (Some x) empty full =

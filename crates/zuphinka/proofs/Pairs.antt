@@ -1,9 +1,9 @@
 -- A struct of a pointer and of one thing more, by its machine value. Assumes `Logic`.
 --     word p h          the value
 --     Pair Z            the struct, whatever its name
---     ptr_good          a pointer is of its type, also where it is null
+--     ptr_good          a pointer is of its type, even if it is null
 --     word_good         the value is of the struct's type
---     second            the second field as an allocator, whose lemmas say that it has one machine value
+--     second            the second field as an allocator, whose lemmas state that it has one machine value
 --     apart, joined     what the struct owns is what the second field owns, and back
 use Rattle.std.proofs.Common.{◌≡◌, List, [], ◌∷◌, ◌++◌, refl, sym, ◌∙◌, subst, lit<}
 use mir.Syntax.{Ty, ty_struct, ty_ptr, tcons, impl, tnil, dnil}

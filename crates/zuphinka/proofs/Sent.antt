@@ -1,4 +1,4 @@
--- A handle may go to another thread, with the pool that it holds: nothing of them belongs to a thread.
+-- A handle may go to another thread, with the pool that it owns: nothing of them belongs to a thread.
 use Rattle.std.proofs.Common.{ℕ, Option, Some, None}
 use mir.Raw.{raw}
 use base.Fraction.{full_share}
@@ -10,7 +10,7 @@ use denote.RawPtr.{Ptr, block_ptr, null_ptr}
 use Rattle.std.proofs.Crossing.{frees, crosses}
 use Rattle.std.specs.declared.alloc.Global.{Global}
 use Rattle.std.specs.contracts.alloc.Global as heap
-use Rattle.pool_core.specs.Pool.{Pool}
+use Rattle.pool_core.specs.Pool.{CoreModel}
 use Rattle.zuphinka.specs.Holding.{Cores, holds}
 use Rattle.zuphinka.specs.contracts.handle.Handle as handle
 
@@ -23,7 +23,7 @@ heap_handles = search sendable depth 20
 cores : IsSend Cores
 cores = search (sendable, crosses) depth 60 fits 100000
 
-keyless : (a : Global) (p : Ptr) (c : Option (Pool ℕ)) → Keyless (holds a p c)
+keyless : (a : Global) (p : Ptr) (c : Option (CoreModel ℕ)) → Keyless (holds a p c)
 keyless a p None = tt
 keyless a (block_ptr b o) (Some x) = (part_keyless Cores cores full_share x b o, frees.frees a (raw (lone Cores.mir)) (block_ptr b o))
 keyless a null_ptr (Some x) = (tt, frees.frees a (raw (lone Cores.mir)) null_ptr)

@@ -1,19 +1,19 @@
--- What the calls from C come to.
+-- The results of the calls from C.
 use Rattle.std.specs.Prelude.{◌≡◌, ℕ, ◌+◌, true, false, if◌then◌else◌, List, [], ◌∷◌, ◌++◌, length, Option, Some, None, IsSomeAnd, Ok, Err, IsUtf8}
 use Rattle.pool_settings.specs.Answer.{settings_of_text, IsAnswer}
 use Rattle.pool_settings.specs.declared.fault.SettingsFault.{SettingsFault}
-use Rattle.pool_journal.specs.Base.{empty_base, closed_from, records_from, reach}
+use Rattle.pool_journal.specs.Base.{empty_base, closed_from, records_from, base_after}
 use Rattle.pool_journal.specs.Carrying.{carries}
 use Rattle.pool_journal.specs.declared.answer.Answer.{Answer}
 use Rattle.pool_journal.specs.declared.entry.Entry.{Entry}
 use Rattle.pool_journal.specs.declared.input.Input.{Input}
-use Rattle.pool_places.specs.Shelf.{records_in}
+use Rattle.pool_places.specs.PlacesModel.{records_in}
 use Rattle.pool_core.specs.Core.{Answered}
-use Rattle.pool_core.specs.Finishing.{finishes}
-use Rattle.pool_core.specs.Fits.{FitsFrom, IsTooLongFrom, owed_from, limit_from}
-use Rattle.pool_core.specs.Kept.{KeepsIdleFrom}
-use Rattle.pool_core.specs.Legal.{IsLegalFrom, entry_due_from}
-use Rattle.pool_core.specs.Pool.{Pool}
+use Rattle.pool_core.specs.Completion.{is_completing}
+use Rattle.pool_core.specs.Fits.{FitsLimitFrom, ExceedsLimitFrom, owed_from, limit_from}
+use Rattle.pool_core.specs.Values.{StoresIdleValuesFrom}
+use Rattle.pool_core.specs.Legal.{IsLegalFrom, expected_entry_from}
+use Rattle.pool_core.specs.Pool.{CoreModel}
 use Rattle.pool_core.specs.Reply.{reply_from}
 use Rattle.pool_core.specs.Steps.{keeps_value}
 use Rattle.zuphinka.specs.Codes.{input_of, reply_of}
@@ -24,28 +24,28 @@ use Rattle.zuphinka.specs.declared.status.Status.TheVariants.{Done, NotOpen, Alr
 use Rattle.zuphinka.specs.declared.request.Request.{Request}
 use Rattle.zuphinka.specs.declared.reply.Reply.{Reply}
 
--- what a handle has: a pool, or none
+-- the content of a handle: a pool, or none
 abbrev pub Held : Type 0
-Held = Option (Pool ℕ)
+Held = Option (CoreModel ℕ)
 
--- the code is that of a status, of which so much holds
+-- the code is that of a status for which P holds
 abbrev pub Came : ℕ → (Status → Type 0) → Type 0
 Came code P = (s : Status) × (code ≡ status_code s) × P s
 
 -- ---- open
 
--- the pool is new, with the settings that the text says
-pub record Opened (text : List ℕ) (pool : Pool ℕ) : Type 0 where
+-- the pool is new, with the settings of the text
+pub record Opened (text : List ℕ) (pool : CoreModel ℕ) : Type 0 where
   pub settings : settings_of_text text ≡ Ok pool.settings
   pub base : pool.base ≡ empty_base
   pub journal : pool.journal ≡ []
   pub places : pool.places ≡ []
 
--- the text has a fault, its first; but want of memory may stand in place of each answer
+-- the status is that of the first error of the text, or, in place of any answer, that of an allocation failure
 abbrev pub HasFault : List ℕ → Status → Type 0
 HasFault text s = (fault : SettingsFault) × (s ≡ fault_status fault) × IsAnswer text (Err fault)
 
--- what opening an empty handle comes to
+-- the result of opening an empty handle
 abbrev pub OpensTo : List ℕ → Held → Status → Type 0
 OpensTo text new Done = IsSomeAnd new (Opened text)
 OpensTo text new NotText = ¬ (IsUtf8 text) × (new ≡ None)
@@ -57,19 +57,20 @@ Opens text (Some pool) new s = (s ≡ AlreadyOpen) × (new ≡ Some pool)
 
 -- ---- step
 
--- the token that is handed in: the request's, exactly where the input carries one
+-- the token that is passed in: the request's, exactly if the input carries one
 abbrev pub handed_in : Request → Input → Option ℕ
 handed_in q input = if carries input then Some q.object else None
 
--- what holds of a pool after each step
-pub record IsSound (pool : Pool ℕ) : Type 0 where
+-- the properties of a pool after each step
+pub record IsSound (pool : CoreModel ℕ) : Type 0 where
   pub legal : IsLegalFrom pool.settings pool.base pool.journal
   pub objects : records_in pool.places ≡ records_from pool.base pool.journal
-  pub values : KeepsIdleFrom pool.base pool.journal pool.places
-  pub fits : FitsFrom pool.settings pool.base pool.journal
+  pub values : StoresIdleValuesFrom pool.base pool.journal pool.places
+  pub fits : FitsLimitFrom pool.settings pool.base pool.journal
 
--- the pool took the step, and the reply tells its answer and the token that comes out; once closed it makes no object idle
-pub record Took (q : Request) (old new : Pool ℕ) (told : Reply) (input : Input) : Type 0 where
+-- the pool took the step, and the reply is its answer with the token that is returned; after the pool is closed, no object
+-- becomes idle
+pub record Took (q : Request) (old new : CoreModel ℕ) (told : Reply) (input : Input) : Type 0 where
   pub answer : Answer
   pub out : Option ℕ
   pub answered : Answered q.caller q.at input (handed_in q input) old new answer out
@@ -77,48 +78,48 @@ pub record Took (q : Request) (old new : Pool ℕ) (told : Reply) (input : Input
   pub closed : closed_from old.base old.journal ≡ true → keeps_value answer ≡ false
   pub sound : IsSound new
 
--- the journal with the entry that is due
-abbrev pub grown : Request → Pool ℕ → Input → List Entry
-grown q old input = old.journal ++ entry_due_from old.settings old.base old.journal q.caller q.at input ∷ []
+-- the journal with the expected entry
+abbrev pub grown : Request → CoreModel ℕ → Input → List Entry
+grown q old input = old.journal ++ expected_entry_from old.settings old.base old.journal q.caller q.at input ∷ []
 
--- what a step of an open pool comes to
-abbrev pub StepsTo : Request → Pool ℕ → Pool ℕ → Reply → Reply → Status → Type 0
+-- the result of a step of an open pool
+abbrev pub StepsTo : Request → CoreModel ℕ → CoreModel ℕ → Reply → Reply → Status → Type 0
 StepsTo q old new before after Done = IsSomeAnd (input_of q) (Took q old new after)
 StepsTo q old new before after BadRequest = (input_of q ≡ None) × (new ≡ old) × (after ≡ before)
 StepsTo q old new before after JournalFull =
-    IsSomeAnd (input_of q) (λ input. IsTooLongFrom old.settings old.base (grown q old input)) × (new ≡ old) × (after ≡ before)
+    IsSomeAnd (input_of q) (λ input. ExceedsLimitFrom old.settings old.base (grown q old input)) × (new ≡ old) × (after ≡ before)
 StepsTo q old new before after OutOfMemory =
-    IsSomeAnd (input_of q) (λ input. FitsFrom old.settings old.base (grown q old input)) × (new ≡ old) × (after ≡ before)
+    IsSomeAnd (input_of q) (λ input. FitsLimitFrom old.settings old.base (grown q old input)) × (new ≡ old) × (after ≡ before)
 StepsTo q old new before after _ = ⊥
 
 abbrev pub Steps : Request → Held → Held → Reply → Reply → Status → Type 0
 Steps q None new before after s = (s ≡ NotOpen) × (new ≡ None) × (after ≡ before)
 Steps q (Some old) new before after s = IsSomeAnd new (λ pool. StepsTo q old pool before after s)
 
--- the answer that is due finishes what was begun
-abbrev pub IsFinishing : Request → Pool ℕ → Type 0
-IsFinishing q old = IsSomeAnd (input_of q) (λ input. finishes (reply_from old.settings old.base old.journal q.at input) input ≡ true)
+-- the step with the expected answer is completing
+abbrev pub IsFinishing : Request → CoreModel ℕ → Type 0
+IsFinishing q old = IsSomeAnd (input_of q) (λ input. is_completing (reply_from old.settings old.base old.journal q.at input) input ≡ true)
 
 -- ---- reads
 
--- where there is a pool, what is read of it is told; else nothing is
-abbrev pub Reads : {A : Type 0} → (Pool ℕ → A → Type 0) → Held → Held → A → A → ℕ → Type 0
+-- if there is a pool, P holds of it and the value that is read; otherwise the value is unchanged
+abbrev pub Reads : {A : Type 0} → (CoreModel ℕ → A → Type 0) → Held → Held → A → A → ℕ → Type 0
 Reads P None new before after code = (code ≡ status_code NotOpen) × (new ≡ None) × (after ≡ before)
 Reads P (Some pool) new before after code = (code ≡ status_code Done) × (new ≡ Some pool) × P pool after
 
--- how many entries the journal has
-abbrev pub TellsSteps : Pool ℕ → ℕ → Type 0
+-- the number of entries in the journal
+abbrev pub TellsSteps : CoreModel ℕ → ℕ → Type 0
 TellsSteps pool n = n ≡ length pool.journal
 
--- how many more fit, beside those that are owed
-abbrev pub TellsRoom : Pool ℕ → ℕ → Type 0
+-- the number of entries that still fit, besides the outstanding ones
+abbrev pub TellsRoom : CoreModel ℕ → ℕ → Type 0
 TellsRoom pool n = n + (length pool.journal + owed_from pool.base pool.journal) ≡ limit_from pool.settings pool.base
 
 -- ---- cut
 
--- what cutting the journal of an open pool comes to: it goes on from what the entries came to, with none of them
-abbrev pub CutsTo : Pool ℕ → Pool ℕ → Status → Type 0
-CutsTo old new Done = new ≡ record old { base = reach old.base old.journal; journal = [] }
+-- the result of cutting the journal of an open pool: it continues from the state after the entries, with none of them
+abbrev pub CutsTo : CoreModel ℕ → CoreModel ℕ → Status → Type 0
+CutsTo old new Done = new ≡ record old { base = base_after old.base old.journal; journal = [] }
 CutsTo old new OutOfMemory = new ≡ old
 CutsTo old new _ = ⊥
 
@@ -128,15 +129,15 @@ Cuts (Some old) new s = IsSomeAnd new (λ pool. CutsTo old pool s)
 
 -- ---- lines
 
--- what telling a text of a pool comes to, if it has one
-abbrev pub Tells : (Pool ℕ → Option (List ℕ)) → Held → Held → List ℕ → List ℕ → ℕ → ℕ → Status → Type 0
-Tells text None new before after n m s = (s ≡ NotOpen) × (new ≡ None) × (after ≡ before) × (m ≡ n)
-Tells text (Some pool) new before after n m s = (new ≡ Some pool) × TextTo (text pool) before after n m s
+-- the result of storing a text of a pool, if it has one
+abbrev pub ReturnsText : (CoreModel ℕ → Option (List ℕ)) → Held → Held → List ℕ → List ℕ → ℕ → ℕ → Status → Type 0
+ReturnsText text None new before after n m s = (s ≡ NotOpen) × (new ≡ None) × (after ≡ before) × (m ≡ n)
+ReturnsText text (Some pool) new before after n m s = (new ≡ Some pool) × TextTo (text pool) before after n m s
 
 -- the lines of the entries
 abbrev pub Lines : ℕ → Held → Held → List ℕ → List ℕ → ℕ → ℕ → Status → Type 0
-Lines k = Tells (λ pool. entry_line pool.journal k)
+Lines k = ReturnsText (λ pool. entry_line pool.journal k)
 
--- the lines of the base that the entries go on from
+-- the lines of the base that the entries continue
 abbrev pub BaseLines : ℕ → Held → Held → List ℕ → List ℕ → ℕ → ℕ → Status → Type 0
-BaseLines k = Tells (λ pool. base_line pool.base k)
+BaseLines k = ReturnsText (λ pool. base_line pool.base k)

@@ -24,7 +24,7 @@ outcome_at code =
     else (if code == 6 then Some outcomes.PassivateFailed
     else None)))))
 
--- the inputs that say no more than their codes
+-- the inputs that their codes alone determine
 abbrev pub plain_at : ℕ → Option Input
 plain_at code =
     if code == 7 then Some inputs.Add
@@ -39,7 +39,7 @@ plain_at code =
     else (if code == 19 then Some inputs.Close
     else None)))))))))
 
--- the inputs that say a number: since when an object is wanted, or which object it is
+-- the inputs with a number: the time at which a borrow began, or the id of an object
 abbrev pub numbered_at : ℕ → ℕ → Option Input
 numbered_at code n =
     if code == 1 then Some (inputs.Borrow n)
@@ -49,7 +49,7 @@ numbered_at code n =
     else (if code == 18 then Some (inputs.Destroyed n)
     else None))))
 
--- the inputs that say what the factory did to an object
+-- the inputs that report the outcome of work on an object
 abbrev pub reported_at : ℕ → ℕ → Outcome → Option Input
 reported_at code i o =
     if code == 2 then Some (inputs.Ready i o)
@@ -58,12 +58,12 @@ reported_at code i o =
     else (if code == 12 then Some (inputs.Tested i o)
     else None)))
 
--- the same, of an outcome that may be none
+-- the same, for an outcome that may be none
 abbrev pub reported_with : ℕ → ℕ → Option Outcome → Option Input
 reported_with code i None = None
 reported_with code i (Some o) = reported_at code i o
 
--- what a request asks for, if its codes say it
+-- the input of a request, if its codes are valid
 abbrev pub input_of : Request → Option Input
 input_of q = option_or (plain_at q.input) (option_or (numbered_at q.input q.number) (reported_with q.input q.number (outcome_at q.outcome)))
 
@@ -91,7 +91,7 @@ answer_code answers.Enough = 20
 answer_code answers.NoPlace = 21
 answer_code (answers.Refused cause) = 22
 
--- the object that an answer names, or how many it counts; 0 for the others
+-- the id of the object that an answer names, or the number that it counts; 0 for the others
 abbrev pub answer_number : Answer → ℕ
 answer_number (answers.Take i) = i
 answer_number (answers.Make i) = i
@@ -108,12 +108,12 @@ cause_code causes.NotLent = 2
 cause_code causes.NotHeld = 3
 cause_code causes.BadOutcome = 4
 
--- why nothing was done; 0 for the other answers
+-- the code of the cause of an answer `Refused`; 0 for the other answers
 abbrev pub answer_cause : Answer → ℕ
 answer_cause (answers.Refused cause) = cause_code cause
 answer_cause _ = 0
 
--- what C is told of an answer, and of the value that comes out with it
+-- the reply to C, with an answer and the value that is returned with it
 abbrev pub reply_of : Answer → Option ℕ → Reply
 reply_of answer out =
     record {

@@ -1,4 +1,4 @@
--- What C is told of settings.
+-- The settings, as C reads them.
 use Rattle.std.specs.Prelude.{◌≡◌, ℕ, ◌<◌, ◌≤◌, List, ◌++◌, length, drop, Option, Some, None, Ok, Err, IsUtf8}
 use Rattle.pool_settings.specs.Answer.{settings_of_text, IsAnswer}
 use Rattle.pool_settings.specs.declared.fault.SettingsFault.{SettingsFault}
@@ -32,25 +32,25 @@ setup_of s =
       test_while_idle = s.test_while_idle;
     }
 
--- the key that a fault names
+-- the key that an error names
 abbrev pub key_of : SettingsFault → Option (List ℕ)
 key_of (faults.UnknownKey key) = Some key
 key_of (faults.WrongType key) = Some key.now
 key_of (faults.OutOfRange key) = Some key.now
 key_of _ = None
 
--- the name stands in front, where it has room, and its length is told
+-- the name is at the start of the buffer, if it fits, and its length is stored
 pub record NameTold (name before after : List ℕ) (m : ℕ) : Type 0 where
   pub size : m ≡ length name
   pub fits : length name ≤ length before → after ≡ name ++ drop (length name) before
   pub too_long : length before < length name → after ≡ before
 
--- a key that is named is told
+-- a key is stored if the error names one
 abbrev pub KeyTold : Option (List ℕ) → List ℕ → List ℕ → ℕ → ℕ → Type 0
 KeyTold None before after n m = (after ≡ before) × (m ≡ n)
 KeyTold (Some name) before after n m = NameTold name before after m
 
--- what telling the settings of a text comes to; want of memory may stand in place of each fault
+-- the result of reading the settings of a text; any error may be replaced by an allocation failure
 abbrev pub SetsTo : List ℕ → Setup → Setup → List ℕ → List ℕ → ℕ → ℕ → Status → Type 0
 SetsTo text old new before after n m Done =
     (S : Settings) × (settings_of_text text ≡ Ok S) × (new ≡ setup_of S) × (after ≡ before) × (m ≡ n)

@@ -20,7 +20,7 @@ status_code UnknownKey = 10
 status_code WrongType = 11
 status_code OutOfRange = 12
 
--- what a fault of settings is told as
+-- the status of an error in settings
 abbrev pub fault_status : SettingsFault → Status
 fault_status faults.NotToml = NotToml
 fault_status (faults.UnknownKey key) = UnknownKey

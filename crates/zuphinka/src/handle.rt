@@ -1,6 +1,6 @@
 ghost use Rattle.std.specs.Prelude.{◌≡◌, ℕ, Option, Some, None};
 ghost use Rattle.std.specs.Option.{option_map, MatchOption};
-ghost use Rattle.pool_core.specs.Pool.{Pool};
+ghost use Rattle.pool_core.specs.Pool.{CoreModel};
 ghost use Rattle.zuphinka.specs.Holding.{holds, pool_code};
 
 use crate::parts::Parts;
@@ -10,22 +10,22 @@ use std::marker::{Model, Send};
 use std::mem;
 use std::ptr::null_mut;
 
-/// What C has of a pool: where it lies, or null where there is none.
+/// A handle, by which C refers to a pool: the address of the pool, or null if there is none.
 #[repr(C)]
 pub struct Handle {
     at: *mut u8,
     alloc: Global,
-    pub ghost core: { Option (Pool ℕ) } by { pool_code },
+    pub ghost core: { Option (CoreModel ℕ) } by { pool_code },
 }
 
 impl Model for Handle {
     ghost also_owns = { λ h. holds h.alloc h.at h.core };
 }
 
-// C may call from another thread than before, where the host orders the calls.
+// C may call from another thread than before, if the host orders the calls.
 unsafe impl Send for Handle {}
 
-// A value that another thread may have.
+// Returns the value, which may go to another thread.
 fn sendable<T: Send>(value: T) -> T
     ensures { result ≡ value }
 {
@@ -33,7 +33,7 @@ fn sendable<T: Send>(value: T) -> T
 }
 
 impl Handle {
-    // A handle of no pool.
+    // Returns a handle of no pool.
     fn empty(alloc: Global) -> Handle
         ensures { result.core ≡ None }
     {
@@ -67,9 +67,10 @@ impl Handle {
         }
     }
 
-    /// Takes the pool out, and leaves none.
+    /// Takes the pool out of the handle, which is then empty. Returns `None` if there is none.
     pub fn take(&mut self, alloc: Global) -> Option<Box<Core<u64>>>
-        ensures taken { MatchOption result (self.old.core ≡ None) (λ b. self.old.core ≡ Some b.value) }
+        ensures taken { MatchOption result (self.old.core ≡ None)
+            (λ b. self.old.core ≡ Some b.value) }
         ensures empty { self.new.core ≡ None }
     {
         match mem::replace(self, Handle::empty(alloc)).into_parts() {
@@ -78,7 +79,7 @@ impl Handle {
         }
     }
 
-    /// Puts a pool in, where there is none.
+    /// Puts a pool into an empty handle.
     pub fn put(&mut self, core: Box<Core<u64>>)
         requires empty { self.old.core ≡ None }
         ensures put { self.new.core ≡ Some core.value }

@@ -1,4 +1,4 @@
-//! A pool for C. A pool's objects are known to it by tokens of the host's, which it keeps while they are idle.
+//! A pool for C. The host passes tokens for its objects, and the pool stores the token of an object while it is idle.
 #![tactic(auto)]
 
 ghost use Rattle.std.specs.Prelude.{◌≡◌, None, IsSomeAnd};
@@ -28,7 +28,8 @@ use std::alloc::Global;
 use std::str;
 use tally::Tally;
 
-/// Tells the settings that a text says, or the key of its first fault.
+/// Reads settings from a text, and stores them in `settings`. If the first error of the text names a key, stores the
+/// key at the start of `key`, if it fits, and its length in `size`.
 #[unsafe(no_mangle)]
 pub extern "C" fn zuphinka_settings(
     alloc: Global,
@@ -37,7 +38,8 @@ pub extern "C" fn zuphinka_settings(
     key: &mut [u8],
     size: &mut u64,
 ) -> u32
-    ensures { Came result (SetsTo text.now settings.old settings.new key.old key.new size.old size.new) }
+    ensures { Came result (SetsTo text.now settings.old settings.new key.old key.new size.old
+        size.new) }
 {
     let Ok(text) = str::from_utf8(text) else {
         return Status::NotText.code();
@@ -54,7 +56,7 @@ pub extern "C" fn zuphinka_settings(
     }
 }
 
-/// Opens a pool in an empty handle, with the settings of a text.
+/// Opens a pool in an empty handle, with settings from a text.
 #[unsafe(no_mangle)]
 pub extern "C" fn zuphinka_open(alloc: Global, pool: &mut Handle, settings: &[u8]) -> u32
     ensures { Came result (Opens settings.now pool.old.core pool.new.core) }
@@ -75,7 +77,7 @@ pub extern "C" fn zuphinka_open(alloc: Global, pool: &mut Handle, settings: &[u8
     }
 }
 
-/// Answers what is asked, and appends the one entry that says so.
+/// Stores the expected answer to `request` in `reply`, and appends exactly one entry, which records it.
 #[unsafe(no_mangle)]
 pub extern "C" fn zuphinka_step(
     alloc: Global,
@@ -83,8 +85,10 @@ pub extern "C" fn zuphinka_step(
     request: &Request,
     reply: &mut Reply,
 ) -> u32
-    ensures status { Came result (Steps request.now pool.old.core pool.new.core reply.old reply.new) }
-    ensures finishing { IsSomeAnd pool.old.core (IsFinishing request.now) → result ≡ status_code Done }
+    ensures status { Came result (Steps request.now pool.old.core pool.new.core reply.old
+        reply.new) }
+    ensures finishing { IsSomeAnd pool.old.core (IsFinishing request.now)
+        → result ≡ status_code Done }
 {
     let Some(mut core) = pool.take(alloc) else {
         return Status::NotOpen.code();
@@ -94,7 +98,7 @@ pub extern "C" fn zuphinka_step(
     status.code()
 }
 
-/// Tells the counts.
+/// Stores the counts in `counts`.
 #[unsafe(no_mangle)]
 pub extern "C" fn zuphinka_counts(alloc: Global, pool: &mut Handle, counts: &mut Tally) -> u32
     ensures { Reads TellsCounts pool.old.core pool.new.core counts.old counts.new result }
@@ -107,7 +111,7 @@ pub extern "C" fn zuphinka_counts(alloc: Global, pool: &mut Handle, counts: &mut
     Status::Done.code()
 }
 
-/// Tells how many entries the journal has, since it was cut last.
+/// Stores in `steps` the number of entries in the journal, since its last cut.
 #[unsafe(no_mangle)]
 pub extern "C" fn zuphinka_steps(alloc: Global, pool: &mut Handle, steps: &mut u64) -> u32
     ensures { Reads TellsSteps pool.old.core pool.new.core steps.old steps.new result }
@@ -120,7 +124,7 @@ pub extern "C" fn zuphinka_steps(alloc: Global, pool: &mut Handle, steps: &mut u
     Status::Done.code()
 }
 
-/// Tells how many entries more fit into the journal, beside those that are owed.
+/// Stores in `room` the number of entries that still fit into the journal, besides the outstanding ones.
 #[unsafe(no_mangle)]
 pub extern "C" fn zuphinka_room(alloc: Global, pool: &mut Handle, room: &mut u64) -> u32
     ensures { Reads TellsRoom pool.old.core pool.new.core room.old room.new result }
@@ -133,7 +137,7 @@ pub extern "C" fn zuphinka_room(alloc: Global, pool: &mut Handle, room: &mut u64
     Status::Done.code()
 }
 
-/// Puts the line of an entry in front of `text`, and tells its length.
+/// Stores the line of the entry at `position` at the start of `text`, if it fits, and its length in `size`.
 #[unsafe(no_mangle)]
 pub extern "C" fn zuphinka_line(
     alloc: Global,
@@ -142,7 +146,8 @@ pub extern "C" fn zuphinka_line(
     text: &mut [u8],
     size: &mut u64,
 ) -> u32
-    ensures { Came result (Lines position pool.old.core pool.new.core text.old text.new size.old size.new) }
+    ensures { Came result (Lines position pool.old.core pool.new.core text.old text.new size.old
+        size.new) }
 {
     let Some(core) = pool.take(alloc) else {
         return Status::NotOpen.code();
@@ -152,7 +157,8 @@ pub extern "C" fn zuphinka_line(
     status.code()
 }
 
-/// Puts a line of the base in front of `text`, and tells its length: the first line of a segment, at 0, and then one for each object.
+/// Stores the line of the base at `position` at the start of `text`, if it fits, and its length in `size`. At position
+/// 0 is the first line of a segment, and then one for each object.
 #[unsafe(no_mangle)]
 pub extern "C" fn zuphinka_base(
     alloc: Global,
@@ -161,7 +167,8 @@ pub extern "C" fn zuphinka_base(
     text: &mut [u8],
     size: &mut u64,
 ) -> u32
-    ensures { Came result (BaseLines position pool.old.core pool.new.core text.old text.new size.old size.new) }
+    ensures { Came result (BaseLines position pool.old.core pool.new.core text.old text.new size.old
+        size.new) }
 {
     let Some(core) = pool.take(alloc) else {
         return Status::NotOpen.code();
@@ -171,7 +178,7 @@ pub extern "C" fn zuphinka_base(
     status.code()
 }
 
-/// Cuts the journal: drops the entries that are stored, and goes on from what they came to.
+/// Cuts the journal: drops the stored entries, and continues from the state after them.
 #[unsafe(no_mangle)]
 pub extern "C" fn zuphinka_cut(alloc: Global, pool: &mut Handle) -> u32
     ensures { Came result (Cuts pool.old.core pool.new.core) }
@@ -184,7 +191,7 @@ pub extern "C" fn zuphinka_cut(alloc: Global, pool: &mut Handle) -> u32
     status.code()
 }
 
-/// Ends a pool, and leaves an empty handle.
+/// Ends a pool. The handle is then empty.
 #[unsafe(no_mangle)]
 pub extern "C" fn zuphinka_drop(alloc: Global, pool: &mut Handle)
     ensures { pool.new.core ≡ None }

@@ -4,7 +4,7 @@ ghost use Rattle.std.specs.Box.Ownership.{box_owns};
 use std::alloc::Allocator;
 use std::marker::Model;
 
-/// A box as the place of its value, with the right to give it back.
+/// The parts of a box: the address of its value, with the right to free its memory.
 pub(crate) struct Parts<T, A: Allocator> {
     pub(crate) at: *mut T,
     pub(crate) alloc: A,

@@ -3,19 +3,19 @@ ghost use Rattle.zuphinka.specs.Codes.{answer_code, answer_number, answer_cause,
 
 use pool_journal::{Answer, Cause};
 
-/// What C is told of a step.
+/// The reply to C, after a step.
 #[repr(C)]
 #[derive(Clone, Copy)]
 pub struct Reply {
-    /// The object's id, or how many there are; else 0.
+    /// The id of the object, or the number of objects, if the answer has one; otherwise 0.
     pub number: u64,
-    /// The object's token, where it has one; else 0.
+    /// The token that is returned, if there is one; otherwise 0.
     pub object: u64,
     /// The code of the answer.
     pub answer: u32,
-    /// The code of the cause, where nothing was done; else 0.
+    /// The code of the cause, if the answer is `Refused`; otherwise 0.
     pub cause: u32,
-    /// Whether a token comes out.
+    /// Whether a token is returned.
     pub has_object: bool,
 }
 

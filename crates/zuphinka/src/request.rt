@@ -3,21 +3,21 @@ ghost use Rattle.zuphinka.specs.Codes.{outcome_at, plain_at, numbered_at, report
 
 use pool_journal::{Input, Outcome, When};
 
-/// What C asks of a pool. Which fields are read, the input says.
+/// A request from C to a pool. The input determines which fields are read.
 #[repr(C)]
 #[derive(Clone, Copy)]
 pub struct Request {
-    /// The moment, in milliseconds.
+    /// The time, in milliseconds.
     pub at: u64,
-    /// The object's id, or the moment since when an object is wanted.
+    /// The object's id, or the time at which the borrow began, in milliseconds.
     pub number: u64,
-    /// The object's token, where the input carries it.
+    /// The object's token, if the input carries it.
     pub object: u64,
     /// The number of the caller.
     pub caller: u32,
     /// The code of the input.
     pub input: u32,
-    /// The code of what the factory did.
+    /// The code of the outcome of work on the object.
     pub outcome: u32,
 }
 
@@ -35,7 +35,7 @@ fn outcome_at(code: u32) -> Option<Outcome>
     }
 }
 
-// The inputs that say no more.
+// The inputs without a number or an outcome.
 fn plain_at(code: u32) -> Option<Input>
     ensures { result ≡ plain_at code }
 {
@@ -54,7 +54,7 @@ fn plain_at(code: u32) -> Option<Input>
     }
 }
 
-// The inputs that say a number.
+// The inputs with a number.
 fn numbered_at(code: u32, number: u64) -> Option<Input>
     ensures { result ≡ numbered_at code number }
 {
@@ -68,7 +68,7 @@ fn numbered_at(code: u32, number: u64) -> Option<Input>
     }
 }
 
-// The inputs that say what the factory did to an object.
+// The inputs that report the outcome of work on an object.
 fn reported_at(code: u32, id: u64, outcome: Outcome) -> Option<Input>
     ensures { result ≡ reported_at code id outcome }
 {
@@ -82,7 +82,7 @@ fn reported_at(code: u32, id: u64, outcome: Outcome) -> Option<Input>
 }
 
 impl Request {
-    /// What is asked for, if the codes say it.
+    /// Returns the input of the request, if its codes are valid.
     pub(crate) fn input(&self) -> Option<Input>
         ensures { result ≡ input_of self.now }
     {

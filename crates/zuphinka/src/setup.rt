@@ -3,35 +3,35 @@ ghost use Rattle.zuphinka.specs.Setting.{setup_of, key_of, KeyTold, NameTold};
 
 use pool_settings::{Settings, SettingsFault};
 
-/// What C is told of settings.
+/// The settings, as C reads them.
 #[repr(C)]
 #[derive(Clone, Copy)]
 pub struct Setup {
-    /// How many entries the journal can hold.
+    /// The greatest number of entries in the journal.
     pub journal_limit: u64,
-    /// How long a borrow waits, in milliseconds; negative for no limit.
+    /// The longest time that a borrow waits, in milliseconds; negative for no limit.
     pub max_wait_millis: i64,
-    /// How long an object may be idle until it is evicted, in milliseconds; 0 or negative for ever.
+    /// The time after which an idle object is evicted, in milliseconds; 0 or negative for no such eviction.
     pub min_evictable_idle_millis: i64,
-    /// How long an object may be lent unused until it is abandoned, in milliseconds.
+    /// The time after which a lent object that is not used is abandoned, in milliseconds.
     pub remove_abandoned_timeout_millis: i64,
-    /// The same as `min_evictable_idle_millis`, for objects beyond those that are to be kept ready.
+    /// The same as `min_evictable_idle_millis`, for objects beyond the number of idle objects to keep ready.
     pub soft_min_evictable_idle_millis: i64,
     /// The greatest number of idle objects; negative for no limit.
     pub max_idle: i32,
-    /// The greatest number of objects that are present; negative for no limit.
+    /// The greatest number of present objects; negative for no limit.
     pub max_total: i32,
-    /// How many idle objects are to be kept ready, as far as `max_idle` allows.
+    /// The number of idle objects to keep ready, as far as `max_idle` allows.
     pub min_idle: i32,
-    /// How many idle objects an eviction run examines; at `-n`, one in n of them, rounded up.
+    /// The number of idle objects that an eviction run examines; at `-n`, one in n of them, rounded up.
     pub num_tests_per_eviction_run: i32,
-    /// Whether lent objects that nobody uses any more can be reclaimed.
+    /// Whether abandoned objects can be reclaimed.
     pub abandoned: bool,
-    /// Whether a borrow waits when no object is free; else it is refused at once.
+    /// Whether a borrow waits if no object is free; otherwise it fails at once.
     pub block_when_exhausted: bool,
-    /// Whether the object that was parked last is lent first; else the one that was parked first.
+    /// Whether the object that was parked last is lent first; otherwise the one that was parked first.
     pub lifo: bool,
-    /// Whether a borrow reclaims abandoned objects first, when few are left.
+    /// Whether a borrow first reclaims abandoned objects, if few are left.
     pub remove_abandoned_on_borrow: bool,
     /// Whether maintenance reclaims abandoned objects.
     pub remove_abandoned_on_maintenance: bool,
@@ -39,7 +39,7 @@ pub struct Setup {
     pub test_on_borrow: bool,
     /// Whether an object is validated after it is made.
     pub test_on_create: bool,
-    /// Whether an object is validated when it is given back.
+    /// Whether an object is validated when it is returned.
     pub test_on_return: bool,
     /// Whether idle objects are validated by an eviction run.
     pub test_while_idle: bool,
@@ -72,7 +72,7 @@ impl Setup {
     }
 }
 
-/// Puts the key that a fault names in front of `key`, where it has room, and tells its length.
+/// Stores the key that an error names at the start of `key`, if it fits, and its length in `size`.
 pub(crate) fn put_key(fault: &SettingsFault, key: &mut [u8], size: &mut u64)
     ensures { KeyTold (key_of fault.now) key.old key.new size.old size.new }
 {

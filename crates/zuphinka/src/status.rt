@@ -3,34 +3,34 @@ ghost use Rattle.zuphinka.specs.Status.{status_code, fault_status};
 
 use pool_settings::SettingsFault;
 
-/// What a call came to.
+/// The status of a call.
 #[derive(Clone, Copy)]
 pub(crate) enum Status {
-    /// What was asked for is done.
+    /// The call is done.
     Done,
     /// The handle has no pool.
     NotOpen,
     /// The handle has a pool.
     AlreadyOpen,
-    /// Memory was wanting.
+    /// An allocation failed.
     OutOfMemory,
-    /// The entry would take the journal past its limit.
+    /// The journal has no room for the entry and those outstanding after it.
     JournalFull,
-    /// A code of the request is none.
+    /// A code of the request is wrong.
     BadRequest,
     /// The journal has no entry, or the base no line, at this position.
     NoEntry,
-    /// The line is longer than the text has room for.
+    /// The line does not fit into the buffer.
     NoRoom,
-    /// The settings are no UTF-8.
+    /// The settings are not UTF-8.
     NotText,
-    /// The settings are no TOML document.
+    /// The settings are not a TOML document.
     NotToml,
     /// No setting has this key.
     UnknownKey,
-    /// The key's value isn't of its type.
+    /// The value of the key has another type.
     WrongType,
-    /// The key's number isn't in its range.
+    /// The number of the key is out of its range.
     OutOfRange,
 }
 
@@ -56,7 +56,7 @@ impl Status {
     }
 }
 
-/// What a fault of settings is to C, which is told of no key.
+/// Returns the status of an error in settings, without its key.
 pub(crate) fn status_of(fault: &SettingsFault) -> Status
     ensures { result ≡ fault_status fault.now }
 {

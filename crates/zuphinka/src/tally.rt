@@ -3,19 +3,19 @@ ghost use Rattle.zuphinka.specs.Counting.{tally_of};
 
 use pool_stats::Counts;
 
-/// What C is told of a pool's counts.
+/// The counts of a pool, as C reads them.
 #[repr(C)]
 #[derive(Clone, Copy)]
 pub struct Tally {
-    /// The entries since the very first.
+    /// The entries since the start of the history.
     pub steps: u64,
-    /// The objects that are idle.
+    /// The idle objects, including those under an idle test.
     pub idle: u64,
-    /// The objects that are lent.
+    /// The lent objects.
     pub lent: u64,
-    /// The objects that are present, and neither idle nor lent.
+    /// The present objects that are neither idle nor lent.
     pub reserved: u64,
-    /// The objects that were asked to be made.
+    /// The objects that the pool asked to make.
     pub created: u64,
     /// The objects that were destroyed, or could not be made.
     pub destroyed: u64,

@@ -12,7 +12,7 @@ use std::alloc::Global;
 use std::cell::Cell;
 use std::process::Abort;
 
-/// The bytes of a line, `times` times.
+/// Returns the bytes of a line, `times` times.
 fn repeated(rt: &impl Abort, alloc: Global, line: &str, times: usize) -> Vec<u8> {
     let mut bytes = Vec::new(alloc);
     for _ in 0..times {

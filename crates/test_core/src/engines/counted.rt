@@ -19,7 +19,7 @@ pub struct Asked {
     pub most_room: usize,
 }
 
-/// Gives its bytes, and is interrupted `interruptions` times before each read.
+/// A reader that returns its bytes, and is interrupted `interruptions` times before each read.
 #[derive(Drop)]
 pub struct CountedReader<'a> {
     rest: &'a [u8],
@@ -89,7 +89,7 @@ pub struct Handed {
     pub unflushed: usize,
 }
 
-/// Takes all bytes, and is interrupted `interruptions` times before each write and each flush.
+/// A writer that takes all bytes, and is interrupted `interruptions` times before each write and each flush.
 #[derive(Drop)]
 pub struct CountedWriter {
     bytes: Vec<u8>,

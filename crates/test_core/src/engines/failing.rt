@@ -9,7 +9,7 @@ use std::alloc::Global;
 use std::fmt::Debug;
 use std::process::Abort;
 
-/// The number of lines that end within the bytes.
+/// Returns the number of lines that end within the bytes.
 fn lines_in(bytes: &[u8]) -> usize {
     let mut lines = 0usize;
     for byte in bytes {
@@ -20,7 +20,7 @@ fn lines_in(bytes: &[u8]) -> usize {
     lines
 }
 
-/// The first lines of a text.
+/// Returns the first `count` lines of a text.
 fn first_lines(rt: &impl Abort, alloc: Global, text: &str, count: usize) -> String {
     let mut lines = String::new(alloc);
     for line in text.lines().take(count) {
@@ -34,7 +34,7 @@ fn is_at_bytes<T: Debug + Drop + PartialEq>(rt: &impl Abort, bytes: &[u8], found
     assert_eq!(rt; found, wanted, "at {bytes:?}");
 }
 
-/// Runs a script from a reader that gives these bytes in pieces of this size, and then fails.
+/// Runs a script from a reader that returns these bytes in pieces of this size, and then fails.
 fn fails_behind(rt: &impl Abort, alloc: Global, given: &[u8], size: usize) {
     let mut reader = Failing::new(given, size);
     let mut written = Vec::new(alloc);

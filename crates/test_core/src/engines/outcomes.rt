@@ -1,4 +1,4 @@
-// Checks that end a test unless an engine returned or wrote what is wanted.
+// Checks that end a test unless an engine returned or wrote the expected result.
 use crate::engines::stats_of_at_most;
 use pool_engines::EngineFault;
 use std::alloc::Global;

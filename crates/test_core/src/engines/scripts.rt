@@ -1,4 +1,5 @@
-// Scripts that come in pieces, and streams that fail. tests/cases has scripts and journals that are played on the program.
+// Scripts that come in pieces, and streams that fail. tests/cases has scripts and journals that are played on the
+// program.
 use crate::engines::outcomes::{is, wrote};
 use crate::engines::streams::{Failing, Pieces, Stingy};
 use crate::engines::{check, run};
@@ -32,7 +33,7 @@ pub fn add_line(rt: &impl Abort, text: &mut String, line: &str) {
     text.push_str("\n").expect(rt, "the end of a line");
 }
 
-/// The script of a journal: each line up to its ` = `.
+/// Returns the script of a journal: each line up to its ` = `.
 pub fn script_of(rt: &impl Abort, alloc: Global, journal: &str) -> String {
     let mut script = String::new(alloc);
     for line in journal.lines() {
@@ -45,7 +46,7 @@ pub fn script_of(rt: &impl Abort, alloc: Global, journal: &str) -> String {
     script
 }
 
-/// Settings with this journal limit.
+/// Returns settings with this journal limit.
 pub fn with_limit(journal_limit: u64) -> Settings {
     Settings {
         journal_limit,

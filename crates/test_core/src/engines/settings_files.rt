@@ -10,7 +10,7 @@ use std::process::Abort;
 
 const MOST: usize = 1_048_576;
 
-/// The message of a file that is not read, and `read` for one that is.
+/// Returns the message of a file that is not read, and `read` for one that is.
 fn told<R: Source>(rt: &impl Abort, alloc: Global, reader: &mut R) -> String {
     let told = match read_settings(alloc, reader) {
         Ok(_) => String::from_str(alloc, "read"),
@@ -19,7 +19,7 @@ fn told<R: Source>(rt: &impl Abort, alloc: Global, reader: &mut R) -> String {
     told.expect(rt, "what is told of a file")
 }
 
-/// Whether the settings of a file allow three objects.
+/// Returns whether the settings of a file allow three objects.
 pub fn says_three(answer: &Result<Settings, FileFault>) -> bool {
     match answer {
         Ok(settings) => settings.max_total() == 3,
@@ -34,7 +34,7 @@ fn read(rt: &impl Abort, alloc: Global, text: &str) -> Settings {
     }
 }
 
-/// A file of this length that sets the number of objects.
+/// Returns a file of this length that sets the number of objects.
 fn file_of(rt: &impl Abort, alloc: Global, length: usize) -> Vec<u8> {
     let line = Vec::from_slice(alloc, b"maxTotal = 3\n");
     let mut bytes = line.expect(rt, "the line of a file");

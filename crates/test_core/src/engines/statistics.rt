@@ -43,7 +43,7 @@ const NO_NUMBER: &str = "0 10 borrow 10 = make 0\n0 11 ready 00 good = lent\n";
 
 const BAD_NUMBER: EngineFault = EngineFault::Line(2, LineFault::BadNumber);
 
-/// Limits and journals, with the result of their statistics, and the written lines.
+/// Returns limits and journals, with the result of their statistics, and the written lines.
 fn limited_journals() -> &'static [(u64, &'static str, Result<(), EngineFault>, &'static str)] {
     &[
         (4, PLAIN_LIFE, Ok(()), OF_PLAIN_LIFE),

@@ -7,7 +7,7 @@ use std::cell::Cell;
 use std::io;
 use std::io::{Read, Write};
 
-/// Gives its bytes in pieces, and notes how much was written before the second read.
+/// A reader that returns its bytes in pieces, and notes how much was written before the second read.
 #[derive(Drop)]
 pub struct Pieces<'a> {
     rest: &'a [u8],
@@ -58,7 +58,7 @@ impl Source for Pieces<'_> {
     }
 }
 
-/// Takes few bytes at a time, and counts them.
+/// A writer that takes few bytes at a time, and counts them.
 #[derive(Drop)]
 pub struct Stingy<'a> {
     bytes: Vec<u8>,
@@ -105,7 +105,7 @@ impl Sink for Stingy<'_> {
     }
 }
 
-/// Gives its bytes, or takes some, and then fails. It counts the calls after its failure.
+/// A reader and writer that returns its bytes, or takes some, and then fails. It counts the calls after its failure.
 #[derive(Drop)]
 pub struct Failing<'a> {
     rest: &'a [u8],
@@ -149,7 +149,7 @@ impl<'a> Failing<'a> {
         io::ErrorKind::BrokenPipe.into()
     }
 
-    /// Gives some bytes if any are left.
+    /// Returns some bytes if any are left.
     fn give(&mut self, buf: &mut [u8]) -> Option<usize>
         ensures within { IfSome result (λ count. count ≤ length buf.new) }
         ensures failed { self.new.has_failed ≡ self.old.has_failed }
@@ -212,7 +212,7 @@ impl Sink for Failing<'_> {
     }
 }
 
-/// Takes some bytes, and then fails or takes none.
+/// A writer that takes some bytes, and then fails or takes none.
 #[derive(Drop)]
 pub struct Limited {
     bytes: Vec<u8>,
@@ -262,7 +262,7 @@ impl Sink for Limited {
     }
 }
 
-/// Gives a line again and again, and never ends.
+/// A reader that returns a line again and again, and never ends.
 #[derive(Drop)]
 pub struct Endless<'a> {
     line: &'a [u8],

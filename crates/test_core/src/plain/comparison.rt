@@ -91,7 +91,8 @@ fn step(
     core.step(0, at, input, value_of(input))
 }
 
-// Takes a step of a core, and compares its answer with that of the reference evaluator. Returns `None` if the journal is full.
+// Takes a step of a core, and compares its answer with that of the reference evaluator. Returns `None` if the journal
+// is full.
 fn step_both(
     rt: &impl Abort,
     alloc: Global,
@@ -111,7 +112,8 @@ fn step_both(
     }
 }
 
-// Takes `STEPS` steps of a core, and compares each answer, and the counts after every `COUNTED`th. Marks in `seen` each answer that occurred.
+// Takes `STEPS` steps of a core, and compares each answer, and the counts after every `COUNTED`th. Marks in `seen` each
+// answer that occurred.
 fn play(
     rt: &impl Abort,
     alloc: Global,

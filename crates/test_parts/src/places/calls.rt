@@ -1,7 +1,7 @@
 ghost use Rattle.std.specs.Prelude.{◌≡◌, ◌+◌, ◌<◌, ◌≤◌, Some, IsTrue};
 ghost use Rattle.pool_journal.specs.Queue.{record_in};
 ghost use Rattle.pool_places.specs.Changes.{opens_as};
-ghost use Rattle.pool_places.specs.Shelf.{records_in};
+ghost use Rattle.pool_places.specs.PlacesModel.{records_in};
 ghost use Rattle.test_parts.specs.Before.{AllBefore};
 
 use crate::checks::expect_equal;
@@ -160,12 +160,12 @@ fn call(
     }
 }
 
-// Looks for idle and for overdue objects, which changes no answer.
+// Looks for idle and for abandoned objects, which changes no answer.
 fn look(places: &mut Places<u64>, number: u64, moment: u64)
     ensures { places.new ≡ places.old }
 {
-    places.look_from(moment.saturating_sub(number % 64));
-    places.look_for_overdue(moment, number % 32);
+    places.start_search_at(moment.saturating_sub(number % 64));
+    places.refresh_abandoned_bound(moment, number % 32);
 }
 
 fn is_overdue(place: &Place<u64>, at: u64, timeout: u64) -> bool {
@@ -213,7 +213,7 @@ fn last_of(plain: &[Place<u64>]) -> Option<u64> {
     Some(last?.id)
 }
 
-// The number of overdue objects, and the first of them.
+// The number of abandoned objects, and the first of them.
 fn overdue_of(plain: &[Place<u64>], at: u64, timeout: u64) -> (u64, Option<u64>) {
     let mut count = 0u64;
     let mut least = None;
@@ -288,7 +288,7 @@ pub(crate) fn ask_queue(
     expect_equal(rt, told, due);
 }
 
-// Compares the answers about overdue objects.
+// Compares the answers about abandoned objects.
 pub(crate) fn ask_overdue(
     rt: &impl Abort,
     places: &Places<u64>,

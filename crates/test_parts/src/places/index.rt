@@ -1,14 +1,14 @@
 ghost use Rattle.std.specs.Prelude.{◌+◌, ◌≤◌, ℕ};
-ghost use Rattle.rising_index.specs.Pairs.{IdsBelow};
+ghost use Rattle.sorted_index.specs.Pairs.{IdsBelow};
 
 use crate::checks::expect_equal;
 use crate::places::numbers::next_number;
-use rising_index::{Pair, RisingIndex};
+use sorted_index::{Pair, SortedIndex};
 use std::alloc::Global;
 use std::process::Abort;
 
 // Adds a pair to an index and to a plain list.
-fn add(rt: &impl Abort, index: &mut RisingIndex, plain: &mut Vec<Pair>, id: u64, key: usize)
+fn add(rt: &impl Abort, index: &mut SortedIndex, plain: &mut Vec<Pair>, id: u64, key: usize)
     requires { IdsBelow id index.old.pairs }
     ensures { IdsBelow (id + 1) index.new.pairs }
 {
@@ -27,8 +27,8 @@ fn take_plain(plain: &mut Vec<Pair>, id: u64) -> Option<usize> {
     None
 }
 
-// Removes the pair of an id from an index if it is there, and returns its key.
-fn take_indexed(index: &mut RisingIndex, id: u64) -> Option<usize>
+// Removes the pair of an id from an index if it is present, and returns its key.
+fn take_indexed(index: &mut SortedIndex, id: u64) -> Option<usize>
     ensures { (n : ℕ) → IdsBelow n index.old.pairs → IdsBelow n index.new.pairs }
 {
     match index.find(id) {
@@ -37,8 +37,8 @@ fn take_indexed(index: &mut RisingIndex, id: u64) -> Option<usize>
     }
 }
 
-// Removes a pair from both if it is there, and compares the keys.
-fn take(rt: &impl Abort, index: &mut RisingIndex, plain: &mut Vec<Pair>, id: u64)
+// Removes a pair from both if it is present, and compares the keys.
+fn take(rt: &impl Abort, index: &mut SortedIndex, plain: &mut Vec<Pair>, id: u64)
     ensures { (n : ℕ) → IdsBelow n index.old.pairs → IdsBelow n index.new.pairs }
 {
     let key = take_plain(plain, id);
@@ -49,14 +49,14 @@ fn take(rt: &impl Abort, index: &mut RisingIndex, plain: &mut Vec<Pair>, id: u64
 }
 
 // Ends the test unless the index has the pairs of the plain list.
-fn has_all(rt: &impl Abort, alloc: Global, index: &RisingIndex, plain: &[Pair]) {
+fn has_all(rt: &impl Abort, alloc: Global, index: &SortedIndex, plain: &[Pair]) {
     let pairs: Vec<Pair> = index.walk().collect(alloc).expect(rt, "memory");
     expect_equal(rt, pairs.as_slice(), plain);
 }
 
 #[test]
 fn each_call_once(rt: HostRuntime) {
-    let mut index = RisingIndex::new(rt.alloc());
+    let mut index = SortedIndex::new(rt.alloc());
     assert!(rt; index.is_empty());
     index.reserve_one().expect(&rt, "memory");
     index.push(3, 30);
@@ -73,7 +73,7 @@ fn each_call_once(rt: HostRuntime) {
 // Pairs by their positions, before and after the removed ones are swept out.
 #[test]
 fn by_position(rt: HostRuntime) {
-    let mut index = RisingIndex::new(rt.alloc());
+    let mut index = SortedIndex::new(rt.alloc());
     index.reserve(3).expect(&rt, "memory");
     index.push(3, 30);
     index.push(7, 70);
@@ -92,7 +92,7 @@ fn by_position(rt: HostRuntime) {
 // An id may be pushed again after it and all above it were removed.
 #[test]
 fn an_id_twice(rt: HostRuntime) {
-    let mut index = RisingIndex::new(rt.alloc());
+    let mut index = SortedIndex::new(rt.alloc());
     index.reserve_one().expect(&rt, "memory");
     index.push(3, 30);
     index.reserve_one().expect(&rt, "memory");
@@ -105,7 +105,7 @@ fn an_id_twice(rt: HostRuntime) {
 
 #[test]
 fn as_a_plain_list(rt: HostRuntime) {
-    let mut index = RisingIndex::new(rt.alloc());
+    let mut index = SortedIndex::new(rt.alloc());
     let mut plain = Vec::new(rt.alloc());
     let mut state = 1;
     for id in 0..300 {
@@ -124,7 +124,7 @@ fn as_a_plain_list(rt: HostRuntime) {
 
 #[test]
 fn emptied_from_the_middle(rt: HostRuntime) {
-    let mut index = RisingIndex::new(rt.alloc());
+    let mut index = SortedIndex::new(rt.alloc());
     let mut plain = Vec::new(rt.alloc());
     for id in 0..200 {
         add(&rt, &mut index, &mut plain, id, 1000);

@@ -1,9 +1,9 @@
 ghost use Rattle.std.specs.Prelude.{◌≡◌, ◌+◌, ◌≤◌, ◌++◌, ◌∷◌, [], IsTrue, IsSomeAnd, true, false, is_some};
-ghost use Rattle.pool_journal.specs.Journal.{is_present};
+ghost use Rattle.pool_journal.specs.Entries.{is_present};
 ghost use Rattle.pool_journal.specs.Queue.{is_idle, is_queued, record_in};
 ghost use Rattle.pool_journal.specs.declared.record.Phase.TheVariants as phases;
 ghost use Rattle.pool_places.specs.Changes.{with_changed, new_record, phase_set, lent_at, used_at, parked_at, opens_as, IdsBelow, IsFreePosition, QueueBelow};
-ghost use Rattle.pool_places.specs.Shelf.{records_in};
+ghost use Rattle.pool_places.specs.PlacesModel.{records_in};
 
 use crate::checks::expect_equal;
 use pool_journal::{Phase, Record};
@@ -31,7 +31,7 @@ fn park(places: &mut Places<u64>, id: u64, parked: u64, since: u64, value: u64)
     places.park(id, parked, since, value);
 }
 
-// Puts an object back, in the memory that was reserved.
+// Restores an object, in the memory that was reserved.
 fn restore(places: &mut Places<u64>, known: Record, value: Option<u64>)
     requires reserved { 1 ≤ places.old.spare }
     requires above { IdsBelow known.id (records_in places.old.kept) }
@@ -71,7 +71,7 @@ fn parked() -> Record {
     }
 }
 
-// Lends the first object, and takes it back.
+// Lends the first object, and returns it.
 fn lend(rt: &impl Abort, places: &mut Places<u64>)
     requires { records_in places.old.kept ≡ new_record 0 phases.Readying ∷ [] }
     ensures { records_in places.new.kept
@@ -88,7 +88,15 @@ fn lend(rt: &impl Abort, places: &mut Places<u64>)
 // Tests the first object, and then destroys it.
 fn give_up(rt: &impl Abort, places: &mut Places<u64>)
     requires { records_in places.old.kept
-        ≡ record { id = 0; phase = phases.Idle; parked = 3; since = 16; lent = 11; used = 12; is_new = false } ∷ [] }
+        ≡ record {
+          id = 0;
+          phase = phases.Idle;
+          parked = 3;
+          since = 16;
+          lent = 11;
+          used = 12;
+          is_new = false;
+        } ∷ [] }
 {
     let value = places.take_value(0, Phase::Testing);
     places.put_value(0, 71);
@@ -136,7 +144,7 @@ fn a_queue(rt: HostRuntime) {
     expect_equal(&rt, places.counts(), counts);
 }
 
-// Three objects that are put back, of which two are in the queue, the one that was parked later first.
+// Three restored objects, of which two are in the queue, the one that was parked later first.
 #[test]
 fn put_back(rt: HostRuntime) {
     let idle = Record {
@@ -164,7 +172,7 @@ fn put_back(rt: HostRuntime) {
     restore(&mut places, idle, Some(40));
     restore(&mut places, tested, None);
     restore(&mut places, lent, None);
-    places.look_through();
+    places.compact_index();
     let told = [places.nth(0), places.nth(1), places.nth(2), places.nth(3)];
     expect_equal(&rt, told, [Some(idle), Some(tested), Some(lent), None]);
     places.put_value(6, 60);

@@ -1,4 +1,4 @@
-/// The next pseudo-random number, the same in each run.
+/// Returns the next pseudo-random number, the same in each run.
 pub fn next_number(state: &mut u64) -> u64 {
     *state = state
         .wrapping_mul(6_364_136_223_846_793_005)

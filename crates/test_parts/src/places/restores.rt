@@ -1,8 +1,8 @@
 ghost use Rattle.std.specs.Prelude.{◌≡◌, ◌+◌, ◌≤◌, IsTrue, is_some};
-ghost use Rattle.pool_journal.specs.Journal.{is_present};
+ghost use Rattle.pool_journal.specs.Entries.{is_present};
 ghost use Rattle.pool_journal.specs.Queue.{is_idle};
 ghost use Rattle.pool_places.specs.Changes.{IdsBelow, IsFreePosition};
-ghost use Rattle.pool_places.specs.Shelf.{records_in};
+ghost use Rattle.pool_places.specs.PlacesModel.{records_in};
 
 use crate::checks::expect_equal;
 use crate::places::calls::{ask_known, ask_overdue, ask_queue};
@@ -125,7 +125,7 @@ fn many_restores(rt: &impl Abort, alloc: Global, count: u64, seed: u64) {
         let number = next_number(&mut state);
         let position = (number >> 8) % 1_000;
         places.reserve(2).expect(rt, "memory");
-        places.look_from(number % 64);
+        places.start_search_at(number % 64);
         if is_free(&plain, position) {
             let place = some_place(id, number, position);
             put_back(rt, &mut places, &mut plain, place);

@@ -5,7 +5,7 @@ use Rattle.pool_engines.proofs.Telling.{not_read, stays, untold}
 use Rattle.pool_engines.proofs.Going.{Going-begun, Passes-stopped, Passes-handed, Passes-unhanded, Passes-broken}
 use Rattle.pool_engines.specs.Faults.{is_write_failure}
 use Rattle.pool_engines.proofs.engine.go_over.Goals as goal
-use Rattle.pool_engines.proofs.engine.go_over.Goals.{then-not-is_write_failure+in_ok-hand_on, else-not-is_write_failure}
+use Rattle.pool_engines.proofs.engine.go_over.Goals.{then-not-is_write_failure+in_ok-write_buffered, else-not-is_write_failure}
 
 pub returns-in-Err-clause-passed : goal.returns-in-Err-clause-passed
 returns-in-Err-clause-passed g c =
@@ -15,14 +15,14 @@ returns-in-Err-clause-passed g c =
     let going = Going-begun e.settings e.taken e.told e.stands e.is_partial e.ends begun (g.R.Read.remaining c.args.reader.now) (g.W.Write.contents c.args.writer.now) r.stands r.none_taken r.none_told in
     (e.none, r.keeps, Passes-stopped e.settings e.taken e.told e.stands e.is_partial e.ends begun _ _ _ begun _ _ _ _ going (λ told. absurd (false≢true told)) (λ rest. g.met.E.Engine.stops_at_first begun rest r.stands r.is_new))
 
-pub returns-in_err-hand_on-clause-passed : goal.returns-in_err-hand_on-clause-passed
-returns-in_err-hand_on-clause-passed g c =
+pub returns-in_err-write_buffered-clause-passed : goal.returns-in_err-write_buffered-clause-passed
+returns-in_err-write_buffered-clause-passed g c =
     let e = g.E.Engine in
     let p = err_from_is_err_and c.from_residual.result c.from_residual.ensures.1 in
     let (end, keeps, passed) = c.take_turns-end.ensures.passed in
     let engine = e.with_past c.take_turns-end.new.engine end in
     let works : is_write_failure c.take_turns-end.result ≡ false = sym c.is_write_failure.ensures ∙ c.if-not-is_write_failure.true in
-    rw (p.1, p.2, c.in_err-hand_on.ensures.fault) (end, keeps, Passes-unhanded e.settings e.taken e.told e.stands e.is_partial e.ends (e.with_past c.args.engine.now e.none) _ _ c.take_turns-end.result engine _ _ _ _ works passed c.in_err-hand_on.ensures.err (λ rest. g.met.E.Engine.fails_after engine rest c.take_turns-end.result))
+    rw (p.1, p.2, c.in_err-write_buffered.ensures.fault) (end, keeps, Passes-unhanded e.settings e.taken e.told e.stands e.is_partial e.ends (e.with_past c.args.engine.now e.none) _ _ c.take_turns-end.result engine _ _ _ _ works passed c.in_err-write_buffered.ensures.err (λ rest. g.met.E.Engine.fails_after engine rest c.take_turns-end.result))
 
 pub returns-clause-passed : goal.returns-clause-passed
 returns-clause-passed g c =
@@ -31,31 +31,31 @@ returns-clause-passed g c =
     let engine = e.with_past c.take_turns-end.new.engine end in
     let begun = e.with_past c.args.engine.now e.none in
     elim c.if-not-is_write_failure.branch [
-      | then-not-is_write_failure+in_ok-hand_on w ↦
+      | then-not-is_write_failure+in_ok-write_buffered w ↦
           let works : is_write_failure c.take_turns-end.result ≡ false = sym c.is_write_failure.ensures ∙ w.if-not-is_write_failure.true in
-          rw w.writer-is (end, keeps, Passes-handed e.settings e.taken e.told e.stands e.is_partial e.ends begun _ _ c.take_turns-end.result engine _ _ _ _ works passed w.in_ok-hand_on.ensures.ok.1)
+          rw w.writer-is (end, keeps, Passes-handed e.settings e.taken e.told e.stands e.is_partial e.ends begun _ _ c.take_turns-end.result engine _ _ _ _ works passed w.in_ok-write_buffered.ensures.ok.1)
       | else-not-is_write_failure w ↦
           let broken : is_write_failure c.take_turns-end.result ≡ true = sym c.is_write_failure.ensures ∙ w.if-not-is_write_failure.false in
           rw w.writer-is (end, keeps, Passes-broken e.settings e.taken e.told e.stands e.is_partial e.ends begun _ _ c.take_turns-end.result engine _ _ _ broken passed)
     ]
 
-pub returns-in_err-hand_on-clause-reader : goal.returns-in_err-hand_on-clause-reader
-returns-in_err-hand_on-clause-reader g c =
+pub returns-in_err-write_buffered-clause-reader : goal.returns-in_err-write_buffered-clause-reader
+returns-in_err-write_buffered-clause-reader g c =
     let p = err_from_is_err_and c.from_residual.result c.from_residual.ensures.1 in
     let end = c.take_turns-end.result in
-    let none = not_read end (◌≡◌ false true) (λ told. c.in_err-hand_on.ensures.idle (c.take_turns-end.ensures.handed told)) false≢true in
-    rw (p.1, p.2, c.in_err-hand_on.ensures.fault) (stays _ _ _ none c.take_turns-end.ensures.reader)
+    let none = not_read end (◌≡◌ false true) (λ told. c.in_err-write_buffered.ensures.idle (c.take_turns-end.ensures.handed told)) false≢true in
+    rw (p.1, p.2, c.in_err-write_buffered.ensures.fault) (stays _ _ _ none c.take_turns-end.ensures.reader)
 
-pub returns-in_err-hand_on-clause-writer : goal.returns-in_err-hand_on-clause-writer
-returns-in_err-hand_on-clause-writer g c =
+pub returns-in_err-write_buffered-clause-writer : goal.returns-in_err-write_buffered-clause-writer
+returns-in_err-write_buffered-clause-writer g c =
     let p = err_from_is_err_and c.from_residual.result c.from_residual.ensures.1 in
-    rw (p.1, p.2, c.in_err-hand_on.ensures.fault) c.in_err-hand_on.ensures.told
+    rw (p.1, p.2, c.in_err-write_buffered.ensures.fault) c.in_err-write_buffered.ensures.told
 
 pub returns-clause-writer : goal.returns-clause-writer
 returns-clause-writer g c =
     elim c.if-not-is_write_failure.branch [
-      | then-not-is_write_failure+in_ok-hand_on w ↦
+      | then-not-is_write_failure+in_ok-write_buffered w ↦
           let works : is_write_failure c.take_turns-end.result ≡ false = sym c.is_write_failure.ensures ∙ w.if-not-is_write_failure.true in
-          rw w.writer-is (untold _ _ _ works (w.in_ok-hand_on.ensures.told ∙ stays _ _ _ works c.take_turns-end.ensures.writer))
+          rw w.writer-is (untold _ _ _ works (w.in_ok-write_buffered.ensures.told ∙ stays _ _ _ works c.take_turns-end.ensures.writer))
       | else-not-is_write_failure w ↦ rw w.writer-is c.take_turns-end.ensures.writer
     ]

@@ -1,6 +1,6 @@
 use Rattle.std.proofs.Common.{◌≡◌, ◌+◌, ◌-◌, ◌*◌, ◌≤◌, length}
 use Rattle.std.specs.Prelude.{vec_capacity}
-use Rattle.pool_engines.specs.Handing.{HasRoom, waiting_room}
+use Rattle.pool_engines.specs.Handing.{HasRoom, buffer_room}
 use Rattle.pool_engines.proofs.Going.{Going}
 use Rattle.pool_engines.proofs.engine.take_turns.Given as goal
 
@@ -11,9 +11,9 @@ invariant-loop-count g l =
       past : e.past;
       keeps : e.keeps l.engine past;
       going : Going e.settings e.taken e.told e.stands e.is_partial e.ends (e.with_past l.fn.engine e.none) (g.R.Read.remaining l.fn.reader)
-          (g.W.Write.contents l.fn.writer) (e.with_past l.engine past) (g.R.Read.remaining l.reader) (g.W.Write.contents l.writer) l.incoming l.waiting.items;
-      room : HasRoom l.waiting;
-      capacity : waiting_room ≤ vec_capacity l.waiting;
+          (g.W.Write.contents l.fn.writer) (e.with_past l.engine past) (g.R.Read.remaining l.reader) (g.W.Write.contents l.writer) l.incoming l.buffered.items;
+      room : HasRoom l.buffered;
+      capacity : buffer_room ≤ vec_capacity l.buffered;
       reads : g.R.Source.may_have_failed l.reader ≡ g.R.Source.may_have_failed l.fn.reader;
       writes : g.W.Sink.may_have_failed l.writer ≡ g.W.Sink.may_have_failed l.fn.writer;
     }

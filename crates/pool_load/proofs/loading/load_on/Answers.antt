@@ -28,15 +28,15 @@ returns-in-Ok-of-clause-load g c =
     let last' = c.close.new.last in
     let took = c.in_ok-refused.ensures in
     let fs = took.refused.0 in
-    let row = c.in_ok-close.ensures.row in
+    let row = c.in_ok-close.ensures.spec in
     let whole = c.in-Ok-finish.ensures.whole in
     let back : c.push.new.self.items ≡ after ++ last' ∷ [] = c.in-Ok-push.ensures.items ∙ ap (λ l. l ++ last' ∷ []) took.callers in
     let worked = subst (λ o. AllWorked s rounds front after o) took.refused.1 c.in_ok-worked.ensures.ok in
     let close = c.in_ok-close.ensures in
-    let none = none_cut s rounds workers front after last last' fs whole.history c.in-Ok.opened.1.items c.in-Ok.ensures.count.1 c.in-Ok.ensures.new c.in-Some.ensures.items worked close.goes.number close.goes.uncut in
+    let none = none_cut s rounds workers front after last last' fs whole.history c.in-Ok.opened.1.items c.in-Ok.ensures.count.1 c.in-Ok.ensures.new c.in-Some.ensures.items worked close.advances.number close.advances.uncut in
     let uncut = whole.uncut (subst NoneCut (sym back) none) in
     let stored : c.journal.result.now ≡ whole.history = c.journal.ensures.entries ∙ (is_first _ _ _ whole.ends (ap (λ (b : Base). b.first) uncut)).1 in
     let told : stats ≡ statistics_of whole.history = c.in-Ok-of.ensures ∙ ap statistics_of stored in
     subst (λ (S : Settings). IsLoad S workers rounds refused stats) (sym c.requires.room.1)
-    (loaded s rounds workers front after last last' fs whole.history refused row.0 stats c.in-Ok.opened.1.items c.in-Ok.ensures.count.1 c.in-Ok.ensures.new c.in-Some.ensures.items worked close.goes row.1 whole.legal
+    (loaded s rounds workers front after last last' fs whole.history refused row.0 stats c.in-Ok.opened.1.items c.in-Ok.ensures.count.1 c.in-Ok.ensures.new c.in-Some.ensures.items worked close.advances row.1 whole.legal
     (subst (λ l. EachAppended l whole.history) back whole.each) (subst (λ l. AllByCallers l whole.history) back whole.all) took.refused.2 told)

@@ -1,9 +1,9 @@
 use Rattle.std.proofs.Common.{◌≡◌, ◌≤◌, true, List, ◌∷◌, ap, arith, sym, subst, ◌∙◌}
 use Rattle.pool_journal.specs.declared.record.Record.{Record}
 use Rattle.std.specs.List.{AllByRecursion}
-use Rattle.rising_index.specs.declared.pair.Pair.{Pair}
+use Rattle.sorted_index.specs.declared.pair.Pair.{Pair}
 use Rattle.pool_places.specs.Overdue.{is_lent, IsBound}
-use Rattle.pool_places.specs.Shelf.{records_in}
+use Rattle.pool_places.specs.PlacesModel.{records_in}
 use Rattle.pool_places.specs.Stored.{kept_of, place_at}
 use Rattle.pool_places.proofs.Racks.{Good, each_good, known_place}
 use Rattle.pool_places.proofs.overdue.least_use.Goals as goal

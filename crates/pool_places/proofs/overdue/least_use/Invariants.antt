@@ -1,7 +1,7 @@
 use Rattle.std.proofs.Common.{ℕ, ◌≤◌}
 use Rattle.std.specs.List.{AllByRecursion}
 use Rattle.pool_places.specs.Overdue.{IsBound}
-use Rattle.pool_places.specs.Shelf.{records_in}
+use Rattle.pool_places.specs.PlacesModel.{records_in}
 use Rattle.pool_places.specs.Stored.{kept_of}
 use Rattle.pool_places.proofs.Racks.{Good}
 use Rattle.pool_places.proofs.overdue.least_use.Given as goal

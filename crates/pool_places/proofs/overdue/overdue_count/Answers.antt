@@ -1,9 +1,9 @@
 use Rattle.std.proofs.Common.{List, arith, sym, ap, ◌∙◌, subst}
 use Rattle.std.specs.Prelude.{count_by}
 use Rattle.std.specs.List.{AllByRecursion}
-use Rattle.rising_index.specs.declared.pair.Pair.{Pair}
+use Rattle.sorted_index.specs.declared.pair.Pair.{Pair}
 use Rattle.pool_places.specs.Overdue.{is_overdue}
-use Rattle.pool_places.specs.Shelf.{records_in}
+use Rattle.pool_places.specs.PlacesModel.{records_in}
 use Rattle.pool_places.specs.Stored.{kept_of}
 use Rattle.pool_places.proofs.Racks.{Good, each_good}
 use Rattle.pool_places.proofs.overdue.overdue_count.Goals as goal

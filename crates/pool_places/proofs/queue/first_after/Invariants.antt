@@ -1,5 +1,5 @@
 use Rattle.std.proofs.Common.{◌≡◌, length}
-use Rattle.pool_places.specs.Kept.{IsWithin}
+use Rattle.pool_places.specs.RepInvariant.{IsWithin}
 use Rattle.pool_places.specs.Stored.{first_parked, from_key}
 use Rattle.pool_places.proofs.queue.first_after.Given as goal
 

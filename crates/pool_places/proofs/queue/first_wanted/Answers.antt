@@ -2,9 +2,9 @@ use Rattle.std.proofs.Common.{◌≡◌, true, ◌<◌, Some, length, map, ap, s
 use Rattle.std.specs.Prelude.{find}
 use Rattle.std.specs.Option.{option_map}
 use Rattle.pool_journal.specs.declared.record.Record.{Record}
-use Rattle.pool_places.specs.Kept.{IsWithin}
+use Rattle.pool_places.specs.RepInvariant.{IsWithin}
 use Rattle.pool_places.specs.Stored.{entry_at, entry_of, from_key}
-use Rattle.pool_places.specs.Waiting.{Parked, is_wanted}
+use Rattle.pool_places.specs.QueueEntries.{QueueEntry, is_wanted}
 use Rattle.pool_places.proofs.Racks.{known_place}
 use Rattle.pool_places.proofs.Walks.{step, fewer, found_here, found_later}
 use Rattle.pool_places.proofs.queue.first_wanted.Goals as goal
@@ -16,7 +16,7 @@ returns-then-is_wanted_record g c =
     let known = known_place rack c.in-Some.key c.known-known.result c.known-known.ensures in
     let passes : is_wanted c.args.after (entry_at rack c.in-Some.key) ≡ true = ap (λ (r : Record). is_wanted c.args.after (entry_of r)) known ∙ sym c.is_wanted_record.ensures ∙ c.if-is_wanted_record.true in
     let found = sym c.loop-next.invariant.later ∙ ap (λ o. find (is_wanted c.args.after) (map (entry_at rack) (from_key o rack.queue))) c.in-Some.is ∙ found_here (entry_at rack) (is_wanted c.args.after) rack.queue c.in-Some.key there passes in
-    ap (λ (r : Record). Some r.id) (sym known) ∙ sym (ap (option_map (λ (q : Parked). q.id)) found)
+    ap (λ (r : Record). Some r.id) (sym known) ∙ sym (ap (option_map (λ (q : QueueEntry). q.id)) found)
 
 pub loop-next-smaller : goal.loop-next-smaller
 loop-next-smaller g c =

@@ -1,8 +1,8 @@
 use Rattle.std.proofs.Common.{◌≡◌, map, length}
 use Rattle.std.specs.Prelude.{find}
-use Rattle.pool_places.specs.Kept.{IsWithin}
+use Rattle.pool_places.specs.RepInvariant.{IsWithin}
 use Rattle.pool_places.specs.Stored.{entry_at, from_key}
-use Rattle.pool_places.specs.Waiting.{is_wanted}
+use Rattle.pool_places.specs.QueueEntries.{is_wanted}
 use Rattle.pool_places.proofs.queue.first_wanted.Given as goal
 
 abbrev pub invariant-loop-next : goal.invariant-loop-next

@@ -3,9 +3,9 @@ use Rattle.std.specs.Prelude.{find}
 use Rattle.std.specs.Option.{option_map}
 use Rattle.pool_journal.specs.declared.record.Record.{Record}
 use Rattle.pool_journal.specs.Queue.{is_idle}
-use Rattle.pool_places.specs.Kept.{IsWithin}
+use Rattle.pool_places.specs.RepInvariant.{IsWithin}
 use Rattle.pool_places.specs.Stored.{entry_at, from_key}
-use Rattle.pool_places.specs.Waiting.{Parked}
+use Rattle.pool_places.specs.QueueEntries.{QueueEntry}
 use Rattle.pool_places.proofs.Racks.{known_place}
 use Rattle.pool_places.proofs.Walks.{step, fewer, found_here, found_later, distinct_reverse, in_reverse, previous_is_next, within_reverse}
 use Rattle.pool_places.proofs.queue.last_wanted.Goals as goal
@@ -16,8 +16,8 @@ returns-then-is_idle_phase g c =
     let there = in_reverse c.in-Some.key rack.queue ∙ subst (IsWithin rack.queue) c.in-Some.is c.loop-next.invariant.within in
     let known = known_place rack c.in-Some.key c.known-known.result c.known-known.ensures in
     let passes : (entry_at rack c.in-Some.key).is_idle ≡ true = ap (λ (r : Record). is_idle r.phase) known ∙ sym c.is_idle_phase.ensures ∙ c.if-is_idle_phase.true in
-    let found = sym c.loop-next.invariant.later ∙ ap (λ o. find (λ (q : Parked). q.is_idle) (map (entry_at rack) (from_key o (reverse rack.queue)))) c.in-Some.is ∙ found_here (entry_at rack) (λ q. q.is_idle) (reverse rack.queue) c.in-Some.key there passes in
-    ap (λ (r : Record). Some r.id) (sym known) ∙ sym (ap (option_map (λ (q : Parked). q.id)) found)
+    let found = sym c.loop-next.invariant.later ∙ ap (λ o. find (λ (q : QueueEntry). q.is_idle) (map (entry_at rack) (from_key o (reverse rack.queue)))) c.in-Some.is ∙ found_here (entry_at rack) (λ q. q.is_idle) (reverse rack.queue) c.in-Some.key there passes in
+    ap (λ (r : Record). Some r.id) (sym known) ∙ sym (ap (option_map (λ (q : QueueEntry). q.id)) found)
 
 pub loop-next-smaller : goal.loop-next-smaller
 loop-next-smaller g c =
@@ -35,5 +35,5 @@ loop-next-preserved g c =
     let fails = ap (λ (r : Record). is_idle r.phase) known ∙ sym c.is_idle_phase.ensures ∙ c.if-is_idle_phase.false in
     record {
       within = within_reverse rack.queue c.before-next.result one.within;
-      later = sym (found_later (entry_at rack) (λ q. q.is_idle) (reverse rack.queue) c.in-Some.key c.before-next.result one fails) ∙ ap (λ o. find (λ (q : Parked). q.is_idle) (map (entry_at rack) (from_key o (reverse rack.queue)))) (sym c.in-Some.is) ∙ c.loop-next.invariant.later;
+      later = sym (found_later (entry_at rack) (λ q. q.is_idle) (reverse rack.queue) c.in-Some.key c.before-next.result one fails) ∙ ap (λ o. find (λ (q : QueueEntry). q.is_idle) (map (entry_at rack) (from_key o (reverse rack.queue)))) (sym c.in-Some.is) ∙ c.loop-next.invariant.later;
     }

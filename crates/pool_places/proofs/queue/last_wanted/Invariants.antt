@@ -1,6 +1,6 @@
 use Rattle.std.proofs.Common.{◌≡◌, map, reverse, length}
 use Rattle.std.specs.Prelude.{find}
-use Rattle.pool_places.specs.Kept.{IsWithin}
+use Rattle.pool_places.specs.RepInvariant.{IsWithin}
 use Rattle.pool_places.specs.Stored.{entry_at, from_key}
 use Rattle.pool_places.proofs.queue.last_wanted.Given as goal
 

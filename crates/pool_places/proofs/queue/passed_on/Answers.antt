@@ -1,5 +1,5 @@
 use Rattle.std.proofs.Common.{subst, ◌∙◌}
-use Rattle.pool_places.specs.Kept.{IsWithin}
+use Rattle.pool_places.specs.RepInvariant.{IsWithin}
 use Rattle.pool_places.proofs.Walks.{previous_stays, other_stays}
 use Rattle.pool_places.proofs.queue.passed_on.Goals as goal
 

@@ -1,5 +1,5 @@
 use Rattle.std.proofs.Common.{◌≡◌, true, Some, reverse, length}
-use Rattle.pool_slots.specs.Rack.{is_in}
+use Rattle.pool_slots.specs.SlotsModel.{is_in}
 use Rattle.pool_places.specs.Stored.{from_key}
 use Rattle.pool_places.proofs.queue.start_after.Given as goal
 

@@ -1,5 +1,5 @@
 use Rattle.std.proofs.Common.{◌∙◌}
-use Rattle.pool_places.specs.Shelf.{records_in}
+use Rattle.pool_places.specs.PlacesModel.{records_in}
 use Rattle.pool_core.proofs.Moving.{lent_known, noted_known, check_known, destroy_known, freed_known}
 use Rattle.pool_core.proofs.state.State.bring.Goals as goal
 

@@ -1,5 +1,5 @@
 use Rattle.std.proofs.Common.{sym, ◌∙◌}
-use Rattle.pool_places.specs.Shelf.{records_in}
+use Rattle.pool_places.specs.PlacesModel.{records_in}
 use Rattle.pool_core.proofs.Queues.{length-idle_queue}
 use Rattle.pool_core.proofs.state.State.count_idle.Goals as goal
 

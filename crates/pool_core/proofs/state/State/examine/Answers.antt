@@ -1,5 +1,5 @@
 use Rattle.std.proofs.Common.{sym, ◌∙◌}
-use Rattle.pool_places.specs.Shelf.{records_in}
+use Rattle.pool_places.specs.PlacesModel.{records_in}
 use Rattle.pool_places.proofs.Picks.{each_is_found}
 use Rattle.pool_core.proofs.Queues.{examined_found}
 use Rattle.pool_core.proofs.state.State.examine.Goals as goal

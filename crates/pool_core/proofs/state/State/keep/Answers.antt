@@ -1,5 +1,5 @@
 use Rattle.std.proofs.Common.{◌∙◌}
-use Rattle.pool_places.specs.Shelf.{records_in}
+use Rattle.pool_places.specs.PlacesModel.{records_in}
 use Rattle.pool_core.proofs.Moving.{parked_known, kept_known}
 use Rattle.pool_core.proofs.state.State.keep.Goals as goal
 

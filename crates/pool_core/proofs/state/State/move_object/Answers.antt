@@ -1,7 +1,7 @@
 use Rattle.std.proofs.Common.{◌≡◌, ◌∙◌, refl, true}
 use Rattle.pool_journal.specs.declared.answer.Answer.{Answer}
 use Rattle.pool_journal.specs.declared.answer.Answer.TheVariants as answers
-use Rattle.pool_places.specs.Shelf.{records_in}
+use Rattle.pool_places.specs.PlacesModel.{records_in}
 use Rattle.pool_core.proofs.Moving.{taken_known, test_known, destroy_idle_known, reclaimed_known, made_known, is_silent}
 use Rattle.pool_core.proofs.Moving.{silent_known}
 use Rattle.pool_core.proofs.state.State.move_object.Goals as goal

@@ -3,7 +3,7 @@ use Rattle.pool_journal.specs.declared.record.Record.{Record}
 use Rattle.pool_places.proofs.Bounds.{none_overdue}
 use Rattle.std.proofs.lemmas.List.Sums.{length-filter}
 use Rattle.pool_places.specs.Overdue.{is_overdue}
-use Rattle.pool_places.specs.Shelf.{records_in}
+use Rattle.pool_places.specs.PlacesModel.{records_in}
 use Rattle.pool_places.specs.Stored.{kept_of}
 use Rattle.pool_places.proofs.places.Places.count_overdue.Goals as goal
 

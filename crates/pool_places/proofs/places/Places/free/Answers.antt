@@ -2,12 +2,12 @@ use Rattle.std.proofs.Common.{◌≡◌, ap, arith, length, None, refl, subst, s
 use Rattle.std.proofs.lemmas.List.{length-map}
 use Rattle.std.proofs.lemmas.List.Edits.{length-remove}
 use Rattle.std.specs.Prelude.{IsSomeAnd}
-use Rattle.pool_slots.specs.Rack.{is_in, item_at}
-use Rattle.rising_index.specs.declared.pair.Pair.{Pair}
-use Rattle.rising_index.specs.Pairs.{IsRising}
+use Rattle.pool_slots.specs.SlotsModel.{is_in, item_at}
+use Rattle.sorted_index.specs.declared.pair.Pair.{Pair}
+use Rattle.sorted_index.specs.Pairs.{IsAscending}
 use Rattle.pool_places.specs.Counts.{IsCounts}
-use Rattle.pool_places.specs.Kept.{IsWithin}
-use Rattle.pool_places.specs.Shelf.{records_in, IsShelf}
+use Rattle.pool_places.specs.RepInvariant.{IsWithin}
+use Rattle.pool_places.specs.PlacesModel.{records_in, PlacesInvariant}
 use Rattle.pool_places.specs.Stored.{kept_of, place_at}
 use Rattle.pool_places.proofs.Found.{found_known, found_empty, remove_shelf, remove_kept, remove_records, remove_values}
 use Rattle.pool_places.proofs.Owing.{remove_owed_of}
@@ -53,9 +53,9 @@ invariant_of-self g c =
     let sets = sets_requeued c.remove.ensures.sets c.leave.ensures.queue in
     let is = ap (kept_of c.remove.new.self) c.remove-key.ensures.pairs ∙ kept_freed rack c.remove.new.self pairs c.args.id c.remove-key.result _ reads sets ∙ sym (remove_kept found) in
     record {
-      shelf = subst IsShelf (sym is) (remove_shelf found);
+      shelf = subst PlacesInvariant (sym is) (remove_shelf found);
       counted = subst (λ qs. IsCounts c.remove-2.new.self (records_in qs)) (sym is) (counted_remove _ _ found c.self.invariant.counted c.remove-2.ensures);
-      tied = tied_freed rack c.remove.new.self pairs c.remove-key.new.self.pairs c.args.id c.remove-key.result _ reads sets (subst IsRising (sym c.remove-key.ensures.pairs) (rising_without c.args.id pairs c.self.invariant.tied.rising)) c.remove-key.ensures.gone c.remove-key.ensures.others;
+      tied = tied_freed rack c.remove.new.self pairs c.remove-key.new.self.pairs c.args.id c.remove-key.result _ reads sets (subst IsAscending (sym c.remove-key.ensures.pairs) (rising_without c.args.id pairs c.self.invariant.tied.rising)) c.remove-key.ensures.gone c.remove-key.ensures.others;
       line = line_left rack c.remove.new.self c.remove-key.result None c.self.invariant.line sets (c.remove.ensures.queue ∙ ap (λ r. r.queue) c.leave.ensures.queue) refl;
       remembered = subst (λ ks. IsWithin ks c.leave.new.remembered) (sym c.remove.ensures.queue) c.leave.ensures.remembered;
       bound = subst (λ qs. IsBound c.self.inside.least_used (records_in qs)) (sym is) (bound_remove _ _ (kept_of rack pairs) c.self.invariant.bound);

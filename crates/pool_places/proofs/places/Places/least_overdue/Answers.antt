@@ -7,7 +7,7 @@ use Rattle.pool_journal.specs.declared.record.Record.{Record}
 use Rattle.pool_journal.specs.declared.record.Phase.TheVariants as phases
 use Rattle.pool_places.specs.Changes.{IsInPhase}
 use Rattle.pool_places.specs.Overdue.{is_overdue, overdue}
-use Rattle.pool_places.specs.Shelf.{records_in}
+use Rattle.pool_places.specs.PlacesModel.{records_in}
 use Rattle.pool_places.specs.Stored.{kept_of}
 use Rattle.pool_places.proofs.Picks.{named_by_id, first_of-filter, overdue_is_lent, first_has_least_id}
 use Rattle.pool_places.proofs.places.Places.least_overdue.Goals as goal

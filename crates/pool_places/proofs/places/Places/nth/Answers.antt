@@ -1,7 +1,7 @@
 use Rattle.std.proofs.Common.{Some, ap, sym, ◌∙◌}
 use Rattle.std.proofs.lemmas.Option.{slice_get-map}
 use Rattle.std.specs.Option.{option_map}
-use Rattle.rising_index.specs.declared.pair.Pair.{Pair}
+use Rattle.sorted_index.specs.declared.pair.Pair.{Pair}
 use Rattle.pool_places.specs.declared.place.Place.{Place}
 use Rattle.pool_places.specs.Stored.{kept_of, place_at}
 use Rattle.pool_places.proofs.Entries.{at_position}

@@ -1,12 +1,12 @@
 use Rattle.std.proofs.Common.{ap, arith, refl, subst, sym, ◌∙◌, length}
 use Rattle.std.proofs.lemmas.List.{length_push, length-map}
-use Rattle.pool_slots.specs.Rack.{is_in}
-use Rattle.rising_index.specs.declared.pair.Pair.{Pair}
-use Rattle.rising_index.specs.Pairs.{IsRising}
+use Rattle.pool_slots.specs.SlotsModel.{is_in}
+use Rattle.sorted_index.specs.declared.pair.Pair.{Pair}
+use Rattle.sorted_index.specs.Pairs.{IsAscending}
 use Rattle.pool_places.specs.Changes.{IdsBelow}
 use Rattle.pool_places.specs.Counts.{IsCounts}
-use Rattle.pool_places.specs.Kept.{IsWithin}
-use Rattle.pool_places.specs.Shelf.{records_in, new_place, IsShelf}
+use Rattle.pool_places.specs.RepInvariant.{IsWithin}
+use Rattle.pool_places.specs.PlacesModel.{records_in, new_place, PlacesInvariant}
 use Rattle.pool_places.specs.Stored.{kept_of, place_at}
 use Rattle.pool_places.proofs.Shelves.{shelf_push, all_places}
 use Rattle.pool_places.proofs.Values.{value_push}
@@ -38,9 +38,9 @@ invariant_of-self g c =
     let is = ap (kept_of c.insert-key.new.self) c.push.ensures.pairs ∙ kept_opened rack c.insert-key.new.self pairs p _ c.self.invariant.tied c.insert-key.ensures.vacant c.insert-key.ensures.sets in
     let absent = key_absent rack pairs c.args.id c.self.invariant.tied (record_absent c.args.id (records_in ps) above) in
     record {
-      shelf = subst IsShelf (sym is) (shelf_push ps _ c.self.invariant.shelf (all_places _ ps above) (sym (opened_not_idle c.args.phase c.requires.phase)) (omega (arith, length-map pairs (λ (x : Pair). place_at rack x.key), ap (λ s. s.spare) c.self.view_is, c.requires.reserved)));
+      shelf = subst PlacesInvariant (sym is) (shelf_push ps _ c.self.invariant.shelf (all_places _ ps above) (sym (opened_not_idle c.args.phase c.requires.phase)) (omega (arith, length-map pairs (λ (x : Pair). place_at rack x.key), ap (λ s. s.spare) c.self.view_is, c.requires.reserved)));
       counted = subst (λ qs. IsCounts c.add.new.self (records_in qs)) (sym is) (counted_push ps _ _ (new_place c.args.id c.args.phase) c.self.invariant.counted c.add.ensures);
-      tied = tied_opened rack c.insert-key.new.self pairs c.push.new.self.pairs p _ c.self.invariant.tied c.insert-key.ensures.vacant c.insert-key.ensures.sets refl (subst IsRising (sym c.push.ensures.pairs) (rising_push pairs p c.self.invariant.tied.rising (pairs_below _ _ _ c.self.invariant.tied above))) absent c.push.ensures.found c.push.ensures.others;
+      tied = tied_opened rack c.insert-key.new.self pairs c.push.new.self.pairs p _ c.self.invariant.tied c.insert-key.ensures.vacant c.insert-key.ensures.sets refl (subst IsAscending (sym c.push.ensures.pairs) (rising_push pairs p c.self.invariant.tied.rising (pairs_below _ _ _ c.self.invariant.tied above))) absent c.push.ensures.found c.push.ensures.others;
       line = line_apart rack c.insert-key.new.self c.insert-key.result _ c.self.invariant.line c.insert-key.ensures.sets c.insert-key.ensures.queue (sym (ap (is_in c.insert-key.result) c.insert-key.ensures.queue) ∙ c.insert-key.ensures.out) out;
       remembered = subst (λ ks. IsWithin ks c.self.inside.remembered) (sym c.insert-key.ensures.queue) c.self.invariant.remembered;
       bound = subst (λ qs. IsBound c.self.inside.least_used (records_in qs)) (sym is) (bound_push _ (new_place c.args.id c.args.phase) ps (λ yes. absurd (cc (yes, opened_not_lent c.args.phase c.requires.phase))) c.self.invariant.bound);

@@ -2,10 +2,10 @@ use Rattle.std.proofs.Common.{Some, refl, ap, sym, ◌∙◌, arith, subst}
 use Rattle.pool_places.proofs.Racks.{item_known, line_joined, queue_kept}
 use Rattle.std.proofs.Common.{◌++◌, ◌∷◌, []}
 use Rattle.std.specs.Option.{option_map, option_and_then}
-use Rattle.pool_slots.specs.Rack.{Item, is_in}
+use Rattle.pool_slots.specs.SlotsModel.{Item, is_in}
 use Rattle.pool_places.specs.Changes.{parked_at, QueueBelow}
-use Rattle.pool_places.specs.Kept.{IsWithin}
-use Rattle.pool_places.specs.Shelf.{records_in, to_idle}
+use Rattle.pool_places.specs.RepInvariant.{IsWithin}
+use Rattle.pool_places.specs.PlacesModel.{records_in, to_idle}
 use Rattle.pool_places.proofs.Found.{found_known, found_empty, set_kept, set_records, set_value, set_others}
 use Rattle.pool_places.proofs.Keeping.{entries_below}
 use Rattle.pool_places.proofs.NotIdle.{not_queued}

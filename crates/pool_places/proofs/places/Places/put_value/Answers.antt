@@ -2,12 +2,12 @@ use Rattle.std.proofs.Common.{Some, refl, ap, sym, ◌∙◌, arith, subst}
 use Rattle.pool_journal.specs.Queue.{is_idle, is_queued}
 use Rattle.pool_journal.specs.declared.record.Phase.TheVariants as phases
 use Rattle.pool_places.proofs.Racks.{item_known}
-use Rattle.pool_slots.specs.Rack.{is_in}
-use Rattle.pool_slots.specs.Rack.{without as without_key}
+use Rattle.pool_slots.specs.SlotsModel.{is_in}
+use Rattle.pool_slots.specs.SlotsModel.{without as without_key}
 use Rattle.std.proofs.Common.{if◌then◌else◌, List, ℕ}
-use Rattle.pool_places.specs.Kept.{IsWithin}
+use Rattle.pool_places.specs.RepInvariant.{IsWithin}
 use Rattle.pool_places.specs.Changes.{phase_set}
-use Rattle.pool_places.specs.Shelf.{to_kept}
+use Rattle.pool_places.specs.PlacesModel.{to_kept}
 use Rattle.pool_places.proofs.Found.{found_known, found_empty, set_kept, set_records, set_value, set_others}
 use Rattle.pool_places.proofs.Numbers.{has_one, counted_set, small, small_less}
 use Rattle.pool_places.proofs.Owing.{set_owed_from}

@@ -1,16 +1,16 @@
 use Rattle.std.proofs.Common.{◌≢◌, ap, arith, refl, subst, sym, ◌∙◌, length}
 use Rattle.std.proofs.lemmas.List.{length_push, length-map}
 use Rattle.std.specs.List.{AllByRecursion}
-use Rattle.pool_slots.specs.Rack.{is_in}
-use Rattle.rising_index.specs.declared.pair.Pair.{Pair}
-use Rattle.rising_index.specs.Pairs.{IsRising}
+use Rattle.pool_slots.specs.SlotsModel.{is_in}
+use Rattle.sorted_index.specs.declared.pair.Pair.{Pair}
+use Rattle.sorted_index.specs.Pairs.{IsAscending}
 use Rattle.pool_places.specs.declared.place.Place.{Place}
 use Rattle.pool_places.specs.Changes.{IdsBelow, IsFreePosition}
 use Rattle.pool_places.specs.Counts.{IsCounts}
 use Rattle.pool_places.specs.Overdue.{IsBound}
-use Rattle.pool_places.specs.Shelf.{records_in, IsShelf}
+use Rattle.pool_places.specs.PlacesModel.{records_in, PlacesInvariant}
 use Rattle.pool_places.specs.Stored.{kept_of, place_at, parked_of}
-use Rattle.pool_places.specs.Waiting.{Rises}
+use Rattle.pool_places.specs.QueueEntries.{IsAscendingQueue}
 use Rattle.pool_places.proofs.Bounds.{bound_push, bound_earlier}
 use Rattle.pool_places.proofs.Shelves.{shelf_push, all_places}
 use Rattle.pool_places.proofs.Values.{value_push_here, value_push_other}
@@ -26,7 +26,7 @@ pub enter-requires-clause-rises : goal.enter-requires-clause-rises
 enter-requires-clause-rises g c =
     let rack = c.self.inside.slots in
     let out = sym (ap (is_in c.insert_with-key.result) c.insert_with-key.ensures.queue) ∙ c.insert_with-key.ensures.out in
-    subst Rises (sym (parked_same rack c.insert_with-key.new.self c.insert_with-key.result _ c.insert_with-key.ensures.sets c.insert_with-key.ensures.queue out)) c.self.invariant.line.rises
+    subst IsAscendingQueue (sym (parked_same rack c.insert_with-key.new.self c.insert_with-key.result _ c.insert_with-key.ensures.sets c.insert_with-key.ensures.queue out)) c.self.invariant.line.rises
 
 pub enter-requires-clause-free : goal.enter-requires-clause-free
 enter-requires-clause-free g c queued =
@@ -55,9 +55,9 @@ invariant_of-self g c =
     let is = ap (kept_of after) c.push.ensures.pairs ∙ kept_opened rack after pairs p _ c.self.invariant.tied c.insert_with-key.ensures.vacant sets in
     let absent = key_absent rack pairs c.args.known.id c.self.invariant.tied (record_absent c.args.known.id (records_in ps) above) in
     record {
-      shelf = subst IsShelf (sym is) (shelf_push ps place c.self.invariant.shelf (all_places _ ps above) c.requires.valued (omega (arith, length-map pairs (λ (x : Pair). place_at rack x.key), ap (λ s. s.spare) c.self.view_is, c.requires.reserved)));
+      shelf = subst PlacesInvariant (sym is) (shelf_push ps place c.self.invariant.shelf (all_places _ ps above) c.requires.valued (omega (arith, length-map pairs (λ (x : Pair). place_at rack x.key), ap (λ s. s.spare) c.self.view_is, c.requires.reserved)));
       counted = subst (λ qs. IsCounts c.add.new.self (records_in qs)) (sym is) (counted_push ps _ _ place c.self.invariant.counted c.add.ensures);
-      tied = tied_opened rack after pairs c.push.new.self.pairs p _ c.self.invariant.tied c.insert_with-key.ensures.vacant sets refl (subst IsRising (sym c.push.ensures.pairs) (rising_push pairs p c.self.invariant.tied.rising (pairs_below _ _ _ c.self.invariant.tied above))) absent c.push.ensures.found c.push.ensures.others;
+      tied = tied_opened rack after pairs c.push.new.self.pairs p _ c.self.invariant.tied c.insert_with-key.ensures.vacant sets refl (subst IsAscending (sym c.push.ensures.pairs) (rising_push pairs p c.self.invariant.tied.rising (pairs_below _ _ _ c.self.invariant.tied above))) absent c.push.ensures.found c.push.ensures.others;
       line = line_turned rack after c.insert_with-key.result _ c.self.invariant.line (record {
         sets = sets;
         here = c.enter.ensures.here;

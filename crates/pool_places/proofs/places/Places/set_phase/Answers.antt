@@ -1,8 +1,8 @@
 use Rattle.std.proofs.Common.{refl, arith}
-use Rattle.pool_slots.specs.Rack.{value_at}
+use Rattle.pool_slots.specs.SlotsModel.{value_at}
 use Rattle.pool_places.proofs.Racks.{item_known}
 use Rattle.pool_places.specs.Changes.{phase_set}
-use Rattle.pool_places.specs.Shelf.{to_phase}
+use Rattle.pool_places.specs.PlacesModel.{to_phase}
 use Rattle.pool_places.proofs.Shelves.{empty_valued}
 use Rattle.pool_places.proofs.Found.{found_known, found_empty, set_kept, set_records, set_values}
 use Rattle.pool_places.proofs.Keeping.{set_not_queued}

@@ -1,9 +1,9 @@
 use Rattle.std.proofs.Common.{refl, ap, arith}
 use Rattle.pool_journal.specs.Queue.{is_idle, is_queued}
-use Rattle.pool_slots.specs.Rack.{value_at}
+use Rattle.pool_slots.specs.SlotsModel.{value_at}
 use Rattle.pool_places.proofs.Racks.{item_known}
 use Rattle.pool_places.specs.Changes.{used_at}
-use Rattle.pool_places.specs.Shelf.{to_used}
+use Rattle.pool_places.specs.PlacesModel.{to_used}
 use Rattle.pool_places.proofs.Shelves.{empty_valued}
 use Rattle.pool_places.proofs.Found.{found_known, found_empty, set_kept, set_records, set_values}
 use Rattle.pool_places.proofs.Numbers.{counted_same}

@@ -12,7 +12,7 @@ empty_is_blank : IsBlank []
 unfolding toml_on_literals
 empty_is_blank = refl
 
--- `toml` wants no memory for the empty text.
+-- `toml` allocates nothing for the empty text.
 pub returns-in-Err-clause-empty : goal.returns-in-Err-clause-empty
 returns-in-Err-clause-empty c = λ empty.
     absurd (c.in-Err.ensures.memory (c.is_memory.ensures.0 c.if-is_memory.true) (rw empty empty_is_blank))

@@ -1,5 +1,5 @@
 use Rattle.std.proofs.Common.{rules}
 use Rattle.pool_shared.proofs.pool.SharedPool.destroy_held.Goals as goal
 
-pub returns-clause-goes : goal.returns-clause-goes
-returns-clause-goes g c = search rules
+pub returns-clause-advances : goal.returns-clause-advances
+returns-clause-advances g c = search rules

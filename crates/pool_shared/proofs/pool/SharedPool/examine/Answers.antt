@@ -15,7 +15,7 @@ loop-taken-init g c = record {
   destroyed = omega arith;
   left = c.args.count;
   all = omega arith;
-  walk = walk_none evicts.Due evicts.next (examines c.args.count none_yet) _ _ refl;
+  walk = walk_none evicts.IsExpected evicts.next (examines c.args.count none_yet) _ _ refl;
 }
 
 pub loop-taken-preserved : goal.loop-taken-preserved
@@ -28,37 +28,37 @@ loop-taken-preserved g c =
     let destroyed = ap (λ (r : EvictRun). r.destroyed) c.count_in-run.ensures in
     let most = fared_destroyed (one_more before) fate in
     record {
-      goes = goes_then g.B.Room.settings c.args.me.now c.loop-taken.me c.examine_next.new.me i.goes c.in-Ok-Some.ensures.goes;
+      goes = goes_then g.B.Room.settings c.args.me.now c.loop-taken.me c.examine_next.new.me i.goes c.in-Ok-Some.ensures.advances;
       ends = c.in-Ok-Some.ensures.ends;
       examined = examined ∙ ap (λ k. k + 1) i.examined;
       destroyed = omega (arith, destroyed, most, i.destroyed);
       left = i.left - 1;
       all = omega (arith, i.all, some);
-      walk = one_examined c.args.count i.left before _ fate _ _ _ _ c.in-Ok-Some.field-0-is c.count_in-run.ensures i.walk (c.in-Ok-Some.ensures.walk i.left before some);
+      walk = one_examined c.args.count i.left before _ fate _ _ _ _ c.in-Ok-Some.field-0-is c.count_in-run.ensures i.walk (c.in-Ok-Some.ensures.trace i.left before some);
     }
 
-pub returns-in-Ok-None-clause-goes : goal.returns-in-Ok-None-clause-goes
-returns-in-Ok-None-clause-goes g c = goes_then g.B.Room.settings c.args.me.now c.loop-taken.me c.examine_next.new.me c.loop-taken.invariant.goes c.in-Ok-None.ensures.goes
+pub returns-in-Ok-None-clause-advances : goal.returns-in-Ok-None-clause-advances
+returns-in-Ok-None-clause-advances g c = goes_then g.B.Room.settings c.args.me.now c.loop-taken.me c.examine_next.new.me c.loop-taken.invariant.goes c.in-Ok-None.ensures.advances
 
-pub returns-in-Ok-None-clause-row : goal.returns-in-Ok-None-clause-row
-returns-in-Ok-None-clause-row g c =
+pub returns-in-Ok-None-clause-spec : goal.returns-in-Ok-None-clause-spec
+returns-in-Ok-None-clause-spec g c =
     let i = c.loop-taken.invariant in
     let some : 0 < i.left = omega (arith, i.all, c.loop-taken-test.true) in
-    out_of_objects g.B.Room.settings c.args.count i.left c.loop-taken.run _ _ _ _ c.in-Ok-None.field-0-is i.walk (c.in-Ok-None.ensures.walk i.left c.loop-taken.run some) c.in-Ok-None.ensures.ends
+    out_of_objects g.B.Room.settings c.args.count i.left c.loop-taken.run _ _ _ _ c.in-Ok-None.field-0-is i.walk (c.in-Ok-None.ensures.trace i.left c.loop-taken.run some) c.in-Ok-None.ensures.ends
 
-pub returns-in-Err-clause-goes : goal.returns-in-Err-clause-goes
-returns-in-Err-clause-goes g c = goes_then g.B.Room.settings c.args.me.now c.loop-taken.me c.examine_next.new.me c.loop-taken.invariant.goes c.in-Err.ensures.goes
+pub returns-in-Err-clause-advances : goal.returns-in-Err-clause-advances
+returns-in-Err-clause-advances g c = goes_then g.B.Room.settings c.args.me.now c.loop-taken.me c.examine_next.new.me c.loop-taken.invariant.goes c.in-Err.ensures.advances
 
-pub returns-in-Err-clause-row : goal.returns-in-Err-clause-row
-returns-in-Err-clause-row g c =
+pub returns-in-Err-clause-spec : goal.returns-in-Err-clause-spec
+returns-in-Err-clause-spec g c =
     let i = c.loop-taken.invariant in
     let some : 0 < i.left = omega (arith, i.all, c.loop-taken-test.true) in
     stopped g.B.Room.settings c.args.count i.left c.loop-taken.run _ _ _ _ some i.walk c.in-Err.ensures.same c.in-Err.ensures.refused
 
-pub returns-clause-goes : goal.returns-clause-goes
-returns-clause-goes g c = c.loop-taken.invariant.goes
+pub returns-clause-advances : goal.returns-clause-advances
+returns-clause-advances g c = c.loop-taken.invariant.goes
 
-pub returns-clause-row : goal.returns-clause-row
-returns-clause-row g c =
+pub returns-clause-spec : goal.returns-clause-spec
+returns-clause-spec g c =
     let i = c.loop-taken.invariant in
     all_examined g.B.Room.settings c.args.count i.left c.loop-taken.run _ _ (omega (arith, i.all, c.loop-taken-test.false)) i.walk i.ends

@@ -1,16 +1,16 @@
 use Rattle.std.proofs.Common.{◌≡◌, ℕ, ◌+◌, ◌≤◌}
 use Rattle.pool_history.specs.CallerStates.{Advances}
-use Rattle.pool_shared.specs.Evicts.{examines, none_yet, Goes_on}
-use Rattle.pool_shared.specs.Walks.{EndsWithMade}
+use Rattle.pool_shared.specs.Evicts.{examines, none_yet, next, IsExpected}
+use Rattle.pool_shared.specs.Walks.{Trace, EndsWithOwn}
 use Rattle.pool_shared.proofs.pool.SharedPool.examine.Given as goal
 
 abbrev pub invariant-loop-taken : goal.invariant-loop-taken
 invariant-loop-taken g l = record {
   goes : Advances g.B.Room.settings l.initial.me l.me;
-  ends : EndsWithMade l.me;
+  ends : EndsWithOwn l.me;
   examined : l.run.examined ≡ l._taken;
   destroyed : l.run.destroyed ≤ l._taken;
   left : ℕ;
   all : left + l._taken ≡ l.count;
-  walk : Goes_on (examines l.count none_yet) l.initial.me l.me (examines left l.run);
+  walk : Trace IsExpected next (examines l.count none_yet) l.initial.me l.me (examines left l.run);
 }

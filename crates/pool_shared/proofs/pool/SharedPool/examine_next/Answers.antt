@@ -3,13 +3,13 @@ use Rattle.pool_shared.specs.Evicts.{one_more}
 use Rattle.pool_shared.proofs.Examining.{destroyed_idle, tested_idle, stops_full, stops_short}
 use Rattle.pool_shared.proofs.pool.SharedPool.examine_next.Goals as goal
 
-pub returns-in-Ok-DestroyIdle-Some-clause-walk : goal.returns-in-Ok-DestroyIdle-Some-clause-walk
-returns-in-Ok-DestroyIdle-Some-clause-walk g c left run some =
-    destroyed_idle c.in-Ok-DestroyIdle-Some.id left run _ _ _ _ some c.in-Ok-DestroyIdle-Some.field-0-0-is c.in-Ok-DestroyIdle-Some.ensures.made c.destroy_held.ensures.made
+pub returns-in-Ok-DestroyIdle-Some-clause-trace : goal.returns-in-Ok-DestroyIdle-Some-clause-trace
+returns-in-Ok-DestroyIdle-Some-clause-trace g c left run some =
+    destroyed_idle c.in-Ok-DestroyIdle-Some.id left run _ _ _ _ some c.in-Ok-DestroyIdle-Some.field-0-0-is c.in-Ok-DestroyIdle-Some.ensures.appended c.destroy_held.ensures.appended
 
-pub returns-in-Ok-Test-Some-clause-walk : goal.returns-in-Ok-Test-Some-clause-walk
-returns-in-Ok-Test-Some-clause-walk g c left run some =
-    tested_idle c.in-Ok-Test-Some.id left run _ _ _ _ _ some c.in-Ok-Test-Some.field-0-0-is c.in-Ok-Test-Some.ensures.made (c.test.ensures.walk (left - 1) (one_more run))
+pub returns-in-Ok-Test-Some-clause-trace : goal.returns-in-Ok-Test-Some-clause-trace
+returns-in-Ok-Test-Some-clause-trace g c left run some =
+    tested_idle c.in-Ok-Test-Some.id left run _ _ _ _ _ some c.in-Ok-Test-Some.field-0-0-is c.in-Ok-Test-Some.ensures.appended (c.test.ensures.trace (left - 1) (one_more run))
 
 pub returns-in-Err-JournalFull-clause-refused : goal.returns-in-Err-JournalFull-clause-refused
 returns-in-Err-JournalFull-clause-refused g c = stops_full g.B.Room.settings _ _ _ _ c.in-Err-JournalFull.field-0-is c.in-Err-JournalFull.ensures.refused

@@ -7,7 +7,7 @@ pub loop-preserved-in-Ok-Idle : goal.loop-preserved-in-Ok-Idle
 loop-preserved-in-Ok-Idle g c =
     let i = c.loop.invariant in
     let e = c.in-Ok-Idle.ensures in (
-      comes_on g.B.Room.settings _ _ _ i.0 e.goes,
+      comes_on g.B.Room.settings _ _ _ i.0 e.advances,
       one_parked g.B.Room.settings i.1.0 c.loop.parked _ _ _ i.1.1 i.1.2 c.in-Ok-Idle.field-0 _ c.in-Ok-Idle.field-0-is refl (e.turn i.1.0).0,
     )
 
@@ -15,28 +15,28 @@ pub loop-preserved : goal.loop-preserved
 loop-preserved g c =
     let i = c.loop.invariant in
     let e = c.in-Ok-Destroyed.ensures in (
-      comes_on g.B.Room.settings _ _ _ i.0 e.goes,
+      comes_on g.B.Room.settings _ _ _ i.0 e.advances,
       one_lost g.B.Room.settings i.1.0 c.loop.parked _ _ _ i.1.1 i.1.2 c.in-Ok-Destroyed.field-0 c.in-Ok-Destroyed.field-0-is (e.turn i.1.0).0,
     )
 
-pub returns-in-Ok-NoPlace-clause-goes : goal.returns-in-Ok-NoPlace-clause-goes
-returns-in-Ok-NoPlace-clause-goes g c = goes_far g.B.Room.settings _ _ _ c.loop.invariant.0 c.in-Ok-NoPlace.ensures.goes
+pub returns-in-Ok-NoPlace-clause-advances : goal.returns-in-Ok-NoPlace-clause-advances
+returns-in-Ok-NoPlace-clause-advances g c = goes_far g.B.Room.settings _ _ _ c.loop.invariant.0 c.in-Ok-NoPlace.ensures.advances
 
-pub returns-in-Err-clause-goes : goal.returns-in-Err-clause-goes
-returns-in-Err-clause-goes g c = goes_far g.B.Room.settings _ _ _ c.loop.invariant.0 c.in-Err.ensures.goes
+pub returns-in-Err-clause-advances : goal.returns-in-Err-clause-advances
+returns-in-Err-clause-advances g c = goes_far g.B.Room.settings _ _ _ c.loop.invariant.0 c.in-Err.ensures.advances
 
-pub returns-in-Ok-NoPlace-clause-row : goal.returns-in-Ok-NoPlace-clause-row
-returns-in-Ok-NoPlace-clause-row g c =
+pub returns-in-Ok-NoPlace-clause-spec : goal.returns-in-Ok-NoPlace-clause-spec
+returns-in-Ok-NoPlace-clause-spec g c =
     let i = c.loop.invariant in
     let turn = c.in-Ok-NoPlace.ensures.turn i.1.0 in
     all_filled g.B.Room.settings i.1.0 c.loop.parked _ _ _ i.1.1 i.1.2 c.in-Ok-NoPlace.field-0 c.in-Ok-NoPlace.field-0-is turn.0 turn.1
 
-pub returns-in-Err-clause-row : goal.returns-in-Err-clause-row
-returns-in-Err-clause-row g c =
+pub returns-in-Err-clause-spec : goal.returns-in-Err-clause-spec
+returns-in-Err-clause-spec g c =
     let i = c.loop.invariant in
     filled_part g.B.Room.settings i.1.0 c.loop.parked _ _ _ i.1.1 i.1.2 c.in-Err.fault (c.in-Err.ensures.turn i.1.0)
 
 pub overflow_add-parked : goal.overflow_add-parked
 overflow_add-parked g c =
     let i = c.loop.invariant in
-    omega (arith, i.1.1, c.in-Ok-Idle.ensures.few, few_parked g.B.Room.settings i.1.0 _ _ i.1.2)
+    omega (arith, i.1.1, c.in-Ok-Idle.ensures.bounded, few_parked g.B.Room.settings i.1.0 _ _ i.1.2)

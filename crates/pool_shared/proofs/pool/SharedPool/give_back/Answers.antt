@@ -1,22 +1,23 @@
-use Rattle.std.proofs.Common.{ap, rules, ◌≡◌, arith}
-use Rattle.std.proofs.lemmas.Grind.{common_steps}
-use Rattle.pool_shared.proofs.Backs.{full_row, short_row}
+use Rattle.std.proofs.Common.{ap, rules, ◌≡◌}
+use Rattle.pool_shared.proofs.Backs.{checked, return_full, return_short}
 use Rattle.pool_shared.specs.Pools.{refusal}
 use Rattle.pool_shared.proofs.Keeping.{untouched}
 use Rattle.pool_shared.proofs.pool.SharedPool.give_back.Goals as goal
 
-pub returns-in-Err-JournalFull-clause-row : goal.returns-in-Err-JournalFull-clause-row
-returns-in-Err-JournalFull-clause-row g c =
+pub returns-in-Err-JournalFull-clause-spec : goal.returns-in-Err-JournalFull-clause-spec
+returns-in-Err-JournalFull-clause-spec g c =
     let pool : c.args.lent.pool ≡ c.args.self.now.number = search rules in
-    full_row g.B.Room.settings c.args.self.now.number c.args.lent _ _ _ _ (ap refusal c.in-Err-JournalFull.field-0-is) pool c.in-Err-JournalFull.ensures.goes.legal c.in-Err-JournalFull.ensures.refused
+    return_full g.B.Room.settings c.args.self.now.number c.args.lent _ _ _ _ (ap refusal c.in-Err-JournalFull.field-0-is) pool c.in-Err-JournalFull.ensures.advances.legal c.in-Err-JournalFull.ensures.refused
 
-pub returns-in-Err-OutOfMemory-clause-row : goal.returns-in-Err-OutOfMemory-clause-row
-returns-in-Err-OutOfMemory-clause-row g c =
+pub returns-in-Err-OutOfMemory-clause-spec : goal.returns-in-Err-OutOfMemory-clause-spec
+returns-in-Err-OutOfMemory-clause-spec g c =
     let pool : c.args.lent.pool ≡ c.args.self.now.number = search rules in
-    short_row g.B.Room.settings c.args.self.now.number c.args.lent _ _ _ _ (ap refusal c.in-Err-OutOfMemory.field-0-is) pool c.in-Err-OutOfMemory.ensures.goes.legal c.in-Err-OutOfMemory.ensures.refused
+    return_short g.B.Room.settings c.args.self.now.number c.args.lent _ _ _ _ (ap refusal c.in-Err-OutOfMemory.field-0-is) pool c.in-Err-OutOfMemory.ensures.advances.legal c.in-Err-OutOfMemory.ensures.refused
 
-pub returns-then-lent-self-clause-goes : goal.returns-then-lent-self-clause-goes
-returns-then-lent-self-clause-goes g c = untouched g.B.Room.table g.B.Room.settings _ c.me.inside.number _ c.args.me.now c.me.invariant c.me.view_is
+pub returns-then-lent-self-clause-advances : goal.returns-then-lent-self-clause-advances
+returns-then-lent-self-clause-advances g c = untouched g.B.Room.table g.B.Room.settings _ c.me.inside.number _ c.args.me.now c.me.invariant c.me.view_is
 
-pub returns-in-Ok-Check-clause-row : goal.returns-in-Ok-Check-clause-row
-returns-in-Ok-Check-clause-row g c = grind (arith, common_steps)
+pub returns-in-Ok-Check-clause-spec : goal.returns-in-Ok-Check-clause-spec
+returns-in-Ok-Check-clause-spec g c =
+    let pool : c.args.lent.pool ≡ c.args.self.now.number = search rules in
+    checked g.B.Room.settings c.args.self.now.number c.args.lent _ _ _ _ _ pool c.in-Ok-Check.field-0-is c.in-Ok-Check.ensures.appended c.check.ensures.trace c.check.ensures.ends

@@ -1,4 +1,4 @@
 use Rattle.pool_shared.proofs.pool.SharedPool.reclaim.Goals as goal
 
-pub returns-clause-row : goal.returns-clause-row
-returns-clause-row g c = c.reclaim_on.ensures.row
+pub returns-clause-spec : goal.returns-clause-spec
+returns-clause-spec g c = c.reclaim_on.ensures.spec

@@ -13,7 +13,7 @@ loop-taken-init g c = record {
   ends = c.requires.ended;
   left = c.args.count;
   all = omega arith;
-  walk = λ time. walk_none (removals.Due time) removals.next (reclaims c.args.count 0) _ _ refl;
+  walk = λ time. walk_none (removals.IsExpected time) removals.next (reclaims c.args.count 0) _ _ refl;
 }
 
 pub loop-taken-preserved : goal.loop-taken-preserved
@@ -21,42 +21,42 @@ loop-taken-preserved g c =
     let i = c.loop-taken.invariant in
     let some : 0 < i.left = omega (arith, i.all, c.loop-taken-test.true) in
     record {
-      goes = goes_then g.B.Room.settings c.args.me.now c.loop-taken.me c.ask_plainly.new.me i.goes c.in-Ok-Reclaimed.ensures.goes;
-      ends = (_, _, ends_of _ _ c.loop-taken.me c.ask_plainly.new.me c.in-Ok-Reclaimed.ensures.goes.number c.in-Ok-Reclaimed.ensures.made);
+      goes = goes_then g.B.Room.settings c.args.me.now c.loop-taken.me c.run_section_without_value.new.me i.goes c.in-Ok-Reclaimed.ensures.advances;
+      ends = (_, _, ends_of _ _ c.loop-taken.me c.run_section_without_value.new.me c.in-Ok-Reclaimed.ensures.advances.number c.in-Ok-Reclaimed.ensures.appended);
       left = i.left - 1;
       all = omega (arith, i.all, some);
-      walk = λ time. took_away time c.args.count i.left c.loop-taken.taken _ _ _ _ _ some (i.walk time) c.in-Ok-Reclaimed.field-0-is c.in-Ok-Reclaimed.ensures.made;
+      walk = λ time. took_away time c.args.count i.left c.loop-taken.taken _ _ _ _ _ some (i.walk time) c.in-Ok-Reclaimed.field-0-is c.in-Ok-Reclaimed.ensures.appended;
     }
 
-pub returns-in-Ok-Nothing-clause-goes : goal.returns-in-Ok-Nothing-clause-goes
-returns-in-Ok-Nothing-clause-goes g c = goes_then g.B.Room.settings c.args.me.now c.loop-taken.me c.ask_plainly.new.me c.loop-taken.invariant.goes c.in-Ok-Nothing.ensures.goes
+pub returns-in-Ok-Nothing-clause-advances : goal.returns-in-Ok-Nothing-clause-advances
+returns-in-Ok-Nothing-clause-advances g c = goes_then g.B.Room.settings c.args.me.now c.loop-taken.me c.run_section_without_value.new.me c.loop-taken.invariant.goes c.in-Ok-Nothing.ensures.advances
 
-pub returns-clause-goes : goal.returns-clause-goes
-returns-clause-goes g c = c.loop-taken.invariant.goes
+pub returns-clause-advances : goal.returns-clause-advances
+returns-clause-advances g c = c.loop-taken.invariant.goes
 
-pub returns-clause-row : goal.returns-clause-row
-returns-clause-row g c time =
+pub returns-clause-spec : goal.returns-clause-spec
+returns-clause-spec g c time =
     let i = c.loop-taken.invariant in
     let none : i.left ≡ 0 = omega (arith, i.all, c.loop-taken-test.false) in
     let taken : c.loop-taken.taken ≡ c.args.count = omega (arith, i.all, none) in
     all_taken g.B.Room.settings time c.args.count i.left c.loop-taken.taken _ _ none taken (i.walk time) i.ends
 
-pub returns-in-Ok-Nothing-clause-row : goal.returns-in-Ok-Nothing-clause-row
-returns-in-Ok-Nothing-clause-row g c time =
+pub returns-in-Ok-Nothing-clause-spec : goal.returns-in-Ok-Nothing-clause-spec
+returns-in-Ok-Nothing-clause-spec g c time =
     let i = c.loop-taken.invariant in
     let some : 0 < i.left = omega (arith, i.all, c.loop-taken-test.true) in
-    let ends = ends_of _ _ c.loop-taken.me c.ask_plainly.new.me c.in-Ok-Nothing.ensures.goes.number c.in-Ok-Nothing.ensures.made in
-    none_abandoned g.B.Room.settings time c.args.count i.left c.loop-taken.taken _ _ _ _ some (i.walk time) c.in-Ok-Nothing.field-0-is c.in-Ok-Nothing.ensures.made (_, _, ends)
+    let ends = ends_of _ _ c.loop-taken.me c.run_section_without_value.new.me c.in-Ok-Nothing.ensures.advances.number c.in-Ok-Nothing.ensures.appended in
+    none_abandoned g.B.Room.settings time c.args.count i.left c.loop-taken.taken _ _ _ _ some (i.walk time) c.in-Ok-Nothing.field-0-is c.in-Ok-Nothing.ensures.appended (_, _, ends)
 
-pub returns-in-Err-JournalFull-clause-row : goal.returns-in-Err-JournalFull-clause-row
-returns-in-Err-JournalFull-clause-row g c time =
+pub returns-in-Err-JournalFull-clause-spec : goal.returns-in-Err-JournalFull-clause-spec
+returns-in-Err-JournalFull-clause-spec g c time =
     let i = c.loop-taken.invariant in
     let some : 0 < i.left = omega (arith, i.all, c.loop-taken-test.true) in
     let refused = c.in-Err-JournalFull.ensures.refused in
     stopped g.B.Room.settings time c.args.count i.left c.loop-taken.taken _ _ _ _ some (i.walk time) refused.same (stops_full g.B.Room.settings _ _ _ _ (ap refusal c.in-Err-JournalFull.field-0-is) refused)
 
-pub returns-in-Err-OutOfMemory-clause-row : goal.returns-in-Err-OutOfMemory-clause-row
-returns-in-Err-OutOfMemory-clause-row g c time =
+pub returns-in-Err-OutOfMemory-clause-spec : goal.returns-in-Err-OutOfMemory-clause-spec
+returns-in-Err-OutOfMemory-clause-spec g c time =
     let i = c.loop-taken.invariant in
     let some : 0 < i.left = omega (arith, i.all, c.loop-taken-test.true) in
     let refused = c.in-Err-OutOfMemory.ensures.refused in

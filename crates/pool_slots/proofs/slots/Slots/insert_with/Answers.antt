@@ -1,5 +1,5 @@
 use Rattle.std.proofs.Common.{ap, ◌∙◌}
-use Rattle.pool_slots.specs.Rack.{is_in}
+use Rattle.pool_slots.specs.SlotsModel.{is_in}
 use Rattle.pool_slots.proofs.Moves.{apart, vacant_apart, room_taken}
 use Rattle.pool_slots.proofs.slots.Slots.insert_with.Goals as goal
 

@@ -1,5 +1,5 @@
 use Rattle.std.proofs.Common.{refl}
-use Rattle.pool_slots.specs.Rack.{with_known}
+use Rattle.pool_slots.specs.SlotsModel.{with_known}
 use Rattle.pool_slots.proofs.Moves.{written}
 use Rattle.pool_slots.proofs.slots.Slots.set_known.Goals as goal
 

@@ -1,5 +1,5 @@
 use Rattle.std.proofs.Common.{None, refl, ap}
-use Rattle.pool_slots.specs.Rack.{with_value}
+use Rattle.pool_slots.specs.SlotsModel.{with_value}
 use Rattle.pool_slots.specs.Links.{item_of}
 use Rattle.pool_slots.proofs.Moves.{written}
 use Rattle.pool_slots.proofs.slots.Slots.take.Goals as goal

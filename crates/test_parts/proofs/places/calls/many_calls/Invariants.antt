@@ -1,4 +1,4 @@
-use Rattle.pool_places.specs.Shelf.{records_in}
+use Rattle.pool_places.specs.PlacesModel.{records_in}
 use Rattle.test_parts.specs.Before.{AllBefore}
 use Rattle.test_parts.proofs.places.calls.many_calls.Given as goal
 

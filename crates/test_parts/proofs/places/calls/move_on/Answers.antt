@@ -1,7 +1,7 @@
 use Rattle.std.proofs.Common.{◌+◌, refl, sym, arith, subst}
 use Rattle.pool_journal.specs.declared.record.Phase.TheVariants as phases
 use Rattle.pool_places.specs.Changes.{phase_set, lent_at, used_at, parked_at}
-use Rattle.pool_places.specs.Shelf.{records_in}
+use Rattle.pool_places.specs.PlacesModel.{records_in}
 use Rattle.test_parts.specs.Before.{AllBefore}
 use Rattle.test_parts.proofs.Moments.{before_changed, before_without, before_later}
 use Rattle.test_parts.proofs.places.calls.move_on.Goals as goal

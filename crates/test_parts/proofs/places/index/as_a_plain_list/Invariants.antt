@@ -1,4 +1,4 @@
-use Rattle.rising_index.specs.Pairs.{IdsBelow}
+use Rattle.sorted_index.specs.Pairs.{IdsBelow}
 use Rattle.test_parts.proofs.places.index.as_a_plain_list.Given as goal
 
 abbrev pub invariant-loop-id : goal.invariant-loop-id

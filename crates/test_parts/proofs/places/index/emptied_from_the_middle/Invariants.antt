@@ -1,4 +1,4 @@
-use Rattle.rising_index.specs.Pairs.{IdsBelow}
+use Rattle.sorted_index.specs.Pairs.{IdsBelow}
 use Rattle.test_parts.proofs.places.index.emptied_from_the_middle.Given as goal
 
 abbrev pub invariant-loop-id : goal.invariant-loop-id

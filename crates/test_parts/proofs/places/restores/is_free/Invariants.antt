@@ -1,6 +1,6 @@
 use Rattle.std.proofs.Common.{length}
 use Rattle.pool_places.specs.Changes.{IsFreePosition}
-use Rattle.pool_places.specs.Shelf.{records_in}
+use Rattle.pool_places.specs.PlacesModel.{records_in}
 use Rattle.test_parts.proofs.places.restores.is_free.Given as goal
 
 abbrev pub invariant-loop-left : goal.invariant-loop-left

@@ -1,7 +1,7 @@
 use Rattle.std.proofs.Common.{ℕ, ◌+◌, ◌<◌, List, ap, sym, ◌∙◌, arith, subst}
 use Rattle.pool_journal.specs.declared.record.Record.{Record}
 use Rattle.pool_places.specs.Changes.{IdsBelow}
-use Rattle.pool_places.specs.Shelf.{records_in}
+use Rattle.pool_places.specs.PlacesModel.{records_in}
 use Rattle.pool_places.proofs.Entries.{all_mapped}
 use Rattle.test_parts.proofs.places.restores.many_restores.Goals.{then-is_free, else-is_free}
 use Rattle.test_parts.proofs.places.restores.many_restores.Goals as goal
@@ -19,7 +19,7 @@ loop-id-preserved g c =
           }
       | else-is_free w ↦
           record {
-            same = ap (λ s. s.kept) w.places-is ∙ ap (λ s. s.kept) c.look_from.ensures ∙ c.reserve.ensures.kept ∙ c.loop-id.invariant.same ∙ sym (ap (λ v. v.items) w.plain-is);
+            same = ap (λ s. s.kept) w.places-is ∙ ap (λ s. s.kept) c.start_search_at.ensures ∙ c.reserve.ensures.kept ∙ c.loop-id.invariant.same ∙ sym (ap (λ v. v.items) w.plain-is);
             below = subst (λ v. IdsBelow (c.loop-id.id + 1) (records_in v.items)) (sym w.plain-is) (below_later c.loop-id.id (records_in c.loop-id.plain.items) c.loop-id.invariant.below);
           }
     ]

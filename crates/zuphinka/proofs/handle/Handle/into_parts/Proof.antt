@@ -1,4 +1,4 @@
--- `into_parts` tests the place: nothing lies at null.
+-- `into_parts` tests the address: nothing is at null.
 use Rattle.std.proofs.Common.{◌≡◌, List, [], ◌∷◌, ◌++◌, refl, sym, ◌∙◌, subst, lit<, Some, None}
 use mir.Val.{Val}
 use base.Logic.{SProp, ent, emp, id⊢}

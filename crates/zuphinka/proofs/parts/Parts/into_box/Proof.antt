@@ -1,4 +1,4 @@
--- `into_box` hands what the parts own to `from_raw`.
+-- `into_box` passes the memory that the parts own to `from_raw`.
 use Rattle.std.proofs.Common.{◌≡◌, List, [], ◌∷◌, ◌++◌, refl, sym, ap, ◌∙◌, subst}
 use mir.Syntax.{a_type, dcons, dnil}
 use mir.Val.{Val, vptr}
@@ -54,13 +54,13 @@ into_box_spec 𝓤 𝓛 𝓜 𝓡 wired T A L LA g d dt da allocator glue_t glue
     let Run : List Val → SProp 𝓤 = λ ws. WpFn 𝓤 H 𝓣.C 𝓣.Λ fn ws Post in let tokens = ‵ (flft κs.0 qs.0) ⊛ ‵ (flft κs.1.0 qs.1.0) ⊛ ‵ ftrue in
     qed 𝓛 ((tokens ⊛ ‵ (owns (types_at En.signature.params κs) z.0.3 z.0.4)) ∷ raw ((c κs z.0.3).requires z.1) ∷ []) ∵
     split ! $ move ! (1 ∷ []) $ fsplit ! $ fsplit ! $
-    -- [the fields; the box's memory; nothing; the tokens; what was asked]
+    -- [the fields; the box's memory; nothing; the tokens; the precondition]
     apart Z LZ ! x.at x.alloc z.0.4.0 (λ h laid good. move ! (1 ∷ []) $
     in_a_block ! x.at (λ p. box_owns (g.dealloc_token x.alloc) R p x.value) (fst∗ 𝓤 (never 𝓤) (sem 𝓛 (g.dealloc_token x.alloc (bare (lone R.mir)) null_ptr))) (λ b o lies.
     let w : Val = word (block_ptr b o) h in let typed : Good (layout From) w = word_good Z refl (block_ptr b o) h good in
     let k = triple_of 𝓛 (callee.signature T A g d da) (callee.spec T A g d da 𝓛 𝓜.mem 𝓡.returns) in
     let y : k.Ghost = ((κs, qs, tt, (x.alloc, (block_ptr b o, tt)), (h ∷ [], (vptr b o ∷ [], tt))), x.value) in
-    -- what is asked of `from_raw` is the two lifetimes and the memory, and it is handed the allocator and the pointer
+    -- the precondition of `from_raw` is the two lifetimes and the memory, and it is passed the allocator and the pointer
     move ! (4 ∷ []) $ use1 𝓛 (raw (fact 𝓤 (κs.0 ⊑ T.lives)) ⊛ raw (fact 𝓤 (κs.1.0 ⊑ A.lives)) ⊛ ‵ ftrue) (id⊢ 𝓤 _) $ split3 ! $ move ! (2 ∷ []) $ drop ! $
     move ! (1 ∷ 2 ∷ []) $ join ! $ move ! (1 ∷ 0 ∷ []) $ join ! $ move ! (2 ∷ []) $ feq_i ! (List Val) (vptr b o ∷ []) (vptr b o ∷ []) refl $ fjoin ! $ move ! (2 ∷ 0 ∷ []) $ fjoin ! $
     move ! (2 ∷ 0 ∷ []) $ join ! $ join ! $ use1 𝓛 (raw (k.pre y)) (id⊢ 𝓤 _) $

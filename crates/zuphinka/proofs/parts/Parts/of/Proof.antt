@@ -51,7 +51,7 @@ of_spec 𝓤 𝓛 𝓜 𝓡 wired T A L LA g d dt da allocator glue_t glue_a =
     let tokens = ‵ (flft κs.0 qs.0) ⊛ ‵ (flft κs.1.0 qs.1.0) ⊛ ‵ ftrue in
     qed 𝓛 ((tokens ⊛ ‵ (owns (types_at En.signature.params κs) z.0.3 z.0.4)) ∷ raw ((c κs z.0.3).requires z.1) ∷ []) ∵
     split ! $ move ! (1 ∷ []) $ fsplit ! $ fsplit ! $
-    -- [the fields; the box's memory; nothing; the tokens; what was asked]
+    -- [the fields; the box's memory; nothing; the tokens; the precondition]
     apart Z LZ ! x.ptr x.alloc z.0.4.0 (λ h laid good.
     let w : Val = word x.ptr h in let typed : Good (layout From) w = word_good Z refl x.ptr h good in
     let k = triple_of 𝓛 (callee.signature T A g d da dt) (callee.spec T A g d da dt 𝓛 𝓜.mem 𝓡.returns) in

@@ -1,0 +1,101 @@
+ghost use Rattle.std.specs.Prelude.{◌≡◌, ℕ, ◌+◌, ◌-◌, ◌<◌, ◌≤◌, List, [], ◌++◌, length, take, drop, slice_range, is_err, IfOk, IfErr, OnOk, OnErr};
+ghost use Rattle.std.specs.Io.KnownBytes.{Consumes, IsAtEnd, Keeps};
+ghost use Rattle.pool_engines.specs.Leaving.{read_ahead};
+ghost use Rattle.pool_engines.specs.Faults.{IsTold};
+
+use crate::engine_fault::EngineFault;
+use crate::source::Source;
+use std::alloc::{AllocError, Global};
+use std::marker::Model;
+
+/// The capacity of the input buffer, in bytes.
+const CAPACITY: usize = 65_536;
+
+/// The bytes of a stream that were read and aren't handled yet.
+#[derive(Drop)]
+pub(crate) struct InputBuffer {
+    buffer: Vec<u8>,
+    start: usize,
+    end: usize,
+}
+
+impl Model for InputBuffer {
+    ghost Value = { List ℕ };
+
+    ghost view = { λ l. slice_range l.buffer.items l.start l.end };
+
+    ghost invariant = { λ l. (l.start ≤ l.end) × (l.end ≤ 65536)
+        × (length l.buffer.items ≡ 65536) };
+}
+
+impl InputBuffer {
+    pub(crate) fn new(alloc: Global) -> Result<InputBuffer, AllocError>
+        ensures { IfOk result (λ incoming. incoming ≡ []) }
+    {
+        Ok(InputBuffer {
+            buffer: vec![in alloc; 0; CAPACITY]?,
+            start: 0,
+            end: 0,
+        })
+    }
+
+    pub(crate) fn bytes(&self) -> &[u8]
+        ensures { result.now ≡ self.now }
+    {
+        &self.buffer[self.start..self.end]
+    }
+
+    /// Drops the first bytes, which are handled.
+    pub(crate) fn drop_front(&mut self, count: usize)
+        requires { count ≤ length self.old }
+        ensures { self.new ≡ drop count self.old }
+    {
+        self.start += count;
+    }
+
+    /// Reads more bytes after the buffered ones, and returns their number: 0 only at the end of the stream.
+    pub(crate) fn fill<R: Source>(&mut self, reader: &mut R) -> Result<usize, EngineFault>
+        requires { length self.old < 256 }
+        ensures more { IfOk result (λ count. (more : List ℕ) × (length more ≡ count)
+            × (self.new ≡ self.old ++ more)
+            × Consumes (R.remaining reader.old) (R.remaining reader.new) more) }
+        ensures end { result ≡ Ok 0 → IsAtEnd (R.remaining reader.new) }
+        ensures err { OnErr result ((self.new ≡ self.old)
+            × Keeps (R.remaining reader.old) (R.remaining reader.new)) }
+        ensures fault { IfErr result (λ fault. fault ≡ EngineFault.Read) }
+        ensures told { IsTold (is_err result) (R.may_have_failed reader.old)
+            (R.may_have_failed reader.new) }
+        ensures ahead { length self.new ≤ read_ahead }
+    {
+        let kept = self.end - self.start;
+        self.buffer.copy_within(self.start..self.end, 0);
+        self.start = 0;
+        self.end = kept;
+        let count = read_behind(&mut self.buffer, kept, reader)?;
+        self.end = kept + count;
+        Ok(count)
+    }
+}
+
+/// Reads into the buffer from an index on.
+pub(crate) fn read_behind<R: Source>(
+    buffer: &mut [u8],
+    from: usize,
+    reader: &mut R,
+) -> Result<usize, EngineFault>
+    requires { from < length buffer.old }
+    ensures front { take from buffer.new ≡ take from buffer.old }
+    ensures more { IfOk result (λ count. (from + count ≤ length buffer.new)
+        × Consumes (R.remaining reader.old) (R.remaining reader.new)
+        (slice_range buffer.new from (from + count))) }
+    ensures end { result ≡ Ok 0 → IsAtEnd (R.remaining reader.new) }
+    ensures err { OnErr result (Keeps (R.remaining reader.old) (R.remaining reader.new)) }
+    ensures fault { IfErr result (λ fault. fault ≡ EngineFault.Read) }
+    ensures told { IsTold (is_err result) (R.may_have_failed reader.old)
+        (R.may_have_failed reader.new) }
+{
+    match reader.read_some(&mut buffer[from..]) {
+        Ok(count) => Ok(count),
+        Err(_) => Err(EngineFault::Read),
+    }
+}

@@ -1,0 +1,23 @@
+-- The invariant of the objects, the queue and the counts.
+use Rattle.std.specs.Prelude.{◌≡◌, ℕ, true, List, Option, IfSome}
+use Rattle.pool_slots.specs.SlotsModel.{SlotsModel, is_in}
+use Rattle.sorted_index.specs.declared.pair.Pair.{Pair}
+use Rattle.pool_places.specs.declared.place_counts.PlaceCounts.{PlaceCounts}
+use Rattle.pool_places.specs.Counts.{IsCounts}
+use Rattle.pool_places.specs.Overdue.{IsBound}
+use Rattle.pool_places.specs.PlacesModel.{records_in, PlacesInvariant}
+use Rattle.pool_places.specs.Stored.{kept_of, IndexInvariant, QueueInvariant}
+
+-- the key is in the queue, if there is one
+abbrev pub IsWithin : List ℕ → Option ℕ → Type 0
+IsWithin queue o = IfSome o (λ key. is_in key queue ≡ true)
+
+-- the objects are in order, these are their keys, queue and counts, the remembered key is in the queue, and no lent object was
+-- last used before the bound
+pub record RepInvariant {T : Type 0} (rack : SlotsModel T) (pairs : List Pair) (counts : PlaceCounts) (from : Option ℕ) (least : ℕ) : Type 0 where
+  pub shelf : PlacesInvariant (kept_of rack pairs)
+  pub counted : IsCounts counts (records_in (kept_of rack pairs))
+  pub tied : IndexInvariant rack pairs
+  pub line : QueueInvariant rack
+  pub remembered : IsWithin rack.queue from
+  pub bound : IsBound least (records_in (kept_of rack pairs))

@@ -1,0 +1,14 @@
+use Rattle.pool_shared.specs.Borrows as borrows
+use Rattle.pool_shared.specs.Borrows.{BorrowEnds}
+use Rattle.pool_shared.proofs.Asking.{once_more}
+use Rattle.pool_shared.proofs.Rowing.{row_on}
+use Rattle.pool_shared.proofs.pool.SharedPool.borrow_until_result.Goals as goal
+
+pub returns-in-Some-borrow_once-clause-spec : goal.returns-in-Some-borrow_once-clause-spec
+returns-in-Some-borrow_once-clause-spec g c =
+    row_on (borrows.IsExpected g.B.Room.settings c.args.began) borrows.next (BorrowEnds g.B.Room.settings c.args.self.now.number c.args.began) _ _ _ _ _ _ c.loop.invariant.1 c.in-Some-borrow_once.ensures.spec
+
+pub loop-preserved : goal.loop-preserved
+loop-preserved g c =
+    let i = c.loop.invariant in
+    once_more g.B.Room.settings c.args.began c.args.me.now c.loop.me c.borrow_once.new.me i.0 i.1 c.in-None-borrow_once.ensures.advances c.in-None-borrow_once.ensures.again

@@ -1,6 +1,0 @@
-use Rattle.std.proofs.Common.{◌≡◌, slice_get}
-use Rattle.rising_index.specs.Marks.{pairs_in}
-use Rattle.rising_index.proofs.reading.pair_there.Given as goal
-
-abbrev pub invariant-loop-pair : goal.invariant-loop-pair
-invariant-loop-pair l = slice_get l.pair-iterator l.left ≡ slice_get (pairs_in l.stored) l.position

@@ -1,5 +1,0 @@
-use Rattle.rising_index.proofs.There.{rising_there}
-use Rattle.rising_index.proofs.rising_index.RisingIndex.walk.Goals as goal
-
-pub returns-clause-rising : goal.returns-clause-rising
-returns-clause-rising c = rw (← c.self.view_is) (rising_there c.self.inside.stored.items c.self.invariant.counted.rising)

@@ -1,6 +1,0 @@
-/// An id and the key that is kept under it.
-#[derive(Clone, Copy, Debug, PartialEq, Eq)]
-pub struct Pair {
-    pub id: u64,
-    pub key: usize,
-}

@@ -1,8 +1,0 @@
-use crate::pair::Pair;
-
-/// A pair as it is stored. One that is gone is marked, and dropped later.
-#[derive(Clone, Copy)]
-pub(crate) struct Stored {
-    pub pair: Pair,
-    pub is_gone: bool,
-}

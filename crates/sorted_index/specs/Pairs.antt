@@ -1,0 +1,27 @@
+-- The model of an index: pairs in ascending order of id.
+use Rattle.std.specs.Prelude.{ℕ, ◌==◌, ◌<◌, not, List, [], ◌∷◌, filter, find, Option, ⊤}
+use Rattle.std.specs.List.{AllByRecursion}
+use Rattle.std.specs.Option.{option_map}
+use Rattle.sorted_index.specs.declared.pair.Pair.{Pair}
+
+-- the model of an index
+pub record Rising : Type 0 where
+  pub pairs : List Pair  -- in ascending order of id
+  pub spare : ℕ  -- the number of pairs that can be added without memory
+
+-- the key of i, if there is one
+abbrev pub key_of : List Pair → ℕ → Option ℕ
+key_of ps i = option_map (λ p. p.key) (find (λ p. i == p.id) ps)
+
+-- the pairs without that of i
+abbrev pub without : ℕ → List Pair → List Pair
+without i ps = filter (λ p. not (i == p.id)) ps
+
+-- all ids are below n
+abbrev pub IdsBelow : ℕ → List Pair → Type 0
+IdsBelow n ps = AllByRecursion (λ p. p.id < n) ps
+
+-- the ids are ascending
+abbrev pub IsAscending : List Pair → Type 0
+IsAscending [] = ⊤
+IsAscending (p ∷ ps) = AllByRecursion (λ q. p.id < q.id) ps × IsAscending ps

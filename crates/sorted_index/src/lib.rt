@@ -1,0 +1,14 @@
+//! Keys in ascending order of id: found by a binary search, and removed without moving the others.
+#![tactic(auto)]
+
+mod marks;
+mod pair;
+mod positions;
+mod reading;
+mod sorted_index;
+mod stored;
+mod walk;
+
+pub use pair::Pair;
+pub use sorted_index::SortedIndex;
+pub use walk::Walk;
