@@ -31,8 +31,8 @@ DECLARED = r"^(?:(?:abbrev|unfoldable|record|data|pub|mod) )+%s\b"
 SAID = r"\b(?:ensures|ghost|pub (?:trait|struct|enum|fn)|pub\(crate\) fn) %s\b"
 # The sources besides those of the crates.
 OTHERS = (
-    *("bindings/c/*", "bindings/rust/src/*.rs", "bindings/rust/examples/*", "tests/*.*", "bench/*", "tools/*", "docs/pictures/*.py", "examples/*"),
-    *("pool", "check", "crates.txt"),
+    *("bindings/c/*", "bindings/rust/src/*.rs", "bindings/rust/examples/*", "bindings/java/src/zuphinka/*", "bindings/java/native/*"),
+    *("tests/*.*", "tests/java/*", "bench/*", "tools/*", "docs/pictures/*.py", "examples/*", "pool", "check", "crates.txt"),
 )
 
 

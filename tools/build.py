@@ -2,6 +2,7 @@
 """Proves and builds a program of the repository, or a static library, with the libraries that it depends on: independent ones in parallel.
 
     tools/build.py PROGRAM
+    tools/build.py java         the pool for Java, and the static library `zuphinka` that it needs (tools/java.py)
 
 Prints on standard error which crates it builds, how many are done, how long it has worked, and about how long it takes. It shows the output of a
 build only if the build failed, and the status is then 1. It passes over crates that are built of their sources as they are (tools/sources.py), and
@@ -27,6 +28,7 @@ from sources import TOP, below, libraries
 
 SECONDS = pathlib.Path(__file__).resolve().parent / "proof_seconds.txt"
 KIT = pathlib.Path(__file__).resolve().parent / "kit.py"
+JAVA = pathlib.Path(__file__).resolve().parent / "java.py"
 # How many bytes of code and proofs take about a second, for a crate of which no seconds are known.
 BYTES = 400
 # For how long to wait before looking again, and before saying again how long it has been, in seconds.
@@ -197,6 +199,8 @@ def main():
     if len(sys.argv) != 2:
         sys.exit(__doc__)
     program = sys.argv[1]
+    if program == "java":
+        os.execv(sys.executable, [sys.executable, JAVA])
     if program not in libraries():
         sys.exit(f"{program}: no crate of this repository")
     signal.signal(signal.SIGTERM, lambda number, _: sys.exit(128 + number))

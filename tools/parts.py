@@ -78,6 +78,12 @@ PARTS = (
     ),
     Part("rust", "the Rust crate: its tests, its examples, its binding", "python3 tests/check_rust.py {pool}", ("pool", "zuphinka"), CARGO),
     Part(
+        "java",
+        "the pool for Java: its calls, eight threads that call at random, its journals",
+        "python3 tests/play_java.py {zuphinka} {pool}",
+        ("pool", "zuphinka"),
+    ),
+    Part(
         "commands",
         "the commands and journals that the pages show",
         "python3 tests/play_commands.py {pool}",

@@ -1,0 +1,155 @@
+/*
+ * The native methods of zuphinka.Core, over the C library of the core. Each is one critical section, or two steps with nothing between them. The
+ * caller holds the lock of the pool.
+ *
+ * A reply is one number: the answer, the cause << 8, and a value << 16. The value is the token that the core returned, or else the answer's number.
+ * A status other than "done" is its negative code.
+ */
+#include <jni.h>
+#include <stdlib.h>
+
+#include "zuphinka.h"
+
+/* The bytes by which a text grows, and that a line needs at most. */
+enum { GROWTH = 65536 };
+
+typedef uint32_t line_printer(struct zuphinka *, uint64_t, char *, size_t, uint64_t *);
+
+static struct zuphinka *pool_at(jlong handle) { return (struct zuphinka *)(intptr_t)handle; }
+
+static jlong step(jlong handle, const struct zuphinka_request *request, struct zuphinka_reply *reply) {
+  return -(jlong)zuphinka_step(pool_at(handle), request, reply);
+}
+
+static jlong packed(const struct zuphinka_reply *reply) {
+  uint64_t value = reply->has_object ? (uint64_t)(uintptr_t)reply->object : reply->number;
+  return (jlong)(value << 16 | (uint64_t)reply->cause << 8 | reply->answer);
+}
+
+/* Opens a pool by the text of its settings. Returns its handle, or a negative status. */
+JNIEXPORT jlong JNICALL Java_zuphinka_Core_open(JNIEnv *env, jclass class, jbyteArray settings) {
+  (void)class;
+  jsize length = (*env)->GetArrayLength(env, settings);
+  struct zuphinka *pool = calloc(1, sizeof *pool);
+  char *text = malloc((size_t)length + 1);
+  uint32_t status = ZUPHINKA_STATUS_OUT_OF_MEMORY;
+  if (pool && text) {
+    (*env)->GetByteArrayRegion(env, settings, 0, length, (jbyte *)text);
+    status = zuphinka_open(pool, text, (size_t)length);
+  }
+  free(text);
+  if (status == ZUPHINKA_STATUS_DONE) return (jlong)(intptr_t)pool;
+  free(pool);
+  return -(jlong)status;
+}
+
+/* Frees a pool. */
+JNIEXPORT void JNICALL Java_zuphinka_Core_drop(JNIEnv *env, jclass class, jlong handle) {
+  (void)env, (void)class;
+  zuphinka_drop(pool_at(handle));
+  free(pool_at(handle));
+}
+
+/* Takes one step. */
+JNIEXPORT jlong JNICALL Java_zuphinka_Core_step(JNIEnv *env, jclass class, jlong handle, jlong at, jlong number, jlong token, jint caller,
+                                                jint input, jint outcome) {
+  (void)env, (void)class;
+  struct zuphinka_request request = {.at = (uint64_t)at,
+                                     .number = (uint64_t)number,
+                                     .object = (void *)(uintptr_t)token,
+                                     .caller = (uint32_t)caller,
+                                     .input = (uint32_t)input,
+                                     .outcome = (uint32_t)outcome};
+  struct zuphinka_reply reply;
+  jlong status = step(handle, &request, &reply);
+  return status ? status : packed(&reply);
+}
+
+/* Borrows, and lends an idle object that needs no activation and no test at once: then the answer is Lent, with the token of the object. */
+JNIEXPORT jlong JNICALL Java_zuphinka_Core_borrow(JNIEnv *env, jclass class, jlong handle, jlong at, jlong began, jint caller) {
+  (void)env, (void)class;
+  struct zuphinka_request request = {
+      .at = (uint64_t)at, .number = (uint64_t)began, .caller = (uint32_t)caller, .input = ZUPHINKA_INPUT_BORROW};
+  struct zuphinka_reply reply, ready;
+  jlong status = step(handle, &request, &reply);
+  if (status) return status;
+  if (reply.answer == ZUPHINKA_ANSWER_TAKE) {
+    request.input = ZUPHINKA_INPUT_READY;
+    request.number = reply.number;
+    request.outcome = ZUPHINKA_OUTCOME_GOOD;
+    status = step(handle, &request, &ready);
+    if (status) return status; /* never: journal room and memory are set aside for a completing step */
+    reply.answer = ready.answer;
+  }
+  return packed(&reply);
+}
+
+/* Returns an object that needs no test and no passivation, and parks it. */
+JNIEXPORT jlong JNICALL Java_zuphinka_Core_giveBack(JNIEnv *env, jclass class, jlong handle, jlong at, jlong id, jlong token, jint caller) {
+  (void)env, (void)class;
+  struct zuphinka_request request = {
+      .at = (uint64_t)at, .number = (uint64_t)id, .caller = (uint32_t)caller, .input = ZUPHINKA_INPUT_RETURN};
+  struct zuphinka_reply reply;
+  jlong status = step(handle, &request, &reply);
+  if (!status && reply.answer == ZUPHINKA_ANSWER_CHECK) {
+    request.input = ZUPHINKA_INPUT_PARK;
+    request.object = (void *)(uintptr_t)token;
+    request.outcome = ZUPHINKA_OUTCOME_GOOD;
+    status = step(handle, &request, &reply);
+  }
+  return status ? status : packed(&reply);
+}
+
+/* Stores the counts in their order in `struct zuphinka_counts`, then the entries since the base, and the room of the journal. */
+JNIEXPORT void JNICALL Java_zuphinka_Core_counts(JNIEnv *env, jclass class, jlong handle, jlongArray to) {
+  (void)class;
+  struct zuphinka_counts counts;
+  uint64_t steps = 0, room = 0;
+  zuphinka_counts(pool_at(handle), &counts);
+  zuphinka_steps(pool_at(handle), &steps);
+  zuphinka_room(pool_at(handle), &room);
+  jlong numbers[] = {(jlong)counts.steps,     (jlong)counts.idle,    (jlong)counts.lent,      (jlong)counts.reserved, (jlong)counts.created,
+                     (jlong)counts.destroyed, (jlong)counts.evicted, (jlong)counts.reclaimed, (jlong)steps,           (jlong)room};
+  (*env)->SetLongArrayRegion(env, to, 0, sizeof numbers / sizeof *numbers, numbers);
+}
+
+struct text {
+  char *bytes;
+  size_t length, room;
+};
+
+/* Appends all lines of a printer, and returns whether there was memory for them. */
+static int append_lines(line_printer *print, struct zuphinka *pool, struct text *text) {
+  for (uint64_t position = 0;; position++) {
+    if (text->room - text->length < ZUPHINKA_LONGEST_LINE) {
+      size_t room = 2 * text->room + GROWTH;
+      char *bytes = realloc(text->bytes, room);
+      if (!bytes) return 0;
+      text->bytes = bytes;
+      text->room = room;
+    }
+    uint64_t size;
+    uint32_t status = print(pool, position, text->bytes + text->length, text->room - text->length, &size);
+    if (status != ZUPHINKA_STATUS_DONE) return status == ZUPHINKA_STATUS_NO_ENTRY;
+    text->length += size;
+  }
+}
+
+/* Returns the base of the journal and the entries since it, as text; null if there is no memory. */
+JNIEXPORT jbyteArray JNICALL Java_zuphinka_Core_segment(JNIEnv *env, jclass class, jlong handle) {
+  (void)class;
+  struct text text = {0};
+  jbyteArray bytes = NULL;
+  if (append_lines(zuphinka_base, pool_at(handle), &text) && append_lines(zuphinka_line, pool_at(handle), &text) && text.length <= INT32_MAX) {
+    bytes = (*env)->NewByteArray(env, (jsize)text.length);
+    if (bytes) (*env)->SetByteArrayRegion(env, bytes, 0, (jsize)text.length, (const jbyte *)text.bytes);
+  }
+  free(text.bytes);
+  return bytes;
+}
+
+/* Cuts the journal. Returns a status. */
+JNIEXPORT jint JNICALL Java_zuphinka_Core_cut(JNIEnv *env, jclass class, jlong handle) {
+  (void)env, (void)class;
+  return -(jint)zuphinka_cut(pool_at(handle));
+}

@@ -1,0 +1,226 @@
+package zuphinka;
+
+import java.lang.management.ManagementFactory;
+import java.lang.ref.WeakReference;
+import java.util.function.Function;
+import javax.management.InstanceAlreadyExistsException;
+import javax.management.JMException;
+import javax.management.MBeanServer;
+import javax.management.NotCompliantMBeanException;
+import javax.management.ObjectName;
+import javax.management.StandardMBean;
+import org.apache.commons.pool2.impl.AbandonedConfig;
+import org.apache.commons.pool2.impl.BaseObjectPoolConfig;
+import org.apache.commons.pool2.impl.GenericObjectPoolConfig;
+
+/** The MBean of a pool. It does not keep the pool from being collected. */
+final class PoolBean extends StandardMBean implements ZuphinkaPoolMXBean {
+    private static final String BASE = "org.apache.commons.pool2:type=GenericObjectPool,name=";
+    private final WeakReference<ZuphinkaPool<?>> pool;
+    private final GenericObjectPoolConfig<?> config;
+    private final AbandonedConfig abandoned;
+    private final String factoryType;
+
+    private PoolBean(ZuphinkaPool<?> pool, GenericObjectPoolConfig<?> config, AbandonedConfig abandoned, String factoryType)
+            throws NotCompliantMBeanException {
+        super(ZuphinkaPoolMXBean.class, true);
+        this.pool = new WeakReference<>(pool);
+        this.config = config;
+        this.abandoned = abandoned;
+        this.factoryType = factoryType;
+    }
+
+    /** Registers an MBean by the first free name with a number, and returns the name; null if it cannot be registered. */
+    static ObjectName register(ZuphinkaPool<?> pool, GenericObjectPoolConfig<?> config, AbandonedConfig abandoned, String factoryType) {
+        String base = config.getJmxNameBase() == null ? BASE : config.getJmxNameBase();
+        MBeanServer server = ManagementFactory.getPlatformMBeanServer();
+        try {
+            PoolBean bean = new PoolBean(pool, config, abandoned, factoryType);
+            for (int number = 1; ; number++) {
+                boolean isFirst = number == 1 && !config.getJmxNamePrefix().equals(BaseObjectPoolConfig.DEFAULT_JMX_NAME_PREFIX);
+                ObjectName name = new ObjectName(base + config.getJmxNamePrefix() + (isFirst ? "" : number));
+                try {
+                    server.registerMBean(bean, name);
+                    return name;
+                } catch (InstanceAlreadyExistsException e) {
+                    // The next number is tried.
+                }
+            }
+        } catch (JMException e) {
+            return null;
+        }
+    }
+
+    static void unregister(ObjectName name) {
+        try {
+            ManagementFactory.getPlatformMBeanServer().unregisterMBean(name);
+        } catch (JMException e) {
+            // It was unregistered before.
+        }
+    }
+
+    private <R> R ask(Function<ZuphinkaPool<?>, R> question) {
+        ZuphinkaPool<?> kept = pool.get();
+        if (kept == null) {
+            throw new IllegalStateException("The pool is no longer used");
+        }
+        return question.apply(kept);
+    }
+
+    @Override
+    public boolean getBlockWhenExhausted() {
+        return config.getBlockWhenExhausted();
+    }
+
+    @Override
+    public boolean getLifo() {
+        return config.getLifo();
+    }
+
+    @Override
+    public boolean getFairness() {
+        return false;
+    }
+
+    @Override
+    public int getMaxIdle() {
+        return config.getMaxIdle();
+    }
+
+    @Override
+    public int getMinIdle() {
+        int most = config.getMaxIdle();
+        return most >= 0 ? Math.min(config.getMinIdle(), most) : config.getMinIdle();
+    }
+
+    @Override
+    public int getMaxTotal() {
+        return config.getMaxTotal();
+    }
+
+    @Override
+    public long getMaxWaitMillis() {
+        return config.getMaxWaitDuration().toMillis();
+    }
+
+    @Override
+    public long getMinEvictableIdleTimeMillis() {
+        return config.getMinEvictableIdleDuration().toMillis();
+    }
+
+    @Override
+    public int getNumTestsPerEvictionRun() {
+        return config.getNumTestsPerEvictionRun();
+    }
+
+    @Override
+    public boolean getTestOnCreate() {
+        return config.getTestOnCreate();
+    }
+
+    @Override
+    public boolean getTestOnBorrow() {
+        return config.getTestOnBorrow();
+    }
+
+    @Override
+    public boolean getTestOnReturn() {
+        return config.getTestOnReturn();
+    }
+
+    @Override
+    public boolean getTestWhileIdle() {
+        return config.getTestWhileIdle();
+    }
+
+    @Override
+    public long getTimeBetweenEvictionRunsMillis() {
+        return config.getDurationBetweenEvictionRuns().toMillis();
+    }
+
+    @Override
+    public boolean isClosed() {
+        ZuphinkaPool<?> kept = pool.get();
+        return kept == null || kept.isClosed();
+    }
+
+    @Override
+    public int getNumActive() {
+        return ask(ZuphinkaPool::getNumActive);
+    }
+
+    @Override
+    public int getNumIdle() {
+        return ask(ZuphinkaPool::getNumIdle);
+    }
+
+    @Override
+    public int getNumWaiters() {
+        return ask(ZuphinkaPool::getNumWaiters);
+    }
+
+    @Override
+    public long getCreatedCount() {
+        return ask(ZuphinkaPool::getCreatedCount);
+    }
+
+    @Override
+    public long getBorrowedCount() {
+        return ask(ZuphinkaPool::getBorrowedCount);
+    }
+
+    @Override
+    public long getReturnedCount() {
+        return ask(ZuphinkaPool::getReturnedCount);
+    }
+
+    @Override
+    public long getDestroyedCount() {
+        return ask(ZuphinkaPool::getDestroyedCount);
+    }
+
+    @Override
+    public long getDestroyedByEvictorCount() {
+        return ask(ZuphinkaPool::getDestroyedByEvictorCount);
+    }
+
+    @Override
+    public long getDestroyedByBorrowValidationCount() {
+        return ask(ZuphinkaPool::getDestroyedByBorrowValidationCount);
+    }
+
+    @Override
+    public long getMaxBorrowWaitTimeMillis() {
+        return ask(ZuphinkaPool::getMaxBorrowWaitTimeMillis);
+    }
+
+    @Override
+    public boolean isAbandonedConfig() {
+        return abandoned != null;
+    }
+
+    @Override
+    public boolean getLogAbandoned() {
+        return abandoned != null && abandoned.getLogAbandoned();
+    }
+
+    @Override
+    public boolean getRemoveAbandonedOnBorrow() {
+        return abandoned != null && abandoned.getRemoveAbandonedOnBorrow();
+    }
+
+    @Override
+    public boolean getRemoveAbandonedOnMaintenance() {
+        return abandoned != null && abandoned.getRemoveAbandonedOnMaintenance();
+    }
+
+    @Override
+    public int getRemoveAbandonedTimeout() {
+        return abandoned == null ? Integer.MAX_VALUE : (int) abandoned.getRemoveAbandonedTimeoutDuration().getSeconds();
+    }
+
+    @Override
+    public String getFactoryType() {
+        return factoryType;
+    }
+}

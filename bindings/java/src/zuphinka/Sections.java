@@ -1,0 +1,515 @@
+package zuphinka;
+
+import java.io.IOException;
+import java.lang.ref.Cleaner;
+import java.lang.ref.Reference;
+import java.nio.charset.StandardCharsets;
+import java.util.NoSuchElementException;
+import java.util.concurrent.TimeUnit;
+import java.util.concurrent.locks.Condition;
+import java.util.concurrent.locks.ReentrantLock;
+
+/**
+ * The critical sections of a pool: its core, its objects and the threads that wait for one, under one lock. Each method is one section. Its
+ * caller acts on the answer without the lock: it makes, tests and destroys objects.
+ */
+final class Sections<T> {
+    private static final Cleaner CLEANER = Cleaner.create();
+
+    private final CoreSettings settings;
+    private final long start = System.nanoTime();
+    private final ReentrantLock lock = new ReentrantLock();
+    private final Condition changed = lock.newCondition();
+
+    // The lock protects what follows.
+    private final long core;
+    private final StoredJournal journal;
+    private final Members<T> members = new Members<>();
+    private long entries;
+    private int idle;
+    private int waiters;
+    /** How many threads were signalled and have not looked yet, or fewer: a thread that was not signalled may have been counted as one that was. */
+    private int signalled;
+    private boolean isClosed;
+    private long borrowed;
+    private long returned;
+    private long failedOnBorrow;
+    private long waitedNanos;
+    private long longestWaitNanos;
+
+    Sections(CoreSettings settings, Journal journal) {
+        this.settings = settings;
+        long opened = Core.open(settings.text().getBytes(StandardCharsets.UTF_8));
+        if (opened == Core.OUT_OF_MEMORY) {
+            throw new OutOfMemoryError("zuphinka: no memory for a pool");
+        }
+        if (opened <= 0) {
+            throw new IllegalArgumentException("zuphinka: the core rejects the settings, with status " + -opened + ":\n" + settings.text());
+        }
+        core = opened;
+        this.journal = new StoredJournal(core, journal, settings.text());
+        CLEANER.register(this, () -> Core.drop(opened));
+    }
+
+    /** What a section found for a borrower: the answer, and the object that it is about. */
+    static final class Found<T> {
+        final int answer;
+        final Member<T> member;
+
+        Found(int answer, Member<T> member) {
+            this.answer = answer;
+            this.member = member;
+        }
+    }
+
+    // One step.
+
+    private static int caller() {
+        return (int) Thread.currentThread().getId();
+    }
+
+    private long now() {
+        return millis(System.nanoTime());
+    }
+
+    private long millis(long nanoTime) {
+        return (nanoTime - start) / 1_000_000;
+    }
+
+    private long step(int input, long number, long token, int outcome) {
+        long reply = Core.step(core, now(), number, token, caller(), input, outcome);
+        if (reply < 0) {
+            makeRoom(reply);
+            reply = checked(Core.step(core, now(), number, token, caller(), input, outcome));
+        }
+        note(reply);
+        return reply;
+    }
+
+    private void makeRoom(long status) {
+        if (status != Core.JOURNAL_FULL) {
+            checked(status);
+        }
+        journal.makeRoom();
+        entries = 0;
+    }
+
+    private static long checked(long reply) {
+        if (reply == Core.OUT_OF_MEMORY) {
+            throw new OutOfMemoryError("zuphinka: no memory for a step");
+        }
+        if (reply == Core.JOURNAL_FULL) {
+            throw new IllegalStateException("Journal full");
+        }
+        if (reply < 0) {
+            throw new AssertionError("zuphinka: status " + -reply);
+        }
+        return reply;
+    }
+
+    /** Notes what an answer changes, and wakes a thread that it may serve. */
+    private void note(long reply) {
+        entries++;
+        switch (Core.answer(reply)) {
+            case Core.PARKED:
+            case Core.KEPT:
+                idle++;
+                wakeOne();
+                break;
+            case Core.TAKE:
+            case Core.TEST:
+            case Core.DESTROY_IDLE:
+                idle--;
+                break;
+            default:
+                break;
+        }
+    }
+
+    /** Frees the place of an object, and wakes a thread that may have it. */
+    private void free(Member<T> member) {
+        members.remove(member);
+        wakeOne();
+    }
+
+    private void release() {
+        journal.cutIfLow(entries);
+        lock.unlock();
+        Reference.reachabilityFence(this);
+    }
+
+    // Waits.
+
+    /** Returns how many objects are idle or may be made. */
+    private long available() {
+        long places = settings.maxTotal < 0 ? Integer.MAX_VALUE : Math.max(0, settings.maxTotal - members.size());
+        return idle + places;
+    }
+
+    /** Wakes a thread that waits, if there is something to find that no other thread is on its way to. */
+    private void wakeOne() {
+        if (waiters > signalled && signalled < available()) {
+            signalled++;
+            changed.signal();
+        }
+    }
+
+    /** Waits until there may be something to find or a time is over, and returns whether the caller's own time is not over. */
+    private boolean await(long first, long began, long longestNanos) throws InterruptedException {
+        for (;;) {
+            long left = remaining(first, began, longestNanos);
+            if (longestNanos >= 0 && System.nanoTime() - first >= longestNanos) {
+                return false;
+            }
+            waiters++;
+            try {
+                if (left == Long.MAX_VALUE) {
+                    changed.await();
+                } else if (left > 0) {
+                    changed.awaitNanos(left);
+                }
+            } finally {
+                waiters--;
+                signalled = Math.max(0, signalled - 1);
+            }
+            boolean isOver = settings.maxWaitMillis >= 0 && now() - began >= settings.maxWaitMillis;
+            if (isClosed || available() > 0 || isOver) {
+                return true;
+            }
+        }
+    }
+
+    /** Returns for how many nanoseconds a thread may wait yet, by the settings and by its own limit. */
+    private long remaining(long first, long began, long longestNanos) {
+        long now = System.nanoTime();
+        long left = Long.MAX_VALUE;
+        if (settings.maxWaitMillis >= 0 && settings.maxWaitMillis < TimeUnit.DAYS.toMillis(10_000)) {
+            left = start + TimeUnit.MILLISECONDS.toNanos(began + settings.maxWaitMillis) + 1 - now;
+        }
+        return longestNanos < 0 ? left : Math.min(left, longestNanos - (now - first));
+    }
+
+    // Borrows.
+
+    /**
+     * Finds an object to lend, and waits while there is none.
+     *
+     * @param first when the borrow began, by {@link System#nanoTime}
+     * @param longestNanos for how long the caller waits at most; negative: no limit of its own
+     * @param isBare whether an idle object needs no activation and no test, and so is lent at once
+     * @throws NoSuchElementException if there is none, or the time is over
+     * @throws IllegalStateException if the pool is closed, or its journal is full
+     */
+    Found<T> borrow(long first, long longestNanos, boolean isBare) throws InterruptedException {
+        lock.lock();
+        try {
+            members.reserve();
+            long reply = ask(first, longestNanos, isBare);
+            int answer = Core.answer(reply);
+            switch (answer) {
+                case Core.LENT:
+                    entries++;
+                    idle--;
+                    borrowed++;
+                    return new Found<>(answer, members.at(Core.value(reply)));
+                case Core.TAKE:
+                    return new Found<>(answer, members.at(Core.value(reply)));
+                case Core.MAKE:
+                    return new Found<>(answer, members.add(Core.value(reply)));
+                default:
+                    wakeOne();
+                    throw refusal(reply);
+            }
+        } finally {
+            release();
+        }
+    }
+
+    private long ask(long first, long longestNanos, boolean isBare) throws InterruptedException {
+        long began = millis(first);
+        long at = began;
+        for (;;) {
+            long reply = askOnce(at, began, isBare);
+            if (reply < 0) {
+                makeRoom(reply);
+                reply = checked(askOnce(at, began, isBare));
+            }
+            note(reply);
+            if (Core.answer(reply) != Core.WAIT) {
+                noteWait(at == began ? 0 : System.nanoTime() - first);
+                return reply;
+            }
+            if (!await(first, began, longestNanos)) {
+                return reply;
+            }
+            at = now();
+        }
+    }
+
+    private long askOnce(long at, long began, boolean isBare) {
+        return isBare ? Core.borrow(core, at, began, caller()) : Core.step(core, at, began, 0, caller(), Core.BORROW, 0);
+    }
+
+    private void noteWait(long nanos) {
+        waitedNanos += nanos;
+        longestWaitNanos = Math.max(longestWaitNanos, nanos);
+    }
+
+    /** Returns the exception for an answer that gives nothing. */
+    static RuntimeException refusal(long reply) {
+        switch (Core.answer(reply)) {
+            case Core.EXHAUSTED:
+                return new NoSuchElementException("Pool exhausted");
+            case Core.TIMED_OUT:
+            case Core.WAIT:
+                return new NoSuchElementException("Timeout waiting for idle object");
+            case Core.REFUSED:
+                if (Core.cause(reply) == Core.CLOSED) {
+                    return new IllegalStateException("Pool not open");
+                }
+                return new IllegalStateException("Object is not lent");
+            default:
+                throw new AssertionError("zuphinka: answer " + Core.answer(reply));
+        }
+    }
+
+    /** Lends an object that was made, or activated and tested. */
+    void lend(Member<T> member) {
+        lock.lock();
+        try {
+            step(Core.READY, member.id, 0, Core.GOOD);
+            borrowed++;
+        } finally {
+            release();
+        }
+    }
+
+    /** Notes that an object failed its test for a borrow. */
+    void noteFailedOnBorrow() {
+        lock.lock();
+        try {
+            failedOnBorrow++;
+        } finally {
+            release();
+        }
+    }
+
+    // Returns.
+
+    /** Returns an object that needs no test and no passivation, and parks it. Returns the answer. */
+    long giveBackBare(Member<T> member) {
+        lock.lock();
+        try {
+            long at = now();
+            long reply = Core.giveBack(core, at, member.id, member.slot, caller());
+            if (reply < 0) {
+                makeRoom(reply);
+                reply = checked(Core.giveBack(core, at, member.id, member.slot, caller()));
+            }
+            note(reply);
+            entries++;
+            return noteReturn(reply);
+        } finally {
+            release();
+        }
+    }
+
+    /** Returns an object to be tested or passivated. Returns the answer. */
+    long giveBack(Member<T> member) {
+        lock.lock();
+        try {
+            return noteReturn(step(Core.RETURN, member.id, 0, 0));
+        } finally {
+            release();
+        }
+    }
+
+    private long noteReturn(long reply) {
+        int answer = Core.answer(reply);
+        if (answer != Core.REFUSED && answer != Core.GONE) {
+            returned++;
+        }
+        return reply;
+    }
+
+    /** Reports on an object that stays present. Returns the answer. */
+    long report(int input, Member<T> member, int outcome) {
+        lock.lock();
+        try {
+            return step(input, member.id, member.slot, outcome);
+        } finally {
+            release();
+        }
+    }
+
+    /** Reports that an object was destroyed, or could not be made: its place is free. */
+    void end(int input, Member<T> member, int outcome) {
+        lock.lock();
+        try {
+            step(input, member.id, 0, outcome);
+            free(member);
+        } finally {
+            release();
+        }
+    }
+
+    // Upkeep.
+
+    /** Asks for something that concerns no object. Returns the answer. */
+    long ask(int input) {
+        lock.lock();
+        try {
+            return step(input, 0, 0, 0);
+        } finally {
+            release();
+        }
+    }
+
+    /** Asks for a place for a new object. Returns the object; null if there is none or there are enough, or for a fill of a closed pool. */
+    Member<T> place(int input) {
+        lock.lock();
+        try {
+            members.reserve();
+            long reply = step(input, 0, 0, 0);
+            switch (Core.answer(reply)) {
+                case Core.MAKE:
+                    return members.add(Core.value(reply));
+                case Core.NO_PLACE:
+                case Core.ENOUGH:
+                    return null;
+                default:
+                    if (input == Core.FILL) {
+                        return null;
+                    }
+                    throw refusal(reply);
+            }
+        } finally {
+            release();
+        }
+    }
+
+    /** Examines the next idle object, or takes it for a clear. */
+    Found<T> next(int input) {
+        lock.lock();
+        try {
+            long reply = step(input, 0, 0, 0);
+            int answer = Core.answer(reply);
+            boolean hasObject = answer == Core.TEST || answer == Core.DESTROY_IDLE;
+            return new Found<>(answer, hasObject ? members.at(Core.value(reply)) : null);
+        } finally {
+            release();
+        }
+    }
+
+    /** Takes the next abandoned object from its holder: its place is free. Returns it, or null if none is left. */
+    Member<T> reclaimNext() {
+        lock.lock();
+        try {
+            long reply = step(Core.RECLAIM_NEXT, 0, 0, 0);
+            if (Core.answer(reply) != Core.RECLAIMED) {
+                return null;
+            }
+            Member<T> member = members.withId(Core.value(reply));
+            free(member);
+            return member;
+        } finally {
+            release();
+        }
+    }
+
+    /** Closes the pool and wakes all threads that wait. Returns how many idle objects are to be destroyed, 0 if it was closed before. */
+    long close() {
+        lock.lock();
+        try {
+            long reply = step(Core.CLOSE, 0, 0, 0);
+            isClosed = true;
+            signalled = waiters;
+            changed.signalAll();
+            return Core.answer(reply) == Core.COUNT ? Core.value(reply) : 0;
+        } finally {
+            release();
+        }
+    }
+
+    // The journal.
+
+    /** Returns whether a segment waits to be stored. */
+    boolean hasPendingSegment() {
+        return journal.isPending();
+    }
+
+    /** Stores the segment that waits, without the lock. */
+    void storePending() throws IOException {
+        journal.storePending();
+    }
+
+    /** Cuts and stores the rest of a journal that is stored. */
+    void storeRest() throws IOException {
+        lock.lock();
+        try {
+            journal.cutRest();
+            entries = 0;
+        } finally {
+            release();
+        }
+        journal.storePending();
+    }
+
+    /** Returns the journal since it was last cut. */
+    Segment segment() {
+        lock.lock();
+        try {
+            Segment segment = journal.segment();
+            if (segment == null) {
+                throw new OutOfMemoryError("zuphinka: no memory for the journal's text");
+            }
+            return segment;
+        } finally {
+            release();
+        }
+    }
+
+    /** Cuts the journal, and returns what was cut. */
+    Segment cut() {
+        lock.lock();
+        try {
+            Segment segment = journal.cutNow();
+            entries = 0;
+            return segment;
+        } finally {
+            release();
+        }
+    }
+
+    // Numbers.
+
+    /** Returns the counts of the core. */
+    Counts counts() {
+        lock.lock();
+        try {
+            return journal.counts();
+        } finally {
+            release();
+        }
+    }
+
+    /** Returns what the pool counts besides. */
+    Usage usage() {
+        lock.lock();
+        try {
+            return new Usage(borrowed, returned, failedOnBorrow, waitedNanos, longestWaitNanos, waiters);
+        } finally {
+            release();
+        }
+    }
+
+    /** Returns whether the pool was closed. */
+    boolean isClosed() {
+        lock.lock();
+        try {
+            return isClosed;
+        } finally {
+            release();
+        }
+    }
+}

@@ -1,0 +1,136 @@
+package zuphinka;
+
+import java.io.IOException;
+import java.util.concurrent.locks.ReentrantLock;
+
+/** Cuts the journal of a core in time, and stores what is cut. Where nothing else is said, the caller holds the lock of the pool. */
+final class StoredJournal {
+    private final long core;
+    private final Journal journal;
+    private final String settings;
+    /** At how many entries it is looked at again. */
+    private long threshold;
+    /** A segment that is cut and not yet stored. */
+    private volatile Segment pending;
+    /** Held while a segment is stored, so that segments are stored one at a time. */
+    private final ReentrantLock storing = new ReentrantLock();
+
+    StoredJournal(long core, Journal journal, String settings) {
+        this.core = core;
+        this.journal = journal;
+        this.settings = settings;
+        threshold = half();
+    }
+
+    private long half() {
+        return Math.max(1, journal.limit / 2);
+    }
+
+    /** Cuts the journal if so many entries use up half of its room, and no segment waits to be stored. */
+    void cutIfLow(long entries) {
+        if (entries < threshold || (journal.sink == null && !journal.isDropped)) {
+            return;
+        }
+        if (pending == null && cut()) {
+            threshold = half();
+        } else {
+            threshold = entries + Math.max(1, (journal.limit - entries) / 2);
+        }
+    }
+
+    /** Cuts the journal, and returns whether there was memory for that. */
+    private boolean cut() {
+        if (journal.sink != null) {
+            Segment segment = segment();
+            if (segment == null) {
+                return false;
+            }
+            if (Core.cut(core) != 0) {
+                return false;
+            }
+            pending = segment;
+            return true;
+        }
+        return Core.cut(core) == 0;
+    }
+
+    /** Returns the journal since it was last cut; null if there is no memory. */
+    Segment segment() {
+        byte[] text = Core.segment(core);
+        if (text == null) {
+            return null;
+        }
+        Counts counts = counts();
+        return new Segment(counts.steps() - counts.entries(), counts.entries(), text, settings);
+    }
+
+    Counts counts() {
+        long[] numbers = new long[Counts.NUMBERS];
+        Core.counts(core, numbers);
+        return new Counts(numbers);
+    }
+
+    /** Cuts the journal, and returns what was cut. */
+    Segment cutNow() {
+        Segment segment = segment();
+        if (segment == null || Core.cut(core) != 0) {
+            throw new OutOfMemoryError("zuphinka: no memory to cut the journal");
+        }
+        threshold = half();
+        return segment;
+    }
+
+    /**
+     * Makes room in a full journal.
+     *
+     * @throws IllegalStateException if it is kept, or a segment cannot be stored
+     */
+    void makeRoom() {
+        if (journal.sink == null && !journal.isDropped) {
+            throw new IllegalStateException("Journal full");
+        }
+        try {
+            storePending();
+        } catch (IOException e) {
+            throw new IllegalStateException("Journal full", e);
+        }
+        if (!cut()) {
+            throw new OutOfMemoryError("zuphinka: no memory to cut the journal");
+        }
+        threshold = half();
+    }
+
+    /** Returns whether a segment waits to be stored. The caller needs no lock. */
+    boolean isPending() {
+        return pending != null;
+    }
+
+    /**
+     * Stores the segment that waits, if there is one. The caller needs no lock.
+     *
+     * @throws IOException if the sink fails. The segment still waits.
+     */
+    void storePending() throws IOException {
+        storing.lock();
+        try {
+            Segment segment = pending;
+            if (segment != null) {
+                journal.sink.store(segment);
+                pending = null;
+            }
+        } finally {
+            storing.unlock();
+        }
+    }
+
+    /** Cuts the rest of a journal that is stored, once the segment before it is stored. */
+    void cutRest() throws IOException {
+        if (journal.sink == null) {
+            return;
+        }
+        storePending();
+        if (counts().entries() > 0 && !cut()) {
+            throw new OutOfMemoryError("zuphinka: no memory to cut the journal");
+        }
+    }
+}

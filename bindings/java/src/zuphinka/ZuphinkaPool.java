@@ -1,0 +1,659 @@
+package zuphinka;
+
+import java.io.IOException;
+import java.time.Duration;
+import java.util.ArrayList;
+import java.util.List;
+import java.util.NoSuchElementException;
+import java.util.Set;
+import java.util.concurrent.TimeUnit;
+import java.util.stream.Collectors;
+import javax.management.ObjectName;
+import org.apache.commons.pool2.BasePooledObjectFactory;
+import org.apache.commons.pool2.DestroyMode;
+import org.apache.commons.pool2.ObjectPool;
+import org.apache.commons.pool2.PooledObject;
+import org.apache.commons.pool2.PooledObjectFactory;
+import org.apache.commons.pool2.UsageTracking;
+import org.apache.commons.pool2.impl.AbandonedConfig;
+import org.apache.commons.pool2.impl.DefaultPooledObjectInfo;
+import org.apache.commons.pool2.impl.GenericObjectPoolConfig;
+
+/**
+ * A pool with the interface and the behaviour of Commons Pool's {@code GenericObjectPool}, whose decisions are those of a proved core: which
+ * object is lent, kept, tested or destroyed, and when one is made.
+ *
+ * <p>Proved is each step of the core, and the one line of the journal that records it. Tested, not proved, is this class: its lock, its waits,
+ * and what it does between two steps. The factory's methods run without the lock.
+ *
+ * <p>The configurations are copied, and later changes to them have no effect. Any number of threads may use a pool.
+ *
+ * @param <T> the type of the objects
+ */
+public class ZuphinkaPool<T> implements ObjectPool<T>, UsageTracking<T> {
+    /** Stands for a test that found an object invalid without throwing anything. */
+    private static final Exception INVALID = new InvalidObject();
+
+    private final PooledObjectFactory<T> factory;
+    private final CoreSettings settings;
+    private final AbandonedConfig abandoned;
+    private final Sections<T> sections;
+    private final Objects<T> objects = new Objects<>();
+    private final boolean isBorrowedBare;
+    private final boolean isReturnedBare;
+    private final Duration evictorShutdown;
+    private final Maintenance maintenance;
+    private final ObjectName beanName;
+
+    private static final class InvalidObject extends Exception {
+        private static final long serialVersionUID = 1;
+
+        InvalidObject() {
+            super("The object is not valid", null, false, false);
+        }
+    }
+
+    /** Makes a pool with the default configuration. */
+    public ZuphinkaPool(PooledObjectFactory<T> factory) {
+        this(factory, new GenericObjectPoolConfig<>());
+    }
+
+    /**
+     * Makes a pool.
+     *
+     * @throws IllegalArgumentException as {@link #ZuphinkaPool(PooledObjectFactory, GenericObjectPoolConfig, AbandonedConfig, Journal)}
+     */
+    public ZuphinkaPool(PooledObjectFactory<T> factory, GenericObjectPoolConfig<T> config) {
+        this(factory, config, null);
+    }
+
+    /**
+     * Makes a pool that takes abandoned objects from their holders.
+     *
+     * @throws IllegalArgumentException as {@link #ZuphinkaPool(PooledObjectFactory, GenericObjectPoolConfig, AbandonedConfig, Journal)}
+     */
+    public ZuphinkaPool(PooledObjectFactory<T> factory, GenericObjectPoolConfig<T> config, AbandonedConfig abandoned) {
+        this(factory, config, abandoned, Journal.dropped());
+    }
+
+    /**
+     * Makes a pool whose journal is dropped, kept or stored.
+     *
+     * @param abandoned when objects are abandoned; null: never
+     * @throws IllegalArgumentException if there is no factory, or a configuration asks for what the pool does not have: {@code fairness}, or
+     *     an {@code evictionPolicy} other than the default one
+     */
+    public ZuphinkaPool(PooledObjectFactory<T> factory, GenericObjectPoolConfig<T> config, AbandonedConfig abandoned, Journal journal) {
+        if (factory == null) {
+            throw new IllegalArgumentException("Factory may not be null");
+        }
+        this.factory = factory;
+        this.abandoned = AbandonedConfig.copy(abandoned);
+        settings = new CoreSettings(config, this.abandoned, journal.limit);
+        isBorrowedBare = !settings.testOnBorrow && inherits("activateObject");
+        isReturnedBare = !settings.testOnReturn && inherits("passivateObject");
+        sections = new Sections<>(settings, journal);
+        evictorShutdown = config.getEvictorShutdownTimeoutDuration();
+        Duration pause = config.getDurationBetweenEvictionRuns();
+        beanName = config.getJmxEnabled() ? PoolBean.register(this, config.clone(), this.abandoned, factory.getClass().getName()) : null;
+        maintenance = pause.isNegative() || pause.isZero() ? null : Maintenance.start(this, pause);
+    }
+
+    /** Returns whether a method of the factory is the one of {@link BasePooledObjectFactory}, which does nothing. */
+    private boolean inherits(String method) {
+        try {
+            return factory.getClass().getMethod(method, PooledObject.class).getDeclaringClass() == BasePooledObjectFactory.class;
+        } catch (NoSuchMethodException e) {
+            return false;
+        }
+    }
+
+    // Borrows.
+
+    /**
+     * Lends an object: an idle one, or a new one if there is a free place. Else it waits, as long as the configuration says.
+     *
+     * @throws NoSuchElementException if there is no object, or the time is over; or a new object failed its activation or its test, which is
+     *     then the cause
+     * @throws IllegalStateException if the pool is closed, or its journal is full
+     * @throws InterruptedException if the thread is interrupted while it waits
+     * @throws Exception if the factory fails to make an object
+     */
+    @Override
+    public T borrowObject() throws Exception {
+        return borrow(-1);
+    }
+
+    /** Does the same, but waits no longer than a time either, which is negative if there is no such limit. */
+    public T borrowObject(Duration longest) throws Exception {
+        boolean isUnlimited = longest.isNegative() || longest.getSeconds() > TimeUnit.DAYS.toSeconds(10_000);
+        return borrow(isUnlimited ? -1 : longest.toNanos());
+    }
+
+    /** Does the same, with a time in milliseconds. */
+    public T borrowObject(long longestMillis) throws Exception {
+        return borrowObject(Duration.ofMillis(longestMillis));
+    }
+
+    private T borrow(long longestNanos) throws Exception {
+        long first = System.nanoTime();
+        if (settings.reclaimsOnBorrow) {
+            reclaim(Core.RECLAIM_ON_BORROW);
+        }
+        for (;;) {
+            Sections.Found<T> found = sections.borrow(first, longestNanos, isBorrowedBare);
+            storeSegment();
+            Member<T> member = found.member;
+            switch (found.answer) {
+                case Core.LENT:
+                    member.pooled.allocate();
+                    return member.pooled.getObject();
+                case Core.MAKE:
+                    make(member, Core.READY);
+                    testNew(member);
+                    makeReady(member, true);
+                    return member.pooled.getObject();
+                default:
+                    if (makeReady(member, false)) {
+                        return member.pooled.getObject();
+                    }
+            }
+        }
+    }
+
+    /** Makes the object of a member. If that fails, its place is freed. */
+    private void make(Member<T> member, int report) throws Exception {
+        try {
+            member.pooled = factory.makeObject();
+            if (member.pooled == null) {
+                throw new NullPointerException("makeObject() returned null");
+            }
+            if (!objects.add(member)) {
+                throw new IllegalStateException("makeObject() returned an object that the pool has");
+            }
+        } catch (Throwable e) {
+            sections.end(report, member, Core.MAKE_FAILED);
+            throw e;
+        }
+        if (abandoned != null && abandoned.getLogAbandoned()) {
+            member.pooled.setLogAbandoned(true);
+            member.pooled.setRequireFullStackTrace(abandoned.getRequireFullStackTrace());
+        }
+    }
+
+    private void testNew(Member<T> member) {
+        Throwable fault = settings.testOnCreate ? test(member) : null;
+        if (fault != null) {
+            destroyFailed(member, Core.READY, Core.CREATE_TEST_FAILED, fault);
+            throw none("Unable to validate object", fault);
+        }
+    }
+
+    /** Returns what is wrong with an object, or null. */
+    private Throwable test(Member<T> member) {
+        try {
+            return factory.validateObject(member.pooled) ? null : INVALID;
+        } catch (Throwable e) {
+            return e;
+        }
+    }
+
+    /** Activates and tests an object, and lends it. If that fails it is destroyed: returns false, or throws for a new one. */
+    private boolean makeReady(Member<T> member, boolean isNew) {
+        member.pooled.allocate();
+        try {
+            factory.activateObject(member.pooled);
+        } catch (Throwable e) {
+            destroyFailed(member, Core.READY, Core.ACTIVATE_FAILED, e);
+            if (isNew) {
+                throw none("Unable to activate object", e);
+            }
+            return false;
+        }
+        Throwable fault = settings.testOnBorrow ? test(member) : null;
+        if (fault != null) {
+            sections.noteFailedOnBorrow();
+            destroyFailed(member, Core.READY, Core.TEST_FAILED, fault);
+            if (isNew) {
+                throw none("Unable to validate object", fault);
+            }
+            return false;
+        }
+        sections.lend(member);
+        return true;
+    }
+
+    private static NoSuchElementException none(String message, Throwable fault) {
+        NoSuchElementException none = new NoSuchElementException(message);
+        none.initCause(fault == INVALID ? null : fault);
+        return none;
+    }
+
+    // Destructions.
+
+    /** Reports what failed, destroys the object and frees its place. Throws the failure if it is an error of the machine. */
+    private void destroyFailed(Member<T> member, int report, int outcome, Throwable fault) {
+        sections.report(report, member, outcome);
+        destroyQuietly(member);
+        rethrow(fault);
+    }
+
+    private static void rethrow(Throwable fault) {
+        if (fault instanceof Error) {
+            throw (Error) fault;
+        }
+    }
+
+    private void destroyQuietly(Member<T> member) {
+        try {
+            destroy(member);
+        } catch (Exception e) {
+            swallowed(e);
+        }
+    }
+
+    /** Destroys an object and frees its place, also if the factory throws. */
+    private void destroy(Member<T> member) throws Exception {
+        try {
+            discard(member, DestroyMode.NORMAL);
+        } finally {
+            sections.end(Core.DESTROYED, member, 0);
+        }
+    }
+
+    private void discard(Member<T> member, DestroyMode mode) throws Exception {
+        objects.remove(member);
+        member.pooled.invalidate();
+        factory.destroyObject(member.pooled, mode);
+    }
+
+    // Returns.
+
+    /**
+     * Returns an object to the pool. If it is to be destroyed, failures of that are passed to {@link #swallowed}.
+     *
+     * @throws IllegalStateException if the object is not lent by this pool, unless objects can be abandoned and it may have been
+     */
+    @Override
+    public void returnObject(T object) {
+        Member<T> member = objects.find(object);
+        if (member == null) {
+            missing("Returned object not currently part of this pool");
+            return;
+        }
+        if (isReturnedBare) {
+            member.pooled.deallocate(); // before another thread may have it
+        }
+        long reply = isReturnedBare ? sections.giveBackBare(member) : sections.giveBack(member);
+        switch (Core.answer(reply)) {
+            case Core.PARKED:
+            case Core.GONE:
+                break;
+            case Core.CHECK:
+                park(member);
+                break;
+            case Core.DESTROY:
+                destroyQuietly(member);
+                break;
+            default:
+                throw new IllegalStateException("Object has already been returned to this pool or is invalid");
+        }
+        storeSegment();
+    }
+
+    private void missing(String message) {
+        if (abandoned == null) {
+            throw new IllegalStateException(message);
+        }
+    }
+
+    private void park(Member<T> member) {
+        Throwable fault = settings.testOnReturn ? test(member) : null;
+        if (fault != null) {
+            destroyFailed(member, Core.PARK, Core.TEST_FAILED, fault);
+            return;
+        }
+        try {
+            factory.passivateObject(member.pooled);
+        } catch (Throwable e) {
+            destroyFailed(member, Core.PARK, Core.PASSIVATE_FAILED, e);
+            swallowed((Exception) e);
+            return;
+        }
+        member.pooled.deallocate();
+        if (Core.answer(sections.report(Core.PARK, member, Core.GOOD)) == Core.DESTROY) {
+            destroyQuietly(member);
+        }
+    }
+
+    /**
+     * Destroys a lent object.
+     *
+     * @throws IllegalStateException if the object is not lent by this pool, unless objects can be abandoned and it may have been
+     * @throws Exception if the factory fails to destroy it. Its place is free all the same.
+     */
+    @Override
+    public void invalidateObject(T object) throws Exception {
+        Member<T> member = objects.find(object);
+        if (member == null) {
+            missing("Invalidated object not currently part of this pool");
+            return;
+        }
+        long reply = sections.report(Core.INVALIDATE, member, 0);
+        switch (Core.answer(reply)) {
+            case Core.DESTROY:
+                destroy(member);
+                break;
+            case Core.GONE:
+                break;
+            default:
+                throw Sections.refusal(reply);
+        }
+        storeSegment();
+    }
+
+    /** Notes that its holder uses an object, which is then not abandoned. */
+    @Override
+    public void use(T object) {
+        Member<T> member = objects.find(object);
+        if (member == null) {
+            return;
+        }
+        if (abandoned != null && abandoned.getUseUsageTracking()) {
+            member.pooled.use();
+        }
+        sections.report(Core.USE, member, 0);
+        storeSegment();
+    }
+
+    // Upkeep.
+
+    /**
+     * Makes one more idle object, if there is a free place.
+     *
+     * @throws IllegalStateException if the pool is closed, or its journal is full
+     * @throws Exception if the factory fails to make or to passivate it
+     */
+    @Override
+    public void addObject() throws Exception {
+        Member<T> member = sections.place(Core.ADD);
+        if (member != null) {
+            stock(member);
+        }
+        storeSegment();
+    }
+
+    private void stock(Member<T> member) throws Exception {
+        make(member, Core.ADDED);
+        Throwable fault = settings.testOnCreate ? test(member) : null;
+        if (fault != null) {
+            destroyFailed(member, Core.ADDED, Core.CREATE_TEST_FAILED, fault);
+            return;
+        }
+        try {
+            factory.passivateObject(member.pooled);
+        } catch (Throwable e) {
+            destroyFailed(member, Core.ADDED, Core.PASSIVATE_FAILED, e);
+            throw e;
+        }
+        if (Core.answer(sections.report(Core.ADDED, member, Core.GOOD)) == Core.DESTROY) {
+            destroyQuietly(member);
+        }
+    }
+
+    /** Makes idle objects until {@code minIdle} are idle, as far as there are places. A closed pool makes none. */
+    public void preparePool() throws Exception {
+        for (Member<T> member = sections.place(Core.FILL); member != null; member = sections.place(Core.FILL)) {
+            stock(member);
+        }
+        storeSegment();
+    }
+
+    /**
+     * Maintains the pool: evicts idle objects, takes abandoned ones from their holders if the configuration says so, and makes idle objects
+     * until {@code minIdle} are idle.
+     */
+    public void maintain() throws Exception {
+        evict();
+        preparePool();
+    }
+
+    /**
+     * Examines idle objects, and destroys those that were idle for too long or that fail their test; then takes abandoned objects from their
+     * holders, if the configuration says so.
+     *
+     * @throws IllegalStateException if the pool is closed, or its journal is full
+     */
+    public void evict() throws Exception {
+        long reply = sections.ask(Core.EVICT);
+        if (Core.answer(reply) != Core.COUNT) {
+            throw Sections.refusal(reply);
+        }
+        long left = Core.value(reply);
+        while (left > 0 && examineNext()) {
+            left--;
+        }
+        if (settings.reclaimsOnMaintenance) {
+            reclaim(Core.RECLAIM_FOR_MAINTENANCE);
+        }
+        storeSegment();
+    }
+
+    private boolean examineNext() {
+        Sections.Found<T> found = sections.next(Core.EVICT_NEXT);
+        switch (found.answer) {
+            case Core.KEPT_IDLE:
+                return true;
+            case Core.DESTROY_IDLE:
+                destroyQuietly(found.member);
+                return true;
+            case Core.TEST:
+                testIdle(found.member);
+                return true;
+            default:
+                return false;
+        }
+    }
+
+    private void testIdle(Member<T> member) {
+        Throwable fault = null;
+        int outcome = Core.ACTIVATE_FAILED;
+        try {
+            factory.activateObject(member.pooled);
+            outcome = Core.TEST_FAILED;
+            if (factory.validateObject(member.pooled)) {
+                outcome = Core.PASSIVATE_FAILED;
+                factory.passivateObject(member.pooled);
+                outcome = Core.GOOD;
+            }
+        } catch (Throwable e) {
+            fault = e;
+        }
+        if (Core.answer(sections.report(Core.TESTED, member, outcome)) == Core.DESTROY) {
+            destroyQuietly(member);
+        }
+        rethrow(fault);
+        if (fault != null) {
+            swallowed((Exception) fault);
+        }
+    }
+
+    /** Takes abandoned objects from their holders, and destroys them. */
+    private void reclaim(int input) {
+        List<Member<T>> reclaimed = new ArrayList<>();
+        for (long left = Core.value(sections.ask(input)); left > 0; left--) {
+            Member<T> member = sections.reclaimNext();
+            if (member == null) {
+                break;
+            }
+            reclaimed.add(member);
+        }
+        for (Member<T> member : reclaimed) {
+            if (abandoned.getLogAbandoned()) {
+                member.pooled.printStackTrace(abandoned.getLogWriter());
+            }
+            try {
+                discard(member, DestroyMode.ABANDONED);
+            } catch (Exception e) {
+                swallowed(e);
+            }
+        }
+    }
+
+    /** Destroys all idle objects. Failures of that are passed to {@link #swallowed}. */
+    @Override
+    public void clear() {
+        destroyIdle(Core.value(sections.ask(Core.CLEAR)));
+        storeSegment();
+    }
+
+    private void destroyIdle(long count) {
+        for (long left = count; left > 0; left--) {
+            Sections.Found<T> found = sections.next(Core.CLEAR_NEXT);
+            if (found.answer != Core.DESTROY_IDLE) {
+                return;
+            }
+            destroyQuietly(found.member);
+        }
+    }
+
+    /**
+     * Closes the pool: nothing is lent any more, threads that wait get an {@code IllegalStateException}, and idle objects are destroyed. Lent
+     * ones are destroyed when they are returned. A second close does nothing.
+     */
+    @Override
+    public void close() {
+        destroyIdle(sections.close());
+        if (maintenance != null) {
+            maintenance.stop(evictorShutdown);
+        }
+        if (beanName != null) {
+            PoolBean.unregister(beanName);
+        }
+        flushJournal();
+    }
+
+    // Numbers.
+
+    /** Returns the counts of the pool at one moment. */
+    public Counts getCounts() {
+        return sections.counts();
+    }
+
+    @Override
+    public int getNumIdle() {
+        return (int) sections.counts().idle();
+    }
+
+    /** Returns the number of objects that are lent, or being made, tested or destroyed. */
+    @Override
+    public int getNumActive() {
+        Counts counts = sections.counts();
+        return (int) (counts.lent() + counts.reserved());
+    }
+
+    /** Returns the number of threads that wait for an object. */
+    public int getNumWaiters() {
+        return sections.usage().waiters;
+    }
+
+    /** Returns whether the pool is closed. */
+    public boolean isClosed() {
+        return sections.isClosed();
+    }
+
+    /** Returns how often an object was lent. */
+    public long getBorrowedCount() {
+        return sections.usage().borrowed;
+    }
+
+    /** Returns how often an object was returned. */
+    public long getReturnedCount() {
+        return sections.usage().returned;
+    }
+
+    /** Returns the number of objects that the factory was asked to make. */
+    public long getCreatedCount() {
+        return sections.counts().created();
+    }
+
+    /** Returns the number of objects that were destroyed, could not be made, or were taken from their holders. */
+    public long getDestroyedCount() {
+        Counts counts = sections.counts();
+        return counts.destroyed() + counts.reclaimed();
+    }
+
+    /** Returns the number of idle objects that eviction runs destroyed. */
+    public long getDestroyedByEvictorCount() {
+        return sections.counts().evicted();
+    }
+
+    /** Returns the number of objects that were destroyed since they failed their test for a borrow. */
+    public long getDestroyedByBorrowValidationCount() {
+        return sections.usage().failedOnBorrow;
+    }
+
+    /** Returns the longest time that a borrow waited, in milliseconds. */
+    public long getMaxBorrowWaitTimeMillis() {
+        return TimeUnit.NANOSECONDS.toMillis(sections.usage().longestWaitNanos);
+    }
+
+    /** Returns the mean time that a borrow waited, in milliseconds. */
+    public long getMeanBorrowWaitTimeMillis() {
+        Usage usage = sections.usage();
+        return usage.borrowed == 0 ? 0 : TimeUnit.NANOSECONDS.toMillis(usage.waitedNanos / usage.borrowed);
+    }
+
+    /** Returns what is known of all objects. */
+    public Set<DefaultPooledObjectInfo> listAllObjects() {
+        return objects.all().stream().map(member -> new DefaultPooledObjectInfo(member.pooled)).collect(Collectors.toSet());
+    }
+
+    /** Returns the name of the pool's MBean; null if it has none. */
+    public ObjectName getJmxName() {
+        return beanName;
+    }
+
+    // The journal.
+
+    /** Returns the settings as a file in TOML, by which {@code pool check} checks the journal. */
+    public String getSettingsText() {
+        return settings.text();
+    }
+
+    /** Returns the journal since it was last cut. */
+    public Segment getJournal() {
+        return sections.segment();
+    }
+
+    /** Cuts the journal, and returns what was cut. Nothing changes for the objects. It is for a journal that is kept. */
+    public Segment cut() {
+        return sections.cut();
+    }
+
+    /** Stores all of a journal that is stored. Failures of that are passed to {@link #swallowed}. */
+    public void flushJournal() {
+        try {
+            sections.storeRest();
+        } catch (IOException e) {
+            swallowed(e);
+        }
+    }
+
+    private void storeSegment() {
+        if (!sections.hasPendingSegment()) {
+            return;
+        }
+        try {
+            sections.storePending();
+        } catch (IOException e) {
+            swallowed(e);
+        }
+    }
+
+    /**
+     * Receives each failure that no call throws: those of destructions, passivations and idle tests, of the maintenance thread, and of a sink.
+     * It does nothing. Override it to log them.
+     */
+    protected void swallowed(Exception failure) {}
+}

@@ -1,0 +1,466 @@
+import java.io.IOException;
+import java.lang.management.ManagementFactory;
+import java.nio.charset.StandardCharsets;
+import java.nio.file.Files;
+import java.nio.file.Path;
+import java.time.Duration;
+import java.util.ArrayList;
+import java.util.Arrays;
+import java.util.Collections;
+import java.util.List;
+import java.util.NoSuchElementException;
+import java.util.Objects;
+import java.util.concurrent.Callable;
+import java.util.concurrent.atomic.AtomicInteger;
+import javax.management.MBeanServer;
+import javax.management.ObjectName;
+import org.apache.commons.pool2.BasePooledObjectFactory;
+import org.apache.commons.pool2.PooledObject;
+import org.apache.commons.pool2.impl.AbandonedConfig;
+import org.apache.commons.pool2.impl.DefaultPooledObject;
+import org.apache.commons.pool2.impl.GenericObjectPoolConfig;
+import zuphinka.Journal;
+import zuphinka.Segment;
+import zuphinka.ZuphinkaPool;
+
+/** Makes each call of a pool, with what the factory throws, and sees what it returns, throws and leaves. Writes journals to a folder. */
+public final class Calls {
+    /** A thread that was woken and has nothing after this time was not woken. */
+    private static final long LONGEST_MILLIS = 20_000;
+
+    private static int passed;
+    private static int failed;
+
+    private Calls() {}
+
+    /** A factory of texts, numbered from 0, which fails where it is told to, and notes what it is asked. */
+    static final class Texts extends BasePooledObjectFactory<String> {
+        final List<String> asked = new ArrayList<>();
+        private final AtomicInteger next = new AtomicInteger();
+        Throwable makes;
+        Throwable activates;
+        Throwable validates;
+        Throwable passivates;
+        Throwable destroys;
+        boolean isInvalid;
+
+        private void fail(String what, Throwable with) throws Exception {
+            asked.add(what);
+            if (with instanceof Error) {
+                throw (Error) with;
+            }
+            if (with != null) {
+                throw (Exception) with;
+            }
+        }
+
+        @Override
+        public String create() throws Exception {
+            fail("make", makes);
+            return new String("text " + next.getAndIncrement());
+        }
+
+        @Override
+        public PooledObject<String> wrap(String text) {
+            return new DefaultPooledObject<>(text);
+        }
+
+        @Override
+        public void activateObject(PooledObject<String> pooled) throws Exception {
+            fail("activate", activates);
+        }
+
+        @Override
+        public boolean validateObject(PooledObject<String> pooled) {
+            asked.add("validate");
+            if (validates instanceof Error) {
+                throw (Error) validates;
+            }
+            if (validates != null) {
+                throw (RuntimeException) validates;
+            }
+            return !isInvalid;
+        }
+
+        @Override
+        public void passivateObject(PooledObject<String> pooled) throws Exception {
+            fail("passivate", passivates);
+        }
+
+        @Override
+        public void destroyObject(PooledObject<String> pooled) throws Exception {
+            fail("destroy", destroys);
+        }
+
+        /** Returns what it was asked since this was last called. */
+        String asked() {
+            String words = String.join(" ", asked);
+            asked.clear();
+            return words;
+        }
+    }
+
+    /** A pool that notes what it swallows. */
+    static final class Noting extends ZuphinkaPool<String> {
+        final List<Exception> noted = new ArrayList<>();
+
+        Noting(Texts texts, GenericObjectPoolConfig<String> config, AbandonedConfig abandoned) {
+            super(texts, config, abandoned, Journal.kept());
+        }
+
+        @Override
+        protected void swallowed(Exception failure) {
+            noted.add(failure);
+        }
+    }
+
+    private static void expect(String name, Object wanted, Object got) {
+        if (Objects.equals(wanted, got)) {
+            passed++;
+        } else {
+            failed++;
+            System.out.println(name + ": wanted " + wanted + ", got " + got);
+        }
+    }
+
+    /** Runs a call, and returns its result, or the name and the message of what it throws. */
+    private static Object result(Callable<?> call) {
+        try {
+            return call.call();
+        } catch (Throwable e) {
+            String cause = e.getCause() == null ? "" : " from " + e.getCause().getMessage();
+            return e.getClass().getSimpleName() + ": " + e.getMessage() + cause;
+        }
+    }
+
+    /** A call without a result. */
+    private interface Act {
+        void run() throws Exception;
+    }
+
+    private static Object ending(Act act) {
+        return result(() -> {
+            act.run();
+            return "done";
+        });
+    }
+
+    private static GenericObjectPoolConfig<String> config() {
+        GenericObjectPoolConfig<String> config = new GenericObjectPoolConfig<>();
+        config.setJmxEnabled(false);
+        return config;
+    }
+
+    private static String counts(ZuphinkaPool<?> pool) {
+        return pool.getNumIdle() + " idle, " + pool.getNumActive() + " active, " + pool.getCreatedCount() + " created, "
+                + pool.getDestroyedCount() + " destroyed";
+    }
+
+    private static void life() throws Exception {
+        Texts texts = new Texts();
+        Noting pool = new Noting(texts, config(), null);
+        String first = pool.borrowObject();
+        expect("a borrow", "text 0", first);
+        expect("a borrow asks", "make activate", texts.asked());
+        expect("while it is lent", "0 idle, 1 active, 1 created, 0 destroyed", counts(pool));
+        pool.returnObject(first);
+        expect("a return asks", "passivate", texts.asked());
+        expect("returned", "1 idle, 0 active, 1 created, 0 destroyed", counts(pool));
+        expect("returned twice", "IllegalStateException: Object has already been returned to this pool or is invalid",
+                ending(() -> pool.returnObject(first)));
+        expect("another object", "IllegalStateException: Returned object not currently part of this pool",
+                ending(() -> pool.returnObject(new String("text 0"))));
+        expect("the same again", true, first == pool.borrowObject());
+        pool.invalidateObject(first);
+        expect("invalidated", "activate destroy", texts.asked());
+        expect("invalidated twice", "IllegalStateException: Invalidated object not currently part of this pool",
+                ending(() -> pool.invalidateObject(first)));
+        pool.addObject();
+        pool.addObject();
+        expect("added", "2 idle, 0 active, 3 created, 1 destroyed", counts(pool));
+        texts.asked();
+        pool.clear();
+        expect("cleared", "destroy destroy", texts.asked());
+        String last = pool.borrowObject();
+        pool.close();
+        pool.close();
+        expect("closed", "IllegalStateException: Pool not open", result(pool::borrowObject));
+        expect("closed for more", "IllegalStateException: Pool not open", ending(pool::addObject));
+        pool.returnObject(last);
+        expect("returned after the close", "0 idle, 0 active, 4 created, 4 destroyed", counts(pool));
+        expect("numbers", "3 borrowed, 2 returned", pool.getBorrowedCount() + " borrowed, " + pool.getReturnedCount() + " returned");
+        expect("nothing swallowed", List.of(), pool.noted);
+        write(pool);
+    }
+
+    private static void limits() throws Exception {
+        GenericObjectPoolConfig<String> config = config();
+        config.setMaxTotal(1);
+        config.setMaxWait(Duration.ofMillis(60));
+        Noting pool = new Noting(new Texts(), config, null);
+        String lent = pool.borrowObject();
+        long begun = System.nanoTime();
+        expect("a wait that ends", "NoSuchElementException: Timeout waiting for idle object", result(pool::borrowObject));
+        expect("it took its time", true, System.nanoTime() - begun >= 60_000_000L);
+        expect("an own limit", "NoSuchElementException: Timeout waiting for idle object", result(() -> pool.borrowObject(5)));
+        expect("no more", "0 idle, 1 active, 1 created, 0 destroyed", counts(pool));
+        Thread.currentThread().interrupt();
+        expect("interrupted", "InterruptedException: null", result(() -> pool.borrowObject(Duration.ofMillis(50))));
+        expect("nobody waits", 0, pool.getNumWaiters());
+        pool.returnObject(lent);
+        pool.close();
+        config.setBlockWhenExhausted(false);
+        Noting other = new Noting(new Texts(), config, null);
+        other.borrowObject();
+        expect("no wait", "NoSuchElementException: Pool exhausted", result(other::borrowObject));
+        other.close();
+        write(other);
+        config.setBlockWhenExhausted(true);
+        config.setMaxWait(Duration.ofMillis(-1));
+        Texts texts = new Texts();
+        Noting endless = new Noting(texts, config, null);
+        String first = endless.borrowObject();
+        expect("a return wakes", List.of(first), whileWaiting(endless, 1, () -> endless.returnObject(first)));
+        List<Object> second = whileWaiting(endless, 1, () -> endless.invalidateObject(first));
+        expect("a destruction wakes", List.of("text 1"), second);
+        texts.passivates = new IOException("passivate");
+        List<Object> third = whileWaiting(endless, 1, () -> endless.returnObject((String) second.get(0)));
+        expect("a return that fails wakes", List.of("text 2"), third);
+        String closed = "IllegalStateException: Pool not open";
+        expect("a close wakes", List.of(closed, closed), whileWaiting(endless, 2, endless::close));
+        write(endless);
+    }
+
+    /** Acts while threads wait for an object, and returns what they get, as {@link #result}. */
+    private static List<Object> whileWaiting(ZuphinkaPool<String> pool, int number, Act act) throws Exception {
+        List<Object> got = Collections.synchronizedList(new ArrayList<>());
+        List<Thread> waiters = new ArrayList<>();
+        for (int started = 0; started < number; started++) {
+            Thread waiter = new Thread(() -> got.add(result(pool::borrowObject)));
+            waiter.setDaemon(true);
+            waiter.start();
+            waiters.add(waiter);
+        }
+        while (pool.getNumWaiters() < number) {
+            Thread.sleep(1);
+        }
+        act.run();
+        for (Thread waiter : waiters) {
+            waiter.join(LONGEST_MILLIS);
+        }
+        return List.copyOf(got);
+    }
+
+    private static void failures() throws Exception {
+        GenericObjectPoolConfig<String> config = config();
+        config.setMaxTotal(2);
+        config.setTestOnBorrow(true);
+        config.setTestOnReturn(true);
+        config.setTestOnCreate(true);
+        Texts texts = new Texts();
+        Noting pool = new Noting(texts, config, null);
+        texts.makes = new IOException("make");
+        expect("a make that fails", "IOException: make", result(pool::borrowObject));
+        expect("an add whose make fails", "IOException: make", ending(pool::addObject));
+        texts.makes = null;
+        texts.validates = new IllegalArgumentException("test");
+        expect("a new object whose test throws", "NoSuchElementException: Unable to validate object from test", result(pool::borrowObject));
+        texts.validates = null;
+        texts.isInvalid = true;
+        expect("a new object that is invalid", "NoSuchElementException: Unable to validate object", result(pool::borrowObject));
+        texts.isInvalid = false;
+        texts.activates = new IOException("activate");
+        expect("a new object whose activation fails", "NoSuchElementException: Unable to activate object from activate", result(pool::borrowObject));
+        texts.activates = null;
+        expect("all places are free", "0 idle, 0 active, 5 created, 5 destroyed", counts(pool));
+        String lent = pool.borrowObject();
+        texts.passivates = new IOException("passivate");
+        pool.returnObject(lent);
+        expect("a return whose passivation fails", "0 idle, 0 active, 6 created, 6 destroyed", counts(pool));
+        expect("it is swallowed", "passivate", pool.noted.get(pool.noted.size() - 1).getMessage());
+        expect("an add whose passivation fails", "IOException: passivate", ending(pool::addObject));
+        texts.passivates = null;
+        lent = pool.borrowObject();
+        texts.validates = new StackOverflowError("test");
+        String returned = lent;
+        expect("a return whose test ends in an error", "StackOverflowError: test", ending(() -> pool.returnObject(returned)));
+        texts.validates = null;
+        lent = pool.borrowObject();
+        texts.destroys = new IOException("destroy");
+        String broken = lent;
+        expect("a destruction that fails", "IOException: destroy", ending(() -> pool.invalidateObject(broken)));
+        pool.addObject();
+        pool.clear();
+        expect("a clear whose destruction fails", "destroy", pool.noted.get(pool.noted.size() - 1).getMessage());
+        texts.destroys = new StackOverflowError("destroy");
+        String last = pool.borrowObject();
+        expect("a destruction that ends in an error", "StackOverflowError: destroy", ending(() -> pool.invalidateObject(last)));
+        texts.destroys = null;
+        texts.isInvalid = true;
+        pool.addObject();
+        expect("no place is lost", "0 idle, 0 active", counts(pool).substring(0, 16));
+        pool.close();
+        write(pool);
+    }
+
+    private static void upkeep() throws Exception {
+        GenericObjectPoolConfig<String> config = config();
+        config.setMinIdle(2);
+        config.setTestWhileIdle(true);
+        Texts texts = new Texts();
+        Noting pool = new Noting(texts, config, null);
+        pool.maintain();
+        expect("minIdle", "2 idle, 0 active, 2 created, 0 destroyed", counts(pool));
+        texts.isInvalid = true;
+        pool.evict();
+        expect("evicted", 2L, pool.getDestroyedByEvictorCount());
+        texts.isInvalid = false;
+        pool.close();
+        expect("closed for maintenance", "IllegalStateException: Pool not open", ending(pool::maintain));
+        expect("a fill of a closed pool", "done", ending(pool::preparePool));
+        write(pool);
+        config.setTimeBetweenEvictionRuns(Duration.ofMillis(5));
+        Noting kept = new Noting(new Texts(), config, null);
+        for (int tries = 0; kept.getNumIdle() < 2 && tries < 2_000; tries++) {
+            Thread.sleep(5);
+        }
+        expect("maintained by a thread", 2, kept.getNumIdle());
+        kept.close();
+        config.setTimeBetweenEvictionRuns(Duration.ofHours(1));
+        new Noting(new Texts(), config, null).close();
+        boolean isOver = Thread.getAllStackTraces().keySet().stream().noneMatch(thread -> thread.getName().equals("zuphinka-maintenance"));
+        expect("the threads end with their pools", true, isOver);
+    }
+
+    private static void abandonment() throws Exception {
+        GenericObjectPoolConfig<String> config = config();
+        config.setMaxTotal(1);
+        config.setBlockWhenExhausted(false);
+        AbandonedConfig abandoned = new AbandonedConfig();
+        abandoned.setRemoveAbandonedOnBorrow(true);
+        abandoned.setRemoveAbandonedTimeout(Duration.ofMillis(20));
+        Texts texts = new Texts();
+        Noting pool = new Noting(texts, config, abandoned);
+        String forgotten = pool.borrowObject();
+        Thread.sleep(60);
+        String other = pool.borrowObject();
+        expect("another object", "text 1", other);
+        expect("the forgotten one is destroyed", "make activate destroy make activate", texts.asked());
+        pool.use(forgotten);
+        pool.returnObject(forgotten);
+        pool.invalidateObject(forgotten);
+        pool.use(other);
+        pool.returnObject(other);
+        expect("after the holder's return", "1 idle, 0 active, 2 created, 1 destroyed", counts(pool));
+        expect("nothing is destroyed twice", "passivate", texts.asked());
+        pool.close();
+        write(pool);
+    }
+
+    private static void refusals() {
+        GenericObjectPoolConfig<String> fair = config();
+        fair.setFairness(true);
+        GenericObjectPoolConfig<String> own = config();
+        own.setEvictionPolicy((settings, object, idle) -> true);
+        GenericObjectPoolConfig<String> named = config();
+        named.setEvictionPolicyClassName("org.example.Policy");
+        for (GenericObjectPoolConfig<String> config : Arrays.asList(fair, own, named)) {
+            Object ending = ending(() -> new ZuphinkaPool<>(new Texts(), config).close());
+            expect("refused", config == fair ? "fairness" : "evictionPolicy", ending.toString().replaceAll(".*Exception: |:.*", ""));
+        }
+        expect("no factory", "IllegalArgumentException: Factory may not be null", ending(() -> new ZuphinkaPool<String>(null).close()));
+        expect("a limit of no entries", "IllegalArgumentException: journal limit: 0 is not from 1 to 4294967296",
+                ending(() -> new ZuphinkaPool<>(new Texts(), config(), null, Journal.kept().limit(0)).close()));
+    }
+
+    private static void bean() throws Exception {
+        MBeanServer server = ManagementFactory.getPlatformMBeanServer();
+        ZuphinkaPool<String> pool = new ZuphinkaPool<>(new Texts());
+        ZuphinkaPool<String> other = new ZuphinkaPool<>(new Texts());
+        ObjectName name = pool.getJmxName();
+        expect("the name", "org.apache.commons.pool2:name=pool1,type=GenericObjectPool", name.getCanonicalName());
+        expect("another name", "pool2", other.getJmxName().getKeyProperty("name"));
+        pool.returnObject(pool.borrowObject());
+        expect("an attribute", 1L, server.getAttribute(name, "BorrowedCount"));
+        expect("a setting", 8, server.getAttribute(name, "MaxTotal"));
+        other.close();
+        pool.close();
+        expect("unregistered", false, server.isRegistered(name));
+    }
+
+    private static void journals(Path folder) throws Exception {
+        ZuphinkaPool<String> dropping = new ZuphinkaPool<>(new Texts(), config(), null, Journal.dropped().limit(100));
+        ZuphinkaPool<String> storing = new ZuphinkaPool<>(new Texts(), config(), null, Journal.inFolder(folder.resolve("stored")).limit(100));
+        ZuphinkaPool<String> keeping = new ZuphinkaPool<>(new Texts(), config(), null, Journal.kept().limit(100));
+        for (int round = 0; round < 200; round++) {
+            dropping.returnObject(dropping.borrowObject());
+            storing.returnObject(storing.borrowObject());
+        }
+        expect("a dropped journal stays small", true, dropping.getCounts().entries() < 100);
+        for (int round = 0; round < 24; round++) {
+            keeping.returnObject(keeping.borrowObject());
+        }
+        expect("a kept journal gets full", "IllegalStateException: Journal full", result(keeping::borrowObject));
+        Segment segment = keeping.cut();
+        expect("its segment", "0 96", segment.position() + " " + segment.entries());
+        expect("and goes on", "text 0", keeping.borrowObject());
+        keeping.close();
+        dropping.close();
+        storing.close();
+        expect("a folder with a journal", "FileAlreadyExistsException", result(() -> Journal.inFolder(folder.resolve("stored")))
+                .toString().replaceAll(":.*", ""));
+        failingSink();
+    }
+
+    private static void failingSink() throws Exception {
+        List<Segment> stored = new ArrayList<>();
+        boolean[] isBroken = {true};
+        Journal journal = Journal.storedBy(segment -> {
+            if (isBroken[0]) {
+                throw new IOException("sink");
+            }
+            stored.add(segment);
+        }).limit(100);
+        ZuphinkaPool<String> pool = new ZuphinkaPool<>(new Texts(), config(), null, journal);
+        int lent = 0;
+        Object ending = "";
+        while (lent < 100 && !ending.toString().startsWith("IllegalState")) {
+            ending = ending(() -> pool.returnObject(pool.borrowObject()));
+            lent++;
+        }
+        expect("a sink that fails", "IllegalStateException: Journal full from sink", ending);
+        isBroken[0] = false;
+        pool.returnObject(pool.borrowObject());
+        pool.close();
+        long next = 0;
+        boolean areInTurn = true;
+        for (Segment segment : stored) {
+            areInTurn &= segment.position() == next;
+            next += segment.entries();
+        }
+        expect("no entry is lost", true, areInTurn && next == pool.getCounts().steps());
+    }
+
+    private static Path folder;
+    private static int journals;
+
+    /** Writes the journal of a pool that kept it whole. */
+    private static void write(ZuphinkaPool<?> pool) throws IOException {
+        String name = "journal-" + journals++;
+        Files.write(folder.resolve(name), pool.getJournal().text());
+        Files.write(folder.resolve(name + ".toml"), pool.getSettingsText().getBytes(StandardCharsets.UTF_8));
+    }
+
+    public static void main(String[] words) throws Exception {
+        folder = Path.of(words[0]);
+        life();
+        limits();
+        failures();
+        upkeep();
+        abandonment();
+        refusals();
+        bean();
+        journals(folder);
+        System.out.println(passed + " passed, " + failed + " failed");
+    }
+}

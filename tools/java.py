@@ -1,0 +1,124 @@
+#!/usr/bin/env python3
+"""Builds the pool for Java: the native library over the core's C library, and a jar that has it.
+
+    tools/java.py [--library FILE] [--heap FILE]
+
+FILE is libzuphinka.a, else that of crates/zuphinka/out, which is proved and built first if that is needed; and the kit's liblibc_c.a, by which the
+library allocates, else that of the command `rt`. JAVA_HOME names the JDK, else it is that of the command javac; COMMONS_POOL2 the jar of Commons
+Pool 2, else it is Debian's; CC the C compiler, else it is cc. Made are, in bindings/java/out,
+
+    libzuphinka_jni.so    the native library
+    zuphinka.jar          the classes and the native library; its manifest names the jar of Commons Pool 2 as its class path, and the version
+
+The status is 1 if something cannot be compiled, and 3 if a tool or Commons Pool 2 is missing: then its package is named.
+"""
+
+import argparse
+import os
+import pathlib
+import shutil
+import subprocess
+import sys
+import tempfile
+
+from install import heap_of_kit, version
+
+TOP = pathlib.Path(__file__).resolve().parent.parent
+JAVA = TOP / "bindings/java"
+OUT = JAVA / "out"
+LIBRARY = TOP / "crates/zuphinka/out/libzuphinka.a"
+BUILD = TOP / "tools/build.py"
+# The oldest Java that the classes run on.
+RELEASE = "11"
+DEBIAN_JAR = pathlib.Path("/usr/share/java/commons-pool2.jar")
+MISSING = 3
+
+
+class Missing(Exception):
+    """A tool or a library that is not there, and the package that has it."""
+
+
+def jdk():
+    """The folder of the JDK."""
+    home = os.environ.get("JAVA_HOME")
+    compiler = shutil.which("javac")
+    folder = pathlib.Path(home) if home else pathlib.Path(compiler).resolve().parent.parent if compiler else None
+    if not folder or not (folder / "bin/javac").is_file() or not (folder / "include/jni.h").is_file():
+        raise Missing("no JDK: Debian's package default-jdk-headless has one; JAVA_HOME names another")
+    return folder
+
+
+def commons_pool():
+    """The jar of Commons Pool 2."""
+    jar = pathlib.Path(os.environ.get("COMMONS_POOL2", DEBIAN_JAR))
+    if not jar.is_file():
+        raise Missing(f"{jar}: no such file; Debian's package libcommons-pool2-java has it; COMMONS_POOL2 names another")
+    return jar.resolve()
+
+
+def run(*words, **options):
+    """Runs a command, whose output is shown only if it fails."""
+    done = subprocess.run(list(map(str, words)), stdout=subprocess.PIPE, stderr=subprocess.STDOUT, text=True, **options)
+    if done.returncode:
+        sys.exit(f"{words[0]}: status {done.returncode}\n{done.stdout}")
+
+
+def compile_native(library, heap, to):
+    """Compiles the native library."""
+    include = jdk() / "include"
+    flags = ["-std=c11", "-O2", "-Wall", "-Wextra", "-Werror", "-fPIC", "-shared", "-I", include, "-I", include / "linux", "-I", TOP / "bindings/c"]
+    link = [f"-Wl,--version-script={JAVA}/native/exports.map", "-Wl,-z,defs"]
+    run(os.environ.get("CC", "cc"), *flags, JAVA / "native/zuphinka_jni.c", library, heap, *link, "-o", to)
+
+
+def compile_classes(sources, to, *jars):
+    """Compiles Java to class files, with warnings as errors, but those of jars that a manifest names."""
+    path = os.pathsep.join(map(str, jars))
+    run(jdk() / "bin/javac", "--release", RELEASE, "-Xlint:all,-path", "-Werror", "-d", to, "-cp", path, *sources)
+
+
+def pack(classes, native, jar):
+    """Makes a jar of the classes and the native library."""
+    with tempfile.NamedTemporaryFile("w", suffix=".txt") as manifest:
+        manifest.write(f"Implementation-Title: zuphinka\nImplementation-Version: {version()}\nClass-Path: {commons_pool().name}\n")
+        manifest.flush()
+        run(jdk() / "bin/jar", "--create", "--file", jar, "--manifest", manifest.name, "-C", classes, ".", "-C", native.parent, native.name)
+
+
+def build(library, heap):
+    """Builds all of it, and returns the jar."""
+    OUT.mkdir(exist_ok=True)
+    native, jar = OUT / "libzuphinka_jni.so", OUT / "zuphinka.jar"
+    compile_native(library, heap, native)
+    with tempfile.TemporaryDirectory() as classes:
+        compile_classes(sorted((JAVA / "src").rglob("*.java")), classes, commons_pool())
+        pack(classes, native, jar)
+    return jar
+
+
+def arguments():
+    words = argparse.ArgumentParser(description="Builds the pool for Java.")
+    words.add_argument("--library", type=pathlib.Path, help="libzuphinka.a")
+    words.add_argument("--heap", type=pathlib.Path, help="the kit's liblibc_c.a")
+    return words.parse_args()
+
+
+def main():
+    given = arguments()
+    try:
+        jdk(), commons_pool()
+    except Missing as missing:
+        print(f"java: {missing}", file=sys.stderr)
+        return MISSING
+    if not given.library and subprocess.run([sys.executable, BUILD, "zuphinka"]).returncode:
+        return 1
+    library, heap = given.library or LIBRARY, given.heap or heap_of_kit()
+    for file in library, heap:
+        if not file.is_file():
+            sys.exit(f"{file}: no such file")
+    print(build(library, heap))
+    return 0
+
+
+if __name__ == "__main__":
+    sys.exit(main())
