@@ -203,10 +203,18 @@ public final class Calls {
         expect("a wait that ends", "NoSuchElementException: Timeout waiting for idle object", result(pool::borrowObject));
         expect("it took its time", true, System.nanoTime() - begun >= 60_000_000L);
         expect("an own limit", "NoSuchElementException: Timeout waiting for idle object", result(() -> pool.borrowObject(5)));
+        begun = System.nanoTime();
+        expect("a longer one", "NoSuchElementException: Timeout waiting for idle object", result(() -> pool.borrowObject(150)));
+        expect("it took longer", true, System.nanoTime() - begun >= 150_000_000L);
         expect("no more", "0 idle, 1 active, 1 created, 0 destroyed", counts(pool));
         Thread.currentThread().interrupt();
         expect("interrupted", "InterruptedException: null", result(() -> pool.borrowObject(Duration.ofMillis(50))));
         expect("nobody waits", 0, pool.getNumWaiters());
+        List<Object> served = whileWaiting(pool, 1, () -> pool.borrowObject(-1), () -> {
+            Thread.sleep(100);
+            pool.returnObject(lent);
+        });
+        expect("a wait without a limit", List.of(lent), served);
         pool.returnObject(lent);
         pool.close();
         config.setBlockWhenExhausted(false);
@@ -220,23 +228,23 @@ public final class Calls {
         Texts texts = new Texts();
         Noting endless = new Noting(texts, config, null);
         String first = endless.borrowObject();
-        expect("a return wakes", List.of(first), whileWaiting(endless, 1, () -> endless.returnObject(first)));
-        List<Object> second = whileWaiting(endless, 1, () -> endless.invalidateObject(first));
+        expect("a return wakes", List.of(first), whileWaiting(endless, 1, endless::borrowObject, () -> endless.returnObject(first)));
+        List<Object> second = whileWaiting(endless, 1, endless::borrowObject, () -> endless.invalidateObject(first));
         expect("a destruction wakes", List.of("text 1"), second);
         texts.passivates = new IOException("passivate");
-        List<Object> third = whileWaiting(endless, 1, () -> endless.returnObject((String) second.get(0)));
+        List<Object> third = whileWaiting(endless, 1, endless::borrowObject, () -> endless.returnObject((String) second.get(0)));
         expect("a return that fails wakes", List.of("text 2"), third);
         String closed = "IllegalStateException: Pool not open";
-        expect("a close wakes", List.of(closed, closed), whileWaiting(endless, 2, endless::close));
+        expect("a close wakes", List.of(closed, closed), whileWaiting(endless, 2, endless::borrowObject, endless::close));
         write(endless);
     }
 
     /** Acts while threads wait for an object, and returns what they get, as {@link #result}. */
-    private static List<Object> whileWaiting(ZuphinkaPool<String> pool, int number, Act act) throws Exception {
+    private static List<Object> whileWaiting(ZuphinkaPool<String> pool, int number, Callable<?> borrow, Act act) throws Exception {
         List<Object> got = Collections.synchronizedList(new ArrayList<>());
         List<Thread> waiters = new ArrayList<>();
         for (int started = 0; started < number; started++) {
-            Thread waiter = new Thread(() -> got.add(result(pool::borrowObject)));
+            Thread waiter = new Thread(() -> got.add(result(borrow)));
             waiter.setDaemon(true);
             waiter.start();
             waiters.add(waiter);

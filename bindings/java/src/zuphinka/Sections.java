@@ -15,6 +15,8 @@ import java.util.concurrent.locks.ReentrantLock;
  */
 final class Sections<T> {
     private static final Cleaner CLEANER = Cleaner.create();
+    /** A wait that may take longer, in nanoseconds, has no limit. */
+    private static final long ENDLESS = TimeUnit.DAYS.toNanos(10_000);
 
     private final CoreSettings settings;
     private final long start = System.nanoTime();
@@ -154,16 +156,17 @@ final class Sections<T> {
         }
     }
 
-    /** Waits until there may be something to find or a time is over, and returns whether the caller's own time is not over. */
+    /** Waits until there may be something to find or the time is over, and returns whether the core is to be asked again. */
     private boolean await(long first, long began, long longestNanos) throws InterruptedException {
+        boolean hasOwnLimit = longestNanos >= 0;
         for (;;) {
-            long left = remaining(first, began, longestNanos);
-            if (longestNanos >= 0 && System.nanoTime() - first >= longestNanos) {
+            long left = hasOwnLimit ? longestNanos - (System.nanoTime() - first) : left(began);
+            if (hasOwnLimit && left <= 0) {
                 return false;
             }
             waiters++;
             try {
-                if (left == Long.MAX_VALUE) {
+                if (left > ENDLESS) {
                     changed.await();
                 } else if (left > 0) {
                     changed.awaitNanos(left);
@@ -172,21 +175,18 @@ final class Sections<T> {
                 waiters--;
                 signalled = Math.max(0, signalled - 1);
             }
-            boolean isOver = settings.maxWaitMillis >= 0 && now() - began >= settings.maxWaitMillis;
-            if (isClosed || available() > 0 || isOver) {
+            if (isClosed || available() > 0 || (!hasOwnLimit && left(began) <= 0)) {
                 return true;
             }
         }
     }
 
-    /** Returns for how many nanoseconds a thread may wait yet, by the settings and by its own limit. */
-    private long remaining(long first, long began, long longestNanos) {
-        long now = System.nanoTime();
-        long left = Long.MAX_VALUE;
-        if (settings.maxWaitMillis >= 0 && settings.maxWaitMillis < TimeUnit.DAYS.toMillis(10_000)) {
-            left = start + TimeUnit.MILLISECONDS.toNanos(began + settings.maxWaitMillis) + 1 - now;
+    /** Returns for how many nanoseconds a thread may wait yet by the settings, if it has waited since this millisecond. */
+    private long left(long began) {
+        if (settings.maxWaitMillis < 0 || settings.maxWaitMillis > TimeUnit.NANOSECONDS.toMillis(ENDLESS)) {
+            return Long.MAX_VALUE;
         }
-        return longestNanos < 0 ? left : Math.min(left, longestNanos - (now - first));
+        return start + TimeUnit.MILLISECONDS.toNanos(began + settings.maxWaitMillis) - System.nanoTime();
     }
 
     // Borrows.
@@ -195,7 +195,7 @@ final class Sections<T> {
      * Finds an object to lend, and waits while there is none.
      *
      * @param first when the borrow began, by {@link System#nanoTime}
-     * @param longestNanos for how long the caller waits at most; negative: no limit of its own
+     * @param longestNanos for how long the caller waits at most, in place of the time that the settings allow; negative: that time
      * @param isBare whether an idle object needs no activation and no test, and so is lent at once
      * @throws NoSuchElementException if there is none, or the time is over
      * @throws IllegalStateException if the pool is closed, or its journal is full
@@ -235,7 +235,9 @@ final class Sections<T> {
                 reply = checked(askOnce(at, began, isBare));
             }
             note(reply);
-            if (Core.answer(reply) != Core.WAIT) {
+            int answer = Core.answer(reply);
+            boolean waits = answer == Core.WAIT || (answer == Core.TIMED_OUT && longestNanos >= 0);
+            if (!waits) {
                 noteWait(at == began ? 0 : System.nanoTime() - first);
                 return reply;
             }

@@ -124,10 +124,10 @@ public class ZuphinkaPool<T> implements ObjectPool<T>, UsageTracking<T> {
         return borrow(-1);
     }
 
-    /** Does the same, but waits no longer than a time either, which is negative if there is no such limit. */
+    /** Does the same, but waits for this time in place of the configured one; without a limit if it is negative. */
     public T borrowObject(Duration longest) throws Exception {
-        boolean isUnlimited = longest.isNegative() || longest.getSeconds() > TimeUnit.DAYS.toSeconds(10_000);
-        return borrow(isUnlimited ? -1 : longest.toNanos());
+        boolean isEndless = longest.isNegative() || longest.getSeconds() > TimeUnit.DAYS.toSeconds(10_000);
+        return borrow(isEndless ? Long.MAX_VALUE : longest.toNanos());
     }
 
     /** Does the same, with a time in milliseconds. */
