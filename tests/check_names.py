@@ -32,7 +32,7 @@ SAID = r"\b(?:ensures|ghost|pub (?:trait|struct|enum|fn)|pub\(crate\) fn) %s\b"
 # The sources besides those of the crates.
 OTHERS = (
     *("bindings/c/*", "bindings/rust/src/*.rs", "bindings/rust/examples/*", "bindings/java/src/zuphinka/*", "bindings/java/native/*"),
-    *("tests/*.*", "tests/java/*", "bench/*", "tools/*", "docs/pictures/*.py", "examples/*", "pool", "check", "crates.txt"),
+    *("bindings/java/examples/*", "tests/*.*", "tests/java/*", "bench/*", "tools/*", "docs/pictures/*.py", "examples/*", "pool", "check", "crates.txt"),
 )
 
 

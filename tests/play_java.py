@@ -6,13 +6,14 @@
 LIBRARY is libzuphinka.a, and POOL the program `pool`. tests/java/Calls.java makes each call of a pool, with what the factory throws.
 tests/java/Stress.java makes random calls in eight threads over a factory that fails at random. The journals that they write must be legal, the jar
 must have the version of all products, and the codes of zuphinka.Core must be those of bindings/c/zuphinka.h. If there is no JDK or no Commons Pool 2,
-all of it is left out.
+all of it is left out. The example over DBCP2 is run by the command of bindings/java/README.md, if DBCP2 and H2 are there.
 
 Prints what fails, and in the end the line 'N passed, M failed'.
 """
 
 import pathlib
 import re
+import shlex
 import subprocess
 import sys
 import tempfile
@@ -30,6 +31,8 @@ COUNT = re.compile(r"^(\d+) passed, (\d+) failed$", flags=re.MULTILINE)
 # What the virtual machine writes about a native method that breaks a rule.
 WARNING = re.compile(r"(?:WARNING|FATAL ERROR) in native method")
 SEEDS, MILLIS = range(8), 700
+# What the example needs, and the package that has it.
+EXAMPLE_JARS = {"commons-dbcp2": "libcommons-dbcp2-java", "h2": "libh2-java"}
 # A run that takes longer hangs, in seconds.
 LONGEST = 120
 
@@ -66,6 +69,19 @@ def legal(pool, settings, *journals):
     return "legal", done.stdout.partition(" ")[0] or done.stderr
 
 
+def example(pool, folder):
+    """What is wanted of the example over DBCP2, and what came of it. It is left out if a jar is missing."""
+    for jar, package in EXAMPLE_JARS.items():
+        if not (java.DEBIAN_JAR.parent / f"{jar}.jar").is_file():
+            print(f"bindings/java/examples is left out, since there is no {jar}.jar: Debian's package {package} has it")
+            return
+    command = re.search(r"^    JARS=.*\n    java (?:.*\\\n)?.* (?=journal$)", (java.JAVA / "README.md").read_text(), flags=re.MULTILINE)[0]
+    words = ["bash", "-ec", f"{command}{shlex.quote(str(folder))}"]
+    done = subprocess.run(words, cwd=TOP, capture_output=True, text=True, timeout=LONGEST)
+    yield "the example", "1000 transfers, 20 broken connections, 2000 euros in all\n", done.stdout or done.stderr
+    yield "the example: its journal", *legal(pool, folder / "settings.toml", *sorted(folder.glob("segment-*")))
+
+
 def checks(library, pool):
     yield from codes()
     jar = java.build(pathlib.Path(library), heap_of_kit())
@@ -82,6 +98,7 @@ def checks(library, pool):
         for settings in sorted(calls.glob("*.toml")):
             yield f"calls: {settings.stem}", *legal(pool, settings, settings.with_suffix(""))
         yield "calls: a stored journal", *legal(pool, calls / "stored/settings.toml", *sorted((calls / "stored").glob("segment-*")))
+        yield from example(pool, folder / "bank")
         for seed in SEEDS:
             journal = folder / f"stress-{seed}"
             words = ["abandoned"] * (seed % 2) + ["bare"] * (seed // 2 % 2)
