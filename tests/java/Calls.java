@@ -217,6 +217,15 @@ public final class Calls {
         expect("a wait without a limit", List.of(lent), served);
         pool.returnObject(lent);
         pool.close();
+        config.setMaxWait(Duration.ZERO);
+        Noting hasty = new Noting(new Texts(), config, null);
+        hasty.borrowObject();
+        expect("no time", "NoSuchElementException: Timeout waiting for idle object", result(hasty::borrowObject));
+        long asked = System.nanoTime();
+        expect("an own time", "NoSuchElementException: Timeout waiting for idle object", result(() -> hasty.borrowObject(100)));
+        expect("it counts alone", true, System.nanoTime() - asked >= 100_000_000L);
+        hasty.close();
+        write(hasty);
         config.setBlockWhenExhausted(false);
         Noting other = new Noting(new Texts(), config, null);
         other.borrowObject();

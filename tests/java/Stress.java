@@ -189,7 +189,7 @@ public final class Stress {
         config.setTestOnCreate(random.nextBoolean());
         config.setTestOnReturn(random.nextBoolean());
         config.setTestWhileIdle(random.nextBoolean());
-        config.setMaxWait(Duration.ofMillis(random.nextBoolean() ? -1 : random.nextInt(20)));
+        config.setMaxWait(Duration.ofMillis(random.nextBoolean() ? -1 : random.nextInt(4)));
         config.setMinEvictableIdleTime(Duration.ofMillis(random.nextInt(4)));
         config.setTimeBetweenEvictionRuns(Duration.ofMillis(1 + random.nextInt(5)));
         config.setJmxEnabled(random.nextBoolean());
@@ -255,7 +255,7 @@ public final class Stress {
     }
 
     private void use(Random random) throws Exception {
-        Item item = random.nextInt(4) == 0 ? pool.borrowObject(Duration.ofMillis(random.nextInt(3))) : pool.borrowObject();
+        Item item = random.nextInt(4) == 0 ? borrowWithin(random.nextInt(30)) : pool.borrowObject();
         if (!item.holder.compareAndSet(null, Thread.currentThread())) {
             fault("an object is lent to two holders");
         }
@@ -275,6 +275,18 @@ public final class Stress {
             pool.invalidateObject(item);
         } else {
             pool.returnObject(item);
+        }
+    }
+
+    private Item borrowWithin(long millis) throws Exception {
+        long begun = System.nanoTime();
+        try {
+            return pool.borrowObject(Duration.ofMillis(millis));
+        } catch (NoSuchElementException e) {
+            if (e.getMessage().startsWith("Timeout") && System.nanoTime() - begun < millis * 1_000_000) {
+                fault("a borrow timed out before its time");
+            }
+            throw e;
         }
     }
 
