@@ -37,10 +37,10 @@ EXAMPLE_JARS = {"commons-dbcp2": "libcommons-dbcp2-java", "h2": "libh2-java"}
 LONGEST = 120
 
 
-def run(jar, classes, *words):
-    """Runs a test program."""
+def run(jar, classes, *words, options=()):
+    """Runs a test program, over a jar or a folder with the classes of the library."""
     path = ":".join(map(str, (classes, jar, java.commons_pool())))
-    command = [java.jdk() / "bin/java", "-Xcheck:jni", "-XX:-UsePerfData", "-cp", path, *map(str, words)]
+    command = [java.jdk() / "bin/java", "-Xcheck:jni", "-XX:-UsePerfData", *options, "-cp", path, *map(str, words)]
     return subprocess.run(command, stdout=subprocess.PIPE, stderr=subprocess.STDOUT, text=True, timeout=LONGEST)
 
 
@@ -67,6 +67,18 @@ def legal(pool, settings, *journals):
     """What is wanted of a check of journals, and what came of it."""
     done = subprocess.run([pool, "check", settings, *journals], capture_output=True, text=True)
     return "legal", done.stdout.partition(" ")[0] or done.stderr
+
+
+def found(jar, classes, folder):
+    """What is wanted of runs over classes without the native library, and what came of it: the library is found in each place that the page names."""
+    with zipfile.ZipFile(jar) as packed:
+        packed.extractall(folder / "bare", [name for name in packed.namelist() if name.endswith(".class")])
+    places = [f"-Dzuphinka.library={jar.parent / 'libzuphinka_jni.so'}", f"-Djava.library.path={jar.parent}"]
+    for number, option in enumerate(places):
+        done = run(folder / "bare", classes, "Stress", 1, 50, folder / f"found-{number}", options=[option])
+        yield f"the native library by {option.partition('=')[0]}", 0, done.returncode
+    done = run(folder / "bare", classes, "Stress", 1, 50, folder / "not-found")
+    yield "without the native library", (1, True), (done.returncode, "UnsatisfiedLinkError" in done.stdout)
 
 
 def example(pool, folder):
@@ -98,6 +110,7 @@ def checks(library, pool):
         for settings in sorted(calls.glob("*.toml")):
             yield f"calls: {settings.stem}", *legal(pool, settings, settings.with_suffix(""))
         yield "calls: a stored journal", *legal(pool, calls / "stored/settings.toml", *sorted((calls / "stored").glob("segment-*")))
+        yield from found(jar, classes, folder)
         yield from example(pool, folder / "bank")
         for seed in SEEDS:
             journal = folder / f"stress-{seed}"

@@ -5,7 +5,7 @@ import java.lang.ref.WeakReference;
 import java.util.function.Function;
 import javax.management.InstanceAlreadyExistsException;
 import javax.management.JMException;
-import javax.management.MBeanServer;
+import javax.management.MalformedObjectNameException;
 import javax.management.NotCompliantMBeanException;
 import javax.management.ObjectName;
 import javax.management.StandardMBean;
@@ -30,24 +30,33 @@ final class PoolBean extends StandardMBean implements ZuphinkaPoolMXBean {
         this.factoryType = factoryType;
     }
 
-    /** Registers an MBean by the first free name with a number, and returns the name; null if it cannot be registered. */
+    /**
+     * Registers an MBean by the name that the configuration gives, or by the first free one with a number after it; by the default name if that
+     * is none. Returns the name; null if the MBean cannot be registered.
+     */
     static ObjectName register(ZuphinkaPool<?> pool, GenericObjectPoolConfig<?> config, AbandonedConfig abandoned, String factoryType) {
         String base = config.getJmxNameBase() == null ? BASE : config.getJmxNameBase();
-        MBeanServer server = ManagementFactory.getPlatformMBeanServer();
         try {
             PoolBean bean = new PoolBean(pool, config, abandoned, factoryType);
-            for (int number = 1; ; number++) {
-                boolean isFirst = number == 1 && !config.getJmxNamePrefix().equals(BaseObjectPoolConfig.DEFAULT_JMX_NAME_PREFIX);
-                ObjectName name = new ObjectName(base + config.getJmxNamePrefix() + (isFirst ? "" : number));
-                try {
-                    server.registerMBean(bean, name);
-                    return name;
-                } catch (InstanceAlreadyExistsException e) {
-                    // The next number is tried.
-                }
+            try {
+                return registerAs(bean, base + config.getJmxNamePrefix());
+            } catch (MalformedObjectNameException e) {
+                return registerAs(bean, BASE + BaseObjectPoolConfig.DEFAULT_JMX_NAME_PREFIX);
             }
         } catch (JMException e) {
             return null;
+        }
+    }
+
+    private static ObjectName registerAs(PoolBean bean, String first) throws JMException {
+        for (int number = 1; ; number++) {
+            ObjectName name = new ObjectName(number == 1 ? first : first + number);
+            try {
+                ManagementFactory.getPlatformMBeanServer().registerMBean(bean, name);
+                return name;
+            } catch (InstanceAlreadyExistsException e) {
+                // The next number is tried.
+            }
         }
     }
 
@@ -192,6 +201,11 @@ final class PoolBean extends StandardMBean implements ZuphinkaPoolMXBean {
     @Override
     public long getMaxBorrowWaitTimeMillis() {
         return ask(ZuphinkaPool::getMaxBorrowWaitTimeMillis);
+    }
+
+    @Override
+    public long getMeanBorrowWaitTimeMillis() {
+        return ask(ZuphinkaPool::getMeanBorrowWaitTimeMillis);
     }
 
     @Override

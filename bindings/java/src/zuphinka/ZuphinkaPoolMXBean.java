@@ -52,6 +52,8 @@ public interface ZuphinkaPoolMXBean {
 
     long getMaxBorrowWaitTimeMillis();
 
+    long getMeanBorrowWaitTimeMillis();
+
     boolean isAbandonedConfig();
 
     boolean getLogAbandoned();
