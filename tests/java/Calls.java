@@ -415,6 +415,27 @@ public final class Calls {
         expect("unregistered", false, server.isRegistered(name));
     }
 
+    private static void throwingSink() throws Exception {
+        AtomicInteger noted = new AtomicInteger();
+        Journal journal = Journal.storedBy(segment -> {
+            throw new IllegalArgumentException("sink");
+        });
+        ZuphinkaPool<String> pool = new ZuphinkaPool<>(new Texts(), config(), null, journal.limit(100)) {
+            @Override
+            protected void swallowed(Exception failure) {
+                noted.incrementAndGet();
+                throw new IllegalStateException(failure);
+            }
+        };
+        for (int round = 0; round < 20; round++) {
+            pool.returnObject(pool.borrowObject());
+        }
+        expect("a sink that throws", "1 idle, 0 active, 1 created, 0 destroyed", counts(pool));
+        expect("it is noted", true, noted.get() > 0);
+        pool.close();
+        expect("it is closed", "0 idle, 0 active, 1 created, 1 destroyed", counts(pool));
+    }
+
     private static void journals(Path folder) throws Exception {
         ZuphinkaPool<String> dropping = new ZuphinkaPool<>(new Texts(), config(), null, Journal.dropped().limit(100));
         ZuphinkaPool<String> storing = new ZuphinkaPool<>(new Texts(), config(), null, Journal.inFolder(folder.resolve("stored")).limit(100));
@@ -487,6 +508,7 @@ public final class Calls {
         abandonment();
         refusals();
         bean();
+        throwingSink();
         journals(folder);
         System.out.println(passed + " passed, " + failed + " failed");
     }

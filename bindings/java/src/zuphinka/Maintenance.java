@@ -45,10 +45,10 @@ final class Maintenance implements Runnable {
             kept.maintain();
         } catch (Exception e) {
             if (!kept.isClosed()) {
-                kept.swallowed(e);
+                kept.swallow(e);
             }
         } catch (OutOfMemoryError e) {
-            kept.swallowed(new IllegalStateException(e));
+            kept.swallow(new IllegalStateException(e));
         }
         return true;
     }

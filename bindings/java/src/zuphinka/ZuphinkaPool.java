@@ -248,7 +248,7 @@ public class ZuphinkaPool<T> implements ObjectPool<T>, UsageTracking<T> {
         try {
             destroy(member);
         } catch (Exception e) {
-            swallowed(e);
+            swallow(e);
         }
     }
 
@@ -317,7 +317,7 @@ public class ZuphinkaPool<T> implements ObjectPool<T>, UsageTracking<T> {
             factory.passivateObject(member.pooled);
         } catch (Throwable e) {
             destroyFailed(member, Core.PARK, Core.PASSIVATE_FAILED, e);
-            swallowed((Exception) e);
+            swallow((Exception) e);
             return;
         }
         member.pooled.deallocate();
@@ -474,7 +474,7 @@ public class ZuphinkaPool<T> implements ObjectPool<T>, UsageTracking<T> {
         }
         rethrow(fault);
         if (fault != null) {
-            swallowed((Exception) fault);
+            swallow((Exception) fault);
         }
     }
 
@@ -495,7 +495,7 @@ public class ZuphinkaPool<T> implements ObjectPool<T>, UsageTracking<T> {
             try {
                 discard(member, DestroyMode.ABANDONED);
             } catch (Exception e) {
-                swallowed(e);
+                swallow(e);
             }
         }
     }
@@ -635,8 +635,8 @@ public class ZuphinkaPool<T> implements ObjectPool<T>, UsageTracking<T> {
     public void flushJournal() {
         try {
             sections.storeRest();
-        } catch (IOException e) {
-            swallowed(e);
+        } catch (IOException | RuntimeException e) {
+            swallow(e);
         }
     }
 
@@ -646,14 +646,23 @@ public class ZuphinkaPool<T> implements ObjectPool<T>, UsageTracking<T> {
         }
         try {
             sections.storePending();
-        } catch (IOException e) {
-            swallowed(e);
+        } catch (IOException | RuntimeException e) {
+            swallow(e);
         }
     }
 
     /**
      * Receives each failure that no call throws: those of destructions, passivations and idle tests, of the maintenance thread, and of a sink.
-     * It does nothing. Override it to log them.
+     * It does nothing. Override it to log them. What it throws itself is ignored, since the call that failed has to be completed.
      */
     protected void swallowed(Exception failure) {}
+
+    /** Passes a failure to {@link #swallowed}. */
+    final void swallow(Exception failure) {
+        try {
+            swallowed(failure);
+        } catch (RuntimeException e) {
+            // No object may lose its place by that.
+        }
+    }
 }
