@@ -8,7 +8,8 @@ Prints on standard error which crates it builds, how many are done, how long it 
 build only if the build failed, and the status is then 1. It passes over crates that are built of their sources as they are (tools/sources.py), and
 prints nothing if all are.
 
-A build on which a longer chain of crates waits comes first: it has a job for each processor, the next one half as many, and so on, and less priority.
+A build on which a longer chain of crates waits comes first: the first two have a job for each processor, the others half as many, and each has less
+priority than those before it.
 tools/proof_seconds.txt has the times from which the length of a chain follows. tools/kit.py builds one crate.
 """
 
@@ -37,7 +38,9 @@ PAUSE, REMIND = 0.2, 60
 ALONE, AT_WORK = 1 / 3, 3 / 4
 # By how much nicer a build is for each one beside it that a longer chain waits for, and the most that it may be.
 NICER, NICEST = 3, 19
-# The memory that each job beside the first may take, in bytes.
+# How many builds have a job for each processor.
+FULL = 2
+# The memory that each job may take, in bytes.
 EACH_JOB = 1_500_000_000
 
 
@@ -105,6 +108,7 @@ class Work:
         self.ways = longest_ways(wanted)
         self.total = len(wanted)
         self.minutes = minutes_for(wanted)
+        self.most_jobs = free_memory() // EACH_JOB
         self.running = {}
         self.done = set()
         self.began = time.monotonic()
@@ -128,9 +132,11 @@ class Work:
         return self.ways[crate] - min(seconds(crate), time.monotonic() - began)
 
     def jobs(self, rank):
-        """How many jobs a build gets, as far as there is memory, while longer chains wait for this number of other builds: as many as there are
-        processors, or half of what the build before it gets. A build with more jobs takes more processor seconds."""
-        return max(1, min(processors() >> rank, 1 + free_memory() // EACH_JOB))
+        """How many jobs a build gets while longer chains wait for this number of other builds: as many as there are processors, or half as many, as
+        far as there is memory beside the builds that run."""
+        wanted = processors() if rank < FULL else processors() // 2
+        taken = sum(jobs for *_, jobs in self.running.values())
+        return max(1, min(wanted, self.most_jobs - taken))
 
     def start(self):
         """Starts each build whose libraries are built, and returns whether there was one."""
@@ -140,15 +146,16 @@ class Work:
             del self.waiting[crate]
             log = tempfile.TemporaryFile("w+")
             nicer = ["nice", "-n", str(min(NICER * rank, NICEST))]
-            words = [*nicer, sys.executable, KIT, crate, str(self.jobs(rank))]
-            self.running[crate] = time.monotonic(), subprocess.Popen(words, stdin=subprocess.DEVNULL, stdout=log, stderr=log), log
+            jobs = self.jobs(rank)
+            words = [*nicer, sys.executable, KIT, crate, str(jobs)]
+            self.running[crate] = time.monotonic(), subprocess.Popen(words, stdin=subprocess.DEVNULL, stdout=log, stderr=log), log, jobs
         return bool(ready)
 
     def collect(self):
         """Collects the builds that have ended, and returns whether one has."""
         ended = [crate for crate, (_, started, *_) in self.running.items() if started.poll() is not None]
         for crate in ended:
-            _, started, log = self.running.pop(crate)
+            _, started, log, *_ = self.running.pop(crate)
             if started.returncode:
                 log.seek(0)
                 sys.stderr.write(log.read())
@@ -158,7 +165,7 @@ class Work:
 
     def stop(self):
         """Stops the builds that run, and notes what is built, except crates that were edited meanwhile."""
-        for _, started, _ in self.running.values():
+        for _, started, *_ in self.running.values():
             started.terminate()
             started.wait()
         self.running.clear()

@@ -18,7 +18,7 @@ pub record Answered {T : Type 0} (caller at : ℕ) (input : Input) (handed : Opt
   pub fits : FitsLimitFrom old.settings old.base new.journal
   pub settings_stay : new.settings ≡ old.settings
   pub base_stays : new.base ≡ old.base
-  pub hands : TransfersValue answer input old.places new.places handed out
+  pub transfers : TransfersValue answer input old.places new.places handed out
 
 -- the journal is full exactly if the expected entry does not fit, and the value passed in is returned
 abbrev pub Faulted : {T : Type 0} → ℕ → ℕ → Input → Option T → CoreModel T → StepFault T → Type 0

@@ -39,7 +39,6 @@ pub record TakesStep {T : Type 0} (now : StepContext) (input : Input) (old new :
   pub next_is : new.next ≡ next_after (entry_of 0 now.at input answer) old.next
   pub closed_is : new.closed ≡ closed_after answer input old.closed
   pub cursor_is : new.cursor ≡ cursor_after answer input (records_in old.places.kept) old.cursor
-  pub owed_stays : new.owed ≡ old.owed
   pub ended_is : new.ended ≡ ended_after answer input old.ended
   pub settings_stay : new.settings ≡ old.settings
 

@@ -19,8 +19,6 @@ pub struct State<T> {
     pub closed: bool,
     /// The position at which the object was parked that the last eviction step examined.
     pub cursor: Option<u64>,
-    /// The number of outstanding entries: the most that may still be needed to free every place and close the pool.
-    pub owed: u64,
     /// The numbers of objects that were destroyed, evicted and reclaimed.
     pub ended: RemovalTotals,
 }

@@ -50,15 +50,15 @@ pub left-at_end : (now : Option (List ℕ)) → IsAtEnd now → left now ≡ []
 left-at_end None h = refl
 left-at_end (Some xs) h = h
 
-module _ {E F : Type 0} (settings : E → F) (taken told : E → List ℕ) (stands : E → Type 0) (is_partial : List ℕ → Type 0) (ends : E → List ℕ → Result (Unit {0}) EngineFault → Type 0) (begun : E) (known held : Option (List ℕ)) where
+module _ {E F : Type 0} (settings : E → F) (taken told : E → List ℕ) (active : E → Type 0) (is_partial : List ℕ → Type 0) (ends : E → List ℕ → Result (Unit {0}) EngineFault → Type 0) (begun : E) (known held : Option (List ℕ)) where
   pub record Going (engine : E) (now written : Option (List ℕ)) (pending buffered : List ℕ) : Type 0 where
-    pub standing : stands engine
+    pub standing : active engine
     pub same : settings engine ≡ settings begun
     pub took : Consumes known now (taken engine ++ pending)
     pub ahead : length pending ≤ read_ahead
     pub gave : Gave (told engine) held written buffered
 
-  Gives-gave : (result : Result (Unit {0}) EngineFault) (engine : E) (written : Option (List ℕ)) (buffered : List ℕ) → Gave (told engine) held written buffered → WritesOutput settings taken told stands is_partial ends result engine held written buffered
+  Gives-gave : (result : Result (Unit {0}) EngineFault) (engine : E) (written : Option (List ℕ)) (buffered : List ℕ) → Gave (told engine) held written buffered → WritesOutput settings taken told active is_partial ends result engine held written buffered
   Gives-gave (Ok u) engine written buffered h = h
   Gives-gave (Err (Line n f)) engine written buffered h = h
   Gives-gave (Err (Full n)) engine written buffered h = h
@@ -68,8 +68,8 @@ module _ {E F : Type 0} (settings : E → F) (taken told : E → List ℕ) (stan
 
   -- the engine ends before the pending bytes
   pub Passes-ended : (result : Result (Unit {0}) EngineFault) (old new : E) (now written : Option (List ℕ)) (pending before after shown : List ℕ) → Going old now written pending before → LeavesNoLine result pending → shown ≡ pending
-      → taken new ≡ taken old → AppendsOutput settings taken told stands is_partial ends old new before after → ((more : List ℕ) → ends new (shown ++ more) result)
-      → Passes settings taken told stands is_partial ends result begun new known now held written after
+      → taken new ≡ taken old → AppendsOutput settings taken told active is_partial ends old new before after → ((more : List ℕ) → ends new (shown ++ more) result)
+      → Passes settings taken told active is_partial ends result begun new known now held written after
   Passes-ended result old new now written pending before after shown going leaves all same (words, grown, is, stay) ended = record {
     rest = pending ++ left now;
     same = stay ∙ going.same;
@@ -81,13 +81,13 @@ module _ {E F : Type 0} (settings : E → F) (taken told : E → List ℕ) (stan
 
   -- the engine is stopped
   pub Passes-stopped : (result : Result (Unit {0}) EngineFault) (engine : E) (now written : Option (List ℕ)) (pending buffered : List ℕ) → Going engine now written pending buffered → LeavesNoLine result pending
-      → ((rest : List ℕ) → ends engine rest result) → Passes settings taken told stands is_partial ends result begun engine known now held written buffered
+      → ((rest : List ℕ) → ends engine rest result) → Passes settings taken told active is_partial ends result begun engine known now held written buffered
   Passes-stopped result engine now written pending buffered going leaves ended =
       Passes-ended result engine engine now written pending buffered buffered pending going leaves refl refl ([], sym (append-nil buffered), sym (append-nil (told engine)), refl) (λ more. ended (pending ++ more))
 
   -- the writer fails
   pub Passes-failed : (engine : E) (now mid written : Option (List ℕ)) (pending before after : List ℕ) → Going engine now mid pending before → AppendsFront mid written before
-      → ((rest : List ℕ) → ends engine rest (Err Write)) → Passes settings taken told stands is_partial ends (Err Write) begun engine known now held written after
+      → ((rest : List ℕ) → ends engine rest (Err Write)) → Passes settings taken told active is_partial ends (Err Write) begun engine known now held written after
   Passes-failed engine now mid written pending before after going failed ended = record {
     rest = pending ++ left now;
     same = going.same;
@@ -99,7 +99,7 @@ module _ {E F : Type 0} (settings : E → F) (taken told : E → List ℕ) (stan
 
   -- a line is taken
   pub Going-took : (old new : E) (now written : Option (List ℕ)) (pending before after shown : List ℕ) (count : ℕ) → Going old now written pending before → shown ≡ pending
-      → stands new → taken new ≡ taken old ++ take count shown → AppendsOutput settings taken told stands is_partial ends old new before after → Going new now written (drop count pending) after
+      → active new → taken new ≡ taken old ++ take count shown → AppendsOutput settings taken told active is_partial ends old new before after → Going new now written (drop count pending) after
   Going-took old new now written pending before after shown count going all standing is (words, grown, told_is, stay) = record {
     standing = standing;
     same = stay ∙ going.same;
@@ -149,8 +149,8 @@ module _ {E F : Type 0} (settings : E → F) (taken told : E → List ℕ) (stan
 
   -- the stream is at its end
   pub Passes-finished : (result : Result (Unit {0}) EngineFault) (old new : E) (now written : Option (List ℕ)) (pending before after shown : List ℕ) → Going old now written pending before → LeavesNoLine result pending → shown ≡ pending → IsAtEnd now
-      → taken new ≡ taken old → AppendsOutput settings taken told stands is_partial ends old new before after → ends new shown result
-      → Passes settings taken told stands is_partial ends result begun new known now held written after
+      → taken new ≡ taken old → AppendsOutput settings taken told active is_partial ends old new before after → ends new shown result
+      → Passes settings taken told active is_partial ends result begun new known now held written after
   Passes-finished result old new now written pending before after shown going leaves all at_end same (words, grown, is, stay) ended = record {
     rest = pending ++ left now;
     same = stay ∙ going.same;
@@ -166,7 +166,7 @@ module _ {E F : Type 0} (settings : E → F) (taken told : E → List ℕ) (stan
       subst (λ l. Going new now written pending l) (sym stays) (subst (λ e. Going e now written pending before) (sym same) going)
 
   -- an engine that begins
-  pub Going-begun : stands begun → taken begun ≡ [] → told begun ≡ [] → Going begun known held [] []
+  pub Going-begun : active begun → taken begun ≡ [] → told begun ≡ [] → Going begun known held [] []
   Going-begun standing none_taken none_told = record {
     standing = standing;
     same = refl;
@@ -175,8 +175,8 @@ module _ {E F : Type 0} (settings : E → F) (taken told : E → List ℕ) (stan
     gave = ([], none_told, Appends-nil held);
   }
 
-  Gives-handed : (result : Result (Unit {0}) EngineFault) (engine : E) (mid written : Option (List ℕ)) (buffered : List ℕ) → is_write_failure result ≡ false → WritesOutput settings taken told stands is_partial ends result engine held mid buffered → Appends mid written buffered
-      → WritesOutput settings taken told stands is_partial ends result engine held written []
+  Gives-handed : (result : Result (Unit {0}) EngineFault) (engine : E) (mid written : Option (List ℕ)) (buffered : List ℕ) → is_write_failure result ≡ false → WritesOutput settings taken told active is_partial ends result engine held mid buffered → Appends mid written buffered
+      → WritesOutput settings taken told active is_partial ends result engine held written []
   Gives-handed (Ok u) engine mid written buffered works h given = Gave-sent (told engine) held mid written buffered [] buffered h (sym (append-nil buffered)) given
   Gives-handed (Err (Line n f)) engine mid written buffered works h given = Gave-sent (told engine) held mid written buffered [] buffered h (sym (append-nil buffered)) given
   Gives-handed (Err (Full n)) engine mid written buffered works h given = Gave-sent (told engine) held mid written buffered [] buffered h (sym (append-nil buffered)) given
@@ -184,7 +184,7 @@ module _ {E F : Type 0} (settings : E → F) (taken told : E → List ℕ) (stan
   Gives-handed (Err Read) engine mid written buffered works h given = Gave-sent (told engine) held mid written buffered [] buffered h (sym (append-nil buffered)) given
   Gives-handed (Err Write) engine mid written buffered works h given = absurd (false≢true (sym works))
 
-  Gave-from : (result : Result (Unit {0}) EngineFault) (engine : E) (written : Option (List ℕ)) (buffered : List ℕ) → is_write_failure result ≡ false → WritesOutput settings taken told stands is_partial ends result engine held written buffered → Gave (told engine) held written buffered
+  Gave-from : (result : Result (Unit {0}) EngineFault) (engine : E) (written : Option (List ℕ)) (buffered : List ℕ) → is_write_failure result ≡ false → WritesOutput settings taken told active is_partial ends result engine held written buffered → Gave (told engine) held written buffered
   Gave-from (Ok u) engine written buffered works h = h
   Gave-from (Err (Line n f)) engine written buffered works h = h
   Gave-from (Err (Full n)) engine written buffered works h = h
@@ -193,18 +193,18 @@ module _ {E F : Type 0} (settings : E → F) (taken told : E → List ℕ) (stan
   Gave-from (Err Write) engine written buffered works h = absurd (false≢true (sym works))
 
   -- the buffered output is written at the end
-  pub Passes-handed : (result : Result (Unit {0}) EngineFault) (engine : E) (now mid written : Option (List ℕ)) (buffered : List ℕ) → is_write_failure result ≡ false → Passes settings taken told stands is_partial ends result begun engine known now held mid buffered → Appends mid written buffered
-      → Passes settings taken told stands is_partial ends result begun engine known now held written []
+  pub Passes-handed : (result : Result (Unit {0}) EngineFault) (engine : E) (now mid written : Option (List ℕ)) (buffered : List ℕ) → is_write_failure result ≡ false → Passes settings taken told active is_partial ends result begun engine known now held mid buffered → Appends mid written buffered
+      → Passes settings taken told active is_partial ends result begun engine known now held written []
   Passes-handed result engine now mid written buffered works p given = record { rest = p.rest; same = p.same; stream = p.stream; leaves = p.leaves; ended = p.ended; gave = Gives-handed result engine mid written buffered works p.gave given }
 
   -- the writer fails at the end
-  pub Passes-unhanded : (result : Result (Unit {0}) EngineFault) (engine : E) (now mid written : Option (List ℕ)) (buffered : List ℕ) → is_write_failure result ≡ false → Passes settings taken told stands is_partial ends result begun engine known now held mid buffered → AppendsFront mid written buffered
-      → ((rest : List ℕ) → ends engine rest result → ends engine rest (Err Write)) → Passes settings taken told stands is_partial ends (Err Write) begun engine known now held written []
+  pub Passes-unhanded : (result : Result (Unit {0}) EngineFault) (engine : E) (now mid written : Option (List ℕ)) (buffered : List ℕ) → is_write_failure result ≡ false → Passes settings taken told active is_partial ends result begun engine known now held mid buffered → AppendsFront mid written buffered
+      → ((rest : List ℕ) → ends engine rest result → ends engine rest (Err Write)) → Passes settings taken told active is_partial ends (Err Write) begun engine known now held written []
   Passes-unhanded result engine now mid written buffered works p failed fails = record { rest = p.rest; same = p.same; stream = p.stream; leaves = (p.leaves.0, p.leaves.1, p.leaves.2, λ told. absurd (false≢true told)); ended = fails p.rest p.ended; gave = Gave-failed (told engine) held mid written buffered (Gave-from result engine mid buffered works p.gave) failed }
 
   -- the writer had failed before
-  pub Passes-broken : (result : Result (Unit {0}) EngineFault) (engine : E) (now written : Option (List ℕ)) (buffered : List ℕ) → is_write_failure result ≡ true → Passes settings taken told stands is_partial ends result begun engine known now held written buffered
-      → Passes settings taken told stands is_partial ends result begun engine known now held written []
+  pub Passes-broken : (result : Result (Unit {0}) EngineFault) (engine : E) (now written : Option (List ℕ)) (buffered : List ℕ) → is_write_failure result ≡ true → Passes settings taken told active is_partial ends result begun engine known now held written buffered
+      → Passes settings taken told active is_partial ends result begun engine known now held written []
   Passes-broken (Ok u) engine now written buffered broken p = absurd (false≢true broken)
   Passes-broken (Err (Line n f)) engine now written buffered broken p = absurd (false≢true broken)
   Passes-broken (Err (Full n)) engine now written buffered broken p = absurd (false≢true broken)

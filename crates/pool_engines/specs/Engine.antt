@@ -36,14 +36,14 @@ TakesOne lines_left (Err fault) old new = ⊤
 -- Definitions for an engine of the type E: its fixed parameters, such as its settings, the bytes of the lines that it took, its
 -- output for them, whether it can continue, which bytes contain no whole line, and what holds if it ends before the rest of a
 -- stream.
-module _ {E F : Type 0} (settings : E → F) (taken told : E → List ℕ) (stands : E → Type 0) (is_partial : List ℕ → Type 0) (ends : E → List ℕ → Result (Unit {0}) EngineFault → Type 0) where
+module _ {E F : Type 0} (settings : E → F) (taken told : E → List ℕ) (active : E → Type 0) (is_partial : List ℕ → Type 0) (ends : E → List ℕ → Result (Unit {0}) EngineFault → Type 0) where
   -- the engine's output is appended to what was buffered, and its parameters are unchanged
   abbrev pub AppendsOutput : E → E → List ℕ → List ℕ → Type 0
   AppendsOutput old new before after = (words : List ℕ) × (after ≡ before ++ words) × (told new ≡ told old ++ words) × (settings new ≡ settings old)
 
   -- one turn of the engine, before these bytes
   abbrev pub HandlesLine : Result LineProgress EngineFault → E → E → List ℕ → List ℕ → List ℕ → Type 0
-  HandlesLine (Ok (Consumed count)) old new bytes before after = stands new × ((0 < count) × (count ≤ length bytes)) × (taken new ≡ taken old ++ take count bytes) × AppendsOutput old new before after
+  HandlesLine (Ok (Consumed count)) old new bytes before after = active new × ((0 < count) × (count ≤ length bytes)) × (taken new ≡ taken old ++ take count bytes) × AppendsOutput old new before after
   HandlesLine (Ok Incomplete) old new bytes before after = (new ≡ old) × (after ≡ before) × IsPartial bytes × is_partial bytes
   HandlesLine (Ok Finished) old new bytes before after = (taken new ≡ taken old) × AppendsOutput old new before after × ((more : List ℕ) → ends new (bytes ++ more) (Ok tt))
   HandlesLine (Err fault) old new bytes before after = (taken new ≡ taken old) × AppendsOutput old new before after × ((more : List ℕ) → ends new (bytes ++ more) (Err fault))
@@ -73,4 +73,4 @@ HasConsumed {P} with_past keeps engine Is = (past : P) × keeps engine past × I
 
 -- after whatever it had taken, if it could continue, it has taken something that is in this relation to that
 abbrev pub Moves : {A P E : Type 0} → (A → P → E) → (A → P → Type 0) → (E → Type 0) → (E → E → Type 0) → A → A → Type 0
-Moves {P} with_past keeps stands Did old new = (past : P) → keeps old past → stands (with_past old past) → HasConsumed with_past keeps new (Did (with_past old past))
+Moves {P} with_past keeps active Did old new = (past : P) → keeps old past → active (with_past old past) → HasConsumed with_past keeps new (Did (with_past old past))

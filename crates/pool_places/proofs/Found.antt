@@ -9,12 +9,12 @@ use Rattle.pool_journal.specs.declared.record.Phase.TheVariants as phases
 use Rattle.pool_places.specs.declared.place.Place.{Place}
 use Rattle.pool_places.specs.Changes.{with_changed, without_id}
 use Rattle.pool_places.specs.PlacesModel.{PlacesModel, records_in, value_in, changed, without, IsAt, PlacesInvariant, IsValued}
-use Rattle.pool_places.proofs.Shelves.{place_found, shelf_set, change_is, shelf_without, remove_is, known_at, valued_at}
+use Rattle.pool_places.proofs.WellFormed.{place_found, shelf_set, change_is, shelf_without, remove_is, known_at, valued_at}
 use Rattle.pool_places.proofs.Values.{value_changed_kept, value_changed_other, place_changed_here, value_without}
 
 -- i is at position k, and q was read at it
 pub record Found {T : Type 0} (ps : List (Place T)) (i k : ℕ) (q : Place T) : Type 0 where
-  pub shelf : PlacesInvariant ps
+  pub well_formed : PlacesInvariant ps
   pub at : IsAt ps i k
   pub read : q ≡ get_or ps k q
 
@@ -22,20 +22,20 @@ pub record Found {T : Type 0} (ps : List (Place T)) (i k : ℕ) (q : Place T) : 
 pub found_known : {T : Type 0} {ps : List (Place T)} {i k n : ℕ} {q : Place T} {s : PlacesModel T} (P : Record → Type 0) → Found ps i k q → (let seen : PlacesModel T = record { kept = ps; spare = n } in seen ≡ s)
     → IsSomeAnd (record_in (records_in s.kept) i) P → P q.known
 found_known {ps} {i} {k} {n} {q} {s} P here seen known =
-    known_at P ps i k q here.shelf here.at here.read (subst (λ x. IsSomeAnd (record_in (records_in x.kept) i) P) (sym seen) known)
+    known_at P ps i k q here.well_formed here.at here.read (subst (λ x. IsSomeAnd (record_in (records_in x.kept) i) P) (sym seen) known)
 
 empty : {T : Type 0} (o : Option T) → is_some o ≡ false → o ≡ None
 empty None is = refl
 empty (Some x) is = absurd (cc is)
 
 pub found_empty : {T : Type 0} {ps : List (Place T)} {i k : ℕ} {q : Place T} → Found ps i k q → is_idle q.known.phase ≡ false → q.value ≡ None
-found_empty {ps} {i} {k} {q} here is = empty q.value (valued_at ps k q here.shelf here.at.in_range here.read ∙ is)
+found_empty {ps} {i} {k} {q} here is = empty q.value (valued_at ps k q here.well_formed here.at.in_range here.read ∙ is)
 
 pub found_full : {T : Type 0} {ps : List (Place T)} {i k : ℕ} {q : Place T} → Found ps i k q → q.known.phase ≡ phases.Idle → is_some q.value ≡ true
-found_full {ps} {i} {k} {q} here is = valued_at ps k q here.shelf here.at.in_range here.read ∙ ap is_idle is
+found_full {ps} {i} {k} {q} here is = valued_at ps k q here.well_formed here.at.in_range here.read ∙ ap is_idle is
 
 pub found_value : {T : Type 0} {ps : List (Place T)} {i k : ℕ} {q : Place T} → Found ps i k q → value_in ps i ≡ q.value
-found_value {ps} {i} {k} {q} here = ap (option_and_then (λ p. p.value)) (place_found ps i k q here.shelf.rising here.at here.read)
+found_value {ps} {i} {k} {q} here = ap (option_and_then (λ p. p.value)) (place_found ps i k q here.well_formed.rising here.at here.read)
 
 -- the records after a change
 pub records_changed : {T : Type 0} (i : ℕ) (f : Place T → Place T) (t : Record → Record) (ps : List (Place T)) → ((p : Place T) → (f p).known ≡ t p.known)
@@ -61,11 +61,11 @@ pub records_push : {T : Type 0} (ps : List (Place T)) (p : Place T) → records_
 records_push ps p = map-append (λ q. q.known) ps (p ∷ [])
 
 -- a write that changes the object that was read
-pub set_shelf : {T : Type 0} {ps : List (Place T)} {i k : ℕ} {q : Place T} (p : Place T) → Found ps i k q → p.known.id ≡ q.known.id → IsValued p → PlacesInvariant (set ps k p)
-set_shelf {ps} {i} {k} {q} p here same valued = shelf_set ps k q p here.shelf here.at.in_range here.read same valued
+pub well_formed_set : {T : Type 0} {ps : List (Place T)} {i k : ℕ} {q : Place T} (p : Place T) → Found ps i k q → p.known.id ≡ q.known.id → IsValued p → PlacesInvariant (set ps k p)
+well_formed_set {ps} {i} {k} {q} p here same valued = shelf_set ps k q p here.well_formed here.at.in_range here.read same valued
 
 pub set_kept : {T : Type 0} {ps : List (Place T)} {i k : ℕ} {q : Place T} (f : Place T → Place T) → Found ps i k q → set ps k (f q) ≡ changed i f ps
-set_kept {ps} {i} {k} {q} f here = change_is f ps i k q here.shelf here.at here.read
+set_kept {ps} {i} {k} {q} f here = change_is f ps i k q here.well_formed here.at here.read
 
 pub set_records : {T : Type 0} {ps : List (Place T)} {i k : ℕ} {q : Place T} (f : Place T → Place T) (t : Record → Record) → ((p : Place T) → (f p).known ≡ t p.known) → Found ps i k q
     → records_in (set ps k (f q)) ≡ with_changed i t (records_in ps)
@@ -82,14 +82,14 @@ set_others {ps} {i} {k} {q} f same here j other = ap (λ xs. value_in xs j) (set
 pub set_value : {T : Type 0} {ps : List (Place T)} {i k : ℕ} {q : Place T} (f : Place T → Place T) → ((p : Place T) → (f p).known.id ≡ p.known.id) → Found ps i k q → value_in (set ps k (f q)) i ≡ (f q).value
 set_value {ps} {i} {k} {q} f same here =
     ap (λ xs. value_in xs i) (set_kept f here)
-    ∙ ap (option_and_then (λ p. p.value)) (place_changed_here i f ps same ∙ ap (option_map f) (place_found ps i k q here.shelf.rising here.at here.read))
+    ∙ ap (option_and_then (λ p. p.value)) (place_changed_here i f ps same ∙ ap (option_map f) (place_found ps i k q here.well_formed.rising here.at here.read))
 
 -- a removal of the object
-pub remove_shelf : {T : Type 0} {ps : List (Place T)} {i k : ℕ} {q : Place T} → Found ps i k q → PlacesInvariant (remove ps k)
-remove_shelf {ps} {i} {k} {q} here = subst PlacesInvariant (sym (remove_is ps i k q here.shelf here.at here.read)) (shelf_without i ps here.shelf)
+pub well_formed_remove : {T : Type 0} {ps : List (Place T)} {i k : ℕ} {q : Place T} → Found ps i k q → PlacesInvariant (remove ps k)
+well_formed_remove {ps} {i} {k} {q} here = subst PlacesInvariant (sym (remove_is ps i k q here.well_formed here.at here.read)) (shelf_without i ps here.well_formed)
 
 pub remove_kept : {T : Type 0} {ps : List (Place T)} {i k : ℕ} {q : Place T} → Found ps i k q → remove ps k ≡ without i ps
-remove_kept {ps} {i} {k} {q} here = remove_is ps i k q here.shelf here.at here.read
+remove_kept {ps} {i} {k} {q} here = remove_is ps i k q here.well_formed here.at here.read
 
 pub remove_records : {T : Type 0} {ps : List (Place T)} {i k : ℕ} {q : Place T} → Found ps i k q → records_in (remove ps k) ≡ without_id i (records_in ps)
 remove_records {ps} {i} here = ap records_in (remove_kept here) ∙ records_without i ps

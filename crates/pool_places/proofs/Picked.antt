@@ -11,7 +11,7 @@ use Rattle.pool_journal.specs.declared.record.Record.{Record}
 use Rattle.pool_journal.specs.declared.record.Phase.{Phase}
 use Rattle.pool_journal.specs.declared.record.Phase.TheVariants as phases
 use Rattle.pool_journal.specs.Queue.{record_in, is_idle, is_queued, idle_queue, first_of, last_of, earlier, later}
-use Rattle.pool_journal.proofs.Rising.{first_of-by_rising, last_of-by_rising}
+use Rattle.pool_journal.proofs.Ascending.{first_of-by_rising, last_of-by_rising}
 use Rattle.pool_places.specs.After.{is_after}
 use Rattle.pool_places.specs.QueueEntries.{QueueEntry}
 use Rattle.pool_places.specs.QueueEntries.{IsAscendingQueue, IsEntry, HasEntry, IsQueueOf}

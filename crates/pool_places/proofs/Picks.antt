@@ -6,7 +6,7 @@ use Rattle.std.specs.Option.{option_map, ForSome}
 use Rattle.std.proofs.lemmas.Bool.Decides.{nat_tests}
 use Rattle.pool_journal.specs.Queue.{record_in, is_idle, first_of, last_of, idle_queue}
 use Rattle.pool_journal.specs.declared.record.Record.{Record}
-use Rattle.pool_journal.proofs.Rising.{first_of-by_rising, last_of-by_rising}
+use Rattle.pool_journal.proofs.Ascending.{first_of-by_rising, last_of-by_rising}
 use Rattle.pool_journal.specs.Queue.{earlier, later}
 use Rattle.std.proofs.Common.{ltb}
 use Rattle.pool_journal.specs.declared.record.Phase.{Phase}

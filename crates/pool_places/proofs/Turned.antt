@@ -20,9 +20,9 @@ use Rattle.pool_places.specs.RepInvariant.{RepInvariant, IsWithin}
 use Rattle.pool_places.specs.Overdue.{IsBound}
 use Rattle.pool_places.specs.PlacesModel.{PlacesModel, records_in, without, PlacesInvariant}
 use Rattle.pool_places.specs.Stored.{place_of, place_at, kept_of, IndexInvariant, QueueInvariant}
-use Rattle.pool_places.proofs.Found.{Found, set_kept, set_shelf}
+use Rattle.pool_places.proofs.Found.{Found, set_kept, well_formed_set}
 use Rattle.pool_places.proofs.Keeping.{found_id}
-use Rattle.pool_places.proofs.Racks.{item_known, key_there, record_under, place_item, place_same, item_and, Good, each_good, spot, found_key, Turns, kept_turned, tied_turned, line_left, line_stays}
+use Rattle.pool_places.proofs.SlotLists.{item_known, key_there, record_under, place_item, place_same, item_and, Good, each_good, spot, found_key, Turns, kept_turned, tied_turned, line_left, line_stays}
 
 all_push : (P : Pair → Type 0) (ps : List Pair) (p : Pair) → AllByRecursion P ps → P p → AllByRecursion P (ps ++ p ∷ [])
 all_push P [] p all last = (last, tt)
@@ -92,12 +92,12 @@ module _ {T : Type 0} where
   -- the record under the key of an id was this one
   pub record Reads (rack : SlotsModel T) (pairs : List Pair) (i key : ℕ) (r : Record) : Type 0 where
     pub tied : IndexInvariant rack pairs
-    pub shelf : PlacesInvariant (kept_of rack pairs)
+    pub well_formed : PlacesInvariant (kept_of rack pairs)
     pub at : key_of pairs i ≡ Some key
     pub known : known_at rack key ≡ Some r
 
   pub here : (rack : SlotsModel T) (pairs : List Pair) (i key : ℕ) (r : Record) → Reads rack pairs i key r → Found (kept_of rack pairs) i (spot i (kept_of rack pairs)) (record { known = r; value = value_at rack key })
-  here rack pairs i key r reads = found_key rack pairs i key r reads.tied reads.shelf reads.at reads.known
+  here rack pairs i key r reads = found_key rack pairs i key r reads.tied reads.well_formed reads.at reads.known
 
   turns : (rack rack2 : SlotsModel T) (pairs : List Pair) (i key : ℕ) (r : Record) (p : Item T) → Reads rack pairs i key r → Sets rack rack2 key (Some p) → p.known.id ≡ r.id → Turns rack rack2 pairs i key (record { known = r; value = value_at rack key }) p
   turns rack rack2 pairs i key r p reads sets same = record {
@@ -116,7 +116,7 @@ module _ {T : Type 0} where
   kept_after rack rack2 pairs i key r p counts from least reads sets same valued counted line within bound =
       let is = kept_is rack rack2 pairs i key r p reads sets same in
       record {
-        shelf = subst PlacesInvariant (sym is) (set_shelf (place_of p) (here rack pairs i key r reads) same valued);
+        well_formed = subst PlacesInvariant (sym is) (well_formed_set (place_of p) (here rack pairs i key r reads) same valued);
         counted = subst (λ ps. IsCounts counts (records_in ps)) (sym is) counted;
         tied = tied_turned rack rack2 pairs i key _ p reads.tied (turns rack rack2 pairs i key r p reads sets same);
         line = line;
@@ -223,7 +223,7 @@ module _ {T : Type 0} where
   -- more room changes nothing
   pub kept_reserved : (rack : SlotsModel T) (pairs : List Pair) (counts : PlaceCounts) (from : Option ℕ) (least n : ℕ) → RepInvariant rack pairs counts from least → RepInvariant (record rack { room = n }) pairs counts from least
   kept_reserved rack pairs counts from least n kept = record {
-    shelf = kept.shelf;
+    well_formed = kept.well_formed;
     counted = kept.counted;
     tied = record { rising = kept.tied.rising; there = kept.tied.there; back = kept.tied.back };
     line = record { present = kept.line.present; follows = kept.line.follows; rises = kept.line.rises };

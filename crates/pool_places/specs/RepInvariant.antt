@@ -15,7 +15,7 @@ IsWithin queue o = IfSome o (λ key. is_in key queue ≡ true)
 -- the objects are in order, these are their keys, queue and counts, the remembered key is in the queue, and no lent object was
 -- last used before the bound
 pub record RepInvariant {T : Type 0} (rack : SlotsModel T) (pairs : List Pair) (counts : PlaceCounts) (from : Option ℕ) (least : ℕ) : Type 0 where
-  pub shelf : PlacesInvariant (kept_of rack pairs)
+  pub well_formed : PlacesInvariant (kept_of rack pairs)
   pub counted : IsCounts counts (records_in (kept_of rack pairs))
   pub tied : IndexInvariant rack pairs
   pub line : QueueInvariant rack

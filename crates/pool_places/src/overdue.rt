@@ -39,7 +39,7 @@ pub(crate) fn first_overdue<T>(
 /// Returns the number of abandoned objects.
 pub(crate) fn overdue_count<T>(slots: &Slots<T>, index: &SortedIndex, at: u64, timeout: u64) -> u64
     requires tied { IndexInvariant slots.now index.now.pairs }
-    requires shelf { PlacesInvariant (kept_of slots.now index.now.pairs) }
+    requires well_formed { PlacesInvariant (kept_of slots.now index.now.pairs) }
     ensures { result ≡ count_by (is_overdue at timeout)
         (records_in (kept_of slots.now index.now.pairs)) }
 {

@@ -97,7 +97,7 @@ impl<T> Places<T> {
     /// Returns the record of an object, if it is present.
     pub fn find(&self, id: u64) -> Option<Record>
         ensures value { result ≡ record_in (records_in self.now.kept) id }
-        ensures shelf { PlacesInvariant self.now.kept }
+        ensures well_formed { PlacesInvariant self.now.kept }
 
         // The outstanding entries with another record in its place, and those of the other objects.
         ensures owed_changed { (change : Known → Known) → IfSome result (λ r.
@@ -216,7 +216,7 @@ impl<T> Places<T> {
             ≡ count_by (λ r. is_adding r.phase) (records_in self.now.kept) }
         ensures owed { result.owed ≡ owed_for (records_in self.now.kept) }
         ensures small { result.owed < 2 ^ 63 }
-        ensures shelf { PlacesInvariant self.now.kept }
+        ensures well_formed { PlacesInvariant self.now.kept }
     {
         self.counts
     }
@@ -279,6 +279,7 @@ impl<T> Places<T> {
         ensures owed { owed_for (records_in self.new.kept)
             ≡ owed_for (records_in self.old.kept) + max_remaining known.phase }
         ensures spare { self.new.spare + 1 ≡ self.old.spare }
+        ensures well_formed { PlacesInvariant self.new.kept }
     {
         let key = self.slots.insert_with(known, value);
         enter(&mut self.slots, &mut self.remembered, key, known);

@@ -4,6 +4,7 @@ use Rattle.std.specs.Prelude.{ℕ, List, ◌++◌, codes, Option, None, Some, op
 use Rattle.pool_settings.specs.Escaped.{escaped}
 use Rattle.pool_engines.specs.Messages.{file_text}
 use Rattle.pool_engines.specs.declared.check_fault.CheckFault.{CheckFault}
+use Rattle.pool_engines.specs.declared.engine_fault.EngineFault.{EngineFault}
 use Rattle.pool_engines.specs.declared.check_fault.CheckFault.TheVariants as checks
 use Rattle.pool_tasks.specs.declared.fault.Fault.{Fault}
 use Rattle.pool_tasks.specs.declared.fault.Fault.TheVariants.{WrongArguments, Asked, WrongNumbers, Unopened, OutOfMemory, Settings, Engine, Load}
@@ -36,3 +37,14 @@ abbrev pub numbered_file : List (List ℕ) → CheckFault → Option (List ℕ)
 numbered_file paths (checks.Unopened number) = slice_get paths number
 numbered_file paths (checks.File number _) = slice_get paths number
 numbered_file paths (checks.Untold _) = None
+
+-- the error of the engine
+abbrev pub cause_of : Fault → Option EngineFault
+cause_of (Engine _ fault) = Some fault
+cause_of _ = None
+
+-- the error of the engine that stopped a check
+abbrev pub check_cause : CheckFault → Option EngineFault
+check_cause (checks.Unopened _) = None
+check_cause (checks.File _ fault) = Some fault
+check_cause (checks.Untold fault) = Some fault

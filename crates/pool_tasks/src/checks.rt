@@ -1,7 +1,7 @@
 //! Checks of a journal in one file or more.
 ghost use Rattle.std.specs.Prelude.{◌≡◌, length, map};
 ghost use Rattle.pool_engines.specs.SideBySide.{IsNumbered};
-ghost use Rattle.pool_tasks.specs.Messages.{file_of, numbered_file};
+ghost use Rattle.pool_tasks.specs.Messages.{cause_of, check_cause, file_of, numbered_file};
 
 use crate::fault::Fault;
 use crate::files::{Files, is_regular, open_all};
@@ -86,7 +86,8 @@ fn check_files<'a, R: Threads + Sync>(
 /// Returns the error with the path of its file.
 fn fault_of<'a>(paths: &[&'a str], fault: CheckFault) -> Fault<'a>
     requires { IsNumbered (length paths.now) fault }
-    ensures { file_of result ≡ numbered_file (map (λ path. path.now) paths.now) fault }
+    ensures file { file_of result ≡ numbered_file (map (λ path. path.now) paths.now) fault }
+    ensures cause { cause_of result ≡ check_cause fault }
 {
     match fault {
         CheckFault::Unopened(number) => Fault::Unopened(paths[number as usize]),

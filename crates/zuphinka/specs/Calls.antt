@@ -97,8 +97,8 @@ Steps q None new before after s = (s ≡ NotOpen) × (new ≡ None) × (after �
 Steps q (Some old) new before after s = IsSomeAnd new (λ pool. StepsTo q old pool before after s)
 
 -- the step with the expected answer is completing
-abbrev pub IsFinishing : Request → CoreModel ℕ → Type 0
-IsFinishing q old = IsSomeAnd (input_of q) (λ input. is_completing (reply_from old.settings old.base old.journal q.at input) input ≡ true)
+abbrev pub IsCompleting : Request → CoreModel ℕ → Type 0
+IsCompleting q old = IsSomeAnd (input_of q) (λ input. is_completing (reply_from old.settings old.base old.journal q.at input) input ≡ true)
 
 -- ---- reads
 

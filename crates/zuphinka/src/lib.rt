@@ -2,7 +2,7 @@
 #![tactic(auto)]
 
 ghost use Rattle.std.specs.Prelude.{◌≡◌, None, IsSomeAnd};
-ghost use Rattle.zuphinka.specs.Calls.{Came, Opens, Steps, IsFinishing, Reads, TellsSteps, TellsRoom, Lines, BaseLines, Cuts};
+ghost use Rattle.zuphinka.specs.Calls.{Came, Opens, Steps, IsCompleting, Reads, TellsSteps, TellsRoom, Lines, BaseLines, Cuts};
 ghost use Rattle.zuphinka.specs.Counting.{TellsCounts};
 ghost use Rattle.zuphinka.specs.Setting.{SetsTo};
 ghost use Rattle.zuphinka.specs.Status.{status_code};
@@ -87,7 +87,7 @@ pub extern "C" fn zuphinka_step(
 ) -> u32
     ensures status { Came result (Steps request.now pool.old.core pool.new.core reply.old
         reply.new) }
-    ensures finishing { IsSomeAnd pool.old.core (IsFinishing request.now)
+    ensures completing { IsSomeAnd pool.old.core (IsCompleting request.now)
         → result ≡ status_code Done }
 {
     let Some(mut core) = pool.take(alloc) else {

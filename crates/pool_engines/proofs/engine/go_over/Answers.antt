@@ -12,8 +12,8 @@ returns-in-Err-clause-passed g c =
     let e = g.E.Engine in
     let r = c.requires in
     let begun = e.with_past c.args.engine.now e.none in
-    let going = Going-begun e.settings e.taken e.told e.stands e.is_partial e.ends begun (g.R.Read.remaining c.args.reader.now) (g.W.Write.contents c.args.writer.now) r.stands r.none_taken r.none_told in
-    (e.none, r.keeps, Passes-stopped e.settings e.taken e.told e.stands e.is_partial e.ends begun _ _ _ begun _ _ _ _ going (λ told. absurd (false≢true told)) (λ rest. g.met.E.Engine.stops_at_first begun rest r.stands r.is_new))
+    let going = Going-begun e.settings e.taken e.told e.active e.is_partial e.ends begun (g.R.Read.remaining c.args.reader.now) (g.W.Write.contents c.args.writer.now) r.active r.none_taken r.none_told in
+    (e.none, r.keeps, Passes-stopped e.settings e.taken e.told e.active e.is_partial e.ends begun _ _ _ begun _ _ _ _ going (λ told. absurd (false≢true told)) (λ rest. g.met.E.Engine.stops_at_first begun rest r.active r.is_new))
 
 pub returns-in_err-write_buffered-clause-passed : goal.returns-in_err-write_buffered-clause-passed
 returns-in_err-write_buffered-clause-passed g c =
@@ -22,7 +22,7 @@ returns-in_err-write_buffered-clause-passed g c =
     let (end, keeps, passed) = c.take_turns-end.ensures.passed in
     let engine = e.with_past c.take_turns-end.new.engine end in
     let works : is_write_failure c.take_turns-end.result ≡ false = sym c.is_write_failure.ensures ∙ c.if-not-is_write_failure.true in
-    rw (p.1, p.2, c.in_err-write_buffered.ensures.fault) (end, keeps, Passes-unhanded e.settings e.taken e.told e.stands e.is_partial e.ends (e.with_past c.args.engine.now e.none) _ _ c.take_turns-end.result engine _ _ _ _ works passed c.in_err-write_buffered.ensures.err (λ rest. g.met.E.Engine.fails_after engine rest c.take_turns-end.result))
+    rw (p.1, p.2, c.in_err-write_buffered.ensures.fault) (end, keeps, Passes-unhanded e.settings e.taken e.told e.active e.is_partial e.ends (e.with_past c.args.engine.now e.none) _ _ c.take_turns-end.result engine _ _ _ _ works passed c.in_err-write_buffered.ensures.err (λ rest. g.met.E.Engine.fails_after engine rest c.take_turns-end.result))
 
 pub returns-clause-passed : goal.returns-clause-passed
 returns-clause-passed g c =
@@ -33,10 +33,10 @@ returns-clause-passed g c =
     elim c.if-not-is_write_failure.branch [
       | then-not-is_write_failure+in_ok-write_buffered w ↦
           let works : is_write_failure c.take_turns-end.result ≡ false = sym c.is_write_failure.ensures ∙ w.if-not-is_write_failure.true in
-          rw w.writer-is (end, keeps, Passes-handed e.settings e.taken e.told e.stands e.is_partial e.ends begun _ _ c.take_turns-end.result engine _ _ _ _ works passed w.in_ok-write_buffered.ensures.ok.1)
+          rw w.writer-is (end, keeps, Passes-handed e.settings e.taken e.told e.active e.is_partial e.ends begun _ _ c.take_turns-end.result engine _ _ _ _ works passed w.in_ok-write_buffered.ensures.ok.1)
       | else-not-is_write_failure w ↦
           let broken : is_write_failure c.take_turns-end.result ≡ true = sym c.is_write_failure.ensures ∙ w.if-not-is_write_failure.false in
-          rw w.writer-is (end, keeps, Passes-broken e.settings e.taken e.told e.stands e.is_partial e.ends begun _ _ c.take_turns-end.result engine _ _ _ broken passed)
+          rw w.writer-is (end, keeps, Passes-broken e.settings e.taken e.told e.active e.is_partial e.ends begun _ _ c.take_turns-end.result engine _ _ _ broken passed)
     ]
 
 pub returns-in_err-write_buffered-clause-reader : goal.returns-in_err-write_buffered-clause-reader

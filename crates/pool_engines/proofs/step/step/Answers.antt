@@ -14,10 +14,10 @@ returns-in-Ok-clause-stepped c =
     λ b J after made.
     let a = c.in-Ok.ensures.answered b J after in
     let asked = subst IsRequest (sym (ap request_of a.due)) c.requires.asked in
-    let legal = subst (λ (s : Settings). IsLegalFrom s b (J ++ e ∷ [])) a.settings_stay a.stands.legal in
-    let fits = subst (λ (s : Settings). FitsLimitFrom s b (J ++ e ∷ [])) a.settings_stay a.stands.fits in
+    let legal = subst (λ (s : Settings). IsLegalFrom s b (J ++ e ∷ [])) a.settings_stay a.represents.legal in
+    let fits = subst (λ (s : Settings). FitsLimitFrom s b (J ++ e ∷ [])) a.settings_stay a.represents.fits in
     record {
-      stands = a.stands;
+      represents = a.represents;
       steps = record {
         due = a.due;
         settings = a.settings_stay;

@@ -4,7 +4,7 @@ use Rattle.std.specs.List.{AllByRecursion}
 use Rattle.pool_places.specs.Overdue.{is_overdue}
 use Rattle.pool_places.specs.PlacesModel.{records_in}
 use Rattle.pool_places.specs.Stored.{kept_of}
-use Rattle.pool_places.proofs.Racks.{Good}
+use Rattle.pool_places.proofs.SlotLists.{Good}
 use Rattle.pool_places.proofs.overdue.first_overdue.Given as goal
 
 abbrev pub invariant-loop-pair : goal.invariant-loop-pair

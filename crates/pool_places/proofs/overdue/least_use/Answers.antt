@@ -5,7 +5,7 @@ use Rattle.sorted_index.specs.declared.pair.Pair.{Pair}
 use Rattle.pool_places.specs.Overdue.{is_lent, IsBound}
 use Rattle.pool_places.specs.PlacesModel.{records_in}
 use Rattle.pool_places.specs.Stored.{kept_of, place_at}
-use Rattle.pool_places.proofs.Racks.{Good, each_good, known_place}
+use Rattle.pool_places.proofs.SlotLists.{Good, each_good, known_place}
 use Rattle.pool_places.proofs.overdue.least_use.Goals as goal
 
 pub loop-pair-init : goal.loop-pair-init

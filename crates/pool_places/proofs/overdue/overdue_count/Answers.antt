@@ -5,7 +5,7 @@ use Rattle.sorted_index.specs.declared.pair.Pair.{Pair}
 use Rattle.pool_places.specs.Overdue.{is_overdue}
 use Rattle.pool_places.specs.PlacesModel.{records_in}
 use Rattle.pool_places.specs.Stored.{kept_of}
-use Rattle.pool_places.proofs.Racks.{Good, each_good}
+use Rattle.pool_places.proofs.SlotLists.{Good, each_good}
 use Rattle.pool_places.proofs.overdue.overdue_count.Goals as goal
 
 pub loop-pair-init : goal.loop-pair-init

@@ -5,7 +5,7 @@ use Rattle.pool_slots.specs.SlotsModel.{SlotsModel, is_in, put_before}
 use Rattle.pool_places.specs.RepInvariant.{IsWithin}
 use Rattle.pool_places.specs.Stored.{entry_at, parked_of, first_parked}
 use Rattle.pool_places.specs.QueueEntries.{IsAscendingQueue}
-use Rattle.pool_places.proofs.Racks.{known_place}
+use Rattle.pool_places.proofs.SlotLists.{known_place}
 use Rattle.pool_places.proofs.Walks.{found_in, in_put_here, in_put_other, rises_put}
 use Rattle.pool_places.proofs.queue.enter.Goals as goal
 

@@ -3,7 +3,7 @@ use Rattle.std.proofs.lemmas.Bool.{lt-ltb, le-ltb}
 use Rattle.pool_journal.specs.declared.record.Record.{Record}
 use Rattle.pool_places.specs.RepInvariant.{IsWithin}
 use Rattle.pool_places.specs.Stored.{entry_at, first_parked, from_key}
-use Rattle.pool_places.proofs.Racks.{known_place}
+use Rattle.pool_places.proofs.SlotLists.{known_place}
 use Rattle.pool_places.proofs.Walks.{step, fewer, key_here, key_later, none_first}
 use Rattle.pool_places.proofs.queue.first_after.Goals as goal
 

@@ -5,7 +5,7 @@ use Rattle.pool_journal.specs.declared.record.Record.{Record}
 use Rattle.pool_places.specs.RepInvariant.{IsWithin}
 use Rattle.pool_places.specs.Stored.{entry_at, entry_of, from_key}
 use Rattle.pool_places.specs.QueueEntries.{QueueEntry, is_wanted}
-use Rattle.pool_places.proofs.Racks.{known_place}
+use Rattle.pool_places.proofs.SlotLists.{known_place}
 use Rattle.pool_places.proofs.Walks.{step, fewer, found_here, found_later}
 use Rattle.pool_places.proofs.queue.first_wanted.Goals as goal
 

@@ -6,7 +6,7 @@ use Rattle.pool_journal.specs.Queue.{is_idle}
 use Rattle.pool_places.specs.RepInvariant.{IsWithin}
 use Rattle.pool_places.specs.Stored.{entry_at, from_key}
 use Rattle.pool_places.specs.QueueEntries.{QueueEntry}
-use Rattle.pool_places.proofs.Racks.{known_place}
+use Rattle.pool_places.proofs.SlotLists.{known_place}
 use Rattle.pool_places.proofs.Walks.{step, fewer, found_here, found_later, distinct_reverse, in_reverse, previous_is_next, within_reverse}
 use Rattle.pool_places.proofs.queue.last_wanted.Goals as goal
 

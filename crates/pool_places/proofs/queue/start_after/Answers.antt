@@ -3,7 +3,7 @@ use Rattle.std.specs.Prelude.{IfSome}
 use Rattle.pool_journal.specs.declared.record.Record.{Record}
 use Rattle.pool_places.specs.RepInvariant.{IsWithin}
 use Rattle.pool_places.specs.Stored.{entry_at, from_key}
-use Rattle.pool_places.proofs.Racks.{known_place}
+use Rattle.pool_places.proofs.SlotLists.{known_place}
 use Rattle.pool_places.proofs.Walks.{step, fewer, distinct_reverse, in_reverse, previous_is_next, within_reverse, start_here, start_parked}
 use Rattle.pool_places.proofs.queue.start_after.Goals as goal
 

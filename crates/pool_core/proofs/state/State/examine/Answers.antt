@@ -9,4 +9,4 @@ pub returns : goal.returns
 returns g c =
     c.find.ensures.value
     ∙ examined_found c.args.self.now.cursor (records_in c.args.self.now.places.kept) c.in_ok-id.id
-    (each_is_found c.args.self.now.places.kept c.find.ensures.shelf.rising) (sym c.examined_id.ensures ∙ c.in_ok-id.was)
+    (each_is_found c.args.self.now.places.kept c.find.ensures.well_formed.rising) (sym c.examined_id.ensures ∙ c.in_ok-id.was)

@@ -9,10 +9,10 @@ use Rattle.pool_places.specs.Counts.{IsCounts}
 use Rattle.pool_places.specs.RepInvariant.{IsWithin}
 use Rattle.pool_places.specs.PlacesModel.{records_in, PlacesInvariant}
 use Rattle.pool_places.specs.Stored.{kept_of, place_at}
-use Rattle.pool_places.proofs.Found.{found_known, found_empty, remove_shelf, remove_kept, remove_records, remove_values}
-use Rattle.pool_places.proofs.Owing.{remove_owed_of}
+use Rattle.pool_places.proofs.Found.{found_known, found_empty, well_formed_remove, remove_kept, remove_records, remove_values}
+use Rattle.pool_places.proofs.Outstanding.{remove_owed_of}
 use Rattle.pool_places.proofs.Numbers.{has_one, counted_remove}
-use Rattle.pool_places.proofs.Racks.{line_left}
+use Rattle.pool_places.proofs.SlotLists.{line_left}
 use Rattle.pool_places.proofs.Walks.{key_is_gone}
 use Rattle.pool_places.specs.Overdue.{IsBound}
 use Rattle.pool_places.proofs.Bounds.{bound_remove}
@@ -30,7 +30,7 @@ leave-requires-clause-follows g c = follows_known c.self.inside.slots c.remove-k
 
 pub remove-requires-clause-empty : goal.remove-requires-clause-empty
 remove-requires-clause-empty g c =
-    let reads : Reads c.self.inside.slots c.self.inside.index.pairs c.args.id c.remove-key.result c.known-phase.result = record { tied = c.self.invariant.tied; shelf = c.self.invariant.shelf; at = c.remove-key.ensures.value; known = c.known-phase.ensures } in
+    let reads : Reads c.self.inside.slots c.self.inside.index.pairs c.args.id c.remove-key.result c.known-phase.result = record { tied = c.self.invariant.tied; well_formed = c.self.invariant.well_formed; at = c.remove-key.ensures.value; known = c.known-phase.ensures } in
     let found = here _ _ _ _ _ reads in
     let empty = no_value c.self.inside.slots c.remove-key.result c.known-phase.result c.known-phase.ensures (found_empty found (found_known _ found c.self.view_is c.requires.present)) in
     subst (λ rack. IsSomeAnd (item_at rack c.remove-key.result) (λ item. item.value ≡ None)) (sym c.leave.ensures.queue) empty
@@ -40,7 +40,7 @@ remove-requires-clause-out g c = ap (λ rack. is_in c.remove-key.result rack.que
 
 pub remove-requires-2 : goal.remove-requires-2
 remove-requires-2 g c =
-    let reads : Reads c.self.inside.slots c.self.inside.index.pairs c.args.id c.remove-key.result c.known-phase.result = record { tied = c.self.invariant.tied; shelf = c.self.invariant.shelf; at = c.remove-key.ensures.value; known = c.known-phase.ensures } in
+    let reads : Reads c.self.inside.slots c.self.inside.index.pairs c.args.id c.remove-key.result c.known-phase.result = record { tied = c.self.invariant.tied; well_formed = c.self.invariant.well_formed; at = c.remove-key.ensures.value; known = c.known-phase.ensures } in
     let found = here _ _ _ _ _ reads in
     has_one _ found c.self.invariant.counted
 
@@ -48,12 +48,12 @@ pub invariant_of-self : goal.invariant_of-self
 invariant_of-self g c =
     let rack = c.self.inside.slots in
     let pairs = c.self.inside.index.pairs in
-    let reads : Reads rack pairs c.args.id c.remove-key.result c.known-phase.result = record { tied = c.self.invariant.tied; shelf = c.self.invariant.shelf; at = c.remove-key.ensures.value; known = c.known-phase.ensures } in
+    let reads : Reads rack pairs c.args.id c.remove-key.result c.known-phase.result = record { tied = c.self.invariant.tied; well_formed = c.self.invariant.well_formed; at = c.remove-key.ensures.value; known = c.known-phase.ensures } in
     let found = here _ _ _ _ _ reads in
     let sets = sets_requeued c.remove.ensures.sets c.leave.ensures.queue in
     let is = ap (kept_of c.remove.new.self) c.remove-key.ensures.pairs ∙ kept_freed rack c.remove.new.self pairs c.args.id c.remove-key.result _ reads sets ∙ sym (remove_kept found) in
     record {
-      shelf = subst PlacesInvariant (sym is) (remove_shelf found);
+      well_formed = subst PlacesInvariant (sym is) (well_formed_remove found);
       counted = subst (λ qs. IsCounts c.remove-2.new.self (records_in qs)) (sym is) (counted_remove _ _ found c.self.invariant.counted c.remove-2.ensures);
       tied = tied_freed rack c.remove.new.self pairs c.remove-key.new.self.pairs c.args.id c.remove-key.result _ reads sets (subst IsAscending (sym c.remove-key.ensures.pairs) (rising_without c.args.id pairs c.self.invariant.tied.rising)) c.remove-key.ensures.gone c.remove-key.ensures.others;
       line = line_left rack c.remove.new.self c.remove-key.result None c.self.invariant.line sets (c.remove.ensures.queue ∙ ap (λ r. r.queue) c.leave.ensures.queue) refl;
@@ -65,7 +65,7 @@ pub returns : goal.returns
 returns g c =
     let rack = c.self.inside.slots in
     let pairs = c.self.inside.index.pairs in
-    let reads : Reads rack pairs c.args.id c.remove-key.result c.known-phase.result = record { tied = c.self.invariant.tied; shelf = c.self.invariant.shelf; at = c.remove-key.ensures.value; known = c.known-phase.ensures } in
+    let reads : Reads rack pairs c.args.id c.remove-key.result c.known-phase.result = record { tied = c.self.invariant.tied; well_formed = c.self.invariant.well_formed; at = c.remove-key.ensures.value; known = c.known-phase.ensures } in
     let found = here _ _ _ _ _ reads in
     let none = found_empty found (found_known _ found c.self.view_is c.requires.present) in
     let sets = sets_requeued c.remove.ensures.sets c.leave.ensures.queue in

@@ -23,7 +23,7 @@ returns-clause-least g c =
     let test = is_overdue c.args.at c.args.timeout in
     let named = c.first_overdue.ensures ∙ ap (option_map (λ (r : Record). r.id)) (sym (first_of-filter test (records_in ps))) in
     rw (← c.self.view_is)
-    (named_by_id _ _ (λ i. AllByRecursion (λ r. i ≤ r.id) (overdue c.args.at c.args.timeout (records_in ps))) named (λ r is. first_has_least_id test ps c.self.invariant.shelf.rising r is))
+    (named_by_id _ _ (λ i. AllByRecursion (λ r. i ≤ r.id) (overdue c.args.at c.args.timeout (records_in ps))) named (λ r is. first_has_least_id test ps c.self.invariant.well_formed.rising r is))
 
 pub returns-clause-lent : goal.returns-clause-lent
 returns-clause-lent g c =
@@ -31,7 +31,7 @@ returns-clause-lent g c =
     let test = is_overdue c.args.at c.args.timeout in
     let named = c.first_overdue.ensures ∙ ap (option_map (λ (r : Record). r.id)) (sym (first_of-filter test (records_in ps))) in
     rw (← c.self.view_is)
-    (named_by_id _ _ (λ i. IsInPhase (records_in ps) i phases.Lent) named (λ r is. overdue_is_lent c.args.at c.args.timeout ps c.self.invariant.shelf.rising r is))
+    (named_by_id _ _ (λ i. IsInPhase (records_in ps) i phases.Lent) named (λ r is. overdue_is_lent c.args.at c.args.timeout ps c.self.invariant.well_formed.rising r is))
 
 pub returns-then-saturating_sub-timeout-clause-value : goal.returns-then-saturating_sub-timeout-clause-value
 returns-then-saturating_sub-timeout-clause-value g c =

@@ -5,7 +5,7 @@ use Rattle.sorted_index.specs.declared.pair.Pair.{Pair}
 use Rattle.pool_places.specs.declared.place.Place.{Place}
 use Rattle.pool_places.specs.Stored.{kept_of, place_at}
 use Rattle.pool_places.proofs.Entries.{at_position}
-use Rattle.pool_places.proofs.Racks.{Good, each_good, known_place}
+use Rattle.pool_places.proofs.SlotLists.{Good, each_good, known_place}
 use Rattle.pool_places.proofs.places.Places.nth.Goals as goal
 
 pub known-requires : goal.known-requires

@@ -8,14 +8,14 @@ use Rattle.pool_places.specs.Counts.{IsCounts}
 use Rattle.pool_places.specs.RepInvariant.{IsWithin}
 use Rattle.pool_places.specs.PlacesModel.{records_in, new_place, PlacesInvariant}
 use Rattle.pool_places.specs.Stored.{kept_of, place_at}
-use Rattle.pool_places.proofs.Shelves.{shelf_push, all_places}
+use Rattle.pool_places.proofs.WellFormed.{well_formed_push, all_places}
 use Rattle.pool_places.proofs.Values.{value_push}
 use Rattle.pool_places.proofs.Found.{records_push}
 use Rattle.pool_places.proofs.NotIdle.{opened_not_idle}
-use Rattle.pool_places.proofs.Owing.{push_owed}
+use Rattle.pool_places.proofs.Outstanding.{push_owed}
 use Rattle.pool_places.proofs.Numbers.{counted_push, small}
 use Rattle.pool_places.proofs.Keeping.{record_absent, opened_not_queued}
-use Rattle.pool_places.proofs.Racks.{line_apart}
+use Rattle.pool_places.proofs.SlotLists.{line_apart}
 use Rattle.pool_places.specs.Overdue.{IsBound}
 use Rattle.pool_places.proofs.Bounds.{bound_push, opened_not_lent}
 use Rattle.pool_places.proofs.Turned.{pairs_below, kept_opened, tied_opened, rising_push, key_absent}
@@ -25,7 +25,7 @@ pub push-requires-clause-above : goal.push-requires-clause-above
 push-requires-clause-above g c = pairs_below _ _ _ c.self.invariant.tied (subst (λ s. IdsBelow c.args.id (records_in s.kept)) (sym c.self.view_is) c.requires.above)
 
 pub add-requires : goal.add-requires
-add-requires g c = small _ _ c.self.invariant.shelf.few c.self.invariant.counted
+add-requires g c = small _ _ c.self.invariant.well_formed.few c.self.invariant.counted
 
 pub invariant_of-self : goal.invariant_of-self
 invariant_of-self g c =
@@ -38,7 +38,7 @@ invariant_of-self g c =
     let is = ap (kept_of c.insert-key.new.self) c.push.ensures.pairs ∙ kept_opened rack c.insert-key.new.self pairs p _ c.self.invariant.tied c.insert-key.ensures.vacant c.insert-key.ensures.sets in
     let absent = key_absent rack pairs c.args.id c.self.invariant.tied (record_absent c.args.id (records_in ps) above) in
     record {
-      shelf = subst PlacesInvariant (sym is) (shelf_push ps _ c.self.invariant.shelf (all_places _ ps above) (sym (opened_not_idle c.args.phase c.requires.phase)) (omega (arith, length-map pairs (λ (x : Pair). place_at rack x.key), ap (λ s. s.spare) c.self.view_is, c.requires.reserved)));
+      well_formed = subst PlacesInvariant (sym is) (well_formed_push ps _ c.self.invariant.well_formed (all_places _ ps above) (sym (opened_not_idle c.args.phase c.requires.phase)) (omega (arith, length-map pairs (λ (x : Pair). place_at rack x.key), ap (λ s. s.spare) c.self.view_is, c.requires.reserved)));
       counted = subst (λ qs. IsCounts c.add.new.self (records_in qs)) (sym is) (counted_push ps _ _ (new_place c.args.id c.args.phase) c.self.invariant.counted c.add.ensures);
       tied = tied_opened rack c.insert-key.new.self pairs c.push.new.self.pairs p _ c.self.invariant.tied c.insert-key.ensures.vacant c.insert-key.ensures.sets refl (subst IsAscending (sym c.push.ensures.pairs) (rising_push pairs p c.self.invariant.tied.rising (pairs_below _ _ _ c.self.invariant.tied above))) absent c.push.ensures.found c.push.ensures.others;
       line = line_apart rack c.insert-key.new.self c.insert-key.result _ c.self.invariant.line c.insert-key.ensures.sets c.insert-key.ensures.queue (sym (ap (is_in c.insert-key.result) c.insert-key.ensures.queue) ∙ c.insert-key.ensures.out) out;

@@ -1,5 +1,5 @@
 use Rattle.std.proofs.Common.{Some, refl, ap, sym, ◌∙◌, arith, subst}
-use Rattle.pool_places.proofs.Racks.{item_known, line_joined, queue_kept}
+use Rattle.pool_places.proofs.SlotLists.{item_known, line_joined, queue_kept}
 use Rattle.std.proofs.Common.{◌++◌, ◌∷◌, []}
 use Rattle.std.specs.Option.{option_map, option_and_then}
 use Rattle.pool_slots.specs.SlotsModel.{Item, is_in}
@@ -10,7 +10,7 @@ use Rattle.pool_places.proofs.Found.{found_known, found_empty, set_kept, set_rec
 use Rattle.pool_places.proofs.Keeping.{entries_below}
 use Rattle.pool_places.proofs.NotIdle.{not_queued}
 use Rattle.pool_places.proofs.Numbers.{has_one, counted_set, small, small_less}
-use Rattle.pool_places.proofs.Owing.{set_owed_of}
+use Rattle.pool_places.proofs.Outstanding.{set_owed_of}
 use Rattle.pool_places.proofs.Bounds.{bound_set}
 use Rattle.pool_places.proofs.Turned.{Reads, here, key_seen, item_there, follows_known, kept_is, kept_after, known_set, value_set, sets_then, sets_queued, no_value}
 use Rattle.pool_places.proofs.Walks.{within_push}
@@ -24,16 +24,16 @@ known-known-requires g c = item_there c.self.inside.slots c.self.inside.index.pa
 
 pub remove-requires : goal.remove-requires
 remove-requires g c =
-    let reads : Reads c.self.inside.slots c.self.inside.index.pairs c.args.id c.key_under-key.result c.known-known.result = record { tied = c.self.invariant.tied; shelf = c.self.invariant.shelf; at = c.key_under-key.ensures; known = c.known-known.ensures } in
+    let reads : Reads c.self.inside.slots c.self.inside.index.pairs c.args.id c.key_under-key.result c.known-known.result = record { tied = c.self.invariant.tied; well_formed = c.self.invariant.well_formed; at = c.key_under-key.ensures; known = c.known-known.ensures } in
     let found = here _ _ _ _ _ reads in
     has_one _ found c.self.invariant.counted
 
 pub add-requires : goal.add-requires
-add-requires g c = small_less _ _ _ (small _ _ c.self.invariant.shelf.few c.self.invariant.counted) c.remove.ensures
+add-requires g c = small_less _ _ _ (small _ _ c.self.invariant.well_formed.few c.self.invariant.counted) c.remove.ensures
 
 pub put-requires : goal.put-requires
 put-requires g c =
-    let reads : Reads c.self.inside.slots c.self.inside.index.pairs c.args.id c.key_under-key.result c.known-known.result = record { tied = c.self.invariant.tied; shelf = c.self.invariant.shelf; at = c.key_under-key.ensures; known = c.known-known.ensures } in
+    let reads : Reads c.self.inside.slots c.self.inside.index.pairs c.args.id c.key_under-key.result c.known-known.result = record { tied = c.self.invariant.tied; well_formed = c.self.invariant.well_formed; at = c.key_under-key.ensures; known = c.known-known.ensures } in
     let found = here _ _ _ _ _ reads in
     let first = known_set c.self.inside.slots c.set_known.new.self c.key_under-key.result c.known-known.result _ c.known-known.ensures c.set_known.ensures.sets in
     let empty = found_empty found (not_queued _ (found_known _ found c.self.view_is c.requires.present)) in
@@ -41,13 +41,13 @@ put-requires g c =
 
 pub link_last-requires-clause-out : goal.link_last-requires-clause-out
 link_last-requires-clause-out g c =
-    let reads : Reads c.self.inside.slots c.self.inside.index.pairs c.args.id c.key_under-key.result c.known-known.result = record { tied = c.self.invariant.tied; shelf = c.self.invariant.shelf; at = c.key_under-key.ensures; known = c.known-known.ensures } in
+    let reads : Reads c.self.inside.slots c.self.inside.index.pairs c.args.id c.key_under-key.result c.known-known.result = record { tied = c.self.invariant.tied; well_formed = c.self.invariant.well_formed; at = c.key_under-key.ensures; known = c.known-known.ensures } in
     let found = here _ _ _ _ _ reads in
     ap (is_in c.key_under-key.result) (c.put.ensures.queue ∙ c.set_known.ensures.queue) ∙ follows_known c.self.inside.slots c.key_under-key.result c.known-known.result c.self.invariant.line c.known-known.ensures ∙ (found_known _ found c.self.view_is c.requires.present)
 
 pub invariant_of-self : goal.invariant_of-self
 invariant_of-self g c =
-    let reads : Reads c.self.inside.slots c.self.inside.index.pairs c.args.id c.key_under-key.result c.known-known.result = record { tied = c.self.invariant.tied; shelf = c.self.invariant.shelf; at = c.key_under-key.ensures; known = c.known-known.ensures } in
+    let reads : Reads c.self.inside.slots c.self.inside.index.pairs c.args.id c.key_under-key.result c.known-known.result = record { tied = c.self.invariant.tied; well_formed = c.self.invariant.well_formed; at = c.key_under-key.ensures; known = c.known-known.ensures } in
     let found = here _ _ _ _ _ reads in
     let first = known_set c.self.inside.slots c.set_known.new.self c.key_under-key.result c.known-known.result _ c.known-known.ensures c.set_known.ensures.sets in
     let valued = value_set c.set_known.new.self c.put.new.self c.key_under-key.result _ (Some c.args.value) (ap (option_map (λ (item : Item g.row.T.Denot). item.known)) first.changed) c.put.ensures.sets in
@@ -60,7 +60,7 @@ invariant_of-self g c =
 
 pub returns : goal.returns
 returns g c =
-    let reads : Reads c.self.inside.slots c.self.inside.index.pairs c.args.id c.key_under-key.result c.known-known.result = record { tied = c.self.invariant.tied; shelf = c.self.invariant.shelf; at = c.key_under-key.ensures; known = c.known-known.ensures } in
+    let reads : Reads c.self.inside.slots c.self.inside.index.pairs c.args.id c.key_under-key.result c.known-known.result = record { tied = c.self.invariant.tied; well_formed = c.self.invariant.well_formed; at = c.key_under-key.ensures; known = c.known-known.ensures } in
     let found = here _ _ _ _ _ reads in
     let first = known_set c.self.inside.slots c.set_known.new.self c.key_under-key.result c.known-known.result _ c.known-known.ensures c.set_known.ensures.sets in
     let valued = value_set c.set_known.new.self c.put.new.self c.key_under-key.result _ (Some c.args.value) (ap (option_map (λ (item : Item g.row.T.Denot). item.known)) first.changed) c.put.ensures.sets in

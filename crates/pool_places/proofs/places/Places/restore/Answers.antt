@@ -12,13 +12,13 @@ use Rattle.pool_places.specs.PlacesModel.{records_in, PlacesInvariant}
 use Rattle.pool_places.specs.Stored.{kept_of, place_at, parked_of}
 use Rattle.pool_places.specs.QueueEntries.{IsAscendingQueue}
 use Rattle.pool_places.proofs.Bounds.{bound_push, bound_earlier}
-use Rattle.pool_places.proofs.Shelves.{shelf_push, all_places}
+use Rattle.pool_places.proofs.WellFormed.{well_formed_push, all_places}
 use Rattle.pool_places.proofs.Values.{value_push_here, value_push_other}
 use Rattle.pool_places.proofs.Found.{records_push}
-use Rattle.pool_places.proofs.Owing.{push_owed}
+use Rattle.pool_places.proofs.Outstanding.{push_owed}
 use Rattle.pool_places.proofs.Numbers.{counted_push, small}
 use Rattle.pool_places.proofs.Keeping.{record_absent, entries_free}
-use Rattle.pool_places.proofs.Racks.{line_turned, parked_same, queue_kept}
+use Rattle.pool_places.proofs.SlotLists.{line_turned, parked_same, queue_kept}
 use Rattle.pool_places.proofs.Turned.{pairs_below, kept_opened, tied_opened, rising_push, key_absent, sets_queued}
 use Rattle.pool_places.proofs.places.Places.restore.Goals as goal
 
@@ -40,7 +40,7 @@ pub push-requires-clause-above : goal.push-requires-clause-above
 push-requires-clause-above g c = pairs_below _ _ _ c.self.invariant.tied (subst (λ s. IdsBelow c.args.known.id (records_in s.kept)) (sym c.self.view_is) c.requires.above)
 
 pub add-requires : goal.add-requires
-add-requires g c = small _ _ c.self.invariant.shelf.few c.self.invariant.counted
+add-requires g c = small _ _ c.self.invariant.well_formed.few c.self.invariant.counted
 
 pub invariant_of-self : goal.invariant_of-self
 invariant_of-self g c =
@@ -55,7 +55,7 @@ invariant_of-self g c =
     let is = ap (kept_of after) c.push.ensures.pairs ∙ kept_opened rack after pairs p _ c.self.invariant.tied c.insert_with-key.ensures.vacant sets in
     let absent = key_absent rack pairs c.args.known.id c.self.invariant.tied (record_absent c.args.known.id (records_in ps) above) in
     record {
-      shelf = subst PlacesInvariant (sym is) (shelf_push ps place c.self.invariant.shelf (all_places _ ps above) c.requires.valued (omega (arith, length-map pairs (λ (x : Pair). place_at rack x.key), ap (λ s. s.spare) c.self.view_is, c.requires.reserved)));
+      well_formed = subst PlacesInvariant (sym is) (well_formed_push ps place c.self.invariant.well_formed (all_places _ ps above) c.requires.valued (omega (arith, length-map pairs (λ (x : Pair). place_at rack x.key), ap (λ s. s.spare) c.self.view_is, c.requires.reserved)));
       counted = subst (λ qs. IsCounts c.add.new.self (records_in qs)) (sym is) (counted_push ps _ _ place c.self.invariant.counted c.add.ensures);
       tied = tied_opened rack after pairs c.push.new.self.pairs p _ c.self.invariant.tied c.insert_with-key.ensures.vacant sets refl (subst IsAscending (sym c.push.ensures.pairs) (rising_push pairs p c.self.invariant.tied.rising (pairs_below _ _ _ c.self.invariant.tied above))) absent c.push.ensures.found c.push.ensures.others;
       line = line_turned rack after c.insert_with-key.result _ c.self.invariant.line (record {
@@ -87,4 +87,5 @@ returns g c =
       others = λ j other. value_push_other ps place j other;
       owed = push_owed ps place;
       spare = omega (arith, ap (λ s. s.spare) c.self.view_is, c.requires.reserved, c.insert_with-key.ensures.room, ap (λ r. r.room) c.enter.ensures.rest, c.push.ensures.spare, ap length c.push.ensures.pairs, length_push pairs p);
+      well_formed = well_formed_push ps place c.self.invariant.well_formed (all_places _ ps above) c.requires.valued (omega (arith, length-map pairs (λ (x : Pair). place_at rack x.key), ap (λ s. s.spare) c.self.view_is, c.requires.reserved));
     }

@@ -1,6 +1,6 @@
 use Rattle.std.proofs.Common.{None, refl, ap, sym, ◌∙◌, arith, subst}
 use Rattle.pool_journal.specs.Queue.{is_queued}
-use Rattle.pool_places.proofs.Racks.{item_known}
+use Rattle.pool_places.proofs.SlotLists.{item_known}
 use Rattle.pool_slots.specs.SlotsModel.{is_in}
 use Rattle.pool_slots.specs.SlotsModel.{without as without_key}
 use Rattle.std.proofs.Common.{if◌then◌else◌, List, ℕ}
@@ -10,7 +10,7 @@ use Rattle.pool_places.specs.PlacesModel.{to_taken}
 use Rattle.pool_places.proofs.Found.{found_known, found_full, found_value, set_kept, set_records, set_value, set_others}
 use Rattle.pool_places.proofs.NotIdle.{taken_not_idle}
 use Rattle.pool_places.proofs.Numbers.{has_one, counted_set, small, small_less}
-use Rattle.pool_places.proofs.Owing.{set_owed_from}
+use Rattle.pool_places.proofs.Outstanding.{set_owed_from}
 use Rattle.pool_places.proofs.Bounds.{bound_set, taken_not_lent}
 use Rattle.pool_places.proofs.Turned.{Reads, here, key_seen, item_there, follows_known, kept_is, kept_after, line_changed, value_set, sets_after}
 use Rattle.pool_places.proofs.places.Places.take_value.Goals as goal
@@ -23,18 +23,18 @@ known-known-requires g c = item_there c.self.inside.slots c.self.inside.index.pa
 
 pub take-value-requires : goal.take-value-requires
 take-value-requires g c =
-    let reads : Reads c.self.inside.slots c.self.inside.index.pairs c.args.id c.key_under-key.result c.known-known.result = record { tied = c.self.invariant.tied; shelf = c.self.invariant.shelf; at = c.key_under-key.ensures; known = c.known-known.ensures } in
+    let reads : Reads c.self.inside.slots c.self.inside.index.pairs c.args.id c.key_under-key.result c.known-known.result = record { tied = c.self.invariant.tied; well_formed = c.self.invariant.well_formed; at = c.key_under-key.ensures; known = c.known-known.ensures } in
     let found = here _ _ _ _ _ reads in
     found_full found (found_known _ found c.self.view_is c.requires.present)
 
 pub remove-requires : goal.remove-requires
 remove-requires g c =
-    let reads : Reads c.self.inside.slots c.self.inside.index.pairs c.args.id c.key_under-key.result c.known-known.result = record { tied = c.self.invariant.tied; shelf = c.self.invariant.shelf; at = c.key_under-key.ensures; known = c.known-known.ensures } in
+    let reads : Reads c.self.inside.slots c.self.inside.index.pairs c.args.id c.key_under-key.result c.known-known.result = record { tied = c.self.invariant.tied; well_formed = c.self.invariant.well_formed; at = c.key_under-key.ensures; known = c.known-known.ensures } in
     let found = here _ _ _ _ _ reads in
     has_one _ found c.self.invariant.counted
 
 pub add-requires : goal.add-requires
-add-requires g c = small_less _ _ _ (small _ _ c.self.invariant.shelf.few c.self.invariant.counted) c.remove.ensures
+add-requires g c = small_less _ _ _ (small _ _ c.self.invariant.well_formed.few c.self.invariant.counted) c.remove.ensures
 
 pub change-requires : goal.change-requires
 change-requires g c =
@@ -47,7 +47,7 @@ change-requires g c =
 
 pub invariant_of-self : goal.invariant_of-self
 invariant_of-self g c =
-    let reads : Reads c.self.inside.slots c.self.inside.index.pairs c.args.id c.key_under-key.result c.known-known.result = record { tied = c.self.invariant.tied; shelf = c.self.invariant.shelf; at = c.key_under-key.ensures; known = c.known-known.ensures } in
+    let reads : Reads c.self.inside.slots c.self.inside.index.pairs c.args.id c.key_under-key.result c.known-known.result = record { tied = c.self.invariant.tied; well_formed = c.self.invariant.well_formed; at = c.key_under-key.ensures; known = c.known-known.ensures } in
     let found = here _ _ _ _ _ reads in
     let valued = value_set c.self.inside.slots c.take-value.new.self c.key_under-key.result c.known-known.result None c.known-known.ensures c.take-value.ensures.sets in
     let sets = sets_after _ _ _ _ _ _ _ valued c.change.ensures.sets in
@@ -56,7 +56,7 @@ invariant_of-self g c =
 
 pub returns : goal.returns
 returns g c =
-    let reads : Reads c.self.inside.slots c.self.inside.index.pairs c.args.id c.key_under-key.result c.known-known.result = record { tied = c.self.invariant.tied; shelf = c.self.invariant.shelf; at = c.key_under-key.ensures; known = c.known-known.ensures } in
+    let reads : Reads c.self.inside.slots c.self.inside.index.pairs c.args.id c.key_under-key.result c.known-known.result = record { tied = c.self.invariant.tied; well_formed = c.self.invariant.well_formed; at = c.key_under-key.ensures; known = c.known-known.ensures } in
     let found = here _ _ _ _ _ reads in
     let valued = value_set c.self.inside.slots c.take-value.new.self c.key_under-key.result c.known-known.result None c.known-known.ensures c.take-value.ensures.sets in
     let sets = sets_after _ _ _ _ _ _ _ valued c.change.ensures.sets in

@@ -12,14 +12,14 @@ use Rattle.pool_places.specs.declared.place.Place.{Place}
 use Rattle.pool_places.specs.Changes.{with_changed, without_id}
 use Rattle.pool_places.specs.Counts.{max_remaining, weight_of, owed_for}
 use Rattle.pool_places.specs.PlacesModel.{records_in}
-use Rattle.pool_places.proofs.Shelves.{record_in-records_in, place_found}
+use Rattle.pool_places.proofs.WellFormed.{record_in-records_in, place_found}
 use Rattle.pool_places.proofs.Found.{Found, set_records, remove_records}
 
 owed_by-records_in : {T : Type 0} (ps : List (Place T)) → owed_for (records_in ps) ≡ sum_by (λ p. max_remaining p.known.phase) ps
 owed_by-records_in {T} ps = fold-map (λ (a : ℕ) (r : Record). a + max_remaining r.phase) (λ (p : Place T). p.known) 0 ps
 
 pub found_record : {T : Type 0} {ps : List (Place T)} {i k : ℕ} {q : Place T} → Found ps i k q → record_in (records_in ps) i ≡ Some q.known
-found_record {ps} {i} {k} {q} here = record_in-records_in i ps ∙ ap (option_map (λ p. p.known)) (place_found ps i k q here.shelf.rising here.at here.read)
+found_record {ps} {i} {k} {q} here = record_in-records_in i ps ∙ ap (option_map (λ p. p.known)) (place_found ps i k q here.well_formed.rising here.at here.read)
 
 pub set_owed : {T : Type 0} {ps : List (Place T)} {i k : ℕ} {q : Place T} (p : Place T) → Found ps i k q → owed_for (records_in (set ps k p)) + max_remaining q.known.phase ≡ owed_for (records_in ps) + max_remaining p.known.phase
 set_owed {T} {ps} {i} {k} {q} p here =

@@ -18,7 +18,7 @@ use Rattle.pool_places.specs.Stored.{place_of, place_at, kept_of, entry_at, entr
 use Rattle.pool_places.specs.QueueEntries.{QueueEntry, IsAscendingQueue, IsEntry, HasEntry, IsQueueOf}
 use Rattle.pool_places.proofs.Entries.{all_mapped}
 use Rattle.pool_places.proofs.Found.{Found}
-use Rattle.pool_places.proofs.Shelves.{record_in-records_in}
+use Rattle.pool_places.proofs.WellFormed.{record_in-records_in}
 use Rattle.pool_slots.proofs.Keys.{is_in_first, is_in_later, neither}
 use Rattle.pool_places.proofs.Walks.{other_stays, key_is_gone, in_pushed, in_push_other}
 
@@ -127,25 +127,25 @@ module _ {T : Type 0} where
   spot i [] = 0
   spot i (p ∷ ps) = if i == p.known.id then 0 else suc (spot i ps)
 
-  record Stands (ps : List (Place T)) (i k : ℕ) (q : Place T) : Type 0 where
+  record IsPlacedAt (ps : List (Place T)) (i k : ℕ) (q : Place T) : Type 0 where
     in_range : k < length ps
     read : (d : Place T) → get_or ps k d ≡ q
     id : q.known.id ≡ i
 
-  stands : (ps : List (Place T)) (i : ℕ) (q : Place T) → place_in ps i ≡ Some q → Stands ps i (spot i ps) q
-  stands [] i q is = absurd (cc is)
-  stands (p ∷ ps) i q is =
+  placed_at : (ps : List (Place T)) (i : ℕ) (q : Place T) → place_in ps i ≡ Some q → IsPlacedAt ps i (spot i ps) q
+  placed_at [] i q is = absurd (cc is)
+  placed_at (p ∷ ps) i q is =
       elim (eqb_tells i p.known.id) [
         | inl same ↦ (let here : p ≡ q = cc (rw same.0 at is) in rw same.0 (record { in_range = omega arith; read = λ d. here; id = ap (λ x. x.known.id) (sym here) ∙ sym same.1 }))
-        | inr differs ↦ (let later = stands ps i q (rw differs.0 at is) in rw differs.0 (record { in_range = omega (arith, later.in_range); read = later.read; id = later.id }))
+        | inr differs ↦ (let later = placed_at ps i q (rw differs.0 at is) in rw differs.0 (record { in_range = omega (arith, later.in_range); read = later.read; id = later.id }))
       ]
 
   pub found_key : (rack : SlotsModel T) (pairs : List Pair) (i key : ℕ) (r : Record) → IndexInvariant rack pairs → PlacesInvariant (kept_of rack pairs) → key_of pairs i ≡ Some key → known_at rack key ≡ Some r
       → Found (kept_of rack pairs) i (spot i (kept_of rack pairs)) (record { known = r; value = value_at rack key })
-  found_key rack pairs i key r tied shelf at known =
-      let here = stands (kept_of rack pairs) i (record { known = r; value = value_at rack key }) (place_under rack pairs i tied ∙ ap (option_map (place_at rack)) at ∙ ap Some (place_known rack key r known)) in
+  found_key rack pairs i key r tied well_formed at known =
+      let here = placed_at (kept_of rack pairs) i (record { known = r; value = value_at rack key }) (place_under rack pairs i tied ∙ ap (option_map (place_at rack)) at ∙ ap Some (place_known rack key r known)) in
       record {
-        shelf = shelf;
+        well_formed = well_formed;
         at = record { in_range = here.in_range; has_id = λ d. ap (λ x. x.known.id) (here.read d) ∙ here.id };
         read = sym (here.read (record { known = r; value = value_at rack key }));
       }
