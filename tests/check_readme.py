@@ -3,8 +3,8 @@
 
     check_readme.py README FOLDER..
 
-Each block between fences in README, and in each page of docs/guide beside it, says its language. A block of Rust or C must be one contiguous piece
-of a file in a crate's src/, or of a file in C or Rust of a folder, except for how far it is indented: nothing is left out. A block of sh must be on
+Each block between fences in README, and in each page of docs/guide beside it, says its language. A block of Rust, C or Java must be one contiguous
+piece of a file in a crate's src/, or of a file in that language of a folder, except for how far it is indented: nothing is left out. A block of sh must be on
 a page whose commands a test of its own runs. README has at most 150 lines. Prints what differs, and in the end the line 'N passed, M failed'.
 """
 
@@ -28,14 +28,14 @@ def fault_of_block(page, language, block, sources):
     """Why a block is not as it should be, if it isn't."""
     if language == "sh":
         return None if page.name in RUN_ELSEWHERE else "no test runs it"
-    if language not in ("rust", "c"):
+    if language not in ("rust", "c", "java"):
         return f"language {language!r}"
     return None if any(plain(block) in source for source in sources) else "no file has it"
 
 
 def main(readme, folders):
     readme = pathlib.Path(readme)
-    sources = [plain(file.read_text()) for folder in folders for kind in ("src/*.rt", "*.c", "*.rs") for file in pathlib.Path(folder).glob(kind)]
+    sources = [plain(file.read_text()) for folder in folders for kind in ("src/*.rt", "*.c", "*.rs", "*.java") for file in pathlib.Path(folder).glob(kind)]
     passed, faults = 0, []
     for page in [readme, *sorted((readme.parent / "docs/guide").glob("*.md"))]:
         blocks = FENCE.findall(page.read_text())

@@ -6,10 +6,9 @@ play_commands.py POOL  The last line is 'N passed, M failed'.
 A block is what a page indents by four spaces, and the man page's section of examples. Each must be of commands, which are run one after the
 other with the repository's examples at hand, or as one where they have a loop; the lines of a journal, which must be legal with the default
 settings, cut into segments or not; the form of a line; or the line of `rt version` of a kit with the logic of this one. The command ./check
-is not run, since it runs this, nor is tools/build.py, since it has built the programs: there must be such a crate. What ./try does with the program
-without its proofs is done here by the program. Blocks between fences are
-not run: check_readme.py holds those of Rust and C against the sources. Names are for check_names.py. Cargo's commands are left out where no
-cargo runs.
+is not run, since it runs this, nor is tools/build.py, since it has built the programs: there must be such a crate or binding. Java's commands are
+run by play_java.py. What ./try does with the program without its proofs is done here by the program. Blocks between fences are not run:
+check_readme.py holds them against the sources. Names are for check_names.py. Cargo's commands are left out where no cargo runs.
 """
 
 import functools
@@ -21,7 +20,7 @@ import tempfile
 
 TOP = pathlib.Path(__file__).resolve().parent.parent
 COMMAND = re.compile(
-    r"(\./pool|\./try|\./check|pool|crates/\S+|\(cd|mkdir|printf|python3 tools/\S+|cc|\./plain_life|\./long_life|\./shared_life|cargo) "
+    r"(\./pool|\./try|\./check|pool|crates/\S+|\(cd|mkdir|printf|python3 tools/\S+|cc|\./plain_life|\./long_life|\./shared_life|cargo|java) "
 )
 ENTRY = re.compile(r"\d+ \d+ .* = ")
 BASE = re.compile(r"pool-journal 2 |\d+ (readying|adding|lent|returning|idle|testing|destroying) ")
@@ -67,7 +66,9 @@ class Place:
         if words == "./check":
             return None
         if words.startswith("python3 tools/build.py "):
-            return None if (TOP / "crates" / words.split()[2]).is_dir() else "no such crate"
+            return None if any((TOP / kind / words.split()[2]).is_dir() for kind in ("crates", "bindings")) else "no such crate"
+        if words.startswith("java "):
+            return None
         if words.startswith("cargo") and not self.runs_cargo:
             return None
         if words.startswith("./try ") and not (TOP / "try").is_file():

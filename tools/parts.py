@@ -135,7 +135,7 @@ PARTS = (
     Part(
         "readme",
         "the code that the README and the guide show is compiled code",
-        "python3 tests/check_readme.py README.md crates/example_server bindings/c bindings/rust/examples",
+        "python3 tests/check_readme.py README.md crates/example_server bindings/c bindings/rust/examples bindings/java/examples",
     ),
     Part("names", "what the pages name is there", "python3 tests/check_names.py"),
     Part("tables", "the tables of the pages agree with the sources", "python3 tests/check_tables.py"),
