@@ -12,6 +12,7 @@ import java.util.NoSuchElementException;
 import java.util.Objects;
 import java.util.concurrent.Callable;
 import java.util.concurrent.atomic.AtomicInteger;
+import java.util.stream.Stream;
 import javax.management.MBeanServer;
 import javax.management.ObjectName;
 import org.apache.commons.pool2.BasePooledObjectFactory;
@@ -440,11 +441,14 @@ public final class Calls {
         ZuphinkaPool<String> dropping = new ZuphinkaPool<>(new Texts(), config(), null, Journal.dropped().limit(100));
         ZuphinkaPool<String> storing = new ZuphinkaPool<>(new Texts(), config(), null, Journal.inFolder(folder.resolve("stored")).limit(100));
         ZuphinkaPool<String> keeping = new ZuphinkaPool<>(new Texts(), config(), null, Journal.kept().limit(100));
+        int drops = 0;
         for (int round = 0; round < 200; round++) {
+            long before = dropping.getCounts().entries();
             dropping.returnObject(dropping.borrowObject());
+            drops += dropping.getCounts().entries() < before ? 1 : 0;
             storing.returnObject(storing.borrowObject());
         }
-        expect("a dropped journal stays small", true, dropping.getCounts().entries() < 100);
+        expect("a dropped journal is dropped each time that half of its room is used up", 200 * 4 / 50, drops);
         for (int round = 0; round < 24; round++) {
             keeping.returnObject(keeping.borrowObject());
         }
@@ -455,6 +459,10 @@ public final class Calls {
         keeping.close();
         dropping.close();
         storing.close();
+        try (Stream<Path> files = Files.list(folder.resolve("stored"))) {
+            // Those of the loans, one for the close, and the settings.
+            expect("a stored journal has as many segments", 200 * 4 / 50 + 2L, files.count());
+        }
         expect("a folder with a journal", "FileAlreadyExistsException", result(() -> Journal.inFolder(folder.resolve("stored")))
                 .toString().replaceAll(":.*", ""));
         failingSink();

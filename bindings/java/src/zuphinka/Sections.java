@@ -27,7 +27,6 @@ final class Sections<T> {
     private final long core;
     private final StoredJournal journal;
     private final Members<T> members = new Members<>();
-    private long entries;
     private int idle;
     private int waiters;
     /** How many threads were signalled and have not looked yet, or fewer: a thread that was not signalled may have been counted as one that was. */
@@ -93,7 +92,6 @@ final class Sections<T> {
             checked(status);
         }
         journal.makeRoom();
-        entries = 0;
     }
 
     private static long checked(long reply) {
@@ -111,7 +109,7 @@ final class Sections<T> {
 
     /** Notes what an answer changes, and wakes a thread that it may serve. */
     private void note(long reply) {
-        entries++;
+        journal.count();
         switch (Core.answer(reply)) {
             case Core.PARKED:
             case Core.KEPT:
@@ -135,7 +133,7 @@ final class Sections<T> {
     }
 
     private void release() {
-        journal.cutIfLow(entries);
+        journal.cutIfLow();
         lock.unlock();
         Reference.reachabilityFence(this);
     }
@@ -208,7 +206,7 @@ final class Sections<T> {
             int answer = Core.answer(reply);
             switch (answer) {
                 case Core.LENT:
-                    entries++;
+                    journal.count();
                     idle--;
                     borrowed++;
                     return new Found<>(answer, members.at(Core.value(reply)));
@@ -309,7 +307,7 @@ final class Sections<T> {
                 reply = checked(Core.giveBack(core, at, member.id, member.slot, caller()));
             }
             note(reply);
-            entries++;
+            journal.count();
             return noteReturn(reply);
         } finally {
             release();
@@ -450,7 +448,6 @@ final class Sections<T> {
         lock.lock();
         try {
             journal.cutRest();
-            entries = 0;
         } finally {
             release();
         }
@@ -475,9 +472,7 @@ final class Sections<T> {
     Segment cut() {
         lock.lock();
         try {
-            Segment segment = journal.cutNow();
-            entries = 0;
-            return segment;
+            return journal.cutNow();
         } finally {
             release();
         }

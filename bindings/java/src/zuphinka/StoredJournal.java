@@ -8,6 +8,8 @@ final class StoredJournal {
     private final long core;
     private final Journal journal;
     private final String settings;
+    /** How many entries were stored since the last cut, or more: a return that is refused may count as two. */
+    private long entries;
     /** At how many entries it is looked at again. */
     private long threshold;
     /** A segment that is cut and not yet stored. */
@@ -26,32 +28,38 @@ final class StoredJournal {
         return Math.max(1, journal.limit / 2);
     }
 
-    /** Cuts the journal if so many entries use up half of its room, and no segment waits to be stored. */
-    void cutIfLow(long entries) {
+    /** Counts one more entry. */
+    void count() {
+        entries++;
+    }
+
+    /** Cuts the journal if its entries use up half of its room, and no segment waits to be stored. */
+    void cutIfLow() {
         if (entries < threshold || (journal.sink == null && !journal.isDropped)) {
             return;
         }
-        if (pending == null && cut()) {
-            threshold = half();
-        } else {
+        if (pending != null || !cut()) {
             threshold = entries + Math.max(1, (journal.limit - entries) / 2);
         }
     }
 
     /** Cuts the journal, and returns whether there was memory for that. */
     private boolean cut() {
-        if (journal.sink != null) {
-            Segment segment = segment();
-            if (segment == null) {
-                return false;
-            }
-            if (Core.cut(core) != 0) {
-                return false;
-            }
-            pending = segment;
-            return true;
+        Segment segment = journal.sink == null ? null : segment();
+        if ((journal.sink != null && segment == null) || !cutCore()) {
+            return false;
         }
-        return Core.cut(core) == 0;
+        pending = segment;
+        return true;
+    }
+
+    private boolean cutCore() {
+        if (Core.cut(core) != 0) {
+            return false;
+        }
+        entries = 0;
+        threshold = half();
+        return true;
     }
 
     /** Returns the journal since it was last cut; null if there is no memory. */
@@ -73,10 +81,9 @@ final class StoredJournal {
     /** Cuts the journal, and returns what was cut. */
     Segment cutNow() {
         Segment segment = segment();
-        if (segment == null || Core.cut(core) != 0) {
+        if (segment == null || !cutCore()) {
             throw new OutOfMemoryError("zuphinka: no memory to cut the journal");
         }
-        threshold = half();
         return segment;
     }
 
@@ -97,7 +104,6 @@ final class StoredJournal {
         if (!cut()) {
             throw new OutOfMemoryError("zuphinka: no memory to cut the journal");
         }
-        threshold = half();
     }
 
     /** Returns whether a segment waits to be stored. The caller needs no lock. */
