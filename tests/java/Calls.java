@@ -466,6 +466,27 @@ public final class Calls {
         expect("a folder with a journal", "FileAlreadyExistsException", result(() -> Journal.inFolder(folder.resolve("stored")))
                 .toString().replaceAll(":.*", ""));
         failingSink();
+        manyObjects();
+    }
+
+    /** A journal that is dropped has room for what is outstanding for many objects, and is dropped once it has eight entries for each. */
+    private static void manyObjects() throws Exception {
+        GenericObjectPoolConfig<String> config = config();
+        config.setMaxTotal(-1);
+        ZuphinkaPool<String> pool = new ZuphinkaPool<>(new Texts(), config);
+        int lent = 2_600;
+        for (int number = 0; number < lent; number++) {
+            pool.borrowObject();
+        }
+        long most = 0;
+        for (int round = 0; round < 4_000; round++) {
+            pool.returnObject(pool.borrowObject());
+            most = Math.max(most, pool.getCounts().entries());
+        }
+        expect("many are lent", "1 idle, 2600 active, 2601 created, 0 destroyed", counts(pool));
+        expect("the most entries before a drop", 8 * (lent + 1L) - 4, most);
+        expect("entries after it", 2L * (lent + 1) + 4 * 4_000 - 2 - 8 * (lent + 1L), pool.getCounts().entries());
+        pool.close();
     }
 
     private static void failingSink() throws Exception {

@@ -9,9 +9,6 @@ public final class Journal {
     /** How many entries a journal stores in memory unless {@link #limit} says otherwise. An entry takes some 50 bytes. */
     public static final long DEFAULT_LIMIT = 1_000_000;
 
-    /** How many entries a dropped journal stores, unless {@link #limit} says otherwise. */
-    private static final long DROPPED_LIMIT = 10_000;
-
     final SegmentSink sink;
     final boolean isDropped;
     final long limit;
@@ -22,9 +19,12 @@ public final class Journal {
         this.limit = limit;
     }
 
-    /** Returns a journal whose entries are dropped in time. The pool lends for ever, and its memory stays small. */
+    /**
+     * Returns a journal whose entries are dropped in time, unless {@link #limit} says otherwise once there are 5,000, or eight for each object
+     * if that is more. The pool lends for ever, and its memory stays small.
+     */
     public static Journal dropped() {
-        return new Journal(null, true, DROPPED_LIMIT);
+        return new Journal(null, true, CoreSettings.MOST_ENTRIES);
     }
 
     /** Returns a journal that is kept in memory. Once its room is used up, nothing is lent until {@link ZuphinkaPool#cut} is called. */

@@ -133,7 +133,7 @@ final class Sections<T> {
     }
 
     private void release() {
-        journal.cutIfLow();
+        journal.cutIfLow(members.size());
         lock.unlock();
         Reference.reachabilityFence(this);
     }

@@ -5,6 +5,11 @@ import java.util.concurrent.locks.ReentrantLock;
 
 /** Cuts the journal of a core in time, and stores what is cut. Where nothing else is said, the caller holds the lock of the pool. */
 final class StoredJournal {
+    /** At how many entries a dropped journal is dropped, if it has room for twice as many. They take 280 KB. */
+    private static final long DROPPED_ENTRIES = 5_000;
+    /** A cut takes time for each object, so that many entries for each are stored before a drop. */
+    private static final long ENTRIES_PER_OBJECT = 8;
+
     private final long core;
     private final Journal journal;
     private final String settings;
@@ -21,11 +26,13 @@ final class StoredJournal {
         this.core = core;
         this.journal = journal;
         this.settings = settings;
-        threshold = half();
+        threshold = enough(0);
     }
 
-    private long half() {
-        return Math.max(1, journal.limit / 2);
+    /** Returns at how many entries the journal is cut, if so many objects are present. */
+    private long enough(int present) {
+        long half = Math.max(1, journal.limit / 2);
+        return journal.isDropped ? Math.min(half, Math.max(DROPPED_ENTRIES, ENTRIES_PER_OBJECT * present)) : half;
     }
 
     /** Counts one more entry. */
@@ -33,13 +40,14 @@ final class StoredJournal {
         entries++;
     }
 
-    /** Cuts the journal if its entries use up half of its room, and no segment waits to be stored. */
-    void cutIfLow() {
+    /** Cuts the journal if it has enough entries, and no segment waits to be stored. So many objects are present. */
+    void cutIfLow(int present) {
         if (entries < threshold || (journal.sink == null && !journal.isDropped)) {
             return;
         }
-        if (pending != null || !cut()) {
-            threshold = entries + Math.max(1, (journal.limit - entries) / 2);
+        threshold = enough(present);
+        if (entries >= threshold && (pending != null || !cut())) {
+            threshold = entries + Math.max(1, Math.min(entries, (journal.limit - entries) / 2));
         }
     }
 
@@ -58,7 +66,7 @@ final class StoredJournal {
             return false;
         }
         entries = 0;
-        threshold = half();
+        threshold = enough(0);
         return true;
     }
 
