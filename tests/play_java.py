@@ -1,12 +1,13 @@
 #!/usr/bin/env python3
 """Builds the pool for Java (tools/java.py), and plays its test programs, each under the checks of the virtual machine for native methods.
 
-    play_java.py LIBRARY POOL
+    play_java.py LIBRARY POOL JOURNAL_PICTURE
 
-LIBRARY is libzuphinka.a, and POOL the program `pool`. tests/java/Calls.java makes each call of a pool, with what the factory throws.
-tests/java/Stress.java makes random calls in eight threads over a factory that fails at random. The journals that they write must be legal, the jar
-must have the version of all products, and the codes of zuphinka.Core must be those of bindings/c/zuphinka.h. If there is no JDK or no Commons Pool 2,
-all of it is left out. The example over DBCP2 is run by the command of bindings/java/README.md, if DBCP2 and H2 are there.
+LIBRARY is libzuphinka.a, and the other two are programs. tests/java/Calls.java makes each call of a pool, with what the factory throws.
+tests/java/Stress.java makes random calls in eight threads over a factory that fails at random. The journals that they write must be legal. The jar
+must have the version of all products and load nothing but the C library, and the codes of zuphinka.Core must be those of bindings/c/zuphinka.h. Each
+public and protected item must have documentation in which javac finds nothing wrong. If there is no JDK or no Commons Pool 2, all of it is left out.
+The examples are run by the commands of bindings/java/README.md, that over DBCP2 only if DBCP2 and H2 are there; its journal must be drawn.
 
 Prints what fails, and in the end the line 'N passed, M failed'.
 """
@@ -19,6 +20,7 @@ import sys
 import tempfile
 import zipfile
 
+from check_picture import differences
 from playing import play_checks
 
 TOP = pathlib.Path(__file__).resolve().parent.parent
@@ -31,7 +33,7 @@ COUNT = re.compile(r"^(\d+) passed, (\d+) failed$", flags=re.MULTILINE)
 # What the virtual machine writes about a native method that breaks a rule.
 WARNING = re.compile(r"(?:WARNING|FATAL ERROR) in native method")
 SEEDS, MILLIS = range(8), 700
-# What the example needs, and the package that has it.
+# What the example over DBCP2 needs, and the packages that have it.
 EXAMPLE_JARS = {"commons-dbcp2": "libcommons-dbcp2-java", "h2": "libh2-java"}
 # A run that takes longer hangs, in seconds.
 LONGEST = 120
@@ -81,25 +83,73 @@ def found(jar, classes, folder):
     yield "without the native library", (1, True), (done.returncode, "UnsatisfiedLinkError" in done.stdout)
 
 
-def example(pool, folder):
-    """What is wanted of the example over DBCP2, and what came of it. It is left out if a jar is missing."""
-    for jar, package in EXAMPLE_JARS.items():
-        if not (java.DEBIAN_JAR.parent / f"{jar}.jar").is_file():
-            print(f"bindings/java/examples is left out, since there is no {jar}.jar: Debian's package {package} has it")
-            return
-    command = re.search(r"^    JARS=.*\n    java (?:.*\\\n)?.* (?=journal$)", (java.JAVA / "README.md").read_text(), flags=re.MULTILINE)[0]
-    words = ["bash", "-ec", f"{command}{shlex.quote(str(folder))}"]
+def portable(jar):
+    """What is wanted of the classes and the native library of a jar, and what it is: the page's oldest Java, and no library but that of C."""
+    oldest = int(re.search(r"a JDK from version (\d+) on", (java.JAVA / "README.md").read_text())[1])
+    with zipfile.ZipFile(jar) as packed, tempfile.TemporaryDirectory() as folder:
+        versions = {int.from_bytes(packed.read(name)[6:8], "big") for name in packed.namelist() if name.endswith(".class")}
+        words = ["ldd", packed.extract("libzuphinka_jni.so", folder)]
+        loaded = subprocess.run(words, capture_output=True, text=True).stdout
+    yield "the version of the classes", {44 + oldest}, versions
+    yield "what the native library loads", {"linux-vdso.so.1", "libc.so.6", "ld-linux-x86-64.so.2"}, set(re.findall(r"^\t(?:/\S*/)?(\S+)", loaded, re.MULTILINE))
+
+
+def undocumented(source):
+    """The public and protected items of a source that have no documentation of their own, as those that override another have it."""
+    lines = source.read_text().splitlines()
+    for number, line in enumerate(lines):
+        if re.match(r"(?:    )?(?:public|protected) ", line):
+            before = number - 1
+            while lines[before].strip().startswith("@"):
+                before -= 1
+            if not lines[before].endswith("*/"):
+                yield f"{source.stem}: {line.strip()}"
+
+
+def documentation(folder):
+    """What is wanted of the documentation of the library, and what is wrong with it by javac."""
+    sources = sorted((java.JAVA / "src").rglob("*.java"))
+    words = ["--release", java.RELEASE, "-Xdoclint:all/protected", "-Xmaxwarns", "1000", "-d", folder, "-cp", java.commons_pool(), *sources]
+    done = subprocess.run([java.jdk() / "bin/javac", *words], capture_output=True, text=True)
+    yield "the documentation", ("", 0), (done.stderr, done.returncode)
+    public = [source for source in sources if re.search(r"^public ", source.read_text(), flags=re.MULTILINE)]
+    yield "sources with public items", True, bool(public)
+    yield "items without documentation", [], [item for source in public for item in undocumented(source)]
+
+
+def command_of(name):
+    """The commands of the page that run an example, up to their last word, the folder for the journal."""
+    page = (java.JAVA / "README.md").read_text()
+    jars = re.search(r"^    JARS=.*\n", page, flags=re.MULTILINE)[0]
+    return jars + re.search(rf"^    java (?:.*\\\n)?.*/{name}\.java ", page, flags=re.MULTILINE)[0]
+
+
+def example(name, report, pool, folder):
+    """What is wanted of an example, and what came of it."""
+    words = ["bash", "-ec", f"{command_of(name)}{shlex.quote(str(folder))}"]
     done = subprocess.run(words, cwd=TOP, capture_output=True, text=True, timeout=LONGEST)
-    yield "the example", "1000 transfers, 20 broken connections, 2000 euros in all\n", done.stdout or done.stderr
-    yield "the example: its journal", *legal(pool, folder / "settings.toml", *sorted(folder.glob("segment-*")))
+    yield f"{name}: what it prints", True, re.fullmatch(report, done.stdout) is not None or done.stdout + done.stderr
+    yield f"{name}: its journal", *legal(pool, folder / "settings.toml", *sorted(folder.glob("segment-*")))
 
 
-def checks(library, pool):
+def examples(pool, picture, folder):
+    """What is wanted of the examples, and what came of it. Those over jars that are missing are left out."""
+    if java.DEBIAN_JAR.is_file():
+        yield from example("Servers", r"180 requests were answered over \d+ connections\n", pool, folder / "servers")
+    missing = next((jar for jar in ["commons-pool2", *EXAMPLE_JARS] if not (java.DEBIAN_JAR.parent / f"{jar}.jar").is_file()), None)
+    if missing:
+        print(f"examples are left out, since there is no {missing}.jar: Debian's package {EXAMPLE_JARS.get(missing, 'libcommons-pool2-java')} has it")
+        return
+    yield from example("Bank", "1000 transfers, 20 broken connections, 2000 euros in all\n", pool, folder / "bank")
+    yield "Bank: its picture", [], differences(picture, *sorted((folder / "bank").glob("segment-*")))
+
+
+def checks(library, pool, picture):
     yield from codes()
     jar = java.build(pathlib.Path(library), heap_of_kit())
     with zipfile.ZipFile(jar) as packed:
         yield "the version", True, f"Implementation-Version: {version()}" in packed.read("META-INF/MANIFEST.MF").decode().splitlines()
-        yield "the native library", True, "libzuphinka_jni.so" in packed.namelist()
+    yield from portable(jar)
     with tempfile.TemporaryDirectory() as name:
         folder = pathlib.Path(name)
         classes = folder / "classes"
@@ -111,7 +161,8 @@ def checks(library, pool):
             yield f"calls: {settings.stem}", *legal(pool, settings, settings.with_suffix(""))
         yield "calls: a stored journal", *legal(pool, calls / "stored/settings.toml", *sorted((calls / "stored").glob("segment-*")))
         yield from found(jar, classes, folder)
-        yield from example(pool, folder / "bank")
+        yield from documentation(folder / "documented")
+        yield from examples(pool, picture, folder)
         for seed in SEEDS:
             journal = folder / f"stress-{seed}"
             words = ["abandoned"] * (seed % 2) + ["bare"] * (seed // 2 % 2)
@@ -120,7 +171,7 @@ def checks(library, pool):
 
 
 def main():
-    if len(sys.argv) != 3:
+    if len(sys.argv) != 4:
         sys.exit(__doc__)
     try:
         java.jdk(), java.commons_pool()

@@ -4,10 +4,11 @@ on the PATH and without a network for cargo.
 
     play_release.py CLONE
 
-CLONE is the top of a clone in which the programs and the C library are built. The three commands of the README must build and run the examples in C
-and Rust, whose output is compared, and their journals are checked by the program of the archive. The checksums must be those of the files, and
-notice each file that is changed or missing. Two archives must have the same bytes, and a log of ./check that isn't one of this commit that passed
-must be refused. Where no cargo runs the Rust example is left out, which is printed.
+CLONE is the top of a clone in which the programs and the C library are built. The commands of the README must build and run the examples in C, Rust
+and Java, whose output is compared, and their journals are checked by the program of the archive. The jar must have what tests/play_java.py wants of
+it. The checksums must be those of the files, and notice each file that is changed or missing. Two archives must have the same bytes, and a log of
+./check that isn't one of this commit that passed must be refused; without a JDK, so must an archive that is not to do without Java. If no cargo runs,
+or Java has no JDK or lacks a jar, its examples are left out, which is printed.
 
 Prints each thing that differs, and in the end the line 'N passed, M failed'.
 """
@@ -24,16 +25,20 @@ import tarfile
 import tempfile
 
 from check_rust import runs_cargo
+from play_java import EXAMPLE_JARS, java, portable
 from play_library import PLAIN_LIFE, TOP
 from playing import play_checks
 
-# The example in Rust: four servers with fifty requests each, of which each tenth breaks its connection.
+# The examples in Rust and Java: four servers with fifty requests each, of which each tenth breaks its connection.
 ANSWERED = 4 * 50 * 9 // 10
 THREADS, ROUNDS = 4, 500
 # A run that takes longer hangs, in seconds.
 LONGEST = 1200
 PROGRAMS = ("pool", "judge", "journal_picture")
 TAMPERED = ("bin/pool", "lib/libzuphinka.a", "include/zuphinka.h", "rust/zuphinka/lib/libzuphinka.a", "rust/zuphinka/src/lib.rs", "LICENSE")
+JAR = "java/zuphinka.jar"
+# The lines of a page that are indented by four spaces, in blocks.
+BLOCK = re.compile(r"(?:^    .*\n)+", flags=re.MULTILINE)
 
 
 @functools.cache
@@ -41,6 +46,15 @@ def path_without_rt():
     """The folders of the path, but for those that have the command `rt`."""
     folders = os.environ["PATH"].split(os.pathsep)
     return os.pathsep.join(folder for folder in folders if not pathlib.Path(folder, "rt").exists())
+
+
+@functools.cache
+def missing_for_java():
+    """Says what is missing to make the jar, with its package; None if nothing is."""
+    try:
+        java.jdk(), java.commons_pool()
+    except java.Missing as missing:
+        return str(missing)
 
 
 def run(*words, folder):
@@ -54,9 +68,27 @@ def shell(line, folder):
     return done.stdout, done.stderr, done.returncode
 
 
-def release(clone, folder, *words):
+def release(clone, folder, *words, environment=None):
+    """Makes an archive, without Java if something is missing for that here."""
     command = [sys.executable, TOP / "tools/release.py", "--programs", clone, "--output", folder, *words]
-    return subprocess.run(command, stdin=subprocess.DEVNULL, capture_output=True, text=True, timeout=LONGEST)
+    command += ["--without-java"] * (environment is None and missing_for_java() is not None)
+    return subprocess.run(command, stdin=subprocess.DEVNULL, capture_output=True, text=True, timeout=LONGEST, env=environment)
+
+
+def without_java(clone, folder):
+    """That without a JDK no archive is made unless the option says so, and that such an archive says so itself."""
+    environment = os.environ | {"JAVA_HOME": str(folder)}
+    done = release(clone, folder / "refused", environment=environment)
+    yield "without a JDK", (1, False), (done.returncode, (folder / "refused").exists())
+    yield "what is told then", True, "default-jdk-headless" in done.stderr and "--without-java" in done.stderr or done.stderr
+    done = release(clone, folder / "without-java", "--without-java", environment=environment)
+    yield "an archive without Java", ("", 0), (done.stderr, done.returncode)
+    with tarfile.open(done.stdout.strip()) as tar:
+        names = [name.partition("/")[2] for name in tar.getnames()]
+        proved, readme = (tar.extractfile(f"{tar.getnames()[0]}/{name}").read().decode() for name in ("PROVED", "README.md"))
+    yield "files for Java in it", [], [name for name in names if name.startswith("java")]
+    yield "its README", (False, True), ("Java" in readme, readme.endswith("PROVED\n"))
+    yield "its PROVED", True, "; without the pool for Java\n" in proved
 
 
 def git(*words):
@@ -111,7 +143,7 @@ def checksums(top):
     command = "sha256sum --check --strict --quiet PROVED"
     yield "the README has the command", True, f"    {command}\n" in (top / "README.md").read_text()
     yield "all is as it was packed", (b"", b"", 0), shell(command, top)
-    for name in TAMPERED:
+    for name in [*TAMPERED, *[JAR] * (JAR in files)]:
         text = files[name].read_bytes()
         files[name].write_bytes(text[:-2] + bytes([text[-2] ^ 1]) + text[-1:])
         said, _, status = shell(command, top)
@@ -132,8 +164,8 @@ def is_legal(top, folder):
 
 
 def commands(top):
-    """The three commands of the README, and the check of the journal that the last stored."""
-    blocks = re.findall(r"(?:^    .*\n)+", (top / "README.md").read_text(), flags=re.MULTILINE)
+    """The three commands of the README for C and Rust, and the check of the journal that the last stored."""
+    blocks = BLOCK.findall((top / "README.md").read_text())
     compile_c, run_c, run_rust = (line.strip() for line in blocks[0].splitlines())
     yield "no rt on the PATH", None, shutil.which("rt", path=path_without_rt())
     yield compile_c, (b"", b"", 0), shell(compile_c, top)
@@ -150,6 +182,33 @@ def commands(top):
     segment = min((top / "journal").glob("segment-*"))
     done = run(top / "bin/judge", "journal/settings.toml", segment, folder=top)
     yield "judge of a segment", (b"", 0, True), (done.stderr, done.returncode, done.stdout != b"")
+
+
+def example(top, block, folder, report):
+    """An example in Java by the commands of a block of the README, the last of which checks its journal."""
+    *commands, check = (line.strip() for line in block.splitlines())
+    said, faults, status = shell("\n".join(commands), top)
+    yield commands[-1], (b"", 0), (faults, status)
+    yield "what it prints", True, re.fullmatch(report, said) is not None or said
+    yield "its journal", *is_legal(top, top / folder)
+    yield check, 0, shell(check, top)[2]
+
+
+def java_part(top):
+    """The jar, and the examples in Java. They are left out if something is missing."""
+    if missing_for_java():
+        print(f"the jar and the Java examples are left out: {missing_for_java()}")
+        return
+    yield from portable(top / JAR)
+    section = (top / "README.md").read_text().partition("\n## Java\n")[2]
+    reports = {"servers": rb"%d requests were answered over \d+ connections\n" % ANSWERED, "bank": rb"1000 transfers, 20 broken connections, 2000 euros in all\n"}
+    jars = {"servers": {"commons-pool2": "libcommons-pool2-java"}, "bank": EXAMPLE_JARS}
+    for block, folder in zip(BLOCK.findall(section), reports, strict=True):
+        missing = [package for jar, package in jars[folder].items() if not (java.DEBIAN_JAR.parent / f"{jar}.jar").is_file()]
+        if missing:
+            print(f"the Java example {folder} is left out, since Debian's package {missing[0]} isn't installed")
+        else:
+            yield from example(top, block, folder, reports[folder])
 
 
 def programs(top):
@@ -181,11 +240,12 @@ def trials(clone, folder):
     yield "two archives are the same", True, one.read_bytes() == two.read_bytes()
     yield from entries(one)
     yield from logs(clone, folder)
+    yield from without_java(clone, folder)
     with tarfile.open(one) as tar:
         tar.extractall(folder / "unpacked")
     top = folder / "unpacked" / one.name.removesuffix(".tar.gz")
     yield "without a log", True, "# ./check: not passed: " in (top / "PROVED").read_text()
-    for part in checksums, commands, programs:
+    for part in checksums, commands, java_part, programs:
         yield from part(top)
 
 

@@ -8,9 +8,9 @@ library allocates, else that of the command `rt`. JAVA_HOME names the JDK, else 
 Pool 2, else it is Debian's; CC the C compiler, else it is cc. Made are, in bindings/java/out,
 
     libzuphinka_jni.so    the native library
-    zuphinka.jar          the classes and the native library; its manifest names the jar of Commons Pool 2 as its class path, and the version
+    zuphinka.jar          the classes and the native library; its manifest names commons-pool2.jar as its class path, and the version
 
-The status is 1 if something cannot be compiled, and 3 if a tool or Commons Pool 2 is missing: then its package is named.
+The same sources, library and compilers give the same bytes. The status is 1 if something cannot be compiled, and 3 if a tool or Commons Pool 2 is missing: then its package is named.
 """
 
 import argparse
@@ -20,6 +20,7 @@ import shutil
 import subprocess
 import sys
 import tempfile
+import zipfile
 
 from install import heap_of_kit, version
 
@@ -78,21 +79,26 @@ def compile_classes(sources, to, *jars):
 
 
 def pack(classes, native, jar):
-    """Makes a jar of the classes and the native library."""
-    with tempfile.NamedTemporaryFile("w", suffix=".txt") as manifest:
-        manifest.write(f"Implementation-Title: zuphinka\nImplementation-Version: {version()}\nClass-Path: {commons_pool().name}\n")
-        manifest.flush()
-        run(jdk() / "bin/jar", "--create", "--file", jar, "--manifest", manifest.name, "-C", classes, ".", "-C", native.parent, native.name)
+    """Makes a jar of the classes and the native library. Each file has the earliest time that a jar can tell."""
+    manifest = f"Manifest-Version: 1.0\nImplementation-Title: zuphinka\nImplementation-Version: {version()}\nClass-Path: {DEBIAN_JAR.name}\n"
+    files = {"META-INF/MANIFEST.MF": manifest.encode()}
+    files |= {path.relative_to(classes).as_posix(): path.read_bytes() for path in sorted(classes.rglob("*.class"))}
+    files[native.name] = native.read_bytes()
+    with zipfile.ZipFile(jar, "w") as packed:
+        for name, text in files.items():
+            entry = zipfile.ZipInfo(name)
+            entry.external_attr = 0o644 << 16
+            packed.writestr(entry, text, zipfile.ZIP_DEFLATED)
 
 
-def build(library, heap):
-    """Builds all of it, and returns the jar."""
-    OUT.mkdir(exist_ok=True)
-    native, jar = OUT / "libzuphinka_jni.so", OUT / "zuphinka.jar"
+def build(library, heap, folder=OUT):
+    """Builds all of it in a folder, and returns the jar."""
+    folder.mkdir(exist_ok=True)
+    native, jar = folder / "libzuphinka_jni.so", folder / "zuphinka.jar"
     compile_native(library, heap, native)
     with tempfile.TemporaryDirectory() as classes:
         compile_classes(sorted((JAVA / "src").rglob("*.java")), classes, commons_pool())
-        pack(classes, native, jar)
+        pack(pathlib.Path(classes), native, jar)
     return jar
 
 

@@ -79,9 +79,9 @@ PARTS = (
     Part("rust", "the Rust crate: its tests, its examples, its binding", "python3 tests/check_rust.py {pool}", ("pool", "zuphinka"), CARGO),
     Part(
         "java",
-        "the pool for Java: its calls, eight threads that call at random, its journals",
-        "python3 tests/play_java.py {zuphinka} {pool}",
-        ("pool", "zuphinka"),
+        "the pool for Java: its calls, eight threads that call at random, its journals, its examples, its documentation",
+        "python3 tests/play_java.py {zuphinka} {pool} {journal_picture}",
+        ("pool", "zuphinka", "journal_picture"),
     ),
     Part(
         "commands",

@@ -1,18 +1,21 @@
 #!/usr/bin/env python3
 """Makes an archive of what users take, which needs no proof toolchain: zuphinka-VERSION-linux-x86_64.tar.gz.
 
-    tools/release.py [--gate FILE] [--output FOLDER] [--programs FOLDER]
+    tools/release.py [--gate FILE] [--output FOLDER] [--programs FOLDER] [--without-java]
 
-The archive has the C library with its headers and its file for pkg-config, the Rust crate with the library in it, the programs pool, judge and
-journal_picture, the man page, examples, the licence, a README, and PROVED. That file has what ./check came to, the commit, the kit's line and a
-checksum of each other file, as `sha256sum --check` reads it.
+The archive has the C library with its headers and its file for pkg-config, the Rust crate and the jar for Java, each with the library in it, the
+programs pool, judge and journal_picture, the man page, examples, the licence, a README, and PROVED. That file has what ./check came to, the commit,
+the kit's line and a checksum of each other file, as `sha256sum --check` reads it.
 
 --gate FILE names the log of ./check, whose commit must be the one that is checked out, without changes, and in whose last line nothing failed; a
 check of named parts tells no commit, and won't do. Without a log PROVED says that nothing was passed. --output FOLDER gets the archive, else the
 folder out/. What isn't built of its sources as they are is proved and built first. With --programs FOLDER what a clone there has built is taken as
 it is, and PROVED says that.
 
-The same commit, programs and compiler give the same bytes. Writes the path of the archive. The status is 1, and no archive is there, if something
+The jar needs a JDK and Commons Pool 2, as tools/java.py finds them. With --without-java the archive and its README have nothing for Java, and PROVED
+says that.
+
+The same commit, programs and compilers give the same bytes. Writes the path of the archive. The status is 1, and no archive is there, if something
 is missing or the log isn't one of a full check that passed.
 """
 
@@ -29,6 +32,7 @@ import tarfile
 import tempfile
 
 import install
+import java
 import sources
 
 TOP = pathlib.Path(__file__).resolve().parent.parent
@@ -37,6 +41,8 @@ LIBRARY = "zuphinka"
 C_EXAMPLES = ("plain_life.c", "long_life.c", "shared_life.c")
 # What the Rust crate is without its tests, which want the repository.
 CRATE = ("Cargo.toml", "Cargo.lock", "build.rs", "README.md", "src", "examples")
+# The section of the README for Java, which is its last.
+JAVA_SECTION = "\n## Java\n"
 COMMIT = re.compile(r"check: commit (\S+)")
 PASSED = re.compile(r"[1-9]\d* passed, 0 failed")
 PROVED = """# zuphinka {version} for Linux on x86-64
@@ -52,6 +58,7 @@ def arguments():
     words.add_argument("--gate", type=pathlib.Path, help="the log of ./check")
     words.add_argument("--output", type=pathlib.Path, default=TOP / "out", help="the folder that gets the archive")
     words.add_argument("--programs", type=pathlib.Path, help="a clone in which all is built")
+    words.add_argument("--without-java", action="store_true", help="leave out the pool for Java")
     return words.parse_args()
 
 
@@ -97,7 +104,7 @@ def built(crate, top):
 
 
 def lay_out(stage, programs):
-    """Puts all files in their places, but for PROVED."""
+    """Puts all files in their places, except the README, PROVED and those for Java."""
     shown = "${pcfiledir}/../.."
     install.install(stage, shown, built(LIBRARY, programs), install.heap_of_kit())
     crate = stage / "rust/zuphinka"
@@ -112,8 +119,21 @@ def lay_out(stage, programs):
     for name in CRATE:
         whole = TOP / "bindings/rust" / name
         (shutil.copytree if whole.is_dir() else shutil.copy)(whole, crate / name)
-    text = (TOP / "tools/release_readme.md").read_text()
-    (stage / "README.md").write_text(text.replace("VERSION", install.version(), 1))
+
+
+def lay_out_java(stage, programs):
+    """Builds the jar, and puts it, its page and its examples in their places."""
+    folder = stage / "java"
+    shutil.copytree(java.JAVA / "examples", folder / "examples")
+    shutil.copy(java.JAVA / "README.md", folder)
+    with tempfile.TemporaryDirectory() as out:
+        shutil.copy(java.build(built(LIBRARY, programs), install.heap_of_kit(), pathlib.Path(out)), folder)
+
+
+def describe(stage, has_java):
+    """Writes the README."""
+    text = (TOP / "tools/release_readme.md").read_text().replace("VERSION", install.version(), 1)
+    (stage / "README.md").write_text(text if has_java else text.partition(JAVA_SECTION)[0])
 
 
 def prove(stage, said, commit):
@@ -146,19 +166,30 @@ def pack(stage, archive):
 
 def main():
     given = arguments()
+    if not given.without_java:
+        try:
+            java.jdk(), java.commons_pool()
+        except java.Missing as missing:
+            sys.exit(f"java: {missing}; --without-java makes an archive without the pool for Java")
     commit = checked_out()
     said = verdict(given.gate, commit)
     if given.programs is None:
         build()
     else:
         said += "; the programs were taken as they were built"
+    if given.without_java:
+        said += "; without the pool for Java"
     name = f"zuphinka-{install.version()}-linux-x86_64"
     archive = given.output.resolve() / f"{name}.tar.gz"
     archive.parent.mkdir(parents=True, exist_ok=True)
     with tempfile.TemporaryDirectory() as folder:
         stage = pathlib.Path(folder) / name
         stage.mkdir()
-        lay_out(stage, (given.programs or TOP).resolve())
+        programs = (given.programs or TOP).resolve()
+        lay_out(stage, programs)
+        if not given.without_java:
+            lay_out_java(stage, programs)
+        describe(stage, not given.without_java)
         prove(stage, said, commit)
         pack(stage, archive)
     print(archive)

@@ -112,10 +112,11 @@ public final class Bank {
                 works.add(() -> work(source, random));
             }
             ExecutorService threads = Executors.newFixedThreadPool(THREADS);
-            for (Future<Void> done : threads.invokeAll(works)) {
-                done.get();
-            }
+            List<Future<Void>> ended = threads.invokeAll(works);
             threads.shutdown();
+            for (Future<Void> work : ended) {
+                work.get();
+            }
             try (Connection connection = source.getConnection()) {
                 String transfers = THREADS * TRANSFERS + " transfers, " + BROKEN + " broken connections, ";
                 System.out.println(transfers + sum(connection) + " euros in all");
