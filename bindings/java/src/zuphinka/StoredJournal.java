@@ -53,8 +53,16 @@ final class StoredJournal {
 
     /** Cuts the journal, and returns whether there was memory for that. */
     private boolean cut() {
-        Segment segment = journal.sink == null ? null : segment();
-        if ((journal.sink != null && segment == null) || !cutCore()) {
+        if (journal.sink == null) {
+            return cutCore();
+        }
+        Segment segment;
+        try {
+            segment = segment();
+        } catch (OutOfMemoryError e) {
+            return false;
+        }
+        if (segment == null || !cutCore()) {
             return false;
         }
         pending = segment;
@@ -106,7 +114,7 @@ final class StoredJournal {
         }
         try {
             storePending();
-        } catch (IOException e) {
+        } catch (IOException | RuntimeException e) {
             throw new IllegalStateException("Journal full", e);
         }
         if (!cut()) {
