@@ -12,14 +12,18 @@ import java.util.NoSuchElementException;
 import java.util.Objects;
 import java.util.concurrent.Callable;
 import java.util.concurrent.atomic.AtomicInteger;
+import java.util.stream.Collectors;
 import java.util.stream.Stream;
+import javax.management.MBeanAttributeInfo;
 import javax.management.MBeanServer;
 import javax.management.ObjectName;
+import javax.management.openmbean.CompositeData;
 import org.apache.commons.pool2.BasePooledObjectFactory;
 import org.apache.commons.pool2.PooledObject;
 import org.apache.commons.pool2.impl.AbandonedConfig;
 import org.apache.commons.pool2.impl.DefaultPooledObject;
 import org.apache.commons.pool2.impl.GenericObjectPoolConfig;
+import org.apache.commons.pool2.impl.GenericObjectPoolMXBean;
 import zuphinka.Journal;
 import zuphinka.Segment;
 import zuphinka.ZuphinkaPool;
@@ -411,9 +415,26 @@ public final class Calls {
         expect("an attribute", 1L, server.getAttribute(name, "BorrowedCount"));
         expect("a setting", 8, server.getAttribute(name, "MaxTotal"));
         expect("a mean", 0L, server.getAttribute(name, "MeanBorrowWaitTimeMillis"));
+        String stack = (String) server.getAttribute(name, "CreationStackTrace");
+        expect("the stack of its creation", true, stack.contains("at zuphinka.ZuphinkaPool.<init>(") && stack.contains("at Calls.bean(Calls.java:"));
+        expect("all attributes", List.of("MeanActiveTimeMillis", "MeanIdleTimeMillis"), missingOf(server.getMBeanInfo(name).getAttributes()));
+        CompositeData[] objects = (CompositeData[]) server.invoke(name, "listAllObjects", null, null);
+        expect("its objects", "1 text 0", objects.length + " " + objects[0].get("pooledObjectToString"));
+        expect("an object's loans", 1L, objects[0].get("borrowedCount"));
         other.close();
         pool.close();
         expect("unregistered", false, server.isRegistered(name));
+    }
+
+    /** Returns the attributes of Commons Pool's MBean that are not among these, in order. */
+    private static List<String> missingOf(MBeanAttributeInfo[] attributes) {
+        List<String> names = Arrays.stream(attributes).map(MBeanAttributeInfo::getName).collect(Collectors.toList());
+        return Arrays.stream(GenericObjectPoolMXBean.class.getMethods())
+                .filter(method -> method.getName().matches("(get|is).*"))
+                .map(method -> method.getName().replaceFirst("get|is", ""))
+                .filter(name -> !names.contains(name))
+                .sorted()
+                .collect(Collectors.toList());
     }
 
     private static void throwingSink() throws Exception {
@@ -433,6 +454,11 @@ public final class Calls {
         }
         expect("a sink that throws", "1 idle, 0 active, 1 created, 0 destroyed", counts(pool));
         expect("it is noted", true, noted.get() > 0);
+        Object ending = "";
+        for (int round = 0; round < 100 && ending.equals(round == 0 ? "" : "done"); round++) {
+            ending = ending(() -> pool.returnObject(pool.borrowObject()));
+        }
+        expect("its journal gets full", "IllegalStateException: Journal full from sink", ending);
         pool.close();
         expect("it is closed", "0 idle, 0 active, 1 created, 1 destroyed", counts(pool));
     }

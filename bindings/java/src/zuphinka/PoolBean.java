@@ -1,7 +1,10 @@
 package zuphinka;
 
+import java.io.PrintWriter;
+import java.io.StringWriter;
 import java.lang.management.ManagementFactory;
 import java.lang.ref.WeakReference;
+import java.util.Set;
 import java.util.function.Function;
 import javax.management.InstanceAlreadyExistsException;
 import javax.management.JMException;
@@ -11,6 +14,7 @@ import javax.management.ObjectName;
 import javax.management.StandardMBean;
 import org.apache.commons.pool2.impl.AbandonedConfig;
 import org.apache.commons.pool2.impl.BaseObjectPoolConfig;
+import org.apache.commons.pool2.impl.DefaultPooledObjectInfo;
 import org.apache.commons.pool2.impl.GenericObjectPoolConfig;
 
 /** The MBean of a pool. It does not keep the pool from being collected. */
@@ -20,6 +24,8 @@ final class PoolBean extends StandardMBean implements ZuphinkaPoolMXBean {
     private final GenericObjectPoolConfig<?> config;
     private final AbandonedConfig abandoned;
     private final String factoryType;
+    /** As text, since a stored exception keeps the classes of its stack from being unloaded. */
+    private final String creationStackTrace;
 
     private PoolBean(ZuphinkaPool<?> pool, GenericObjectPoolConfig<?> config, AbandonedConfig abandoned, String factoryType)
             throws NotCompliantMBeanException {
@@ -28,6 +34,9 @@ final class PoolBean extends StandardMBean implements ZuphinkaPoolMXBean {
         this.config = config;
         this.abandoned = abandoned;
         this.factoryType = factoryType;
+        StringWriter text = new StringWriter();
+        new Exception("The pool was made").printStackTrace(new PrintWriter(text));
+        creationStackTrace = text.toString();
     }
 
     /**
@@ -236,5 +245,15 @@ final class PoolBean extends StandardMBean implements ZuphinkaPoolMXBean {
     @Override
     public String getFactoryType() {
         return factoryType;
+    }
+
+    @Override
+    public String getCreationStackTrace() {
+        return creationStackTrace;
+    }
+
+    @Override
+    public Set<DefaultPooledObjectInfo> listAllObjects() {
+        return ask(ZuphinkaPool::listAllObjects);
     }
 }

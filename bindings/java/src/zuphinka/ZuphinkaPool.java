@@ -20,13 +20,24 @@ import org.apache.commons.pool2.impl.DefaultPooledObjectInfo;
 import org.apache.commons.pool2.impl.GenericObjectPoolConfig;
 
 /**
- * A pool with the interface and the behaviour of Commons Pool's {@code GenericObjectPool}, whose decisions are those of a proved core: which
- * object is lent, kept, tested or destroyed, and when one is made.
+ * A pool with the interface and the behaviour of Commons Pool's {@code GenericObjectPool}, whose decisions are those of a proved core: which object
+ * is lent, kept, tested or destroyed, and when one is made.
  *
- * <p>Proved is each step of the core, and the one line of the journal that records it. Tested, not proved, is this class: its lock, its waits,
- * and what it does between two steps. The factory's methods run without the lock.
+ * <p>Proved is each step of the core, and the one line of the journal that records it. Tested, not proved, is this class: its lock, its waits, and
+ * what it does between two steps. The factory's methods run without the lock.
  *
  * <p>The configurations are copied, and later changes to them have no effect. Any number of threads may use a pool.
+ *
+ * <p>Each call that takes a step may throw two exceptions that it does not list. They leave the pool as it was before the step:
+ * <ul>
+ * <li>an {@link IllegalStateException} with the message "Journal full", if the journal has no room: a kept one until it is cut, a stored one until
+ * its sink stores the segment that waits. The failure of the sink is its cause;
+ * <li>an {@link OutOfMemoryError}, if there is no memory. The call may be tried again.
+ * </ul>
+ * The return and the invalidation of a lent object never throw these, nor does the close of an open pool before it has closed and cleared it. Work
+ * begun on an object is always completed.
+ *
+ * <p>An {@link Error} that the factory throws is thrown by each call, once the place of its object is free.
  *
  * @param <T> the type of the objects
  */
@@ -53,14 +64,21 @@ public class ZuphinkaPool<T> implements ObjectPool<T>, UsageTracking<T> {
         }
     }
 
-    /** Makes a pool with the default configuration. */
+    /**
+     * Makes a pool with the default configuration, whose journal is dropped.
+     *
+     * @param factory makes, activates, tests, passivates and destroys the objects
+     * @throws IllegalArgumentException if the factory is null
+     */
     public ZuphinkaPool(PooledObjectFactory<T> factory) {
         this(factory, new GenericObjectPoolConfig<>());
     }
 
     /**
-     * Makes a pool.
+     * Makes a pool whose journal is dropped.
      *
+     * @param factory makes, activates, tests, passivates and destroys the objects
+     * @param config the settings; not null
      * @throws IllegalArgumentException as {@link #ZuphinkaPool(PooledObjectFactory, GenericObjectPoolConfig, AbandonedConfig, Journal)}
      */
     public ZuphinkaPool(PooledObjectFactory<T> factory, GenericObjectPoolConfig<T> config) {
@@ -68,8 +86,11 @@ public class ZuphinkaPool<T> implements ObjectPool<T>, UsageTracking<T> {
     }
 
     /**
-     * Makes a pool that takes abandoned objects from their holders.
+     * Makes a pool that takes abandoned objects from their holders, and whose journal is dropped.
      *
+     * @param factory makes, activates, tests, passivates and destroys the objects
+     * @param config the settings; not null
+     * @param abandoned when objects are abandoned; null: never
      * @throws IllegalArgumentException as {@link #ZuphinkaPool(PooledObjectFactory, GenericObjectPoolConfig, AbandonedConfig, Journal)}
      */
     public ZuphinkaPool(PooledObjectFactory<T> factory, GenericObjectPoolConfig<T> config, AbandonedConfig abandoned) {
@@ -77,11 +98,17 @@ public class ZuphinkaPool<T> implements ObjectPool<T>, UsageTracking<T> {
     }
 
     /**
-     * Makes a pool whose journal is dropped, kept or stored.
+     * Makes a pool whose journal is dropped, kept or stored. If the configuration has JMX enabled, it registers an MBean. If it has a positive time
+     * between eviction runs, it starts a daemon thread that calls {@link #maintain}.
      *
+     * @param factory makes, activates, tests, passivates and destroys the objects
+     * @param config the settings; not null
      * @param abandoned when objects are abandoned; null: never
-     * @throws IllegalArgumentException if there is no factory, or a configuration asks for what the pool does not have: {@code fairness}, or
-     *     an {@code evictionPolicy} other than the default one
+     * @param journal what becomes of the journal; not null. A stored one is for one pool
+     * @throws IllegalArgumentException if the factory is null, the limit of the journal is out of its range, or the configuration asks for what the
+     *     pool does not have: {@code fairness}, or an {@code evictionPolicy} other than the default one
+     * @throws OutOfMemoryError if there is no memory for the pool
+     * @throws LinkageError if the native library is not found or cannot be loaded
      */
     public ZuphinkaPool(PooledObjectFactory<T> factory, GenericObjectPoolConfig<T> config, AbandonedConfig abandoned, Journal journal) {
         if (factory == null) {
@@ -111,26 +138,42 @@ public class ZuphinkaPool<T> implements ObjectPool<T>, UsageTracking<T> {
     // Borrows.
 
     /**
-     * Lends an object: an idle one, or a new one if there is a free place. Else it waits, as long as the configuration says.
+     * Lends an object: an idle one, or a new one if there is a free place. Otherwise it waits, as long as the configuration says. Idle objects that
+     * fail their activation or their test are destroyed, and the next one is tried. If the configuration says so, it first takes abandoned objects
+     * from their holders.
      *
-     * @throws NoSuchElementException if there is no object, or the time is over; or a new object failed its activation or its test, which is
-     *     then the cause
-     * @throws IllegalStateException if the pool is closed, or its journal is full
+     * @return an object that no other caller has, until it is returned, invalidated or abandoned
+     * @throws NoSuchElementException if no object and no place is free, and the configuration says not to wait or the time is over; or if a new
+     *     object failed its activation or its test. What the factory threw is the cause, if it threw
+     * @throws IllegalStateException if the pool is closed, also while it waits
      * @throws InterruptedException if the thread is interrupted while it waits
-     * @throws Exception if the factory fails to make an object
+     * @throws Exception if the factory fails to make an object; the same exception. If it returns null a {@link NullPointerException}, and an {@link
+     *     IllegalStateException} if the pool has the object
      */
     @Override
     public T borrowObject() throws Exception {
         return borrow(-1);
     }
 
-    /** Does the same, but waits for this time in place of the configured one; without a limit if it is negative. */
+    /**
+     * Lends an object as {@link #borrowObject()}, with a limit of its own to the wait.
+     *
+     * @param longest the longest wait, in place of the configured one; negative: without a limit. Not null
+     * @return an object that no other caller has, until it is returned, invalidated or abandoned
+     * @throws Exception as {@link #borrowObject()}
+     */
     public T borrowObject(Duration longest) throws Exception {
         boolean isEndless = longest.isNegative() || longest.getSeconds() > TimeUnit.DAYS.toSeconds(10_000);
         return borrow(isEndless ? Long.MAX_VALUE : longest.toNanos());
     }
 
-    /** Does the same, with a time in milliseconds. */
+    /**
+     * Lends an object as {@link #borrowObject()}, with a limit of its own to the wait.
+     *
+     * @param longestMillis the longest wait in milliseconds, in place of the configured one; negative: without a limit
+     * @return an object that no other caller has, until it is returned, invalidated or abandoned
+     * @throws Exception as {@link #borrowObject()}
+     */
     public T borrowObject(long longestMillis) throws Exception {
         return borrowObject(Duration.ofMillis(longestMillis));
     }
@@ -270,9 +313,12 @@ public class ZuphinkaPool<T> implements ObjectPool<T>, UsageTracking<T> {
     // Returns.
 
     /**
-     * Returns an object to the pool. If it is to be destroyed, failures of that are passed to {@link #swallowed}.
+     * Returns a lent object. It becomes idle, or it is destroyed: if it fails its test or its passivation, if {@code maxIdle} objects are idle, or if
+     * the pool is closed. What the factory throws is passed to {@link #swallowed}, except for a failed test. If objects can be abandoned, the return
+     * of an object that is no longer of the pool has no effect.
      *
-     * @throws IllegalStateException if the object is not lent by this pool, unless objects can be abandoned and it may have been
+     * @param object a lent object
+     * @throws IllegalStateException if the object was returned before, or is not of this pool and objects cannot be abandoned
      */
     @Override
     public void returnObject(T object) {
@@ -327,10 +373,11 @@ public class ZuphinkaPool<T> implements ObjectPool<T>, UsageTracking<T> {
     }
 
     /**
-     * Destroys a lent object.
+     * Destroys a lent object and frees its place. If objects can be abandoned, it has no effect on an object that is no longer of the pool.
      *
-     * @throws IllegalStateException if the object is not lent by this pool, unless objects can be abandoned and it may have been
-     * @throws Exception if the factory fails to destroy it. Its place is free all the same.
+     * @param object a lent object
+     * @throws IllegalStateException if the object is of this pool and not lent, or is not of this pool and objects cannot be abandoned
+     * @throws Exception if the factory fails to destroy it. Its place is free all the same
      */
     @Override
     public void invalidateObject(T object) throws Exception {
@@ -352,7 +399,12 @@ public class ZuphinkaPool<T> implements ObjectPool<T>, UsageTracking<T> {
         storeSegment();
     }
 
-    /** Notes that its holder uses an object, which is then not abandoned. */
+    /**
+     * Notes that its holder uses a lent object now: the time until it is abandoned begins again. If the configuration tracks usage, it records the
+     * stack of the call. It has no effect on an object that is not of this pool.
+     *
+     * @param object a lent object
+     */
     @Override
     public void use(T object) {
         Member<T> member = objects.find(object);
@@ -369,10 +421,10 @@ public class ZuphinkaPool<T> implements ObjectPool<T>, UsageTracking<T> {
     // Upkeep.
 
     /**
-     * Makes one more idle object, if there is a free place.
+     * Makes one more idle object, if there is a free place. One that fails its test is destroyed, without an exception.
      *
-     * @throws IllegalStateException if the pool is closed, or its journal is full
-     * @throws Exception if the factory fails to make or to passivate it
+     * @throws IllegalStateException if the pool is closed
+     * @throws Exception if the factory fails to make or to passivate it; the same exception. Its place is free
      */
     @Override
     public void addObject() throws Exception {
@@ -401,7 +453,12 @@ public class ZuphinkaPool<T> implements ObjectPool<T>, UsageTracking<T> {
         }
     }
 
-    /** Makes idle objects until {@code minIdle} are idle, as far as there are places. A closed pool makes none. */
+    /**
+     * Makes idle objects until {@code minIdle} are idle, as far as there are places. One that fails its test is destroyed, and another one is made.
+     * It has no effect on a closed pool.
+     *
+     * @throws Exception if the factory fails to make or to passivate one; the same exception. Those made before stay idle
+     */
     public void preparePool() throws Exception {
         for (Member<T> member = sections.place(Core.FILL); member != null; member = sections.place(Core.FILL)) {
             stock(member);
@@ -410,8 +467,10 @@ public class ZuphinkaPool<T> implements ObjectPool<T>, UsageTracking<T> {
     }
 
     /**
-     * Maintains the pool: evicts idle objects, takes abandoned ones from their holders if the configuration says so, and makes idle objects
-     * until {@code minIdle} are idle.
+     * Maintains the pool: {@link #evict}, then {@link #preparePool}. The maintenance thread calls it.
+     *
+     * @throws IllegalStateException if the pool is closed
+     * @throws Exception as {@link #preparePool}
      */
     public void maintain() throws Exception {
         evict();
@@ -419,10 +478,12 @@ public class ZuphinkaPool<T> implements ObjectPool<T>, UsageTracking<T> {
     }
 
     /**
-     * Examines idle objects, and destroys those that were idle for too long or that fail their test; then takes abandoned objects from their
-     * holders, if the configuration says so.
+     * Examines idle objects, as many as {@code numTestsPerEvictionRun} says. It destroys those that were idle for too long, and those that fail their
+     * test if {@code testWhileIdle} is set. Then, if the configuration says so, it takes abandoned objects from their holders and destroys them. What
+     * the factory throws is passed to {@link #swallowed}.
      *
-     * @throws IllegalStateException if the pool is closed, or its journal is full
+     * @throws IllegalStateException if the pool is closed
+     * @throws Exception if an override does; this method throws none that is checked
      */
     public void evict() throws Exception {
         long reply = sections.ask(Core.EVICT);
@@ -500,7 +561,7 @@ public class ZuphinkaPool<T> implements ObjectPool<T>, UsageTracking<T> {
         }
     }
 
-    /** Destroys all idle objects. Failures of that are passed to {@link #swallowed}. */
+    /** Destroys all idle objects, except those under an idle test. What the factory throws is passed to {@link #swallowed}. */
     @Override
     public void clear() {
         destroyIdle(Core.value(sections.ask(Core.CLEAR)));
@@ -518,8 +579,13 @@ public class ZuphinkaPool<T> implements ObjectPool<T>, UsageTracking<T> {
     }
 
     /**
-     * Closes the pool: nothing is lent any more, threads that wait get an {@code IllegalStateException}, and idle objects are destroyed. Lent
-     * ones are destroyed when they are returned. A second close does nothing.
+     * Closes the pool: nothing is lent any more, threads that wait get an {@link IllegalStateException}, and idle objects are destroyed. Lent ones
+     * are destroyed when they are returned. It ends the maintenance thread, for which it waits as long as {@code evictorShutdownTimeout} says,
+     * unregisters the MBean, and stores the rest of a journal that is stored. What the factory and the sink throw is passed to {@link #swallowed}. A
+     * second close destroys nothing.
+     *
+     * @throws OutOfMemoryError if there is no memory to cut the rest of a journal that is stored; the pool is closed, and {@link #flushJournal} may
+     *     be tried again
      */
     @Override
     public void close() {
@@ -535,103 +601,184 @@ public class ZuphinkaPool<T> implements ObjectPool<T>, UsageTracking<T> {
 
     // Numbers.
 
-    /** Returns the counts of the pool at one moment. */
+    /**
+     * Returns the counts of the pool at one moment.
+     *
+     * @return the counts, which later calls do not change
+     */
     public Counts getCounts() {
         return sections.counts();
     }
 
+    /**
+     * Returns the number of idle objects, including those under an idle test.
+     *
+     * @return a number from 0
+     */
     @Override
     public int getNumIdle() {
         return (int) sections.counts().idle();
     }
 
-    /** Returns the number of objects that are lent, or being made, tested or destroyed. */
+    /**
+     * Returns the number of objects that are lent, or being made, activated, tested, passivated or destroyed.
+     *
+     * @return a number from 0
+     */
     @Override
     public int getNumActive() {
         Counts counts = sections.counts();
         return (int) (counts.lent() + counts.reserved());
     }
 
-    /** Returns the number of threads that wait for an object. */
+    /**
+     * Returns the number of threads that wait for an object.
+     *
+     * @return a number from 0
+     */
     public int getNumWaiters() {
         return sections.usage().waiters;
     }
 
-    /** Returns whether the pool is closed. */
+    /**
+     * Returns whether the pool is closed.
+     *
+     * @return true from the first {@link #close} on
+     */
     public boolean isClosed() {
         return sections.isClosed();
     }
 
-    /** Returns how often an object was lent. */
+    /**
+     * Returns the number of loans since the pool was made.
+     *
+     * @return a number from 0
+     */
     public long getBorrowedCount() {
         return sections.usage().borrowed;
     }
 
-    /** Returns how often an object was returned. */
+    /**
+     * Returns the number of returns of lent objects since the pool was made. An object that was abandoned or invalidated before does not count.
+     *
+     * @return a number from 0
+     */
     public long getReturnedCount() {
         return sections.usage().returned;
     }
 
-    /** Returns the number of objects that the factory was asked to make. */
+    /**
+     * Returns the number of objects that the pool asked its factory to make, also if that failed.
+     *
+     * @return a number from 0
+     */
     public long getCreatedCount() {
         return sections.counts().created();
     }
 
-    /** Returns the number of objects that were destroyed, could not be made, or were taken from their holders. */
+    /**
+     * Returns the number of objects that lost their places: they were destroyed, could not be made, or were taken from their holders.
+     *
+     * @return a number from 0
+     */
     public long getDestroyedCount() {
         Counts counts = sections.counts();
         return counts.destroyed() + counts.reclaimed();
     }
 
-    /** Returns the number of idle objects that eviction runs destroyed. */
+    /**
+     * Returns the number of idle objects that eviction runs destroyed, for their idle time or a failed test.
+     *
+     * @return a number from 0
+     */
     public long getDestroyedByEvictorCount() {
         return sections.counts().evicted();
     }
 
-    /** Returns the number of objects that were destroyed since they failed their test for a borrow. */
+    /**
+     * Returns the number of objects that were destroyed for a failed test of {@code testOnBorrow}.
+     *
+     * @return a number from 0
+     */
     public long getDestroyedByBorrowValidationCount() {
         return sections.usage().failedOnBorrow;
     }
 
-    /** Returns the longest time that a borrow waited, in milliseconds. */
+    /**
+     * Returns the longest wait of a borrow. A borrow whose own limit ended its wait does not count.
+     *
+     * @return milliseconds, from 0
+     */
     public long getMaxBorrowWaitTimeMillis() {
         return TimeUnit.NANOSECONDS.toMillis(sections.usage().longestWaitNanos);
     }
 
-    /** Returns the mean time that a borrow waited, in milliseconds. */
+    /**
+     * Returns the mean wait: the sum of the waits of borrows, divided by the number of loans.
+     *
+     * @return milliseconds, from 0; 0 if there was no loan
+     */
     public long getMeanBorrowWaitTimeMillis() {
         Usage usage = sections.usage();
         return usage.borrowed == 0 ? 0 : TimeUnit.NANOSECONDS.toMillis(usage.waitedNanos / usage.borrowed);
     }
 
-    /** Returns what is known of all objects. */
+    /**
+     * Returns a view of each object that was made and is not being destroyed. It takes no lock: objects that come or go meanwhile may be missing.
+     *
+     * @return a new set
+     */
     public Set<DefaultPooledObjectInfo> listAllObjects() {
         return objects.all().stream().map(member -> new DefaultPooledObjectInfo(member.pooled)).collect(Collectors.toSet());
     }
 
-    /** Returns the name of the pool's MBean; null if it has none. */
+    /**
+     * Returns the name of the pool's MBean.
+     *
+     * @return the name, also after the pool was closed; null if it was not registered
+     */
     public ObjectName getJmxName() {
         return beanName;
     }
 
     // The journal.
 
-    /** Returns the settings as a file in TOML, by which {@code pool check} checks the journal. */
+    /**
+     * Returns the settings as a file in TOML, by which {@code pool check} checks the journal.
+     *
+     * @return the text, always the same
+     */
     public String getSettingsText() {
         return settings.text();
     }
 
-    /** Returns the journal since it was last cut. */
+    /**
+     * Returns the journal since it was last cut. The pool is unchanged.
+     *
+     * @return the entries, with the base that they continue
+     * @throws OutOfMemoryError if there is no memory for the text, or it has 2 GiB or more
+     */
     public Segment getJournal() {
         return sections.segment();
     }
 
-    /** Cuts the journal, and returns what was cut. Nothing changes for the objects. It is for a journal that is kept. */
+    /**
+     * Cuts a journal that is kept, and returns what was cut. Objects, waits and counts are unchanged. Entries of a journal that is stored would be
+     * missing from its segments.
+     *
+     * @return the entries since the last cut, with the base that they continue
+     * @throws OutOfMemoryError if there is no memory; then nothing is cut
+     */
     public Segment cut() {
         return sections.cut();
     }
 
-    /** Stores all of a journal that is stored. Failures of that are passed to {@link #swallowed}. */
+    /**
+     * Stores all entries of a journal that is stored. It has no effect on one that is kept or dropped. A failure of the sink is passed to {@link
+     * #swallowed}, and the segment waits.
+     *
+     * @throws OutOfMemoryError if there is no memory; then nothing is cut
+     */
     public void flushJournal() {
         try {
             sections.storeRest();
@@ -652,8 +799,11 @@ public class ZuphinkaPool<T> implements ObjectPool<T>, UsageTracking<T> {
     }
 
     /**
-     * Receives each failure that no call throws: those of destructions, passivations and idle tests, of the maintenance thread, and of a sink.
-     * It does nothing. Override it to log them. What it throws itself is ignored, since the call that failed has to be completed.
+     * Receives each failure that no call throws: those of destructions, passivations and idle tests, of the maintenance thread, and of a sink. It
+     * does nothing. Override it to log them. It runs without the pool's lock, in the thread whose call failed, and so in several threads at once. A
+     * {@link RuntimeException} that it throws is ignored, since the call that failed has to be completed.
+     *
+     * @param failure what the factory or the sink threw
      */
     protected void swallowed(Exception failure) {}
 
