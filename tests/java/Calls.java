@@ -419,8 +419,9 @@ public final class Calls {
         expect("the stack of its creation", true, stack.contains("at zuphinka.ZuphinkaPool.<init>(") && stack.contains("at Calls.bean(Calls.java:"));
         expect("all attributes", List.of("MeanActiveTimeMillis", "MeanIdleTimeMillis"), missingOf(server.getMBeanInfo(name).getAttributes()));
         CompositeData[] objects = (CompositeData[]) server.invoke(name, "listAllObjects", null, null);
-        expect("its objects", "1 text 0", objects.length + " " + objects[0].get("pooledObjectToString"));
-        expect("an object's loans", 1L, objects[0].get("borrowedCount"));
+        List<String> told = Arrays.stream(objects).map(object -> object.get("pooledObjectToString") + " " + object.get("borrowedCount"))
+                .collect(Collectors.toList());
+        expect("its objects and their loans", List.of("text 0 1"), told);
         other.close();
         pool.close();
         expect("unregistered", false, server.isRegistered(name));
