@@ -4,7 +4,9 @@
     play_java.py LIBRARY POOL JOURNAL_PICTURE
 
 LIBRARY is libzuphinka.a, and the other two are programs. tests/java/Calls.java makes each call of a pool, with what the factory throws.
-tests/java/Stress.java makes random calls in eight threads over a factory that fails at random. The journals that they write must be legal. The jar
+tests/java/Stress.java makes random calls in eight threads over a factory that fails at random. tests/java/Refusals.java refuses the native library
+each of its allocations in turn. The journals that they write must be legal. A stored file must be synced before it has its name, and its folder
+afterwards. The jar
 must have the version of all products and load nothing but the C library, and the codes of zuphinka.Core must be those of bindings/c/zuphinka.h. Each
 public and protected item must have documentation in which javac finds nothing wrong. If there is no JDK or no Commons Pool 2, all of it is left out.
 The examples are run by the commands of bindings/java/README.md, that over DBCP2 only if DBCP2 and H2 are there; its journal must be drawn.
@@ -12,6 +14,7 @@ The examples are run by the commands of bindings/java/README.md, that over DBCP2
 Prints what fails, and in the end the line 'N passed, M failed'.
 """
 
+import os
 import pathlib
 import re
 import shlex
@@ -22,6 +25,7 @@ import zipfile
 
 from check_picture import differences
 from playing import play_checks
+from preloading import preloaded
 
 TOP = pathlib.Path(__file__).resolve().parent.parent
 sys.path.append(str(TOP / "tools"))
@@ -33,17 +37,20 @@ COUNT = re.compile(r"^(\d+) passed, (\d+) failed$", flags=re.MULTILINE)
 # What the virtual machine writes about a native method that breaks a rule.
 WARNING = re.compile(r"(?:WARNING|FATAL ERROR) in native method")
 SEEDS, MILLIS = range(8), 700
+# The functions by which the native library allocates, which tests/refuse_java.c wraps.
+ALLOCATORS = ("malloc", "calloc", "realloc")
 # What the example over DBCP2 needs, and the packages that have it.
 EXAMPLE_JARS = {"commons-dbcp2": "libcommons-dbcp2-java", "h2": "libh2-java"}
 # A run that takes longer hangs, in seconds.
 LONGEST = 120
 
 
-def run(jar, classes, *words, options=()):
+def run(jar, classes, *words, options=(), variables={}):
     """Runs a test program, over a jar or a folder with the classes of the library."""
     path = ":".join(map(str, (classes, jar, java.commons_pool())))
     command = [java.jdk() / "bin/java", "-Xcheck:jni", "-XX:-UsePerfData", *options, "-cp", path, *map(str, words)]
-    return subprocess.run(command, stdout=subprocess.PIPE, stderr=subprocess.STDOUT, text=True, timeout=LONGEST)
+    environment = os.environ | variables
+    return subprocess.run(command, stdout=subprocess.PIPE, stderr=subprocess.STDOUT, text=True, timeout=LONGEST, env=environment)
 
 
 def program(name, done):
@@ -81,6 +88,30 @@ def found(jar, classes, folder):
         yield f"the native library by {option.partition('=')[0]}", 0, done.returncode
     done = run(folder / "bare", classes, "Stress", 1, 50, folder / "not-found")
     yield "without the native library", (1, True), (done.returncode, "UnsatisfiedLinkError" in done.stdout)
+
+
+def refusals(jar, classes, library, pool, folder):
+    """What is wanted of lives in which allocations fail, and what came of it: those of the native library each in turn, and those of a full heap."""
+    native, journals = folder / "refusing.so", folder / "refusals"
+    wrapped = [f"-Wl,--wrap={name}" for name in ALLOCATORS]
+    java.compile_native(library, heap_of_kit(), native, *wrapped, TOP / "tests/refuse_java.c")
+    yield from program("refusals", run(jar, classes, "Refusals", journals, options=[f"-Dzuphinka.library={native}"]))
+    for place in sorted(journals.iterdir()):
+        yield f"refusals: {place.name}", *legal(pool, place / "settings.toml", *sorted(place.glob("segment-*")))
+    yield from program("a full heap", run(jar, classes, "Refusals", "heap", options=["-Xmx24m", "-XX:+UseSerialGC"]))
+
+
+def durability(jar, classes, folder):
+    """What is wanted of the order in which files of segments are synced and renamed, and what it was."""
+    noted, journal = folder / "noted", folder / "new/journal"
+    variables = {"NOTED": str(noted), "LD_PRELOAD": str(preloaded("note_syncs", folder))}
+    yield from program("durability", run(jar, classes, "Stress", 1, 100, journal, variables=variables))
+    files = [journal / "settings.toml", *sorted(journal.glob("segment-*"))]
+    wanted = [f"sync {above} 0" for above in (folder, journal.parent)]
+    for file in files:
+        wanted += [f"sync {file}.part {file.stat().st_size}", f"rename {file}.part {file}", f"sync {journal} 0"]
+    yield "segments that are stored", True, len(files) > 2
+    yield "syncs and renames", wanted, [line for line in noted.read_text().splitlines() if str(folder) in line]
 
 
 def portable(jar):
@@ -146,20 +177,22 @@ def examples(pool, picture, folder):
 
 def checks(library, pool, picture):
     yield from codes()
-    jar = java.build(pathlib.Path(library), heap_of_kit())
+    jar = java.build(library, heap_of_kit())
     with zipfile.ZipFile(jar) as packed:
         yield "the version", True, f"Implementation-Version: {version()}" in packed.read("META-INF/MANIFEST.MF").decode().splitlines()
     yield from portable(jar)
     with tempfile.TemporaryDirectory() as name:
-        folder = pathlib.Path(name)
+        folder = pathlib.Path(name).resolve()
         classes = folder / "classes"
-        java.compile_classes(sorted((TOP / "tests/java").glob("*.java")), classes, jar, java.commons_pool())
+        java.compile_classes(sorted((TOP / "tests/java").rglob("*.java")), classes, jar, java.commons_pool())
         calls = folder / "calls"
         calls.mkdir()
         yield from program("calls", run(jar, classes, "Calls", calls))
         for settings in sorted(calls.glob("*.toml")):
             yield f"calls: {settings.stem}", *legal(pool, settings, settings.with_suffix(""))
         yield "calls: a stored journal", *legal(pool, calls / "stored/settings.toml", *sorted((calls / "stored").glob("segment-*")))
+        yield from refusals(jar, classes, library, pool, folder)
+        yield from durability(jar, classes, folder)
         yield from found(jar, classes, folder)
         yield from documentation(folder / "documented")
         yield from examples(pool, picture, folder)
@@ -178,7 +211,7 @@ def main():
     except java.Missing as missing:
         print(f"left out: {missing}\n0 passed, 0 failed")
         return 0
-    return play_checks(checks(*sys.argv[1:]))
+    return play_checks(checks(*map(pathlib.Path, sys.argv[1:])))
 
 
 if __name__ == "__main__":

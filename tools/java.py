@@ -66,12 +66,12 @@ def run(*words, **options):
         sys.exit(f"{words[0]}: status {done.returncode}\n{done.stdout}")
 
 
-def compile_native(library, heap, to):
-    """Compiles the native library."""
+def compile_native(library, heap, to, *more):
+    """Compiles the native library, with more sources and flags of a test."""
     include = jdk() / "include"
     flags = ["-std=c11", "-O2", "-Wall", "-Wextra", "-Werror", "-fPIC", "-shared", "-I", include, "-I", include / "linux", "-I", TOP / "bindings/c"]
     link = [f"-Wl,--version-script={JAVA}/native/exports.map", "-Wl,-z,defs"]
-    run(os.environ.get("CC", "cc"), *flags, JAVA / "native/zuphinka_jni.c", library, heap, *link, "-o", to)
+    run(os.environ.get("CC", "cc"), *flags, JAVA / "native/zuphinka_jni.c", *more, library, heap, *link, "-o", to)
 
 
 def compile_classes(sources, to, *jars):

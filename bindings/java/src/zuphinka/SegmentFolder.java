@@ -14,7 +14,7 @@ import java.util.stream.Stream;
 /**
  * Stores the segments of one pool in a folder: each in a file {@code segment-POSITION}, whose position has 20 digits, and the settings in
  * {@code settings.toml}. After a crash a file is complete or absent: it is written under another name, synced and renamed, and the folder is
- * synced.
+ * synced. So is the folder above each new folder.
  */
 final class SegmentFolder implements SegmentSink {
     private static final String SETTINGS = "settings.toml";
@@ -29,13 +29,23 @@ final class SegmentFolder implements SegmentSink {
      */
     SegmentFolder(Path folder) throws IOException {
         this.folder = folder;
-        Files.createDirectories(folder);
+        create(folder.toAbsolutePath());
         try (Stream<Path> files = Files.list(folder)) {
             Path found = files.filter(SegmentFolder::isOfJournal).findFirst().orElse(null);
             if (found != null) {
                 throw new FileAlreadyExistsException(found.toString());
             }
         }
+    }
+
+    /** Makes a folder and those above it, as far as they are not there. */
+    private static void create(Path folder) throws IOException {
+        if (Files.isDirectory(folder)) {
+            return;
+        }
+        create(folder.getParent());
+        Files.createDirectories(folder);
+        sync(folder.getParent());
     }
 
     private static boolean isOfJournal(Path file) {
@@ -63,6 +73,10 @@ final class SegmentFolder implements SegmentSink {
             file.force(true);
         }
         Files.move(unfinished, folder.resolve(name), StandardCopyOption.ATOMIC_MOVE);
+        sync(folder);
+    }
+
+    private static void sync(Path folder) throws IOException {
         try (FileChannel opened = FileChannel.open(folder, StandardOpenOption.READ)) {
             opened.force(true);
         }
