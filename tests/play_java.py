@@ -48,7 +48,7 @@ LONGEST = 120
 def run(jar, classes, *words, options=(), variables={}):
     """Runs a test program, over a jar or a folder with the classes of the library."""
     path = ":".join(map(str, (classes, jar, java.commons_pool())))
-    command = [java.jdk() / "bin/java", "-Xcheck:jni", "-XX:-UsePerfData", *options, "-cp", path, *map(str, words)]
+    command = [java.jdk() / "bin/java", "-Xcheck:jni", "-XX:-UsePerfData", "-XX:+ErrorFileToStdout", *options, "-cp", path, *map(str, words)]
     environment = os.environ | variables
     return subprocess.run(command, stdout=subprocess.PIPE, stderr=subprocess.STDOUT, text=True, timeout=LONGEST, env=environment)
 
@@ -101,17 +101,23 @@ def refusals(jar, classes, library, pool, folder):
     yield from program("a full heap", run(jar, classes, "Refusals", "heap", options=["-Xmx24m", "-XX:+UseSerialGC"]))
 
 
-def durability(jar, classes, folder):
-    """What is wanted of the order in which files of segments are synced and renamed, and what it was."""
-    noted, journal = folder / "noted", folder / "new/journal"
+def calls(jar, classes, pool, folder):
+    """What is wanted of the calls, of their journals, and of the order in which files of these are synced and renamed; and what came of it."""
+    place, noted = folder / "calls", folder / "noted"
+    place.mkdir()
     variables = {"NOTED": str(noted), "LD_PRELOAD": str(preloaded("note_syncs", folder))}
-    yield from program("durability", run(jar, classes, "Stress", 1, 100, journal, variables=variables))
-    files = [journal / "settings.toml", *sorted(journal.glob("segment-*"))]
-    wanted = [f"sync {above} 0" for above in (folder, journal.parent)]
-    for file in files:
-        wanted += [f"sync {file}.part {file.stat().st_size}", f"rename {file}.part {file}", f"sync {journal} 0"]
-    yield "segments that are stored", True, len(files) > 2
-    yield "syncs and renames", wanted, [line for line in noted.read_text().splitlines() if str(folder) in line]
+    yield from program("calls", run(jar, classes, "Calls", place, variables=variables))
+    for settings in sorted(place.glob("*.toml")):
+        yield f"calls: {settings.stem}", *legal(pool, settings, settings.with_suffix(""))
+    wanted = []
+    for above in [place], [place, place / "interrupted"]:
+        journal = above[-1] / "stored"
+        wanted += [f"sync {existing} 0" for existing in above]
+        segments = sorted(journal.glob("segment-*"))
+        for file in [journal / "settings.toml", *segments]:
+            wanted += [f"sync {file}.part {file.stat().st_size}", f"rename {file}.part {file}", f"sync {journal} 0"]
+        yield f"calls: {journal.parent.name}/stored", *legal(pool, journal / "settings.toml", *segments)
+    yield "calls: syncs and renames", wanted, [line for line in noted.read_text().splitlines() if str(place) in line]
 
 
 def portable(jar):
@@ -185,14 +191,8 @@ def checks(library, pool, picture):
         folder = pathlib.Path(name).resolve()
         classes = folder / "classes"
         java.compile_classes(sorted((TOP / "tests/java").rglob("*.java")), classes, jar, java.commons_pool())
-        calls = folder / "calls"
-        calls.mkdir()
-        yield from program("calls", run(jar, classes, "Calls", calls))
-        for settings in sorted(calls.glob("*.toml")):
-            yield f"calls: {settings.stem}", *legal(pool, settings, settings.with_suffix(""))
-        yield "calls: a stored journal", *legal(pool, calls / "stored/settings.toml", *sorted((calls / "stored").glob("segment-*")))
+        yield from calls(jar, classes, pool, folder)
         yield from refusals(jar, classes, library, pool, folder)
-        yield from durability(jar, classes, folder)
         yield from found(jar, classes, folder)
         yield from documentation(folder / "documented")
         yield from examples(pool, picture, folder)

@@ -494,6 +494,27 @@ public final class Calls {
                 .toString().replaceAll(":.*", ""));
         failingSink();
         manyObjects();
+        interruptedStore(folder.resolve("interrupted/stored"));
+    }
+
+    /** An interrupt keeps no segment from being stored. */
+    private static void interruptedStore(Path to) throws Exception {
+        List<Exception> noted = new ArrayList<>();
+        ZuphinkaPool<String> pool = new ZuphinkaPool<>(new Texts(), config(), null, Journal.inFolder(to)) {
+            @Override
+            protected void swallowed(Exception failure) {
+                noted.add(failure);
+            }
+        };
+        pool.returnObject(pool.borrowObject());
+        Thread.currentThread().interrupt();
+        pool.close();
+        expect("a thread that is interrupted stays so", true, Thread.interrupted());
+        expect("its failures", List.of(), noted);
+        try (Stream<Path> files = Files.list(to)) {
+            expect("its files", List.of("segment-00000000000000000000", "settings.toml"),
+                    files.map(file -> file.getFileName().toString()).sorted().collect(Collectors.toList()));
+        }
     }
 
     /** A journal that is dropped has room for what is outstanding for many objects, and is dropped once it has eight entries for each. */

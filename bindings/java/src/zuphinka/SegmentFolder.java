@@ -2,6 +2,7 @@ package zuphinka;
 
 import java.io.IOException;
 import java.nio.ByteBuffer;
+import java.nio.channels.ClosedByInterruptException;
 import java.nio.channels.FileChannel;
 import java.nio.charset.StandardCharsets;
 import java.nio.file.FileAlreadyExistsException;
@@ -62,7 +63,27 @@ final class SegmentFolder implements SegmentSink {
         write(String.format("segment-%020d", segment.position()), segment.text());
     }
 
+    /** Writes a file, again if an interrupt ended that: the thread is interrupted for another cause, and stays so. */
     private void write(String name, byte[] text) throws IOException {
+        boolean isInterrupted = false;
+        try {
+            for (;;) {
+                isInterrupted |= Thread.interrupted();
+                try {
+                    writeOnce(name, text);
+                    return;
+                } catch (ClosedByInterruptException e) {
+                    // Another try.
+                }
+            }
+        } finally {
+            if (isInterrupted) {
+                Thread.currentThread().interrupt();
+            }
+        }
+    }
+
+    private void writeOnce(String name, byte[] text) throws IOException {
         Path unfinished = folder.resolve(name + ".part");
         try (FileChannel file = FileChannel.open(
                 unfinished, StandardOpenOption.CREATE, StandardOpenOption.TRUNCATE_EXISTING, StandardOpenOption.WRITE)) {
