@@ -3,8 +3,8 @@
  *     cc -O1 -shared -fPIC -o note_syncs.so tests/note_syncs.c -ldl
  *     NOTED=FILE LD_PRELOAD=./note_syncs.so PROGRAM ..
  *
- * The FILE gets a line for each call of fsync and rename, before the call: `sync PATH SIZE`, with the size that the file has then, and 0 for a folder;
- * and `rename FROM TO`. Paths have at most 4,095 bytes.
+ * The FILE gets a line for each call of fsync and rename, before the call: `sync PATH SIZE`, with the size that the file has then, and 0 for a
+ * folder; and `rename FROM TO`. Paths have at most 4,095 bytes.
  */
 #define _GNU_SOURCE
 #include <dlfcn.h>

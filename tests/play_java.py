@@ -128,7 +128,8 @@ def portable(jar):
         words = ["ldd", packed.extract("libzuphinka_jni.so", folder)]
         loaded = subprocess.run(words, capture_output=True, text=True).stdout
     yield "the version of the classes", {44 + oldest}, versions
-    yield "what the native library loads", {"linux-vdso.so.1", "libc.so.6", "ld-linux-x86-64.so.2"}, set(re.findall(r"^\t(?:/\S*/)?(\S+)", loaded, re.MULTILINE))
+    names = set(re.findall(r"^\t(?:/\S*/)?(\S+)", loaded, flags=re.MULTILINE))
+    yield "what the native library loads", {"linux-vdso.so.1", "libc.so.6", "ld-linux-x86-64.so.2"}, names
 
 
 def undocumented(source):

@@ -201,7 +201,10 @@ def java_part(top):
         return
     yield from portable(top / JAR)
     section = (top / "README.md").read_text().partition("\n## Java\n")[2]
-    reports = {"servers": rb"%d requests were answered over \d+ connections\n" % ANSWERED, "bank": rb"1000 transfers, 20 broken connections, 2000 euros in all\n"}
+    reports = {
+        "servers": rb"%d requests were answered over \d+ connections\n" % ANSWERED,
+        "bank": rb"1000 transfers, 20 broken connections, 2000 euros in all\n",
+    }
     jars = {"servers": {"commons-pool2": "libcommons-pool2-java"}, "bank": EXAMPLE_JARS}
     for block, folder in zip(BLOCK.findall(section), reports, strict=True):
         missing = [package for jar, package in jars[folder].items() if not (java.DEBIAN_JAR.parent / f"{jar}.jar").is_file()]

@@ -25,11 +25,11 @@ import zuphinka.Segment;
 import zuphinka.ZuphinkaPool;
 
 /**
- * Lives of pools in each of which one allocation of the native library fails, each in turn. A call that throws for that leaves the counts as they were,
- * and succeeds when it is made again. A kept journal has the entries of a life in which none fails, and a stored one has all entries.
+ * Lives of pools in each of which one allocation of the native library fails, each in turn. A call that throws for that leaves the counts as they
+ * were, and succeeds when it is made again. A kept journal has the entries of a life in which none fails, and a stored one has all entries.
  *
- * <p>{@code Refusals FOLDER} writes journals to folders in this one. The native library is linked with tests/refuse_java.c. {@code Refusals heap} fills
- * the heap of the virtual machine instead, so that a segment has no memory.
+ * <p>{@code Refusals FOLDER} writes journals to folders in this one. The native library is linked with tests/refuse_java.c. {@code Refusals heap}
+ * fills the heap of the virtual machine instead, so that a segment has no memory.
  */
 public final class Refusals {
     private static final int MOST = 12;
