@@ -95,10 +95,10 @@ def refusals(jar, classes, library, pool, folder):
     native, journals = folder / "refusing.so", folder / "refusals"
     wrapped = [f"-Wl,--wrap={name}" for name in ALLOCATORS]
     java.compile_native(library, heap_of_kit(), native, *wrapped, TOP / "tests/refuse_java.c")
-    yield from program("refusals", run(jar, classes, "Refusals", journals, options=[f"-Dzuphinka.library={native}"]))
+    yield from program("refusals", run(jar, classes, "Refusals", journals, options=[f"-Dzuphinka.library={native}", java.QUICK]))
     for place in sorted(journals.iterdir()):
         yield f"refusals: {place.name}", *legal(pool, place / "settings.toml", *sorted(place.glob("segment-*")))
-    yield from program("a full heap", run(jar, classes, "Refusals", "heap", options=["-Xmx24m", "-XX:+UseSerialGC"]))
+    yield from program("a full heap", run(jar, classes, "Refusals", "heap", options=["-Xmx24m", "-XX:+UseSerialGC", java.QUICK]))
 
 
 def calls(jar, classes, pool, folder):
@@ -147,7 +147,8 @@ def undocumented(source):
 def documentation(folder):
     """What is wanted of the documentation of the library, and what is wrong with it by javac."""
     sources = sorted((java.JAVA / "src").rglob("*.java"))
-    words = ["--release", java.RELEASE, "-Xdoclint:all/protected", "-Xmaxwarns", "1000", "-d", folder, "-cp", java.commons_pool(), *sources]
+    words = [f"-J{java.QUICK}", "--release", java.RELEASE, "-Xdoclint:all/protected", "-Xmaxwarns", "1000", "-d", folder]
+    words += ["-cp", java.commons_pool(), *sources]
     done = subprocess.run([java.jdk() / "bin/javac", *words], capture_output=True, text=True)
     yield "the documentation", ("", 0), (done.stderr, done.returncode)
     public = [source for source in sources if re.search(r"^public ", source.read_text(), flags=re.MULTILINE)]

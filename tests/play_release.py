@@ -111,7 +111,7 @@ def logs(clone, folder):
     for number, (text, wanted) in enumerate(cases.items()):
         log, there = folder / f"log{number}", folder / f"gate{number}"
         log.write_text(text)
-        done = release(clone, there, "--gate", log)
+        done = release(clone, there, "--without-java", "--gate", log)
         yield f"the log {text!r}", wanted, done.returncode
         yield f"an archive by the log {text!r}", not wanted, there.is_dir() and any(there.iterdir())
         if not wanted:

@@ -33,6 +33,8 @@ BUILD = TOP / "tools/build.py"
 # The oldest Java that the classes run on, and the newest compiler whose warnings are errors: a later one may have others.
 RELEASE = "11"
 STRICT = 17
+# For a run of a second or two the virtual machine need not optimize.
+QUICK = "-XX:TieredStopAtLevel=1"
 DEBIAN_JAR = pathlib.Path("/usr/share/java/commons-pool2.jar")
 MISSING = 3
 
@@ -79,7 +81,7 @@ def compile_classes(sources, to, *jars):
     path = os.pathsep.join(map(str, jars))
     version = int(re.search(r'^JAVA_VERSION="(\d+)', (jdk() / "release").read_text(), flags=re.MULTILINE)[1])
     flags = ["-Xlint:all,-path", *["-Werror"] * (version <= STRICT)]
-    run(jdk() / "bin/javac", "--release", RELEASE, *flags, "-d", to, "-cp", path, *sources)
+    run(jdk() / "bin/javac", f"-J{QUICK}", "--release", RELEASE, *flags, "-d", to, "-cp", path, *sources)
 
 
 def pack(classes, native, jar):
