@@ -79,7 +79,7 @@ PARTS = (
     Part("rust", "the Rust crate: its tests, its examples, its binding", "python3 tests/check_rust.py {pool}", ("pool", "zuphinka"), CARGO),
     Part(
         "java",
-        "the pool for Java: its calls, eight threads that call at random, its journals, its examples, its documentation",
+        "the pool for Java: its calls, also with failing allocations, eight threads that call at random, its journals, examples and documentation",
         "python3 tests/play_java.py {zuphinka} {pool} {journal_picture}",
         ("pool", "zuphinka", "journal_picture"),
     ),
