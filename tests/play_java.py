@@ -156,16 +156,17 @@ def documentation(folder):
     yield "items without documentation", [], [item for source in public for item in undocumented(source)]
 
 
-def command_of(name):
-    """The commands of the page that run an example, up to their last word, the folder for the journal."""
-    page = (java.JAVA / "README.md").read_text()
-    jars = re.search(r"^    JARS=.*\n", page, flags=re.MULTILINE)[0]
-    return jars + re.search(rf"^    java (?:.*\\\n)?.*/{name}\.java ", page, flags=re.MULTILINE)[0]
+def commands_of(name):
+    """The commands of the pages that run an example, up to their last word, the folder for the journal."""
+    pages = (page.read_text() for page in (TOP / "README.md", java.JAVA / "README.md"))
+    return sorted({command for page in pages for command in re.findall(rf"^    (java .*/{name}\.java )", page, flags=re.MULTILINE)})
 
 
 def example(name, report, pool, folder):
-    """What is wanted of an example, and what came of it."""
-    words = ["bash", "-ec", f"{command_of(name)}{shlex.quote(str(folder))}"]
+    """What is wanted of an example, and what came of it. All pages must run it by one command."""
+    commands = commands_of(name)
+    yield f"{name}: its commands", 1, len(commands)
+    words = ["bash", "-ec", f"{commands[0]}{shlex.quote(str(folder))}"]
     done = subprocess.run(words, cwd=TOP, capture_output=True, text=True, timeout=LONGEST)
     yield f"{name}: what it prints", True, re.fullmatch(report, done.stdout) is not None or done.stdout + done.stderr
     yield f"{name}: its journal", *legal(pool, folder / "settings.toml", *sorted(folder.glob("segment-*")))
