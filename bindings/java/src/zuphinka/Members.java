@@ -1,20 +1,28 @@
 package zuphinka;
 
 import java.util.Arrays;
-import java.util.HashMap;
-import java.util.Map;
 
-/** The objects that have a place, by their slots and by their ids. The caller holds the lock of the pool. */
+/** The objects that have a place, by their slots. The caller holds the lock of the pool. */
 final class Members<T> {
     private static final int FIRST_SLOTS = 8;
-    private final Map<Long, Member<T>> byId = new HashMap<>();
     @SuppressWarnings({"unchecked", "rawtypes"})
     private Member<T>[] slots = new Member[0];
     private int[] freeSlots = new int[0];
     private int free;
+    private int size;
+    /** The next object to be added. It has a slot. */
+    private Member<T> next;
 
-    /** Makes sure that {@link #add} has room. Nothing can fail between the core's answer Make and the end of its section. */
+    /** Makes sure that {@link #add} needs no memory: nothing can fail between the core's answer Make and the end of its section. */
     void reserve() {
+        if (next == null) {
+            reserveSlot();
+            next = new Member<>(freeSlots[free - 1]);
+            free--;
+        }
+    }
+
+    private void reserveSlot() {
         if (free > 0) {
             return;
         }
@@ -29,20 +37,21 @@ final class Members<T> {
         freeSlots = room;
     }
 
-    /** Adds an object with this id. */
+    /** Adds the object that is reserved, with this id. */
     Member<T> add(long id) {
-        int slot = freeSlots[--free];
-        Member<T> member = new Member<>(id, slot);
-        slots[slot] = member;
-        byId.put(id, member);
+        Member<T> member = next;
+        next = null;
+        member.id = id;
+        slots[member.slot] = member;
+        size++;
         return member;
     }
 
     /** Removes an object whose place is free. */
     void remove(Member<T> member) {
-        byId.remove(member.id);
         slots[member.slot] = null;
         freeSlots[free++] = member.slot;
+        size--;
     }
 
     /** Returns the object whose token the core returned. */
@@ -50,13 +59,18 @@ final class Members<T> {
         return slots[(int) slot];
     }
 
-    /** Returns the object with this id, or null. */
+    /** Returns the object with this id, or null. It looks at all slots. */
     Member<T> withId(long id) {
-        return byId.get(id);
+        for (Member<T> member : slots) {
+            if (member != null && member.id == id) {
+                return member;
+            }
+        }
+        return null;
     }
 
     /** Returns the number of objects. */
     int size() {
-        return byId.size();
+        return size;
     }
 }

@@ -52,15 +52,10 @@ final class Sections<T> {
         CLEANER.register(this, () -> Core.drop(opened));
     }
 
-    /** What a section found for a borrower: the answer, and the object that it is about. */
+    /** What a section found for an eviction run or a clear: the answer, and the object that it is about. */
     static final class Found<T> {
-        final int answer;
-        final Member<T> member;
-
-        Found(int answer, Member<T> member) {
-            this.answer = answer;
-            this.member = member;
-        }
+        int answer;
+        Member<T> member;
     }
 
     // One step.
@@ -190,7 +185,8 @@ final class Sections<T> {
     // Borrows.
 
     /**
-     * Finds an object to lend, and waits while there is none.
+     * Returns an object for a borrower, and waits while there is none. It is to be made if it has no wrapper. Else it was idle: it is lent if
+     * {@code isBare}, and to be activated and tested if not.
      *
      * @param first when the borrow began, by {@link System#nanoTime}
      * @param longestNanos for how long the caller waits at most, in place of the time that the settings allow; negative: that time
@@ -198,22 +194,20 @@ final class Sections<T> {
      * @throws NoSuchElementException if there is none, or the time is over
      * @throws IllegalStateException if the pool is closed, or its journal is full
      */
-    Found<T> borrow(long first, long longestNanos, boolean isBare) throws InterruptedException {
+    Member<T> borrow(long first, long longestNanos, boolean isBare) throws InterruptedException {
         lock.lock();
         try {
-            members.reserve();
             long reply = ask(first, longestNanos, isBare);
-            int answer = Core.answer(reply);
-            switch (answer) {
+            switch (Core.answer(reply)) {
                 case Core.LENT:
                     journal.count();
                     idle--;
                     borrowed++;
-                    return new Found<>(answer, members.at(Core.value(reply)));
+                    return members.at(Core.value(reply));
                 case Core.TAKE:
-                    return new Found<>(answer, members.at(Core.value(reply)));
+                    return members.at(Core.value(reply));
                 case Core.MAKE:
-                    return new Found<>(answer, members.add(Core.value(reply)));
+                    return members.add(Core.value(reply));
                 default:
                     wakeOne();
                     throw refusal(reply);
@@ -227,6 +221,7 @@ final class Sections<T> {
         long began = millis(first);
         long at = began;
         for (;;) {
+            members.reserve(); // each time, since other threads may make objects while this one waits
             long reply = askOnce(at, began, isBare);
             if (reply < 0) {
                 makeRoom(reply);
@@ -236,7 +231,9 @@ final class Sections<T> {
             int answer = Core.answer(reply);
             boolean waits = answer == Core.WAIT || (answer == Core.TIMED_OUT && longestNanos >= 0);
             if (!waits) {
-                noteWait(at == began ? 0 : System.nanoTime() - first);
+                if (at != began) {
+                    noteWait(System.nanoTime() - first);
+                }
                 return reply;
             }
             if (!await(first, began, longestNanos)) {
@@ -390,12 +387,15 @@ final class Sections<T> {
 
     /** Examines the next idle object, or takes it for a clear. */
     Found<T> next(int input) {
+        Found<T> found = new Found<>(); // here, since an object whose answer is lost would lose its place
         lock.lock();
         try {
             long reply = step(input, 0, 0, 0);
-            int answer = Core.answer(reply);
-            boolean hasObject = answer == Core.TEST || answer == Core.DESTROY_IDLE;
-            return new Found<>(answer, hasObject ? members.at(Core.value(reply)) : null);
+            found.answer = Core.answer(reply);
+            if (found.answer == Core.TEST || found.answer == Core.DESTROY_IDLE) {
+                found.member = members.at(Core.value(reply));
+            }
+            return found;
         } finally {
             release();
         }

@@ -184,22 +184,20 @@ public class ZuphinkaPool<T> implements ObjectPool<T>, UsageTracking<T> {
             reclaim(Core.RECLAIM_ON_BORROW);
         }
         for (;;) {
-            Sections.Found<T> found = sections.borrow(first, longestNanos, isBorrowedBare);
+            Member<T> member = sections.borrow(first, longestNanos, isBorrowedBare);
             storeSegment();
-            Member<T> member = found.member;
-            switch (found.answer) {
-                case Core.LENT:
-                    member.pooled.allocate();
-                    return member.pooled.getObject();
-                case Core.MAKE:
-                    make(member, Core.READY);
-                    testNew(member);
-                    makeReady(member, true);
-                    return member.pooled.getObject();
-                default:
-                    if (makeReady(member, false)) {
-                        return member.pooled.getObject();
-                    }
+            if (member.pooled == null) {
+                make(member, Core.READY);
+                testNew(member);
+                makeReady(member, true);
+                return member.pooled.getObject();
+            }
+            if (isBorrowedBare) {
+                member.pooled.allocate();
+                return member.pooled.getObject();
+            }
+            if (makeReady(member, false)) {
+                return member.pooled.getObject();
             }
         }
     }
