@@ -64,19 +64,21 @@ final class Sections<T> {
         return (int) Thread.currentThread().getId();
     }
 
-    private long now() {
-        return millis(System.nanoTime());
-    }
-
+    /** Returns a reading of {@link System#nanoTime} as a time of the core. */
     private long millis(long nanoTime) {
         return (nanoTime - start) / 1_000_000;
     }
 
     private long step(int input, long number, long token, int outcome) {
-        long reply = Core.step(core, now(), number, token, caller(), input, outcome);
+        return step(System.nanoTime(), input, number, token, outcome);
+    }
+
+    private long step(long nanoTime, int input, long number, long token, int outcome) {
+        long at = millis(nanoTime);
+        long reply = Core.step(core, at, number, token, caller(), input, outcome);
         if (reply < 0) {
             makeRoom(reply);
-            reply = checked(Core.step(core, now(), number, token, caller(), input, outcome));
+            reply = checked(Core.step(core, at, number, token, caller(), input, outcome));
         }
         note(reply);
         return reply;
@@ -219,19 +221,19 @@ final class Sections<T> {
 
     private long ask(long first, long longestNanos, boolean isBare) throws InterruptedException {
         long began = millis(first);
-        long at = began;
+        long asked = first;
         for (;;) {
             members.reserve(); // each time, since other threads may make objects while this one waits
-            long reply = askOnce(at, began, isBare);
+            long reply = askOnce(millis(asked), began, isBare);
             if (reply < 0) {
                 makeRoom(reply);
-                reply = checked(askOnce(at, began, isBare));
+                reply = checked(askOnce(millis(asked), began, isBare));
             }
             note(reply);
             int answer = Core.answer(reply);
             boolean waits = answer == Core.WAIT || (answer == Core.TIMED_OUT && longestNanos >= 0);
             if (!waits) {
-                if (at != began) {
+                if (asked != first) {
                     noteWait(System.nanoTime() - first);
                 }
                 return reply;
@@ -239,7 +241,7 @@ final class Sections<T> {
             if (!await(first, began, longestNanos)) {
                 return reply;
             }
-            at = now();
+            asked = System.nanoTime();
         }
     }
 
@@ -272,9 +274,10 @@ final class Sections<T> {
 
     /** Lends an object that was made, or activated and tested. */
     void lend(Member<T> member) {
+        long now = System.nanoTime();
         lock.lock();
         try {
-            step(Core.READY, member.id, 0, Core.GOOD);
+            step(now, Core.READY, member.id, 0, Core.GOOD);
             borrowed++;
         } finally {
             release();
@@ -295,9 +298,10 @@ final class Sections<T> {
 
     /** Returns an object that needs no test and no passivation, and parks it. Returns the answer. */
     long giveBackBare(Member<T> member) {
+        long now = System.nanoTime();
+        long at = millis(now);
         lock.lock();
         try {
-            long at = now();
             long reply = Core.giveBack(core, at, member.id, member.slot, caller());
             if (reply < 0) {
                 makeRoom(reply);
@@ -313,9 +317,10 @@ final class Sections<T> {
 
     /** Returns an object to be tested or passivated. Returns the answer. */
     long giveBack(Member<T> member) {
+        long now = System.nanoTime();
         lock.lock();
         try {
-            return noteReturn(step(Core.RETURN, member.id, 0, 0));
+            return noteReturn(step(now, Core.RETURN, member.id, 0, 0));
         } finally {
             release();
         }
@@ -331,9 +336,10 @@ final class Sections<T> {
 
     /** Reports on an object that stays present. Returns the answer. */
     long report(int input, Member<T> member, int outcome) {
+        long now = System.nanoTime();
         lock.lock();
         try {
-            return step(input, member.id, member.slot, outcome);
+            return step(now, input, member.id, member.slot, outcome);
         } finally {
             release();
         }
