@@ -1,4 +1,6 @@
 import java.io.IOException;
+import java.io.PrintWriter;
+import java.io.StringWriter;
 import java.lang.management.ManagementFactory;
 import java.nio.charset.StandardCharsets;
 import java.nio.file.Files;
@@ -10,6 +12,7 @@ import java.util.Collections;
 import java.util.List;
 import java.util.NoSuchElementException;
 import java.util.Objects;
+import java.util.Set;
 import java.util.concurrent.Callable;
 import java.util.concurrent.atomic.AtomicInteger;
 import java.util.stream.Collectors;
@@ -19,9 +22,13 @@ import javax.management.MBeanServer;
 import javax.management.ObjectName;
 import javax.management.openmbean.CompositeData;
 import org.apache.commons.pool2.BasePooledObjectFactory;
+import org.apache.commons.pool2.DestroyMode;
+import org.apache.commons.pool2.ObjectPool;
 import org.apache.commons.pool2.PooledObject;
 import org.apache.commons.pool2.impl.AbandonedConfig;
 import org.apache.commons.pool2.impl.DefaultPooledObject;
+import org.apache.commons.pool2.impl.DefaultPooledObjectInfo;
+import org.apache.commons.pool2.impl.GenericObjectPool;
 import org.apache.commons.pool2.impl.GenericObjectPoolConfig;
 import org.apache.commons.pool2.impl.GenericObjectPoolMXBean;
 import zuphinka.Journal;
@@ -379,6 +386,168 @@ public final class Calls {
         write(pool);
     }
 
+    /** Makes plain objects. No method sees their wrappers once they are made. */
+    static class Plain extends BasePooledObjectFactory<Object> {
+        @Override
+        public Object create() {
+            return "a text";
+        }
+
+        @Override
+        public PooledObject<Object> wrap(Object object) {
+            return new DefaultPooledObject<>(object);
+        }
+    }
+
+    /** The same with wrappers that count what they are told. */
+    static final class Counted extends Plain {
+        int allocated;
+        int deallocated;
+
+        @Override
+        public PooledObject<Object> wrap(Object object) {
+            return new DefaultPooledObject<>(object) {
+                @Override
+                public boolean allocate() {
+                    allocated++;
+                    return super.allocate();
+                }
+
+                @Override
+                public boolean deallocate() {
+                    deallocated++;
+                    return super.deallocate();
+                }
+            };
+        }
+    }
+
+    /** The same, where a method sees the wrappers later. */
+    static class Seeing extends Plain {
+        final List<String> seen = new ArrayList<>();
+
+        final boolean see(PooledObject<Object> pooled) {
+            boolean isInOrder = pooled.getLastBorrowInstant().isBefore(pooled.getLastReturnInstant());
+            return seen.add(pooled.getBorrowedCount() + " " + isInOrder);
+        }
+    }
+
+    /** Returns factories of which one method each sees the wrappers. */
+    private static List<Seeing> seeing() {
+        return List.of(
+                new Seeing() {
+                    @Override
+                    public void activateObject(PooledObject<Object> pooled) {
+                        see(pooled);
+                    }
+                },
+                new Seeing() {
+                    @Override
+                    public void passivateObject(PooledObject<Object> pooled) {
+                        see(pooled);
+                    }
+                },
+                new Seeing() {
+                    @Override
+                    public void destroyObject(PooledObject<Object> pooled) {
+                        see(pooled);
+                    }
+                },
+                new Seeing() {
+                    @Override
+                    public void destroyObject(PooledObject<Object> pooled, DestroyMode mode) {
+                        see(pooled);
+                    }
+                },
+                new Seeing() {
+                    @Override
+                    public boolean validateObject(PooledObject<Object> pooled) {
+                        return see(pooled);
+                    }
+                });
+    }
+
+    /** The time of a call: from its begin to its end, in milliseconds. */
+    private static final class Span {
+        private final long begun = System.currentTimeMillis();
+        private long ended;
+
+        Span end() throws InterruptedException {
+            ended = System.currentTimeMillis();
+            Thread.sleep(2);
+            return this;
+        }
+
+        boolean has(long time) {
+            return begun <= time && time <= ended;
+        }
+    }
+
+    /** Returns what is known of the one object of a pool while it is lent and returned, and whether its times are those of the calls. */
+    private static List<String> story(ObjectPool<Object> pool, Callable<Set<DefaultPooledObjectInfo>> list) throws Exception {
+        List<String> story = new ArrayList<>();
+        Span made = new Span();
+        pool.addObject();
+        made.end();
+        DefaultPooledObjectInfo info = list.call().iterator().next();
+        story.add(known(info, made, made));
+        Span returned = made;
+        for (int loan = 0; loan < 3; loan++) {
+            Span borrowed = new Span();
+            Object lent = pool.borrowObject();
+            story.add(known(info, borrowed.end(), returned));
+            returned = new Span();
+            pool.returnObject(lent);
+            story.add(known(info, borrowed, returned.end()));
+        }
+        pool.invalidateObject(pool.borrowObject());
+        story.add(info.getBorrowedCount() + " " + info);
+        return story;
+    }
+
+    private static String known(DefaultPooledObjectInfo info, Span borrowed, Span returned) {
+        boolean isInTime = borrowed.has(info.getLastBorrowTime()) && returned.has(info.getLastReturnTime());
+        return info.getBorrowedCount() + " " + isInTime + " " + info;
+    }
+
+    private static void wrappers() throws Exception {
+        GenericObjectPoolConfig<Object> config = new GenericObjectPoolConfig<>();
+        config.setJmxEnabled(false);
+        config.setTestWhileIdle(true);
+        GenericObjectPool<Object> library = new GenericObjectPool<>(new Plain(), config);
+        List<String> wanted = story(library, library::listAllObjects);
+        library.close();
+        Counted counted = new Counted();
+        for (Plain factory : List.of(new Plain(), counted)) {
+            ZuphinkaPool<Object> pool = new ZuphinkaPool<>(factory, config);
+            expect("what is known over " + factory.getClass().getSimpleName(), wanted, story(pool, pool::listAllObjects));
+            pool.close();
+        }
+        expect("wrappers are told", "4 3", counted.allocated + " " + counted.deallocated);
+        for (Seeing factory : seeing()) {
+            ZuphinkaPool<Object> pool = new ZuphinkaPool<>(factory, config);
+            for (int loan = 0; loan < 3; loan++) {
+                pool.returnObject(pool.borrowObject());
+                Thread.sleep(1);
+            }
+            pool.evict();
+            pool.close();
+            expect("what a method sees of a wrapper last", "3 true", factory.seen.get(factory.seen.size() - 1));
+        }
+        AbandonedConfig abandoned = new AbandonedConfig();
+        StringWriter log = new StringWriter();
+        abandoned.setRemoveAbandonedOnMaintenance(true);
+        abandoned.setRemoveAbandonedTimeout(Duration.ZERO);
+        abandoned.setLogAbandoned(true);
+        abandoned.setLogWriter(new PrintWriter(log));
+        ZuphinkaPool<Object> pool = new ZuphinkaPool<>(new Plain(), config, abandoned);
+        pool.borrowObject();
+        Thread.sleep(2);
+        pool.evict();
+        pool.close();
+        expect("an abandoned object is logged", true, log.toString().contains("has not been returned to the pool"));
+    }
+
     private static void refusals() {
         GenericObjectPoolConfig<String> fair = config();
         fair.setFairness(true);
@@ -583,6 +752,7 @@ public final class Calls {
         failures();
         upkeep();
         abandonment();
+        wrappers();
         refusals();
         bean();
         throwingSink();

@@ -15,6 +15,7 @@ final class CoreSettings {
     final boolean testOnBorrow;
     final boolean testOnCreate;
     final boolean testOnReturn;
+    final boolean testWhileIdle;
     final boolean isAbandonedRemoved;
     final boolean reclaimsOnBorrow;
     final boolean reclaimsOnMaintenance;
@@ -35,6 +36,7 @@ final class CoreSettings {
         testOnBorrow = config.getTestOnBorrow();
         testOnCreate = config.getTestOnCreate();
         testOnReturn = config.getTestOnReturn();
+        testWhileIdle = config.getTestWhileIdle();
         isAbandonedRemoved = abandoned != null;
         reclaimsOnBorrow = isAbandonedRemoved && abandoned.getRemoveAbandonedOnBorrow();
         reclaimsOnMaintenance = isAbandonedRemoved && abandoned.getRemoveAbandonedOnMaintenance();
@@ -68,7 +70,7 @@ final class CoreSettings {
                 + key("testOnBorrow", testOnBorrow)
                 + key("testOnCreate", testOnCreate)
                 + key("testOnReturn", testOnReturn)
-                + key("testWhileIdle", config.getTestWhileIdle());
+                + key("testWhileIdle", testWhileIdle);
     }
 
     private String textOf(AbandonedConfig abandoned) {

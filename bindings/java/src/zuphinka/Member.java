@@ -10,8 +10,33 @@ final class Member<T> {
     long id;
     /** Its wrapper; null until it is made. */
     PooledObject<T> pooled;
+    /** Whether its wrapper is told of each loan. */
+    boolean isWrapperTold;
+
+    // The lock of the pool protects what follows.
+    private long loans;
+    private boolean isLent;
+    /** When it was last lent and returned, by {@link System#nanoTime}. */
+    private long lentAt;
+    private long returnedAt;
 
     Member(int slot) {
         this.slot = slot;
+    }
+
+    void lend(long nanoTime) {
+        loans++;
+        isLent = true;
+        lentAt = nanoTime;
+    }
+
+    void giveBack(long nanoTime) {
+        isLent = false;
+        returnedAt = nanoTime;
+    }
+
+    /** Returns its loans until now. */
+    Loans loans() {
+        return new Loans(loans, isLent, lentAt, returnedAt);
     }
 }

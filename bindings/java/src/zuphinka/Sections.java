@@ -32,6 +32,8 @@ final class Sections<T> {
     /** How many threads were signalled and have not looked yet, or fewer: a thread that was not signalled may have been counted as one that was. */
     private int signalled;
     private boolean isClosed;
+    /** When the core was last asked for a borrower, by {@link System#nanoTime}. */
+    private long asked;
     private long borrowed;
     private long returned;
     private long failedOnBorrow;
@@ -204,8 +206,7 @@ final class Sections<T> {
                 case Core.LENT:
                     journal.count();
                     idle--;
-                    borrowed++;
-                    return members.at(Core.value(reply));
+                    return lent(members.at(Core.value(reply)), asked);
                 case Core.TAKE:
                     return members.at(Core.value(reply));
                 case Core.MAKE:
@@ -221,7 +222,7 @@ final class Sections<T> {
 
     private long ask(long first, long longestNanos, boolean isBare) throws InterruptedException {
         long began = millis(first);
-        long asked = first;
+        asked = first;
         for (;;) {
             members.reserve(); // each time, since other threads may make objects while this one waits
             long reply = askOnce(millis(asked), began, isBare);
@@ -278,10 +279,16 @@ final class Sections<T> {
         lock.lock();
         try {
             step(now, Core.READY, member.id, 0, Core.GOOD);
-            borrowed++;
+            lent(member, now);
         } finally {
             release();
         }
+    }
+
+    private Member<T> lent(Member<T> member, long now) {
+        borrowed++;
+        member.lend(now);
+        return member;
     }
 
     /** Notes that an object failed its test for a borrow. */
@@ -309,7 +316,7 @@ final class Sections<T> {
             }
             note(reply);
             journal.count();
-            return noteReturn(reply);
+            return noteReturn(reply, member, now);
         } finally {
             release();
         }
@@ -320,16 +327,17 @@ final class Sections<T> {
         long now = System.nanoTime();
         lock.lock();
         try {
-            return noteReturn(step(now, Core.RETURN, member.id, 0, 0));
+            return noteReturn(step(now, Core.RETURN, member.id, 0, 0), member, now);
         } finally {
             release();
         }
     }
 
-    private long noteReturn(long reply) {
+    private long noteReturn(long reply, Member<T> member, long now) {
         int answer = Core.answer(reply);
         if (answer != Core.REFUSED && answer != Core.GONE) {
             returned++;
+            member.giveBack(now);
         }
         return reply;
     }
@@ -491,6 +499,16 @@ final class Sections<T> {
         lock.lock();
         try {
             return journal.counts();
+        } finally {
+            release();
+        }
+    }
+
+    /** Returns the loans of an object. */
+    Loans loansOf(Member<?> member) {
+        lock.lock();
+        try {
+            return member.loans();
         } finally {
             release();
         }

@@ -16,6 +16,7 @@ import org.apache.commons.pool2.PooledObject;
 import org.apache.commons.pool2.PooledObjectFactory;
 import org.apache.commons.pool2.UsageTracking;
 import org.apache.commons.pool2.impl.AbandonedConfig;
+import org.apache.commons.pool2.impl.DefaultPooledObject;
 import org.apache.commons.pool2.impl.DefaultPooledObjectInfo;
 import org.apache.commons.pool2.impl.GenericObjectPoolConfig;
 
@@ -52,6 +53,8 @@ public class ZuphinkaPool<T> implements ObjectPool<T>, UsageTracking<T> {
     private final Objects<T> objects = new Objects<>();
     private final boolean isBorrowedBare;
     private final boolean isReturnedBare;
+    /** Whether no method of the factory sees a wrapper after the object's first loan. */
+    private final boolean isWrapperUnseen;
     private final Duration evictorShutdown;
     private final Maintenance maintenance;
     private final ObjectName beanName;
@@ -117,8 +120,11 @@ public class ZuphinkaPool<T> implements ObjectPool<T>, UsageTracking<T> {
         this.factory = factory;
         this.abandoned = AbandonedConfig.copy(abandoned);
         settings = new CoreSettings(config, this.abandoned, journal.limit);
-        isBorrowedBare = !settings.testOnBorrow && inherits("activateObject");
-        isReturnedBare = !settings.testOnReturn && inherits("passivateObject");
+        isBorrowedBare = !settings.testOnBorrow && inherits("activateObject", PooledObject.class);
+        isReturnedBare = !settings.testOnReturn && inherits("passivateObject", PooledObject.class);
+        isWrapperUnseen = isBorrowedBare && isReturnedBare && abandoned == null
+                && (!settings.testWhileIdle || inherits("validateObject", PooledObject.class))
+                && inherits("destroyObject", PooledObject.class) && inherits("destroyObject", PooledObject.class, DestroyMode.class);
         sections = new Sections<>(settings, journal);
         evictorShutdown = config.getEvictorShutdownTimeoutDuration();
         Duration pause = config.getDurationBetweenEvictionRuns();
@@ -127,9 +133,10 @@ public class ZuphinkaPool<T> implements ObjectPool<T>, UsageTracking<T> {
     }
 
     /** Returns whether a method of the factory is the one of {@link BasePooledObjectFactory}, which does nothing. */
-    private boolean inherits(String method) {
+    private boolean inherits(String method, Class<?>... parameters) {
         try {
-            return factory.getClass().getMethod(method, PooledObject.class).getDeclaringClass() == BasePooledObjectFactory.class;
+            Class<?> declaring = factory.getClass().getMethod(method, parameters).getDeclaringClass();
+            return factory instanceof BasePooledObjectFactory && declaring.isAssignableFrom(BasePooledObjectFactory.class);
         } catch (NoSuchMethodException e) {
             return false;
         }
@@ -193,7 +200,7 @@ public class ZuphinkaPool<T> implements ObjectPool<T>, UsageTracking<T> {
                 return member.pooled.getObject();
             }
             if (isBorrowedBare) {
-                member.pooled.allocate();
+                tellLoan(member);
                 return member.pooled.getObject();
             }
             if (makeReady(member, false)) {
@@ -209,6 +216,7 @@ public class ZuphinkaPool<T> implements ObjectPool<T>, UsageTracking<T> {
             if (member.pooled == null) {
                 throw new NullPointerException("makeObject() returned null");
             }
+            member.isWrapperTold = !isWrapperUnseen || member.pooled.getClass() != DefaultPooledObject.class;
             if (!objects.add(member)) {
                 throw new IllegalStateException("makeObject() returned an object that the pool has");
             }
@@ -241,7 +249,7 @@ public class ZuphinkaPool<T> implements ObjectPool<T>, UsageTracking<T> {
 
     /** Activates and tests an object, and lends it. If that fails it is destroyed: returns false, or throws for a new one. */
     private boolean makeReady(Member<T> member, boolean isNew) {
-        member.pooled.allocate();
+        tellLoan(member);
         try {
             factory.activateObject(member.pooled);
         } catch (Throwable e) {
@@ -262,6 +270,18 @@ public class ZuphinkaPool<T> implements ObjectPool<T>, UsageTracking<T> {
         }
         sections.lend(member);
         return true;
+    }
+
+    private static void tellLoan(Member<?> member) {
+        if (member.isWrapperTold) {
+            member.pooled.allocate();
+        }
+    }
+
+    private static void tellReturn(Member<?> member) {
+        if (member.isWrapperTold) {
+            member.pooled.deallocate();
+        }
     }
 
     private static NoSuchElementException none(String message, Throwable fault) {
@@ -326,7 +346,7 @@ public class ZuphinkaPool<T> implements ObjectPool<T>, UsageTracking<T> {
             return;
         }
         if (isReturnedBare) {
-            member.pooled.deallocate(); // before another thread may have it
+            tellReturn(member); // before another thread may have it
         }
         long reply = isReturnedBare ? sections.giveBackBare(member) : sections.giveBack(member);
         switch (Core.answer(reply)) {
@@ -364,7 +384,7 @@ public class ZuphinkaPool<T> implements ObjectPool<T>, UsageTracking<T> {
             swallow((Exception) e);
             return;
         }
-        member.pooled.deallocate();
+        tellReturn(member);
         if (Core.answer(sections.report(Core.PARK, member, Core.GOOD)) == Core.DESTROY) {
             destroyQuietly(member);
         }
@@ -727,7 +747,11 @@ public class ZuphinkaPool<T> implements ObjectPool<T>, UsageTracking<T> {
      * @return a new set
      */
     public Set<DefaultPooledObjectInfo> listAllObjects() {
-        return objects.all().stream().map(member -> new DefaultPooledObjectInfo(member.pooled)).collect(Collectors.toSet());
+        return objects.all().stream().map(this::infoOf).collect(Collectors.toSet());
+    }
+
+    private DefaultPooledObjectInfo infoOf(Member<T> member) {
+        return member.isWrapperTold ? new DefaultPooledObjectInfo(member.pooled) : new MemberInfo(sections, member);
     }
 
     /**
