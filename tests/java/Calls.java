@@ -49,6 +49,7 @@ public final class Calls {
     static final class Texts extends BasePooledObjectFactory<String> {
         final List<String> asked = new ArrayList<>();
         private final AtomicInteger next = new AtomicInteger();
+        long makeMillis;
         Throwable makes;
         Throwable activates;
         Throwable validates;
@@ -68,6 +69,7 @@ public final class Calls {
 
         @Override
         public String create() throws Exception {
+            Thread.sleep(makeMillis);
             fail("make", makes);
             return new String("text " + next.getAndIncrement());
         }
@@ -258,6 +260,31 @@ public final class Calls {
         String closed = "IllegalStateException: Pool not open";
         expect("a close wakes", List.of(closed, closed), whileWaiting(endless, 2, endless::borrowObject, endless::close));
         write(endless);
+    }
+
+    private static void times() throws Exception {
+        GenericObjectPoolConfig<String> config = config();
+        config.setMaxTotal(1);
+        config.setMaxWait(Duration.ofMillis(100));
+        Texts texts = new Texts();
+        texts.makeMillis = 50;
+        Noting pool = new Noting(texts, config, null);
+        String lent = pool.borrowObject();
+        expect("a make counts", true, pool.getMaxBorrowWaitTimeMillis() >= 50 && pool.getMeanBorrowWaitTimeMillis() >= 50);
+        long mean = pool.getMeanBorrowWaitTimeMillis();
+        pool.returnObject(lent);
+        pool.borrowObject();
+        expect("an object at once", true, pool.getMeanBorrowWaitTimeMillis() < mean);
+        List<Long> before = List.of(pool.getMaxBorrowWaitTimeMillis(), pool.getMeanBorrowWaitTimeMillis());
+        result(pool::borrowObject);
+        expect("a borrow that fails does not count", before, List.of(pool.getMaxBorrowWaitTimeMillis(), pool.getMeanBorrowWaitTimeMillis()));
+        whileWaiting(pool, 1, () -> pool.borrowObject(-1), () -> {
+            Thread.sleep(before.get(0) + 50);
+            pool.returnObject(lent);
+        });
+        expect("a wait counts", true, pool.getMaxBorrowWaitTimeMillis() >= before.get(0) + 50);
+        pool.close();
+        write(pool);
     }
 
     /** Acts while threads wait for an object, and returns what they get, as {@link #result}. */
@@ -583,7 +610,7 @@ public final class Calls {
         pool.returnObject(pool.borrowObject());
         expect("an attribute", 1L, server.getAttribute(name, "BorrowedCount"));
         expect("a setting", 8, server.getAttribute(name, "MaxTotal"));
-        expect("a mean", 0L, server.getAttribute(name, "MeanBorrowWaitTimeMillis"));
+        expect("a mean", pool.getMeanBorrowWaitTimeMillis(), server.getAttribute(name, "MeanBorrowWaitTimeMillis"));
         String stack = (String) server.getAttribute(name, "CreationStackTrace");
         expect("the stack of its creation", true, stack.contains("at zuphinka.ZuphinkaPool.<init>(") && stack.contains("at Calls.bean(Calls.java:"));
         expect("all attributes", List.of("MeanActiveTimeMillis", "MeanIdleTimeMillis"), missingOf(server.getMBeanInfo(name).getAttributes()));
@@ -749,6 +776,7 @@ public final class Calls {
         folder = Path.of(words[0]);
         life();
         limits();
+        times();
         failures();
         upkeep();
         abandonment();

@@ -206,7 +206,7 @@ final class Sections<T> {
                 case Core.LENT:
                     journal.count();
                     idle--;
-                    return lent(members.at(Core.value(reply)), asked);
+                    return lent(members.at(Core.value(reply)), asked, asked - first);
                 case Core.TAKE:
                     return members.at(Core.value(reply));
                 case Core.MAKE:
@@ -234,9 +234,6 @@ final class Sections<T> {
             int answer = Core.answer(reply);
             boolean waits = answer == Core.WAIT || (answer == Core.TIMED_OUT && longestNanos >= 0);
             if (!waits) {
-                if (asked != first) {
-                    noteWait(System.nanoTime() - first);
-                }
                 return reply;
             }
             if (!await(first, began, longestNanos)) {
@@ -248,11 +245,6 @@ final class Sections<T> {
 
     private long askOnce(long at, long began, boolean isBare) {
         return isBare ? Core.borrow(core, at, began, caller()) : Core.step(core, at, began, 0, caller(), Core.BORROW, 0);
-    }
-
-    private void noteWait(long nanos) {
-        waitedNanos += nanos;
-        longestWaitNanos = Math.max(longestWaitNanos, nanos);
     }
 
     /** Returns the exception for an answer that gives nothing. */
@@ -273,20 +265,23 @@ final class Sections<T> {
         }
     }
 
-    /** Lends an object that was made, or activated and tested. */
-    void lend(Member<T> member) {
+    /** Lends an object that was made, or activated and tested, by a borrow that began at this time of {@link System#nanoTime}. */
+    void lend(Member<T> member, long first) {
         long now = System.nanoTime();
         lock.lock();
         try {
             step(now, Core.READY, member.id, 0, Core.GOOD);
-            lent(member, now);
+            lent(member, now, now - first);
         } finally {
             release();
         }
     }
 
-    private Member<T> lent(Member<T> member, long now) {
+    /** Notes that a borrow has lent an object, and how long it took. */
+    private Member<T> lent(Member<T> member, long now, long nanos) {
         borrowed++;
+        waitedNanos += nanos;
+        longestWaitNanos = Math.max(longestWaitNanos, nanos);
         member.lend(now);
         return member;
     }

@@ -196,14 +196,14 @@ public class ZuphinkaPool<T> implements ObjectPool<T>, UsageTracking<T> {
             if (member.pooled == null) {
                 make(member, Core.READY);
                 testNew(member);
-                makeReady(member, true);
+                makeReady(member, true, first);
                 return member.pooled.getObject();
             }
             if (isBorrowedBare) {
                 tellLoan(member);
                 return member.pooled.getObject();
             }
-            if (makeReady(member, false)) {
+            if (makeReady(member, false, first)) {
                 return member.pooled.getObject();
             }
         }
@@ -248,7 +248,7 @@ public class ZuphinkaPool<T> implements ObjectPool<T>, UsageTracking<T> {
     }
 
     /** Activates and tests an object, and lends it. If that fails it is destroyed: returns false, or throws for a new one. */
-    private boolean makeReady(Member<T> member, boolean isNew) {
+    private boolean makeReady(Member<T> member, boolean isNew, long first) {
         tellLoan(member);
         try {
             factory.activateObject(member.pooled);
@@ -268,7 +268,7 @@ public class ZuphinkaPool<T> implements ObjectPool<T>, UsageTracking<T> {
             }
             return false;
         }
-        sections.lend(member);
+        sections.lend(member, first);
         return true;
     }
 
@@ -723,7 +723,7 @@ public class ZuphinkaPool<T> implements ObjectPool<T>, UsageTracking<T> {
     }
 
     /**
-     * Returns the longest wait of a borrow. A borrow whose own limit ended its wait does not count.
+     * Returns the longest time that a borrow took to lend an object: its wait, and the calls of the factory.
      *
      * @return milliseconds, from 0
      */
@@ -732,7 +732,7 @@ public class ZuphinkaPool<T> implements ObjectPool<T>, UsageTracking<T> {
     }
 
     /**
-     * Returns the mean wait: the sum of the waits of borrows, divided by the number of loans.
+     * Returns the mean time that a borrow took to lend an object, of all borrows since the pool was made: its wait, and the calls of the factory.
      *
      * @return milliseconds, from 0; 0 if there was no loan
      */
