@@ -337,6 +337,12 @@ public final class Calls {
         expect("an add whose passivation fails", "IOException: passivate", ending(pool::addObject));
         texts.passivates = null;
         lent = pool.borrowObject();
+        texts.validates = new IllegalArgumentException("test");
+        pool.returnObject(lent);
+        expect("a return whose test throws", "test", pool.noted.get(pool.noted.size() - 1).getMessage());
+        expect("an add whose test throws", "IllegalArgumentException: test", ending(pool::addObject));
+        texts.validates = null;
+        lent = pool.borrowObject();
         texts.validates = new StackOverflowError("test");
         String returned = lent;
         expect("a return whose test ends in an error", "StackOverflowError: test", ending(() -> pool.returnObject(returned)));

@@ -375,6 +375,9 @@ public class ZuphinkaPool<T> implements ObjectPool<T>, UsageTracking<T> {
         Throwable fault = settings.testOnReturn ? test(member) : null;
         if (fault != null) {
             destroyFailed(member, Core.PARK, Core.TEST_FAILED, fault);
+            if (fault != INVALID) {
+                swallow((Exception) fault);
+            }
             return;
         }
         try {
@@ -442,7 +445,7 @@ public class ZuphinkaPool<T> implements ObjectPool<T>, UsageTracking<T> {
      * Makes one more idle object, if there is a free place. One that fails its test is destroyed, without an exception.
      *
      * @throws IllegalStateException if the pool is closed
-     * @throws Exception if the factory fails to make or to passivate it; the same exception. Its place is free
+     * @throws Exception if the factory fails to make or to passivate it, or its test throws; the same exception. Its place is free
      */
     @Override
     public void addObject() throws Exception {
@@ -458,6 +461,9 @@ public class ZuphinkaPool<T> implements ObjectPool<T>, UsageTracking<T> {
         Throwable fault = settings.testOnCreate ? test(member) : null;
         if (fault != null) {
             destroyFailed(member, Core.ADDED, Core.CREATE_TEST_FAILED, fault);
+            if (fault != INVALID) {
+                throw (Exception) fault;
+            }
             return;
         }
         try {
@@ -821,9 +827,9 @@ public class ZuphinkaPool<T> implements ObjectPool<T>, UsageTracking<T> {
     }
 
     /**
-     * Receives each failure that no call throws: those of destructions, passivations and idle tests, of the maintenance thread, and of a sink. It
-     * does nothing. Override it to log them. It runs without the pool's lock, in the thread whose call failed, and so in several threads at once. A
-     * {@link RuntimeException} that it throws is ignored, since the call that failed has to be completed.
+     * Receives each failure that no call throws: those of destructions, passivations and tests of returned or idle objects, of the maintenance
+     * thread, and of a sink. It does nothing. Override it to log them. It runs without the pool's lock, in the thread whose call failed, and so in
+     * several threads at once. A {@link RuntimeException} that it throws is ignored, since the call that failed has to be completed.
      *
      * @param failure what the factory or the sink threw
      */
