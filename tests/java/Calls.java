@@ -106,6 +106,11 @@ public final class Calls {
             fail("destroy", destroys);
         }
 
+        @Override
+        public void destroyObject(PooledObject<String> pooled, DestroyMode mode) throws Exception {
+            fail(mode == DestroyMode.NORMAL ? "destroy" : "destroy " + mode, destroys);
+        }
+
         /** Returns what it was asked since this was last called. */
         String asked() {
             String words = String.join(" ", asked);
@@ -189,9 +194,11 @@ public final class Calls {
         expect("invalidated", "activate destroy", texts.asked());
         expect("invalidated twice", "IllegalStateException: Invalidated object not currently part of this pool",
                 ending(() -> pool.invalidateObject(first)));
+        pool.invalidateObject(pool.borrowObject(), DestroyMode.ABANDONED);
+        expect("invalidated in a mode", "make activate destroy ABANDONED", texts.asked());
         pool.addObject();
         pool.addObject();
-        expect("added", "2 idle, 0 active, 3 created, 1 destroyed", counts(pool));
+        expect("added", "2 idle, 0 active, 4 created, 2 destroyed", counts(pool));
         texts.asked();
         pool.clear();
         expect("cleared", "destroy destroy", texts.asked());
@@ -201,8 +208,8 @@ public final class Calls {
         expect("closed", "IllegalStateException: Pool not open", result(pool::borrowObject));
         expect("closed for more", "IllegalStateException: Pool not open", ending(pool::addObject));
         pool.returnObject(last);
-        expect("returned after the close", "0 idle, 0 active, 4 created, 4 destroyed", counts(pool));
-        expect("numbers", "3 borrowed, 2 returned", pool.getBorrowedCount() + " borrowed, " + pool.getReturnedCount() + " returned");
+        expect("returned after the close", "0 idle, 0 active, 5 created, 5 destroyed", counts(pool));
+        expect("numbers", "4 borrowed, 2 returned", pool.getBorrowedCount() + " borrowed, " + pool.getReturnedCount() + " returned");
         expect("nothing swallowed", List.of(), pool.noted);
         write(pool);
     }
@@ -407,7 +414,7 @@ public final class Calls {
         Thread.sleep(60);
         String other = pool.borrowObject();
         expect("another object", "text 1", other);
-        expect("the forgotten one is destroyed", "make activate destroy make activate", texts.asked());
+        expect("the forgotten one is destroyed", "make activate destroy ABANDONED make activate", texts.asked());
         pool.use(forgotten);
         pool.returnObject(forgotten);
         pool.invalidateObject(forgotten);

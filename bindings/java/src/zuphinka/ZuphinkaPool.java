@@ -307,16 +307,16 @@ public class ZuphinkaPool<T> implements ObjectPool<T>, UsageTracking<T> {
 
     private void destroyQuietly(Member<T> member) {
         try {
-            destroy(member);
+            destroy(member, DestroyMode.NORMAL);
         } catch (Exception e) {
             swallow(e);
         }
     }
 
     /** Destroys an object and frees its place, also if the factory throws. */
-    private void destroy(Member<T> member) throws Exception {
+    private void destroy(Member<T> member, DestroyMode mode) throws Exception {
         try {
-            discard(member, DestroyMode.NORMAL);
+            discard(member, mode);
         } finally {
             sections.end(Core.DESTROYED, member, 0);
         }
@@ -402,6 +402,12 @@ public class ZuphinkaPool<T> implements ObjectPool<T>, UsageTracking<T> {
      */
     @Override
     public void invalidateObject(T object) throws Exception {
+        invalidateObject(object, DestroyMode.NORMAL);
+    }
+
+    /** Does the same, and passes a mode on to the factory. */
+    @Override
+    public void invalidateObject(T object, DestroyMode mode) throws Exception {
         Member<T> member = objects.find(object);
         if (member == null) {
             missing("Invalidated object not currently part of this pool");
@@ -410,7 +416,7 @@ public class ZuphinkaPool<T> implements ObjectPool<T>, UsageTracking<T> {
         long reply = sections.report(Core.INVALIDATE, member, 0);
         switch (Core.answer(reply)) {
             case Core.DESTROY:
-                destroy(member);
+                destroy(member, mode);
                 break;
             case Core.GONE:
                 break;
