@@ -6,6 +6,7 @@ import java.nio.charset.StandardCharsets;
 import java.nio.file.Files;
 import java.nio.file.Path;
 import java.time.Duration;
+import java.time.Instant;
 import java.util.ArrayList;
 import java.util.Arrays;
 import java.util.Collections;
@@ -25,6 +26,7 @@ import org.apache.commons.pool2.BasePooledObjectFactory;
 import org.apache.commons.pool2.DestroyMode;
 import org.apache.commons.pool2.ObjectPool;
 import org.apache.commons.pool2.PooledObject;
+import org.apache.commons.pool2.TrackedUse;
 import org.apache.commons.pool2.impl.AbandonedConfig;
 import org.apache.commons.pool2.impl.DefaultPooledObject;
 import org.apache.commons.pool2.impl.DefaultPooledObjectInfo;
@@ -588,6 +590,51 @@ public final class Calls {
         expect("an abandoned object is logged", true, log.toString().contains("has not been returned to the pool"));
     }
 
+    /** An object that says when it was last used. */
+    static final class Tracked implements TrackedUse {
+        Instant used = Instant.EPOCH;
+
+        @Override
+        public Instant getLastUsedInstant() {
+            return used;
+        }
+
+        @Override
+        @Deprecated
+        public long getLastUsed() {
+            return used.toEpochMilli();
+        }
+    }
+
+    private static void trackedUse() throws Exception {
+        GenericObjectPoolConfig<Tracked> config = new GenericObjectPoolConfig<>();
+        config.setMaxTotal(1);
+        config.setBlockWhenExhausted(false);
+        AbandonedConfig abandoned = new AbandonedConfig();
+        abandoned.setRemoveAbandonedOnBorrow(true);
+        abandoned.setRemoveAbandonedTimeout(Duration.ofMillis(300));
+        BasePooledObjectFactory<Tracked> factory = new BasePooledObjectFactory<>() {
+            @Override
+            public Tracked create() {
+                return new Tracked();
+            }
+
+            @Override
+            public PooledObject<Tracked> wrap(Tracked tracked) {
+                return new DefaultPooledObject<>(tracked);
+            }
+        };
+        ZuphinkaPool<Tracked> pool = new ZuphinkaPool<>(factory, config, abandoned, Journal.kept());
+        Tracked tracked = pool.borrowObject();
+        Thread.sleep(350);
+        tracked.used = Instant.now();
+        expect("an object that was used", "NoSuchElementException: Pool exhausted", result(pool::borrowObject));
+        Thread.sleep(350);
+        expect("it is abandoned later", false, pool.borrowObject() == tracked);
+        pool.close();
+        write(pool);
+    }
+
     private static void refusals() {
         GenericObjectPoolConfig<String> fair = config();
         fair.setFairness(true);
@@ -794,6 +841,7 @@ public final class Calls {
         upkeep();
         abandonment();
         wrappers();
+        trackedUse();
         refusals();
         bean();
         throwingSink();

@@ -1,5 +1,6 @@
 package zuphinka;
 
+import java.time.Instant;
 import org.apache.commons.pool2.PooledObject;
 
 /** An object of a pool: it has a place, or it was reclaimed and its holder still has it. */
@@ -12,6 +13,8 @@ final class Member<T> {
     PooledObject<T> pooled;
     /** Whether its wrapper is told of each loan. */
     boolean isWrapperTold;
+    /** The last use of which the core knows, besides the loans; null if there was none. */
+    volatile Instant used;
 
     // The lock of the pool protects what follows.
     private long loans;

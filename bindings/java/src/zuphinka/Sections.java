@@ -359,6 +359,18 @@ final class Sections<T> {
         }
     }
 
+    /** Notes that the holder of an object last used it so many nanoseconds ago. */
+    void noteUse(Member<T> member, long nanosAgo) {
+        long now = System.nanoTime();
+        long used = now - Math.min(nanosAgo, now - start);
+        lock.lock();
+        try {
+            step(used, Core.USE, member.id, 0, 0);
+        } finally {
+            release();
+        }
+    }
+
     // Upkeep.
 
     /** Asks for something that concerns no object. Returns the answer. */

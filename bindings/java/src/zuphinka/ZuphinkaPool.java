@@ -2,6 +2,7 @@ package zuphinka;
 
 import java.io.IOException;
 import java.time.Duration;
+import java.time.Instant;
 import java.util.ArrayList;
 import java.util.List;
 import java.util.NoSuchElementException;
@@ -14,6 +15,8 @@ import org.apache.commons.pool2.DestroyMode;
 import org.apache.commons.pool2.ObjectPool;
 import org.apache.commons.pool2.PooledObject;
 import org.apache.commons.pool2.PooledObjectFactory;
+import org.apache.commons.pool2.PooledObjectState;
+import org.apache.commons.pool2.TrackedUse;
 import org.apache.commons.pool2.UsageTracking;
 import org.apache.commons.pool2.impl.AbandonedConfig;
 import org.apache.commons.pool2.impl.DefaultPooledObject;
@@ -441,7 +444,8 @@ public class ZuphinkaPool<T> implements ObjectPool<T>, UsageTracking<T> {
         if (abandoned != null && abandoned.getUseUsageTracking()) {
             member.pooled.use();
         }
-        sections.report(Core.USE, member, 0);
+        member.used = Instant.now();
+        sections.noteUse(member, 0);
         storeSegment();
     }
 
@@ -571,8 +575,12 @@ public class ZuphinkaPool<T> implements ObjectPool<T>, UsageTracking<T> {
 
     /** Takes abandoned objects from their holders, and destroys them. */
     private void reclaim(int input) {
+        long left = Core.value(sections.ask(input));
+        if (left > 0 && noteTrackedUses()) {
+            left = Core.value(sections.ask(input));
+        }
         List<Member<T>> reclaimed = new ArrayList<>();
-        for (long left = Core.value(sections.ask(input)); left > 0; left--) {
+        for (; left > 0; left--) {
             Member<T> member = sections.reclaimNext();
             if (member == null) {
                 break;
@@ -589,6 +597,23 @@ public class ZuphinkaPool<T> implements ObjectPool<T>, UsageTracking<T> {
                 swallow(e);
             }
         }
+    }
+
+    /** Notes when lent objects were last used that know it themselves, and returns whether there was a use of which the core did not know. */
+    private boolean noteTrackedUses() {
+        boolean isNoted = false;
+        for (Member<T> member : objects.all()) {
+            if (member.pooled.getObject() instanceof TrackedUse && member.pooled.getState() == PooledObjectState.ALLOCATED) {
+                Instant used = ((TrackedUse) member.pooled.getObject()).getLastUsedInstant();
+                if (used.isAfter(member.pooled.getLastBorrowInstant()) && (member.used == null || used.isAfter(member.used))) {
+                    member.used = used;
+                    Instant now = Instant.now();
+                    sections.noteUse(member, used.isBefore(now) ? Duration.between(used, now).toNanos() : 0);
+                    isNoted = true;
+                }
+            }
+        }
+        return isNoted;
     }
 
     /** Destroys all idle objects, except those under an idle test. What the factory throws is passed to {@link #swallowed}. */
