@@ -387,9 +387,22 @@ public final class Calls {
         expect("evicted", 2L, pool.getDestroyedByEvictorCount());
         texts.isInvalid = false;
         pool.close();
+        pool.close();
         expect("closed for maintenance", "IllegalStateException: Pool not open", ending(pool::maintain));
         expect("a fill of a closed pool", "done", ending(pool::preparePool));
         write(pool);
+        config.setTestOnCreate(true);
+        texts = new Texts();
+        texts.isInvalid = true;
+        Noting invalid = new Noting(texts, config, null);
+        invalid.preparePool();
+        expect("a fill that fails its test", "0 idle, 0 active, 1 created, 1 destroyed", counts(invalid));
+        texts.isInvalid = false;
+        invalid.preparePool();
+        expect("a fill after it", "2 idle, 0 active, 3 created, 1 destroyed", counts(invalid));
+        invalid.close();
+        write(invalid);
+        config.setTestOnCreate(false);
         config.setTimeBetweenEvictionRuns(Duration.ofMillis(5));
         Noting kept = new Noting(new Texts(), config, null);
         for (int tries = 0; kept.getNumIdle() < 2 && tries < 2_000; tries++) {
@@ -740,6 +753,10 @@ public final class Calls {
         expect("its segment", "0 96", segment.position() + " " + segment.entries());
         expect("and goes on", "text 0", keeping.borrowObject());
         keeping.close();
+        for (int again = 0; again < 10; again++) {
+            expect("a further close", "done", ending(keeping::close));
+        }
+        expect("a further close makes no entry", 3L, keeping.getCounts().entries());
         dropping.close();
         storing.close();
         try (Stream<Path> files = Files.list(folder.resolve("stored"))) {

@@ -442,6 +442,9 @@ final class Sections<T> {
     long close() {
         lock.lock();
         try {
+            if (isClosed) {
+                return 0;
+            }
             long reply = step(Core.CLOSE, 0, 0, 0);
             isClosed = true;
             signalled = waiters;

@@ -466,7 +466,8 @@ public class ZuphinkaPool<T> implements ObjectPool<T>, UsageTracking<T> {
         storeSegment();
     }
 
-    private void stock(Member<T> member) throws Exception {
+    /** Makes an idle object, and returns false if it was destroyed, since it is invalid or the pool was closed meanwhile. */
+    private boolean stock(Member<T> member) throws Exception {
         make(member, Core.ADDED);
         Throwable fault = settings.testOnCreate ? test(member) : null;
         if (fault != null) {
@@ -474,7 +475,7 @@ public class ZuphinkaPool<T> implements ObjectPool<T>, UsageTracking<T> {
             if (fault != INVALID) {
                 throw (Exception) fault;
             }
-            return;
+            return false;
         }
         try {
             factory.passivateObject(member.pooled);
@@ -484,18 +485,22 @@ public class ZuphinkaPool<T> implements ObjectPool<T>, UsageTracking<T> {
         }
         if (Core.answer(sections.report(Core.ADDED, member, Core.GOOD)) == Core.DESTROY) {
             destroyQuietly(member);
+            return false;
         }
+        return true;
     }
 
     /**
-     * Makes idle objects until {@code minIdle} are idle, as far as there are places. One that fails its test is destroyed, and another one is made.
+     * Makes idle objects until {@code minIdle} are idle, as far as there are places. One that fails its test is destroyed, and no other is made then.
      * It has no effect on a closed pool.
      *
      * @throws Exception if the factory fails to make or to passivate one; the same exception. Those made before stay idle
      */
     public void preparePool() throws Exception {
-        for (Member<T> member = sections.place(Core.FILL); member != null; member = sections.place(Core.FILL)) {
-            stock(member);
+        boolean isStocked = true;
+        while (isStocked) {
+            Member<T> member = sections.place(Core.FILL);
+            isStocked = member != null && stock(member);
         }
         storeSegment();
     }
