@@ -5,14 +5,23 @@ import os
 import pathlib
 import shutil
 import subprocess
+import sys
 import time
 from collections.abc import Callable
 
 TOP = pathlib.Path(__file__).resolve().parent.parent
-JAVA, RUST, CRATE = TOP / "bench/peers_java", TOP / "bench/peers_rust", TOP / "bindings/rust"
-JAR = pathlib.Path("/usr/share/java/commons-pool2.jar")
+sys.path.append(str(TOP / "tools"))
+
+import java
+from install import heap_of_kit
+
+CONTESTANTS, RUST, CRATE = TOP / "bench/peers_java", TOP / "bench/peers_rust", TOP / "bindings/rust"
+JAR = java.DEBIAN_JAR
+LIBRARY = java.LIBRARY
 REGISTRY = pathlib.Path("/usr/share/cargo/registry")
 COMMONS, R2D2, PLAIN = "Commons Pool 2", "r2d2", "plain Rust"
+COMMONS_HOOKS = "Commons Pool 2, hooks"
+JAVA, JAVA_HOOKS = "Java", "Java, hooks"
 COUNTER, CLOCK, HOOKS = "crate, counter", "crate, clock", "crate, clock, hooks"
 LOAD, THREADS_OF_LOAD = "load", "load, threads alone"
 JOURNAL_LIMIT = 1 << 32
@@ -71,9 +80,9 @@ def whole(column):
     return lambda report, seconds: {column: seconds}
 
 
-def measured(report, seconds):
-    """The time of the run that Commons Pool 2 measured after its warm-up."""
-    return {COMMONS: int(report["nanoseconds"]) / 1e9}
+def measured(columns):
+    """The times that contestants in Java measured after their warm-up. `columns` has the column of each."""
+    return lambda report, seconds: {column: int(report[f"{kind}-nanoseconds"]) / 1e9 for kind, column in columns.items()}
 
 
 def numbers(report, *words):
@@ -84,6 +93,11 @@ def numbers(report, *words):
 def is_right_peer(row, report):
     pairs, created = numbers(report, "pairs", "created")
     return pairs == row.pairs and 1 <= created <= row.objects
+
+
+def is_right_contestant(kind, row, report):
+    pairs, created, nanoseconds = numbers(report, f"{kind}-pairs", f"{kind}-created", f"{kind}-nanoseconds")
+    return pairs == row.pairs and 1 <= created <= row.objects and nanoseconds > 0
 
 
 def is_right_crate(row, report):
@@ -130,10 +144,10 @@ def runs_cargo():
 class Entrants:
     """The programs, built in a folder; the versions of what they use; and why others are left out, as lines."""
 
-    def __init__(self, folder, pool, jar, registry):
-        self.folder, self.pool, self.jar, self.registry = folder, pool, jar, registry
+    def __init__(self, folder, pool, jar, library, registry):
+        self.folder, self.pool, self.jar, self.library, self.registry = folder, pool, jar, library, registry
         self.programs, self.versions, self.left_out = [], [], []
-        self.enter_commons()
+        self.enter_java()
         self.enter_r2d2()
         self.enter_plain()
         self.enter_crate()
@@ -145,15 +159,38 @@ class Entrants:
         self.left_out += [f"left out: {column}: no {name}" for name in missing]
         return not missing
 
-    def enter_commons(self):
-        java = version_of("javac", "-version") and version_of("java", "-version")
-        if not self.has(COMMONS, (java, "JDK"), (self.jar.exists(), f"libcommons-pool2-java ({self.jar})")):
+    def enter_java(self):
+        """Enters Commons Pool 2 and the pool for Java, which take turns in one virtual machine; and both once more with hooks."""
+        runs = version_of("javac", "-version") and version_of("java", "-version")
+        needs = [(runs, "JDK"), (self.jar.exists(), f"libcommons-pool2-java ({self.jar})")]
+        has_library = (self.library.exists(), f"libzuphinka.a ({self.library})"), (shutil.which(os.environ.get("CC", "cc")), "C compiler")
+        has_commons, has_java = self.has(COMMONS, *needs), self.has(JAVA, *needs, *has_library)
+        if not has_commons:
             return
-        build("javac", "-cp", self.jar, "-d", self.folder, JAVA / "Bench.java")
-        program = ["java", "-cp", f"{self.jar}:{self.folder}", "Bench"]
         named = sorted(path.stem for path in self.jar.parent.glob(f"{self.jar.stem}-[0-9]*.jar"))
-        self.versions += [*named[-1:], java]
-        self.programs.append(Entrant(lambda row: [*program, row.objects, row.threads, row.each], is_right_peer, measured))
+        self.versions += [*named[-1:], runs]
+        kinds = ["Commons", "Zuphinka"] if has_java else ["Commons"]
+        program = self.built_java(kinds)
+        for factory, columns in ("bare", (COMMONS, JAVA)), ("hooked", (COMMONS_HOOKS, JAVA_HOOKS)):
+            self.enter_contestants(program, factory, dict(zip(kinds, columns)))
+
+    def built_java(self, kinds):
+        """Compiles contestants and what they need. Returns the command that runs them."""
+        native, files = self.folder / "libzuphinka_jni.so", [CONTESTANTS / f"{name}.java" for name in ("Bench", "Contestant", "Holders", *kinds)]
+        if "Zuphinka" in kinds:
+            java.compile_native(self.library, heap_of_kit(), native)
+            files += (java.JAVA / "src").rglob("*.java")
+        java.compile_classes(files, self.folder, self.jar)
+        return ["java", f"-Dzuphinka.library={native}", "-cp", f"{self.jar}:{self.folder}", "Bench"]
+
+    def enter_contestants(self, program, factory, columns):
+        def is_right(row, report):
+            return all(is_right_contestant(kind, row, report) for kind in columns)
+
+        def command(row):
+            return [*program, row.objects, row.threads, row.each, factory, *columns]
+
+        self.programs.append(Entrant(command, is_right, measured(columns)))
 
     def enter_r2d2(self):
         found = sorted(self.registry.glob("r2d2-[0-9]*"))

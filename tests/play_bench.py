@@ -3,8 +3,9 @@
 
     play_bench.py POOL
 
-POOL is the program. bench/peers must end with an error after a run with a pair too few, and name and leave out the pools whose packages are
-missing. Where all packages are installed, all its columns must come, in both tables. bench/soak must fail each report in which one number is wrong.
+POOL is the program. bench/peers must end with an error after a run with a pair too few or of a pool for Java with a wrong report, and name and leave
+out the pools whose packages are missing. Where all packages are installed, all its columns must come, in both tables. bench/soak must fail each report
+in which one number is wrong.
 
 Prints what fails, and in the end the line 'N passed, M failed'.
 """
@@ -19,18 +20,24 @@ import tempfile
 TOP = pathlib.Path(__file__).resolve().parent.parent
 sys.path.append(str(TOP / "bench"))
 
-from entrants import CLOCK, COMMONS, COUNTER, HOOKS, JAR, LOAD, PLAIN, R2D2, REGISTRY, runs_cargo
+from entrants import (
+    CLOCK, COMMONS, COMMONS_HOOKS, COUNTER, HOOKS, JAR, JAVA, JAVA_HOOKS, LOAD, PLAIN, R2D2, REGISTRY, Row, is_right_contestant, runs_cargo
+)
 from soaking import ROUNDS, THREADS, Length, fault_of_load, faults_of
 
 LONGEST = 600
 PAIRS = 4_000
 ROWS = ["4 objects, 1 thread", "4 objects, 2 threads", "4 objects, 4 threads", "1 object, 2 threads", "1 object, 4 threads"]
 ABSENT = ["--jar", "/nowhere/commons-pool2.jar", "--registry", "/nowhere"]
+NO_LIBRARY = ["--library", "/nowhere/libzuphinka.a"]
 # A program in the place of POOL that makes one pair less than it is asked for.
 ONE_LESS = """#!/bin/sh
 pairs=$(($3 * $4 - 1))
 printf 'workers %d\\nrounds %d\\nrefused 0\\nborrowed %d\\nreturned %d\\ncreated 1\\ndestroyed 1\\n' $3 $4 $pairs $pairs
 """
+# What bench/peers_java reports of 100 pairs of a pool with two objects, and numbers that are wrong in it.
+RAN = {"Zuphinka-pairs": "100", "Zuphinka-created": "2", "Zuphinka-nanoseconds": "1"}
+WRONG_RUNS = {"Zuphinka-pairs": ["99", "101", "", "-100"], "Zuphinka-created": ["0", "3", ""], "Zuphinka-nanoseconds": ["0", "", "1.5"]}
 # What a pool without a journal reports of 100 pairs, and numbers that are wrong in it.
 SOAKED = {
     "status": "0", "errors": "", "pairs": "100", "uses": "100", "memory_early": "1000", "memory": "1100", "double": "0", "stray": "0", "excess": "0",
@@ -71,40 +78,70 @@ def fault_of_tables(done, columns, peers_there):
     return None if ratios == set(peers_there) else f"ratios to {ratios}"
 
 
+def fault_of_target(done, our, peer, least):
+    """Why the lines of missed targets do not agree with the table of ratios, if they don't. A ratio that rounds to the target may miss it."""
+    head, *rows = (tables(done.stdout) or [[[]]])[-1]
+    if f"{our} / {peer}" not in head:
+        return f"no ratio {our} / {peer}"
+    column = head.index(f"{our} / {peer}")
+    for row in rows:
+        is_short = f"short: {row[0]}: {our} / {peer} is " in done.stdout
+        if is_short != (float(row[column]) < least) and float(row[column]) != least:
+            return f"{row[0]}: {our} / {peer}: the target {least} is {'missed' if is_short else 'reached'} with {row[column]}"
+    return None
+
+
 def last_line(done):
     return done.stdout.splitlines()[-1] if done.stdout else ""
 
 
 def check_missing(pool):
-    """Without the packages two pools are named and left out, and no row has a target."""
+    """Without the packages three pools are named and left out, and no row has a target."""
     done = peers("--pool", pool, *ABSENT)
-    for line in f"left out: {COMMONS}: no ", f"left out: {R2D2}: no ":
+    for line in f"left out: {COMMONS}: no ", f"left out: {JAVA}: no ", f"left out: {R2D2}: no ":
         yield None if line in done.stdout else f"{line!r} isn't said: {done.stdout}{done.stderr}"
     yield fault_of_tables(done, [PLAIN, COUNTER, CLOCK, HOOKS, LOAD], [PLAIN])
     heads = [line for table in tables(done.stdout) for line in table[:1]]
-    yield f"{heads} have a pool that is left out" if {COMMONS, R2D2} & set(sum(heads, [])) else None
+    yield f"{heads} have a pool that is left out" if {COMMONS, COMMONS_HOOKS, JAVA, JAVA_HOOKS, R2D2} & set(sum(heads, [])) else None
     yield None if (done.returncode, last_line(done)) == (0, "0 rows, 0 short") else f"status {done.returncode}: {last_line(done)}"
 
 
 def check_present(pool):
     """With all packages all columns come, and each row has a target."""
-    if not (shutil.which("javac") and JAR.exists() and any(REGISTRY.glob("r2d2-[0-9]*"))):
-        print("Commons Pool 2 and r2d2 are left out: `bench/peers --help` says what they need")
+    in_java, has_r2d2 = [COMMONS, JAVA, COMMONS_HOOKS, JAVA_HOOKS], any(REGISTRY.glob("r2d2-[0-9]*"))
+    if not (shutil.which("javac") and JAR.exists()):
+        print("Commons Pool 2 and Java are left out: `bench/peers --help` says what they need")
         return
+    if not has_r2d2:
+        print("r2d2 is left out: `bench/peers --help` says what it needs")
+    others = [R2D2, PLAIN] if has_r2d2 else [PLAIN]
     done = peers("--pool", pool)
-    yield fault_of_tables(done, [COMMONS, R2D2, PLAIN, COUNTER, CLOCK, HOOKS, LOAD], [COMMONS, R2D2, PLAIN])
+    yield fault_of_tables(done, [*in_java, *others, COUNTER, CLOCK, HOOKS, LOAD], [COMMONS, COMMONS_HOOKS, *others])
+    yield from (fault_of_target(done, our, COMMONS, 1.0) for our in (JAVA, CLOCK))
     short = {line.split(": ")[1] for line in done.stdout.splitlines() if line.startswith("short: ")}
     is_told = done.returncode == bool(short) and last_line(done) == f"5 rows, {len(short)} short" and short <= set(ROWS)
     yield None if is_told else f"status {done.returncode}: {done.stdout}{done.stderr}"
 
 
+def check_java():
+    """A right report of a pool for Java passes, and one with a wrong number, or without one, does not."""
+    row = Row(2, 4, 25)
+    yield None if is_right_contestant("Zuphinka", row, RAN) else "a right report of a pool for Java fails"
+    yield "a report of another pool passes" if is_right_contestant("Commons", row, RAN) else None
+    for word, numbers in WRONG_RUNS.items():
+        for number in numbers:
+            yield f"a report passes with {word} {number!r}" if is_right_contestant("Zuphinka", row, RAN | {word: number}) else None
+
+
 def check_counting():
-    """A run with a pair too few is an error."""
+    """A run with a pair too few is an error. Without the core's library the pool for Java is named and left out."""
     with tempfile.TemporaryDirectory() as folder:
         program = pathlib.Path(folder) / "pool"
         program.write_text(ONE_LESS)
         program.chmod(0o755)
-        done = peers("--pool", str(program), *ABSENT)
+        done = peers("--pool", str(program), *ABSENT, *NO_LIBRARY)
+    line = f"left out: {JAVA}: no libzuphinka.a (/nowhere/libzuphinka.a)"
+    yield None if line in done.stdout.splitlines() else f"{line!r} isn't said: {done.stdout}{done.stderr}"
     found = done.returncode == 1 and "a run failed: 4 objects, 1 thread" in done.stderr
     yield None if found else f"a pair too few: status {done.returncode}: {done.stdout}{done.stderr}"
 
@@ -125,7 +162,7 @@ def check_soak():
 
 
 def main(pool):
-    checks = [*check_soak()]
+    checks = [*check_soak(), *check_java()]
     if runs_cargo():
         checks += [*check_missing(pool), *check_counting(), *check_present(pool)]
     else:
