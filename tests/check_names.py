@@ -32,7 +32,8 @@ SAID = r"\b(?:ensures|ghost|pub (?:trait|struct|enum|fn)|pub\(crate\) fn) %s\b"
 # The sources besides those of the crates.
 OTHERS = (
     *("bindings/c/*", "bindings/rust/src/*.rs", "bindings/rust/examples/*", "bindings/java/src/zuphinka/*", "bindings/java/native/*"),
-    *("bindings/java/examples/*", "tests/*.*", "tests/java/*", "bench/*", "tools/*", "docs/pictures/*.py", "examples/*", "pool", "check", "crates.txt"),
+    *("bindings/java/examples/*", "tests/*.*", "tests/java/*", "tests/commons_pool/**/*", "bench/*", "tools/*", "docs/pictures/*.py", "examples/*"),
+    *("pool", "check", "crates.txt"),
 )
 
 
@@ -107,7 +108,7 @@ def paragraphs(page):
     for paragraph in text.split("\n\n"):
         about = re.match(r"\*\*`(\w+)`\*\*", paragraph)
         crate = about[1] if about else None if paragraph.startswith("#") else crate
-        if page.name in ("from-commons-pool.md", "differences.md"):
+        if page.name in ("from-commons-pool.md", "differences.md", "commons-pool-tests.md"):
             paragraph = re.sub(r"^\|[^|]*\|", "|", paragraph, flags=re.MULTILINE)
         yield paragraph, crate
 

@@ -84,6 +84,12 @@ PARTS = (
         ("pool", "zuphinka", "journal_picture"),
     ),
     Part(
+        "commons-pool",
+        "the tests of Commons Pool 2, unchanged, over the pool for Java",
+        "python3 tests/play_commons_pool.py {zuphinka} {pool}",
+        ("pool", "zuphinka"),
+    ),
+    Part(
         "commands",
         "the commands and journals that the pages show",
         "python3 tests/play_commands.py {pool}",

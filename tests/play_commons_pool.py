@@ -1,0 +1,303 @@
+#!/usr/bin/env python3
+"""Runs the tests of Commons Pool 2, unchanged, over the pool for Java, and compares which pass with docs/guide/commons-pool-tests.md.
+
+    play_commons_pool.py [--source FOLDER] LIBRARY POOL
+
+LIBRARY is libzuphinka.a, POOL the program `pool`, and FOLDER the source of Commons Pool 2 of the version that is installed. Else COMMONS_POOL2_SOURCE
+names it, or Debian's archive of it is downloaded into a temporary folder. The tests run in four virtual machines, over a class that stands in for
+GenericObjectPool and passes each call on (tests/commons_pool). A test that does not end as the page says runs again, alone, up to twice.
+
+What fails is a test that fails without a row on the page, that passes although its row says that it differs, or that does not exist; a class of which
+another number of tests passes; and a journal that is not legal, of a pool that a test closed. If a tool, a library or the source is missing, all of
+it is left out.
+
+Prints what fails, and in the end the line 'N passed, M failed'.
+"""
+
+import argparse
+import concurrent.futures
+import contextlib
+import hashlib
+import http.client
+import itertools
+import os
+import pathlib
+import re
+import subprocess
+import sys
+import tarfile
+import tempfile
+import time
+import typing
+import urllib.request
+import zipfile
+
+from check_names import backquoted, tables
+from playing import play_checks
+
+TOP = pathlib.Path(__file__).resolve().parent.parent
+sys.path.append(str(TOP / "tools"))
+
+import java
+from install import heap_of_kit
+
+PAGE = TOP / "docs/guide/commons-pool-tests.md"
+OWN = TOP / "tests/commons_pool"
+# The version whose tests these are, and the archive from which Debian builds it.
+VERSION = "2.11.1"
+ARCHIVE = f"http://deb.debian.org/debian/pool/main/c/commons-pool2/commons-pool2_{VERSION}.orig.tar.xz"
+CHECKSUM = "16deaefe5bd9ec8f242b1836459f672a786382d1154971fc2488c65eb62ae36f"
+# The jars that the tests need besides, and the packages that have them.
+JUNIT = ("junit-jupiter-api", "junit-jupiter-engine", "junit-platform-commons", "junit-platform-engine", "junit-platform-launcher")
+JARS = dict.fromkeys((*JUNIT, "apiguardian-api", "opentest4j", "hamcrest"), "junit5") | dict.fromkeys(("cglib", "asm"), "libcglib-java")
+MACHINES = 4
+# For how many seconds the longest tests run, by which they are dealt out to the machines. Any other counts as a part of a second.
+SECONDS = {
+    **{"testMaxTotalUnderLoad": 20, "testMaxIdleZeroUnderLoad": 20, "testConcurrentInvalidate": 9, "testEviction": 8, "testThreaded1": 6},
+    **{"testUsageTracking": 5, "testAbandonedReturn": 4, "testEvictionSoftMinIdle": 4, "testAbandonedInvalidate": 3, "testNoInstanceOverlap": 3},
+    **{"testValidationOnCreateOnly": 3, "testCheckMinIdleObjectPool": 2, "testConcurrentBorrowAndEvict": 2, "testEvictionOrder": 2},
+    **{"testEvictionTimerMultiplePools": 2, "testStackTrace": 2},
+}
+SHORT = 0.2
+# What makes a short run of the virtual machine take less of the processors.
+SHORT_RUN = ("-XX:TieredStopAtLevel=1", "-XX:+UseSerialGC", "-XX:-UsePerfData")
+# How long a test may take, and all tests of one machine, in seconds.
+TEST_SECONDS, MACHINE_SECONDS = 60, 240
+# How often a test runs again that does not end as the page says. If more than so many do not, none runs again.
+REPEATS, MOST_REPEATED = 2, 8
+
+
+class Page(typing.NamedTuple):
+    """What the page says: of each class, which of its tests alone are in scope, if not all are, and how many pass and fail; which tests fail, each
+    with the line of the source; and which are out of scope. A test is named CLASS#METHOD, and a class without its package."""
+
+    only: dict[str, list[str]]
+    numbers: dict[str, tuple[int, int]]
+    failing: dict[str, str]
+    outside: set[str]
+
+    def listed(self):
+        """The tests that it names."""
+        return {*self.failing, *self.outside, *(f"{name}#{method}" for name, methods in self.only.items() for method in methods)}
+
+    def classes(self):
+        """The classes that it names."""
+        return sorted({*self.only, *(test.partition("#")[0] for test in self.listed())})
+
+    def is_in_scope(self, test):
+        name, _, method = test.partition("#")
+        return name in self.only and test not in self.outside and method in (self.only[name] or [method])
+
+    def wanted(self, test):
+        """How a test in scope is to end."""
+        return f"failed:{self.failing[test]}" if test in self.failing else "passed"
+
+
+class Result(typing.NamedTuple):
+    """What came of a test: how it ended, for how many milliseconds it ran, and what it threw."""
+
+    end: str = "not run"
+    millis: int = 0
+    thrown: str = ""
+
+
+def read_page():
+    """What the page says."""
+    rows = list(tables(PAGE))
+    classes = {backquoted(row["Class"])[0]: row for row in rows if "Pass" in row}
+    tests = [(f"{row['Class']}#{method}", row.get("Line")) for row in rows if "Test" in row for method in backquoted(row["Test"])]
+    return Page(
+        {name: backquoted(row["Tests in scope"]) for name, row in classes.items()},
+        {name: (int(row["Pass"]), int(row["Fail"])) for name, row in classes.items()},
+        {test: line for test, line in tests if line},
+        {test for test, line in tests if not line},
+    )
+
+
+def jars():
+    """The jars that the tests need besides Commons Pool 2."""
+    for name, package in JARS.items():
+        if not (java.DEBIAN_JAR.parent / f"{name}.jar").is_file():
+            raise java.Missing(f"no {name}.jar: Debian's package {package} has it")
+    return [java.DEBIAN_JAR.parent / f"{name}.jar" for name in JARS]
+
+
+def require_version():
+    """Sees that the Commons Pool 2 that is installed has the version of the tests."""
+    with zipfile.ZipFile(java.commons_pool()) as packed:
+        names = [name for name in packed.namelist() if name.endswith("/commons-pool2/pom.properties")]
+        texts = [packed.read(name).decode() for name in names]
+    if not any(f"version={VERSION}" in text.splitlines() for text in texts):
+        raise java.Missing(f"{java.commons_pool()} is not version {VERSION} of Commons Pool 2, whose tests these are")
+
+
+def download(to):
+    """Downloads the archive and unpacks its tests, and returns the folder of the source."""
+    try:
+        with urllib.request.urlopen(ARCHIVE, timeout=30) as reply:
+            packed = reply.read()
+    except (OSError, http.client.HTTPException) as error:
+        raise java.Missing(f"no source of Commons Pool 2: {ARCHIVE}: {error}; COMMONS_POOL2_SOURCE names a folder that has it") from error
+    checksum = hashlib.sha256(packed).hexdigest()
+    if checksum != CHECKSUM:
+        sys.exit(f"{ARCHIVE}: wanted the checksum {CHECKSUM}, got {checksum}\n0 passed, 1 failed")
+    archive = to / "source.tar.xz"
+    archive.write_bytes(packed)
+    with tarfile.open(archive) as members:
+        members.extractall(to, [member for member in members if "/src/test/" in member.name])
+    return next(to.glob("*/src/test")).parent.parent
+
+
+class Tests:
+    """The tests of some classes, compiled, and the machines that run them."""
+
+    def __init__(self, names, source, jar, folder):
+        self.folder, self.sources = folder, source / "src/test/java"
+        others = [jar, java.commons_pool(), *jars()]
+        own, tests = folder / "own", folder / "tests"
+        java.compile_classes(sorted(OWN.rglob("*.java")), own, *others)
+        words = [*(f"-J{option}" for option in SHORT_RUN), "-nowarn", "-implicit:class", "-cp", self.joined(own, *others)]
+        java.run(java.jdk() / "bin/javac", *words, "-sourcepath", self.sources, "-d", tests, *map(self.file, names))
+        self.path = self.joined(tests, source / "src/test/resources", own, *others)
+        self.numbers = itertools.count()
+
+    @staticmethod
+    def joined(*paths):
+        return os.pathsep.join(map(str, paths))
+
+    def file(self, name):
+        """The file of a class."""
+        found = next(self.sources.rglob(f"{name}.java"), None)
+        return found or sys.exit(f"{PAGE.name}: {name}: no such class\n0 passed, 1 failed")
+
+    def qualified(self, test):
+        """A class or a test, with the package of the class."""
+        name, sign, method = test.partition("#")
+        return ".".join(self.file(name).relative_to(self.sources).with_suffix("").parts) + sign + method
+
+    def run(self, task, names):
+        """Runs RunTests in a machine of its own, and returns the lines that it has written, without packages."""
+        number = next(self.numbers)
+        lines, journals = self.folder / f"lines-{number}", self.folder / f"journals-{number}"
+        options = [f"-Djunit.jupiter.execution.timeout.default={TEST_SECONDS}s", f"-Dzuphinka.journals={journals}"]
+        options += [*SHORT_RUN, "--add-opens", "java.base/java.lang=ALL-UNNAMED", "-cp", self.path]
+        command = [java.jdk() / "bin/java", *options, "RunTests", task, lines, *map(self.qualified, names)]
+        streams = dict.fromkeys(("stdin", "stdout", "stderr"), subprocess.DEVNULL)
+        with contextlib.suppress(subprocess.TimeoutExpired):
+            subprocess.run(command, **streams, timeout=MACHINE_SECONDS)
+        return [re.sub(r"^(\w+\.)+", "", line) for line in lines.read_text().splitlines()] if lines.exists() else []
+
+    def results(self, names):
+        """What came of tests that run in one machine."""
+        found = {}
+        for line in self.run("run", names):
+            name, end, millis, thrown = line.split(" ", 3)
+            found[name] = Result(end, int(millis), thrown)
+        return {name: found.get(name, Result()) for name in names}
+
+    def all_results(self, names):
+        """What came of tests that run in several machines."""
+        results = {}
+        with concurrent.futures.ThreadPoolExecutor(MACHINES) as workers:
+            for found in workers.map(self.results, dealt(names)):
+                results |= found
+        return results
+
+
+def dealt(names):
+    """Tests, dealt out to machines so that these take about as long as each other."""
+    def seconds(name):
+        return SECONDS.get(name.partition("#")[2], SHORT)
+
+    hands = [[] for _ in range(MACHINES)]
+    for name in sorted(names, key=seconds, reverse=True):
+        min(hands, key=lambda hand: sum(map(seconds, hand))).append(name)
+    return hands
+
+
+def repeated(tests, page, results):
+    """The results, those of tests that ran again in place of those that are not as wanted, and how often each ran again."""
+    others = [test for test, result in results.items() if result.end != page.wanted(test)]
+    runs = {}
+    for test in others if len(others) <= MOST_REPEATED else []:
+        for runs[test] in range(1, REPEATS + 1):
+            results |= tests.results([test])
+            if results[test].end == page.wanted(test):
+                break
+    return results, runs
+
+
+def checks_of_page(page, found):
+    """What is wanted of the page, and what it says: that it has each test that was found, and no other."""
+    yield "tests on the page that do not exist", [], sorted(page.listed() - set(found))
+    for name, numbers in page.numbers.items():
+        in_scope = {test for test in found if test.startswith(f"{name}#") and page.is_in_scope(test)}
+        yield f"{name}: how many pass and fail, by the page", (len(in_scope - {*page.failing}), len(in_scope & {*page.failing})), numbers
+    passing, failing = map(sum, zip(*page.numbers.values()))
+    yield "the numbers in its text", True, f"{passing} of {passing + failing} pass" in PAGE.read_text()
+
+
+def checks_of_results(page, results):
+    """What is wanted of each test, and what came of it."""
+    for test, result in sorted(results.items()):
+        wanted = page.wanted(test)
+        got = wanted if result.end == wanted else f"{result.end}, after {result.millis} ms: {result.thrown}"
+        yield test, wanted, got
+
+
+def fault_of_journal(pool, folder):
+    """What is wrong with the journal in a folder, if it is not legal."""
+    done = subprocess.run([pool, "check", folder / "settings.toml", *sorted(folder.glob("segment-*"))], capture_output=True, text=True)
+    return None if done.stdout.startswith("legal ") and done.returncode == 0 else f"{folder.name}: {done.stdout or done.stderr}"
+
+
+def checks_of_journals(pool, folder):
+    """What is wanted of the journals, and what they are."""
+    journals = sorted(path.parent for path in folder.glob("journals-*/*/settings.toml"))
+    with concurrent.futures.ThreadPoolExecutor(MACHINES) as workers:
+        faults = list(workers.map(lambda journal: fault_of_journal(pool, journal), journals))
+    print(f"{faults.count(None)} journals are legal")
+    yield "journals that are not legal", [], [fault for fault in faults if fault]
+    yield "there are journals", True, bool(faults)
+
+
+def checks(library, pool, source):
+    page = read_page()
+    with tempfile.TemporaryDirectory() as name:
+        folder = pathlib.Path(name)
+        source = source or download(folder)
+        jar = java.build(pathlib.Path(library), heap_of_kit(), folder / "out")
+        tests = Tests(page.classes(), source, jar, folder)
+        found = tests.run("list", page.classes())
+        yield from checks_of_page(page, found)
+        began = time.monotonic()
+        results, runs = repeated(tests, page, tests.all_results([test for test in found if page.is_in_scope(test)]))
+        print(f"{len(results)} tests in {time.monotonic() - began:.0f} s")
+        for test, number in runs.items():
+            print(f"{test} ran again, {number} times, and {results[test].end}")
+        yield from checks_of_results(page, results)
+        yield from checks_of_journals(pool, folder)
+
+
+def arguments():
+    words = argparse.ArgumentParser(description=__doc__, formatter_class=argparse.RawDescriptionHelpFormatter)
+    words.add_argument("--source", type=pathlib.Path, default=os.environ.get("COMMONS_POOL2_SOURCE"), help="the source of Commons Pool 2")
+    words.add_argument("library", metavar="LIBRARY", help="libzuphinka.a")
+    words.add_argument("pool", metavar="POOL", help="the program pool")
+    return words.parse_args()
+
+
+def main():
+    given = arguments()
+    if given.source and not (given.source / "src/test/java").is_dir():
+        sys.exit(f"{given.source}/src/test/java: no such folder\n0 passed, 1 failed")
+    try:
+        java.jdk(), jars(), require_version()
+        return play_checks(checks(given.library, given.pool, given.source))
+    except java.Missing as missing:
+        print(f"left out: {missing}\n0 passed, 0 failed")
+        return 0
+
+
+if __name__ == "__main__":
+    sys.exit(main())
