@@ -8,7 +8,7 @@ same in docs/guide/program.md and docs/proof/definitions.md; each of them is giv
 has a row for each file of tests of the shared pool; the outstanding entries and the room of docs/guide/operations.md follow from the definitions; and
 docs/proof/edits.md has a row for each edit of crates/*/must-fail, in the section of its crate, which names the function that it changes. The name of
 each crate begins as its section of crates.txt requires, docs/dev/architecture.md has a paragraph on it, and docs/pictures/crates.svg is as its script
-draws it.
+draws it. docs/guide/differences.md and docs/guide/commons-pool-tests.md name the same tests, for the same differences.
 """
 
 import re
@@ -22,6 +22,7 @@ import draw_crates  # noqa: E402
 
 DEFINITIONS = TOP / "docs/proof/definitions.md"
 EDITS = TOP / "docs/proof/edits.md"
+COMMONS_POOL_TESTS = TOP / "docs/guide/commons-pool-tests.md"
 
 
 def value_of(term):
@@ -182,9 +183,22 @@ def check_crates():
     yield None if drawn else "docs/pictures/crates.svg: draw it anew, by docs/pictures/draw_crates.py"
 
 
+def check_commons_pool():
+    """Each test of Commons Pool 2 that fails has the same difference on both pages, which is a row or a part of what is left out."""
+    page = TOP / "docs/guide/differences.md"
+    rows = list(tables(page))
+    differences = {row["What"] for row in rows if "The library" in row}
+    left_out = page.read_text().partition("## What is left out")[2]
+    shown = [{row["Test"].strip("`"): row["Difference"] for row in found if "Difference" in row} for found in (rows, tables(COMMONS_POOL_TESTS))]
+    for test in sorted({*shown[0], *shown[1]}):
+        one, other = (tests.get(test) for tests in shown)
+        yield None if one == other else f"docs/guide/differences.md: {test}: {one}, docs/guide/commons-pool-tests.md: {other}"
+        yield None if one in differences or f"{one}" in left_out else f"docs/guide/differences.md: {test}: there is no difference {one}"
+
+
 def main():
     passed, wrong = 0, []
-    for check in (check_settings, check_answers, check_cases, check_trials, check_room, check_edits, check_crates):
+    for check in (check_settings, check_answers, check_cases, check_trials, check_room, check_edits, check_crates, check_commons_pool):
         faults = list(check())
         passed += faults.count(None)
         wrong += [fault for fault in faults if fault] if faults else [f"{check.__name__}: nothing to check"]
