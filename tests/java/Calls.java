@@ -445,7 +445,7 @@ public final class Calls {
     static class Plain extends BasePooledObjectFactory<Object> {
         @Override
         public Object create() {
-            return "a text";
+            return new String("a text");
         }
 
         @Override
@@ -589,6 +589,11 @@ public final class Calls {
             pool.close();
             expect("what a method sees of a wrapper last", "3 true", factory.seen.get(factory.seen.size() - 1));
         }
+        logged(config);
+        countedByThreads(config);
+    }
+
+    private static void logged(GenericObjectPoolConfig<Object> config) throws Exception {
         AbandonedConfig abandoned = new AbandonedConfig();
         StringWriter log = new StringWriter();
         abandoned.setRemoveAbandonedOnMaintenance(true);
@@ -646,6 +651,26 @@ public final class Calls {
         expect("it is abandoned later", false, pool.borrowObject() == tracked);
         pool.close();
         write(pool);
+    }
+
+    private static void countedByThreads(GenericObjectPoolConfig<Object> config) throws Exception {
+        config.setMaxTotal(2);
+        ZuphinkaPool<Object> pool = new ZuphinkaPool<>(new Plain(), config);
+        List<Thread> threads = new ArrayList<>();
+        for (int number = 0; number < 4; number++) {
+            threads.add(new Thread(() -> ending(() -> {
+                for (int round = 0; round < 2_000; round++) {
+                    pool.returnObject(pool.borrowObject());
+                }
+            })));
+        }
+        threads.forEach(Thread::start);
+        for (Thread thread : threads) {
+            thread.join();
+        }
+        long counted = pool.listAllObjects().stream().mapToLong(DefaultPooledObjectInfo::getBorrowedCount).sum();
+        expect("loans in four threads", List.of(8_000L, 8_000L, 8_000L), List.of(counted, pool.getBorrowedCount(), pool.getReturnedCount()));
+        pool.close();
     }
 
     private static void refusals() {
