@@ -206,6 +206,7 @@ class Tests:
 
 def dealt(names):
     """Tests, dealt out to machines so that these take about as long as each other."""
+
     def seconds(name):
         return SECONDS.get(name.partition("#")[2], SHORT)
 
