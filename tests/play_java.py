@@ -14,6 +14,7 @@ journal must be drawn.
 Prints what fails, and in the end the line 'N passed, M failed'.
 """
 
+import itertools
 import os
 import pathlib
 import re
@@ -36,6 +37,8 @@ from install import heap_of_kit, version
 COUNT = re.compile(r"^(\d+) passed, (\d+) failed$", flags=re.MULTILINE)
 # What the virtual machine writes about a native method that breaks a rule.
 WARNING = re.compile(r"(?:WARNING|FATAL ERROR) in native method")
+# The time of an entry, in milliseconds.
+TIME = re.compile(r'^\d+ (\d+) .* = ', flags=re.MULTILINE)
 SEEDS, MILLIS = range(8), 700
 # The functions by which the native library allocates, which tests/refuse_java.c wraps.
 ALLOCATORS = ("malloc", "calloc", "realloc")
@@ -76,6 +79,12 @@ def legal(pool, settings, *journals):
     """What is wanted of a check of journals, and what came of it."""
     done = subprocess.run([pool, "check", settings, *journals], capture_output=True, text=True)
     return "legal", done.stdout.partition(" ")[0] or done.stderr
+
+
+def falls(*segments):
+    """The pairs of entries that follow each other in a journal and whose times fall."""
+    times = [int(time) for segment in segments for time in TIME.findall(segment.read_text())]
+    return [pair for pair in itertools.pairwise(times) if pair[0] > pair[1]] if times else "no entries"
 
 
 def found(jar, classes, folder):
@@ -203,7 +212,9 @@ def checks(library, pool, picture):
             journal = folder / f"stress-{seed}"
             words = ["abandoned"] * (seed % 2) + ["bare"] * (seed // 2 % 2)
             yield from program(f"stress {seed}", run(jar, classes, "Stress", seed, MILLIS, journal, *words))
-            yield f"stress {seed}: its journal", *legal(pool, journal / "settings.toml", *sorted(journal.glob("segment-*")))
+            segments = sorted(journal.glob("segment-*"))
+            yield f"stress {seed}: its journal", *legal(pool, journal / "settings.toml", *segments)
+            yield f"stress {seed}: times that fall", [], falls(*segments)
 
 
 def main():

@@ -32,6 +32,8 @@ final class Sections<T> {
     /** How many threads were signalled and have not looked yet, or fewer: a thread that was not signalled may have been counted as one that was. */
     private int signalled;
     private boolean isClosed;
+    /** The time of the last step, in milliseconds since the start. */
+    private long latest;
     /** When the core was last asked for a borrower, by {@link System#nanoTime}. */
     private long asked;
     private long borrowed;
@@ -71,12 +73,21 @@ final class Sections<T> {
         return (nanoTime - start) / 1_000_000;
     }
 
+    /** Returns a reading of {@link System#nanoTime} as the time of the next step. The clock is read without the lock, so another step may be later. */
+    private long timeOf(long nanoTime) {
+        latest = Math.max(latest, millis(nanoTime));
+        return latest;
+    }
+
     private long step(int input, long number, long token, int outcome) {
         return step(System.nanoTime(), input, number, token, outcome);
     }
 
     private long step(long nanoTime, int input, long number, long token, int outcome) {
-        long at = millis(nanoTime);
+        return stepAt(timeOf(nanoTime), input, number, token, outcome);
+    }
+
+    private long stepAt(long at, int input, long number, long token, int outcome) {
         long reply = Core.step(core, at, number, token, caller(), input, outcome);
         if (reply < 0) {
             makeRoom(reply);
@@ -225,10 +236,11 @@ final class Sections<T> {
         asked = first;
         for (;;) {
             members.reserve(); // each time, since other threads may make objects while this one waits
-            long reply = askOnce(millis(asked), began, isBare);
+            long at = timeOf(asked);
+            long reply = askOnce(at, began, isBare);
             if (reply < 0) {
                 makeRoom(reply);
-                reply = checked(askOnce(millis(asked), began, isBare));
+                reply = checked(askOnce(at, began, isBare));
             }
             note(reply);
             int answer = Core.answer(reply);
@@ -301,9 +313,9 @@ final class Sections<T> {
     /** Returns an object that needs no test and no passivation, and parks it. Returns the answer. */
     long giveBackBare(Member<T> member) {
         long now = System.nanoTime();
-        long at = millis(now);
         lock.lock();
         try {
+            long at = timeOf(now);
             long reply = Core.giveBack(core, at, member.id, member.slot, caller());
             if (reply < 0) {
                 makeRoom(reply);
@@ -365,7 +377,7 @@ final class Sections<T> {
         long used = now - Math.min(nanosAgo, now - start);
         lock.lock();
         try {
-            step(used, Core.USE, member.id, 0, 0);
+            stepAt(millis(used), Core.USE, member.id, 0, 0);
         } finally {
             release();
         }

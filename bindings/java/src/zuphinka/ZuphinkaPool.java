@@ -445,7 +445,7 @@ public class ZuphinkaPool<T> implements ObjectPool<T>, UsageTracking<T> {
             member.pooled.use();
         }
         member.used = Instant.now();
-        sections.noteUse(member, 0);
+        sections.report(Core.USE, member, 0);
         storeSegment();
     }
 
