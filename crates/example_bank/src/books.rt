@@ -28,7 +28,7 @@ pub struct Order {
 }
 
 /// A store of books, over connections of a type `C`.
-pub trait Shelf<C> {
+pub trait Connect<C> {
     /// Connects to the book at a path, and makes it if there is none.
     fn open(&self, path: &str) -> Result<C, Error>;
 
@@ -48,7 +48,7 @@ impl Files {
     }
 }
 
-impl Shelf<Connection<FileStore<File>>> for Files {
+impl Connect<Connection<FileStore<File>>> for Files {
     fn open(&self, path: &str) -> Result<Connection<FileStore<File>>, Error> {
         Connection::open(&self.rt, path)
     }
@@ -72,9 +72,9 @@ impl<S: Alter + Drop> Drop for Book<S> {
 
 impl<S: Alter> Book<S> {
     /// Opens the book at a path, and makes it if there is none.
-    pub fn open<H: Shelf<Connection<S>>>(shelf: &H, path: &str) -> Result<Book<S>, Error> {
+    pub fn open<H: Connect<Connection<S>>>(store: &H, path: &str) -> Result<Book<S>, Error> {
         Ok(Book {
-            connection: shelf.open(path)?,
+            connection: store.open(path)?,
         })
     }
 
@@ -106,9 +106,9 @@ impl<S: Alter> Book<S> {
     }
 
     /// Closes the connection. Committed transactions are kept, even if the close fails.
-    pub fn close<H: Shelf<Connection<S>>>(self, shelf: &H) -> Result<(), Error> {
+    pub fn close<H: Connect<Connection<S>>>(self, store: &H) -> Result<(), Error> {
         let Book { connection } = self;
-        shelf.close(connection)
+        store.close(connection)
     }
 }
 

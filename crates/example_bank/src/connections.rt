@@ -1,5 +1,5 @@
 // The connections that the pool lends, and how they are opened, tested and closed.
-use crate::books::{BOOKS, Book, Order, Shelf};
+use crate::books::{BOOKS, Book, Connect, Order};
 use pool_shared::Factory;
 use sqlite::{Alter, Connection, Error, ErrorCode};
 use std::cell::RefCell;
@@ -35,25 +35,25 @@ impl<S: Alter + Drop + Send> Connected for Link<S> {
 }
 
 impl<S: Alter> Link<S> {
-    fn close<H: Shelf<Connection<S>>>(self, shelf: &H) -> Result<(), Error> {
+    fn close<H: Connect<Connection<S>>>(self, store: &H) -> Result<(), Error> {
         let Link { book } = self;
-        book.into_inner().close(shelf)
+        book.into_inner().close(store)
     }
 }
 
 /// A factory that opens connections to the books on a shelf.
 #[derive(Clone, Copy)]
 pub struct Opener<H> {
-    shelf: H,
+    store: H,
 }
 
 impl<H: Copy> Opener<H> {
-    pub fn new(shelf: &H) -> Opener<H> {
-        Opener { shelf: *shelf }
+    pub fn new(store: &H) -> Opener<H> {
+        Opener { store: *store }
     }
 }
 
-impl<S: Alter + Drop, H: Shelf<Connection<S>> + Sync> Factory<Link<S>, Error> for Opener<H> {
+impl<S: Alter + Drop, H: Connect<Connection<S>> + Sync> Factory<Link<S>, Error> for Opener<H> {
     ghost use Rattle.std.specs.Prelude.{⊤};
 
     ghost active = { λ link. ⊤ };
@@ -71,7 +71,7 @@ impl<S: Alter + Drop, H: Shelf<Connection<S>> + Sync> Factory<Link<S>, Error> fo
     /// Opens the first book that isn't open. There is one, since the pool has one place for each book.
     fn make(&self, _id: u64) -> Result<Link<S>, Error> {
         for path in BOOKS {
-            match Book::open(&self.shelf, path) {
+            match Book::open(&self.store, path) {
                 Ok(book) => {
                     return Ok(Link {
                         book: RefCell::new(book),
@@ -101,6 +101,6 @@ impl<S: Alter + Drop, H: Shelf<Connection<S>> + Sync> Factory<Link<S>, Error> fo
     }
 
     fn destroy(&self, link: Link<S>) {
-        let _ = link.close(&self.shelf);
+        let _ = link.close(&self.store);
     }
 }

@@ -18,7 +18,7 @@ mod clock;
 mod connections;
 mod fault;
 
-use books::{BOOKS, Book, Files, Shelf};
+use books::{BOOKS, Book, Connect, Files};
 use clerk::work;
 use clock::OfficeClock;
 use connections::{Connected, Link, Opener};
@@ -139,29 +139,29 @@ fn day<
 }
 
 // Makes new books, with the accounts in each.
-fn found<S: Alter + Drop, H: Shelf<Connection<S>>>(
+fn found<S: Alter + Drop, H: Connect<Connection<S>>>(
     rt: &HostRuntime,
-    shelf: &H,
+    store: &H,
 ) -> Result<(), Fault> {
     for path in BOOKS {
         let log = format!(in rt.alloc(); "{path}-wal")?;
         let _ = fs::remove_file(rt, path);
         let _ = fs::remove_file(rt, log.as_str());
-        let mut book = Book::<S>::open(shelf, path)?;
+        let mut book = Book::<S>::open(store, path)?;
         book.found()?;
-        book.close(shelf)?;
+        book.close(store)?;
     }
     Ok(())
 }
 
 // Opens all books.
-fn open_all<S: Alter + Drop, H: Shelf<Connection<S>>>(
+fn open_all<S: Alter + Drop, H: Connect<Connection<S>>>(
     rt: &HostRuntime,
-    shelf: &H,
+    store: &H,
 ) -> Result<Vec<Book<S>>, Fault> {
     let mut all = Vec::new(rt.alloc());
     for path in BOOKS {
-        all.push(Book::open(shelf, path)?)?;
+        all.push(Book::open(store, path)?)?;
     }
     Ok(all)
 }
@@ -176,11 +176,11 @@ fn balance<S: Alter>(all: &mut [Book<S>], account: i64) -> Result<i64, Error> {
 }
 
 // Prints the balance of each account at the end, and their sum.
-fn tell_accounts<S: Alter + Drop, H: Shelf<Connection<S>>>(
+fn report_accounts<S: Alter + Drop, H: Connect<Connection<S>>>(
     rt: &HostRuntime,
-    shelf: &H,
+    store: &H,
 ) -> Result<(), Fault> {
-    let mut all = open_all::<S, H>(rt, shelf)?;
+    let mut all = open_all::<S, H>(rt, store)?;
     let mut total = 0i64;
     for account in 0..i64::from(CLERKS) {
         let balance = balance(all.as_mut_slice(), account)?;
@@ -192,7 +192,7 @@ fn tell_accounts<S: Alter + Drop, H: Shelf<Connection<S>>>(
 }
 
 // Prints the numbers of connections that the pool opened, that were forgotten, and that are still open.
-fn tell_pool<L>(rt: &HostRuntime, core: &Core<L>) -> Result<(), Fault> {
+fn report_pool<L>(rt: &HostRuntime, core: &Core<L>) -> Result<(), Fault> {
     let counts = core.counts();
     let still_open = counts.idle + counts.lent + counts.reserved;
     println!(rt; "connections opened: {}", counts.created)?;
@@ -214,12 +214,12 @@ fn write_journal<L>(rt: &HostRuntime, core: &Core<L>) -> Result<(), Fault> {
 // Runs a day at a new bank, whose books are on a shelf, and prints the results.
 fn keep_books<
     S: Alter + Drop + Send,
-    H: Shelf<Connection<S>> + Copy + Send + Sync,
+    H: Connect<Connection<S>> + Copy + Send + Sync,
     R: Threads + Wait + Sync,
->(rt: &HostRuntime, threads: &R, settings: Settings, shelf: H) -> Result<(), Fault> {
-    found::<S, H>(rt, &shelf)?;
+>(rt: &HostRuntime, threads: &R, settings: Settings, store: H) -> Result<(), Fault> {
+    found::<S, H>(rt, &store)?;
     let site = Site::new(rt.alloc())?;
-    let opener = Opener::new(&shelf);
+    let opener = Opener::new(&store);
     let clock = OfficeClock::start(rt)?;
     let core = day::<Link<S>, Opener<H>, Brand, R>(
         threads,
@@ -229,8 +229,8 @@ fn keep_books<
         opener,
         clock,
     )?;
-    tell_accounts::<S, H>(rt, &shelf)?;
-    tell_pool(rt, &core)?;
+    report_accounts::<S, H>(rt, &store)?;
+    report_pool(rt, &core)?;
     write_journal(rt, &core)
 }
 

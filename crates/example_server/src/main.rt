@@ -131,7 +131,7 @@ fn broken(journal: &[Entry]) -> usize {
 }
 
 // Prints the results of the day, and whether its journal is legal.
-fn tell(rt: &HostRuntime, settings: Settings, evening: &Evening) -> Result<(), Fault> {
+fn report(rt: &HostRuntime, settings: Settings, evening: &Evening) -> Result<(), Fault> {
     let journal = evening.core.journal();
     let counts = evening.core.counts();
     let still_open = counts.idle + counts.lent + counts.reserved;
@@ -153,5 +153,5 @@ fn main(rt: HostRuntime) -> Result<(), Fault> {
     let settings = Settings::from_text(rt.alloc(), SETTINGS).map_err(|_| Fault::Settings)?;
     let moment = AtomicU64::new(MORNING);
     let evening = day::<Brand, _>(&rt, rt.alloc(), site, settings, &moment)?;
-    tell(&rt, settings, &evening)
+    report(&rt, settings, &evening)
 }

@@ -102,7 +102,7 @@ pub(crate) struct Buckets {
     /// The width of each is 2 to this power, in milliseconds.
     doublings: u32,
     list: Vec<Bucket>,
-    ghost few: { length list.items ≤ 1000 },
+    ghost bounded: { length list.items ≤ 1000 },
 }
 
 impl Buckets {

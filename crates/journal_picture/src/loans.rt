@@ -27,7 +27,7 @@ impl Loan {
 #[derive(Drop)]
 pub(crate) struct Longest {
     list: Vec<Loan>,
-    ghost few: { length list.items ≤ 10 },
+    ghost bounded: { length list.items ≤ 10 },
 }
 
 impl Longest {

@@ -25,6 +25,7 @@ mod history;
 mod incoming;
 mod joint;
 mod journal;
+mod lane_builder;
 mod layout;
 mod loans;
 mod mark_rows;
@@ -36,7 +37,6 @@ mod panel;
 mod reading;
 mod scale;
 mod state;
-mod telling;
 mod time_axis;
 
 use arguments::{Task, task_of};

@@ -29,9 +29,9 @@ fn main(rt: HostRuntime) -> ExitCode {
     match arguments_of(&rt) {
         Ok(arguments) => match perform(&rt, &arguments) {
             Ok(()) => ExitCode::SUCCESS,
-            Err(fault) => tell(&rt, &fault),
+            Err(fault) => report(&rt, &fault),
         },
-        Err(fault) => tell(&rt, &fault),
+        Err(fault) => report(&rt, &fault),
     }
 }
 
@@ -84,7 +84,7 @@ fn write<'a>(rt: &HostRuntime, text: &[u8]) -> Result<(), Fault<'a>> {
 }
 
 /// Prints the error on standard error. If that fails too, the status alone reports it.
-fn tell(rt: &HostRuntime, fault: &Fault<'_>) -> ExitCode {
+fn report(rt: &HostRuntime, fault: &Fault<'_>) -> ExitCode {
     let _ = eprintln!(rt; "{fault}");
     ExitCode::from(fault.status())
 }

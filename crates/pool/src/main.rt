@@ -13,8 +13,8 @@ use pool_arguments::{Task, task_of};
 use pool_engines::write_report;
 use pool_load::{Gate, load};
 use pool_tasks::{
-    Fault, check_journal, engine_result, refuse, run_input, run_script, settings_in, tell,
-    tell_statistics,
+    Fault, check_journal, engine_result, refuse, report, report_statistics, run_input, run_script,
+    settings_in,
 };
 use std::env;
 use std::process::ExitCode;
@@ -25,9 +25,9 @@ fn main(rt: HostRuntime) -> ExitCode {
     match arguments_of(&rt) {
         Ok(arguments) => match perform(&rt, &rt, &arguments) {
             Ok(code) => code,
-            Err(fault) => tell(&rt, &fault),
+            Err(fault) => report(&rt, &fault),
         },
-        Err(fault) => tell(&rt, &fault),
+        Err(fault) => report(&rt, &fault),
     }
 }
 
@@ -51,7 +51,7 @@ fn perform<'a, R: Threads + Wait + Sync>(
         Some(Task::Check { settings, journals }) => {
             check_journal(rt, threads, settings, &journals)
         }
-        Some(Task::Stats { journal }) => tell_statistics(rt, journal),
+        Some(Task::Stats { journal }) => report_statistics(rt, journal),
         Some(
             Task::Load {
                 settings,

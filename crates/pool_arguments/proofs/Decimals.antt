@@ -20,14 +20,14 @@ one_or_more word e =
 all_digits : (word : List ℕ) → is_decimal word ≡ true → list_all is_ascii_digit word ≡ true
 all_digits word e = (and_parts (nat_lt 0 (length word) && not (nat_lt 1 (length word) && (slice_index word 0 == 48))) (list_all is_ascii_digit word) e).1
 
-told : {E : Type 0} (word : List ℕ) (r : Result ℕ E) → is_decimal word ≡ true → OkIff r ((0 < length word) × (digits_value 10 word < 2 ^ 64)) (digits_value 10 word)
+reported : {E : Type 0} (word : List ℕ) (r : Result ℕ E) → is_decimal word ≡ true → OkIff r ((0 < length word) × (digits_value 10 word < 2 ^ 64)) (digits_value 10 word)
     → result_ok r ≡ number_below (2 ^ 64) word
-told word (Ok x) decimal h = rw (decimal, lt-ltb (digits_value 10 word) (2 ^ 64) h.0.1, h.1) refl
-told word (Err e) decimal h =
+reported word (Ok x) decimal h = rw (decimal, lt-ltb (digits_value 10 word) (2 ^ 64) h.0.1, h.1) refl
+reported word (Err e) decimal h =
     let few : digits_value 10 word < 2 ^ 64 → ⊥ = λ fits. h (one_or_more word decimal, fits) in
     let most : 2 ^ 64 ≤ digits_value 10 word = omega (arith, few) in
     rw (decimal, le-ltb (digits_value 10 word) (2 ^ 64) most) refl
 
 -- the result of parsing a word of digits
 pub number_parsed : {E : Type 0} (word : List ℕ) (r : Result ℕ E) → is_decimal word ≡ true → ParsesUnsigned 64 10 word r → result_ok r ≡ number_below (2 ^ 64) word
-number_parsed word r decimal h = told word r decimal (parse_digits own 64 word r h (all_digits word decimal))
+number_parsed word r decimal h = reported word r decimal (parse_digits own 64 word r h (all_digits word decimal))

@@ -45,8 +45,8 @@ counted_places ps here = counted (records_in ps) here ∙ length-map ps (λ p. p
 
 -- the counts of the objects of a state and of those that ended
 pub counts_in : {T : Type 0} (s : State T) (steps queued lent reserved : ℕ)
-    → queued ≡ count_by (λ r. is_queued r.phase) (records_in s.places.kept) → lent ≡ count_by (λ r. is_lent r.phase) (records_in s.places.kept)
-    → reserved ≡ count_by (λ r. is_reserved r.phase) (records_in s.places.kept)
+    → queued ≡ count_by (λ r. is_queued r.phase) (records_in s.places.objects) → lent ≡ count_by (λ r. is_lent r.phase) (records_in s.places.objects)
+    → reserved ≡ count_by (λ r. is_reserved r.phase) (records_in s.places.objects)
     → ◌≡◌ {A = Counts} (record { steps = steps; idle = queued; lent = lent; reserved = reserved; created = s.next; destroyed = s.ended.destroyed; evicted = s.ended.evicted; reclaimed = s.ended.reclaimed })
     (counts_at (base_in s steps))
 counts_in s steps queued lent reserved queued_is lent_is reserved_is = λ t.

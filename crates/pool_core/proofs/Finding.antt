@@ -27,7 +27,7 @@ use Rattle.pool_core.specs.Reply.{is_below, has_reached, borrow_candidate, exami
 use Rattle.pool_core.specs.Reply.{borrow_reply, ready_reply, lent_reply, park_reply, added_reply, tested_reply, destroyed_reply}
 use Rattle.pool_core.specs.Reply.{add_reply, evict_next_reply, reclaim_next_reply, clear_next_reply, phase_of, new_of, reply_from_records}
 use Rattle.pool_core.specs.Steps.{comes_from, MovesInputObject, IsEnabled}
-use Rattle.pool_core.proofs.Queues.{all_filter, all_rising, first_has, last_has}
+use Rattle.pool_core.proofs.Queues.{all_filter, all_ascending, first_has, last_has}
 
 -- what an answer requires of the phase of the object that the input names
 abbrev Allowed : Input → Answer → Phase → Type 0
@@ -150,16 +150,16 @@ is_lent_true _ b is = absurd (cc is)
 -- if a test determines the phase of a record, each that passes it is found in that phase
 all_in : (rs : List Record) (p : Phase) (test : Record → Bool) → ((r : Record) → test r ≡ true → r.phase ≡ p) → AllFound rs
     → AllByRecursion (IsIn rs p) (filter test rs)
-all_in rs p test told found = along (filter test rs) (all-filter (λ r. record_in rs r.id ≡ Some r) test rs found)
+all_in rs p test reported found = along (filter test rs) (all-filter (λ r. record_in rs r.id ≡ Some r) test rs found)
   where
     along : (ks : List Record) → AllByRecursion (λ r. (record_in rs r.id ≡ Some r) × (test r ≡ true)) ks
         → AllByRecursion (IsIn rs p) ks
     along [] all = tt
-    along (r ∷ ks) all = (rw all.0.0 (told r all.0.1), along ks all.1)
+    along (r ∷ ks) all = (rw all.0.0 (reported r all.0.1), along ks all.1)
 
 idle_all : (rs : List Record) → AllFound rs → AllByRecursion (IsIn rs phases.Idle) (idle_queue rs)
 idle_all rs found =
-    all_rising (IsIn rs phases.Idle) (λ r. r.parked) (filter (λ r. is_idle r.phase) rs)
+    all_ascending (IsIn rs phases.Idle) (λ r. r.parked) (filter (λ r. is_idle r.phase) rs)
     (all_in rs phases.Idle (λ r. is_idle r.phase) (λ r is. is_idle_true r.phase is) found)
 
 lent_all : (S : Settings) (at : ℕ) (rs : List Record) → AllFound rs → AllByRecursion (IsIn rs phases.Lent) (abandoned_objects S at rs)

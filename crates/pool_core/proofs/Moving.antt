@@ -37,8 +37,8 @@ stays_map t keeps (r ∷ rs) all = rw (keeps r all.0) (ap (λ ks. t r ∷ ks) (s
 kept_map : (k : ℕ) (e : Entry) (next : ℕ) (t : Record → Record) (rs : List Record) → is_make_answer e.answer ≡ false
     → ((r : Record) → record_after k e r ≡ t r) → ((r : Record) → stays r ≡ true → stays (t r) ≡ true) → AllStay rs
     → records_after k e next rs ≡ map t rs
-kept_map k e next t rs no_make told keeps all =
-    stepped_old k e next rs no_make ∙ ap (λ (f : Record → Record). filter stays (map f rs)) (λ x r. told r x)
+kept_map k e next t rs no_make reported keeps all =
+    stepped_old k e next rs no_make ∙ ap (λ (f : Record → Record). filter stays (map f rs)) (λ x r. reported r x)
     ∙ stays_map t keeps rs all
 
 map_same : (rs : List Record) → map (λ (r : Record). r) rs ≡ rs
@@ -48,7 +48,7 @@ map_same (r ∷ rs) = ap (λ ks. r ∷ ks) (map_same rs)
 -- an entry without effect
 stepped_silent : (k : ℕ) (e : Entry) (next : ℕ) (rs : List Record) → is_make_answer e.answer ≡ false
     → ((r : Record) → record_after k e r ≡ r) → AllStay rs → records_after k e next rs ≡ rs
-stepped_silent k e next rs no_make told all = kept_map k e next (λ r. r) rs no_make told (λ r is. is) all ∙ map_same rs
+stepped_silent k e next rs no_make reported all = kept_map k e next (λ r. r) rs no_make reported (λ r is. is) all ∙ map_same rs
 
 -- an entry that changes the object i
 stepped_changed : (k : ℕ) (e : Entry) (next i : ℕ) (t : Record → Record) (rs : List Record) → is_make_answer e.answer ≡ false
@@ -56,12 +56,12 @@ stepped_changed : (k : ℕ) (e : Entry) (next i : ℕ) (t : Record → Record) (
     → ((r : Record) → stays r ≡ true → stays (t r) ≡ true) → AllStay rs → with_changed i t rs ≡ records_after k e next rs
 stepped_changed k e next i t rs no_make changes stay comes all =
     sym
-    (kept_map k e next (λ r. if i == r.id then t r else r) rs no_make (λ r. told (i == r.id) r refl)
+    (kept_map k e next (λ r. if i == r.id then t r else r) rs no_make (λ r. reported (i == r.id) r refl)
     (λ r here. either (i == r.id) r here) all)
   where
-    told : (b : Bool) (r : Record) → (i == r.id) ≡ b → record_after k e r ≡ (if b then t r else r)
-    told true r is = changes r is
-    told false r is = stay r is
+    reported : (b : Bool) (r : Record) → (i == r.id) ≡ b → record_after k e r ≡ (if b then t r else r)
+    reported true r is = changes r is
+    reported false r is = stay r is
 
     either : (b : Bool) (r : Record) → stays r ≡ true → stays (if b then t r else r) ≡ true
     either true r here = comes r here
@@ -204,8 +204,8 @@ is_silent _ = false
 
 unchanged : (now : StepContext) (next : ℕ) (input : Input) (rs : List Record) (a : Answer) → is_make_answer a ≡ false
     → ((r : Record) → record_after now.position (entry_of 0 now.at input a) r ≡ r) → AllStay rs → rs ≡ known_after now input a next rs
-unchanged now next input rs a no_make told all =
-    sym (stepped_silent now.position (entry_of 0 now.at input a) next rs no_make told all)
+unchanged now next input rs a no_make reported all =
+    sym (stepped_silent now.position (entry_of 0 now.at input a) next rs no_make reported all)
 
 pub silent_known : (now : StepContext) (next : ℕ) (input : Input) (rs : List Record) → AllStay rs → (a : Answer) → is_silent a ≡ true
     → rs ≡ known_after now input a next rs

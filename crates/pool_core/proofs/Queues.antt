@@ -34,13 +34,13 @@ all_puts : {A : Type 0} (P : A → Type 0) (key : A → ℕ) (ys xs : List A) �
 all_puts P key ys [] so_far all = so_far
 all_puts P key ys (x ∷ xs) so_far all = all_puts P key (insert_sorted key ys x) xs (all_put P key ys x all.0 so_far) all.1
 
-pub all_rising : {A : Type 0} (P : A → Type 0) (key : A → ℕ) (xs : List A) → AllByRecursion P xs
+pub all_ascending : {A : Type 0} (P : A → Type 0) (key : A → ℕ) (xs : List A) → AllByRecursion P xs
     → AllByRecursion P (sort_by key xs)
 unfolding sort_by
-all_rising P key xs all = all_puts P key [] xs tt all
+all_ascending P key xs all = all_puts P key [] xs tt all
 
 pub all_idle : (P : Record → Type 0) (rs : List Record) → AllByRecursion P rs → AllByRecursion P (idle_queue rs)
-all_idle P rs all = all_rising P (λ r. r.parked) (filter (λ r. is_idle r.phase) rs) (all_filter P (λ r. is_idle r.phase) rs all)
+all_idle P rs all = all_ascending P (λ r. r.parked) (filter (λ r. is_idle r.phase) rs) (all_filter P (λ r. is_idle r.phase) rs all)
 
 pub first_has : {A : Type 0} (P : A → Type 0) (xs : List A) (x : A) → AllByRecursion P xs → first_of xs ≡ Some x → P x
 first_has P [] x all is = absurd (cc is)

@@ -34,11 +34,11 @@ cursor_after answer input rs cursor = unwrap_or (place_known (examined_by answer
 
 -- the new state has taken the step that the input asks for, with the expected answer
 pub record TakesStep {T : Type 0} (now : StepContext) (input : Input) (old new : State T) (answer : Answer) : Type 0 where
-  pub due : answer ≡ reply_from_records old.settings (records_in old.places.kept) old.next old.closed old.cursor now.at input
-  pub known : records_in new.places.kept ≡ known_after now input answer old.next (records_in old.places.kept)
+  pub due : answer ≡ reply_from_records old.settings (records_in old.places.objects) old.next old.closed old.cursor now.at input
+  pub known : records_in new.places.objects ≡ known_after now input answer old.next (records_in old.places.objects)
   pub next_is : new.next ≡ next_after (entry_of 0 now.at input answer) old.next
   pub closed_is : new.closed ≡ closed_after answer input old.closed
-  pub cursor_is : new.cursor ≡ cursor_after answer input (records_in old.places.kept) old.cursor
+  pub cursor_is : new.cursor ≡ cursor_after answer input (records_in old.places.objects) old.cursor
   pub ended_is : new.ended ≡ ended_after answer input old.ended
   pub settings_stay : new.settings ≡ old.settings
 
@@ -53,7 +53,7 @@ pub record IsBefore (position : ℕ) (rs : List Record) (next : ℕ) : Type 0 wh
   pub found : AllByRecursion (λ r. record_in rs r.id ≡ Some r) rs
   pub below : AllByRecursion (λ r. r.id < next) rs
   pub parked : AllByRecursion (λ r. r.parked < position) rs
-  pub few : next + 1 < 2 ^ 64
+  pub bounded : next + 1 < 2 ^ 64
 
 -- the phases from which an answer moves the object that the input names
 abbrev pub comes_from : Answer → Phase → Bool

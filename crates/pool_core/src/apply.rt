@@ -45,12 +45,12 @@ impl<T> State<T> {
 
     // Moves the object that the input names to the phase of the answer, without a value.
     fn bring(&mut self, now: StepContext, input: Input, answer: Answer)
-        requires before { IsBefore now.position (records_in self.old.places.kept) self.old.next }
-        requires moves { MovesInputObject input answer (records_in self.old.places.kept) }
+        requires before { IsBefore now.position (records_in self.old.places.objects) self.old.next }
+        requires moves { MovesInputObject input answer (records_in self.old.places.objects) }
         requires bare { keeps_value answer ≡ false }
-        ensures known { records_in self.new.places.kept
-            ≡ known_after now input answer self.old.next (records_in self.old.places.kept) }
-        ensures values { SameValues self.old.places.kept self.new.places.kept }
+        ensures known { records_in self.new.places.objects
+            ≡ known_after now input answer self.old.next (records_in self.old.places.objects) }
+        ensures values { SameValues self.old.places.objects self.new.places.objects }
         ensures rest { self.new ≡ record self.old { places = self.new.places } }
     {
         let id = named_by(input);
@@ -67,12 +67,12 @@ impl<T> State<T> {
     // Makes the object that the input names idle, with its value: after an idle test at its position in the queue,
     // otherwise at the end.
     fn keep(&mut self, now: StepContext, input: Input, answer: Answer, value: T)
-        requires before { IsBefore now.position (records_in self.old.places.kept) self.old.next }
-        requires moves { MovesInputObject input answer (records_in self.old.places.kept) }
+        requires before { IsBefore now.position (records_in self.old.places.objects) self.old.next }
+        requires moves { MovesInputObject input answer (records_in self.old.places.objects) }
         requires keeps { keeps_value answer ≡ true }
-        ensures known { records_in self.new.places.kept
-            ≡ known_after now input answer self.old.next (records_in self.old.places.kept) }
-        ensures values { StoresValue input self.old.places.kept self.new.places.kept
+        ensures known { records_in self.new.places.objects
+            ≡ known_after now input answer self.old.next (records_in self.old.places.objects) }
+        ensures values { StoresValue input self.old.places.objects self.new.places.objects
             (Some value) None }
         ensures rest { self.new ≡ record self.old { places = self.new.places } }
     {
@@ -92,13 +92,13 @@ impl<T> State<T> {
         answer: Answer,
         value: Option<T>,
     ) -> Option<T>
-        requires before { IsBefore now.position (records_in self.old.places.kept) self.old.next }
-        requires finds { IsEnabled input answer (records_in self.old.places.kept) self.old.next }
+        requires before { IsBefore now.position (records_in self.old.places.objects) self.old.next }
+        requires finds { IsEnabled input answer (records_in self.old.places.objects) self.old.next }
         requires carried { is_some value ≡ carries input }
-        requires reserved { is_make_answer answer ≡ true → 1 ≤ self.old.places.spare }
-        ensures known { records_in self.new.places.kept
-            ≡ known_after now input answer self.old.next (records_in self.old.places.kept) }
-        ensures values { TransfersValue answer input self.old.places.kept self.new.places.kept value
+        requires reserved { is_make_answer answer ≡ true → 1 ≤ self.old.places.spare_capacity }
+        ensures known { records_in self.new.places.objects
+            ≡ known_after now input answer self.old.next (records_in self.old.places.objects) }
+        ensures values { TransfersValue answer input self.old.places.objects self.new.places.objects value
             result }
         ensures rest { self.new ≡ record self.old { places = self.new.places } }
     {
@@ -129,7 +129,7 @@ impl<T> State<T> {
     // The position after which the next eviction step continues.
     fn cursor_after(&self, input: Input, answer: Answer) -> Option<u64>
         ensures { result
-            ≡ cursor_after answer input (records_in self.now.places.kept) self.now.cursor }
+            ≡ cursor_after answer input (records_in self.now.places.objects) self.now.cursor }
     {
         match examined(answer, input) {
             None => self.cursor,
@@ -174,15 +174,15 @@ impl<T> State<T> {
         answer: Answer,
         value: Option<T>,
     ) -> Option<T>
-        requires before { IsBefore now.position (records_in self.old.places.kept) self.old.next }
+        requires before { IsBefore now.position (records_in self.old.places.objects) self.old.next }
         requires due { answer
-            ≡ reply_from_records self.old.settings (records_in self.old.places.kept) self.old.next
+            ≡ reply_from_records self.old.settings (records_in self.old.places.objects) self.old.next
             self.old.closed self.old.cursor now.at input }
         requires carried { is_some value ≡ carries input }
-        requires reserved { is_make_answer answer ≡ true → 1 ≤ self.old.places.spare }
-        requires few { MayGrow self.old.ended }
+        requires reserved { is_make_answer answer ≡ true → 1 ≤ self.old.places.spare_capacity }
+        requires bounded { MayGrow self.old.ended }
         ensures step { TakesStep now input self.old self.new answer }
-        ensures values { TransfersValue answer input self.old.places.kept self.new.places.kept value
+        ensures values { TransfersValue answer input self.old.places.objects self.new.places.objects value
             result }
     {
         self.update_hints(now.at, input, answer);

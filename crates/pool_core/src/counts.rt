@@ -11,7 +11,7 @@ use pool_stats::Counts;
 /// Returns the counts after `steps` entries, computed from the pool's state.
 pub(crate) fn counts_behind<T>(state: &State<T>, steps: u64) -> Counts
     requires here { AllByRecursion (λ r. is_present r.phase ≡ true)
-        (records_in state.now.places.kept) }
+        (records_in state.now.places.objects) }
     ensures { result ≡ counts_at (base_in state.now steps) }
 {
     let places = state.places.counts();

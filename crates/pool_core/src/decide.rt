@@ -18,8 +18,8 @@ const CLOSED: Answer = Answer::Refused(Cause::Closed);
 impl<T> State<T> {
     // The phase of an object, and whether nothing has happened to it since it was made.
     fn phase_and_is_new(&self, id: u64) -> (Phase, bool)
-        ensures phase { result.0 ≡ phase_of (record_in (records_in self.now.places.kept) id) }
-        ensures is_new { result.1 ≡ new_of (record_in (records_in self.now.places.kept) id) }
+        ensures phase { result.0 ≡ phase_of (record_in (records_in self.now.places.objects) id) }
+        ensures is_new { result.1 ≡ new_of (record_in (records_in self.now.places.objects) id) }
     {
         match self.places.find(id) {
             Some(known) => (known.phase, known.is_new),
@@ -30,7 +30,7 @@ impl<T> State<T> {
     // The object that a borrow takes.
     fn borrow_candidate(&self) -> Option<u64>
         ensures { result ≡ borrow_candidate self.now.settings.lifo
-            (records_in self.now.places.kept) }
+            (records_in self.now.places.objects) }
     {
         if self.settings.lifo {
             self.places.last_idle()
@@ -42,7 +42,7 @@ impl<T> State<T> {
     // Whether there is a place for one more object.
     fn has_free_place(&self) -> bool
         ensures { result
-            ≡ is_below self.now.settings.max_total (length (records_in self.now.places.kept)) }
+            ≡ is_below self.now.settings.max_total (length (records_in self.now.places.objects)) }
     {
         is_below_limit(self.settings.max_total, self.places.present() as u64)
     }
@@ -50,14 +50,14 @@ impl<T> State<T> {
     // Whether the queue takes one more object.
     fn has_idle_room(&self) -> bool
         ensures { result
-            ≡ has_room self.now.settings self.now.closed (records_in self.now.places.kept) }
+            ≡ has_room self.now.settings self.now.closed (records_in self.now.places.objects) }
     {
         !self.closed && is_below_limit(self.settings.max_idle, self.places.queued() as u64)
     }
 
     // Whether the objects in the queue, or on their way to it, are at least the number to keep.
     fn is_filled(&self) -> bool
-        ensures { result ≡ has_min_idle self.now.settings (records_in self.now.places.kept) }
+        ensures { result ≡ has_min_idle self.now.settings (records_in self.now.places.objects) }
     {
         let counts = self.places.counts();
         is_at_least(
@@ -69,7 +69,7 @@ impl<T> State<T> {
     // The id of the idle object that is examined next.
     fn examined_id(&self) -> Option<u64>
         ensures { result
-            ≡ option_map (λ r. r.id) (examined self.now.cursor (records_in self.now.places.kept)) }
+            ≡ option_map (λ r. r.id) (examined self.now.cursor (records_in self.now.places.objects)) }
     {
         match self.cursor {
             Some(parked) => match self.places.next_idle_after(parked) {
@@ -82,7 +82,7 @@ impl<T> State<T> {
 
     // The idle object that is examined next.
     fn examine(&self) -> Option<Record>
-        ensures { result ≡ examined self.now.cursor (records_in self.now.places.kept) }
+        ensures { result ≡ examined self.now.cursor (records_in self.now.places.objects) }
     {
         let id = self.examined_id()?;
         self.places.find(id)
@@ -90,7 +90,7 @@ impl<T> State<T> {
 
     // How many idle objects there are.
     fn count_idle(&self) -> u64
-        ensures { result ≡ length (idle_queue (records_in self.now.places.kept)) }
+        ensures { result ≡ length (idle_queue (records_in self.now.places.objects)) }
     {
         self.places.counts().idle
     }
@@ -98,7 +98,7 @@ impl<T> State<T> {
     // Whether fewer than two objects are in the queue, and the others number more than `max_total` less 3 (always, if
     // it is negative).
     fn is_scarce(&self) -> bool
-        ensures { result ≡ is_scarce self.now.settings (records_in self.now.places.kept) }
+        ensures { result ≡ is_scarce self.now.settings (records_in self.now.places.objects) }
     {
         let counts = self.places.counts();
         counts.queue < 2 && is_near_limit(self.settings.max_total, counts.present - counts.queue)
@@ -107,7 +107,7 @@ impl<T> State<T> {
     /// Returns whether a removal of abandoned objects reclaims any.
     pub fn should_reclaim(&self, on: When) -> bool
         ensures { result
-            ≡ reclaims self.now.settings self.now.closed (records_in self.now.places.kept) on }
+            ≡ reclaims self.now.settings self.now.closed (records_in self.now.places.objects) on }
     {
         let settings = &self.settings;
         match on {
@@ -124,7 +124,7 @@ impl<T> State<T> {
     // How many lent objects were not used for the timeout, at time `at` (milliseconds).
     fn count_forgotten(&self, at: u64) -> u64
         ensures { result ≡
-            length (abandoned_objects self.now.settings at (records_in self.now.places.kept)) }
+            length (abandoned_objects self.now.settings at (records_in self.now.places.objects)) }
     {
         match u64::try_from(self.settings.remove_abandoned_timeout_millis) {
             Ok(timeout) => self.places.count_overdue(at, timeout),
@@ -135,7 +135,7 @@ impl<T> State<T> {
     // The answer that reclaims the first of them, if any.
     fn reclaim_next(&self, at: u64) -> Answer
         ensures { result ≡ reclaim_next_reply self.now.settings.abandoned
-            (first_of (abandoned_objects self.now.settings at (records_in self.now.places.kept))) }
+            (first_of (abandoned_objects self.now.settings at (records_in self.now.places.objects))) }
     {
         let timeout = self.settings.remove_abandoned_timeout_millis;
         if !self.settings.abandoned || timeout < 0 {
@@ -150,7 +150,7 @@ impl<T> State<T> {
     // The answer that destroys the idle object that was parked first, if any.
     fn clear_next(&self) -> Answer
         ensures { result
-            ≡ clear_next_reply (first_of (idle_queue (records_in self.now.places.kept))) }
+            ≡ clear_next_reply (first_of (idle_queue (records_in self.now.places.objects))) }
     {
         match self.places.first_idle() {
             Some(id) => Answer::DestroyIdle(id),
@@ -161,14 +161,14 @@ impl<T> State<T> {
     // The answer to a call for an object: `answer` if it is lent.
     fn answer_if_lent(&self, id: u64, answer: Answer) -> Answer
         ensures { result ≡ lent_reply self.now.settings.abandoned
-            (phase_of (record_in (records_in self.now.places.kept) id)) answer }
+            (phase_of (record_in (records_in self.now.places.objects) id)) answer }
     {
         lent_answer(self.settings.abandoned, self.phase_and_is_new(id).0, answer)
     }
 
     // The answer, at time `at`, to a borrow that began at time `began` (milliseconds).
     fn decide_borrow(&self, at: u64, began: u64) -> Answer
-        ensures { result ≡ reply_from_records self.now.settings (records_in self.now.places.kept)
+        ensures { result ≡ reply_from_records self.now.settings (records_in self.now.places.objects)
             self.now.next self.now.closed self.now.cursor at (Input.Borrow began) }
     {
         if self.closed {
@@ -186,7 +186,7 @@ impl<T> State<T> {
     // The answer if an object is to be made for the queue, whether or not a place is free.
     fn add_one(&self) -> Answer
         ensures { result ≡ add_reply (is_below self.now.settings.max_total
-            (length (records_in self.now.places.kept))) self.now.next }
+            (length (records_in self.now.places.objects))) self.now.next }
     {
         add_answer(self.has_free_place(), self.next)
     }
@@ -194,7 +194,7 @@ impl<T> State<T> {
     // How many tests an eviction run makes.
     fn count_tests(&self) -> u64
         ensures { result ≡ tests_per_run self.now.settings.num_tests_per_eviction_run
-            (queue_length (records_in self.now.places.kept)) }
+            (queue_length (records_in self.now.places.objects)) }
     {
         let queue = self.places.queued() as u64;
         number_of_tests(self.settings.num_tests_per_eviction_run, queue)
@@ -203,8 +203,8 @@ impl<T> State<T> {
     // The answer to the next step of an eviction run.
     fn evict_next(&self, at: u64) -> Answer
         ensures { result ≡ evict_next_reply self.now.settings
-            (queue_length (records_in self.now.places.kept)) at
-            (examined self.now.cursor (records_in self.now.places.kept)) }
+            (queue_length (records_in self.now.places.objects)) at
+            (examined self.now.cursor (records_in self.now.places.objects)) }
     {
         let queue = self.places.queued() as u64;
         evict_next_answer(&self.settings, queue, at, self.examine())
@@ -212,7 +212,7 @@ impl<T> State<T> {
 
     /// Returns the expected answer to `input` at time `at` (milliseconds).
     pub fn decide(&self, at: u64, input: Input) -> Answer
-        ensures { result ≡ reply_from_records self.now.settings (records_in self.now.places.kept)
+        ensures { result ≡ reply_from_records self.now.settings (records_in self.now.places.objects)
             self.now.next self.now.closed self.now.cursor at input }
     {
         match input {

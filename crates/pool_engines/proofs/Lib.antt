@@ -1,6 +1,6 @@
 pub mod Windows
 pub mod Going
-pub mod Telling
+pub mod Reporting
 pub mod Journals
 pub mod Whole
 pub mod Running

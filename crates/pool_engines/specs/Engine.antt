@@ -36,10 +36,10 @@ TakesOne lines_left (Err fault) old new = ⊤
 -- Definitions for an engine of the type E: its fixed parameters, such as its settings, the bytes of the lines that it took, its
 -- output for them, whether it can continue, which bytes contain no whole line, and what holds if it ends before the rest of a
 -- stream.
-module _ {E F : Type 0} (settings : E → F) (taken told : E → List ℕ) (active : E → Type 0) (is_partial : List ℕ → Type 0) (ends : E → List ℕ → Result (Unit {0}) EngineFault → Type 0) where
+module _ {E F : Type 0} (settings : E → F) (taken reported : E → List ℕ) (active : E → Type 0) (is_partial : List ℕ → Type 0) (ends : E → List ℕ → Result (Unit {0}) EngineFault → Type 0) where
   -- the engine's output is appended to what was buffered, and its parameters are unchanged
   abbrev pub AppendsOutput : E → E → List ℕ → List ℕ → Type 0
-  AppendsOutput old new before after = (words : List ℕ) × (after ≡ before ++ words) × (told new ≡ told old ++ words) × (settings new ≡ settings old)
+  AppendsOutput old new before after = (words : List ℕ) × (after ≡ before ++ words) × (reported new ≡ reported old ++ words) × (settings new ≡ settings old)
 
   -- one turn of the engine, before these bytes
   abbrev pub HandlesLine : Result LineProgress EngineFault → E → E → List ℕ → List ℕ → List ℕ → Type 0
@@ -54,8 +54,8 @@ module _ {E F : Type 0} (settings : E → F) (taken told : E → List ℕ) (acti
 
   -- the output was written, except for what is still buffered, or, if the writer failed, a prefix of it
   abbrev pub WritesOutput : Result (Unit {0}) EngineFault → E → Option (List ℕ) → Option (List ℕ) → List ℕ → Type 0
-  WritesOutput (Err Write) engine held written buffered = AppendsFront held written (told engine)
-  WritesOutput _ engine held written buffered = (sent : List ℕ) × (told engine ≡ sent ++ buffered) × Appends held written sent
+  WritesOutput (Err Write) engine held written buffered = AppendsFront held written (reported engine)
+  WritesOutput _ engine held written buffered = (sent : List ℕ) × (reported engine ≡ sent ++ buffered) × Appends held written sent
 
   -- the engine has finished with a stream
   pub record Passes (result : Result (Unit {0}) EngineFault) (begun engine : E) (known left held written : Option (List ℕ)) (buffered : List ℕ) : Type 0 where

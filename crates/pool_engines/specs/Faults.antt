@@ -4,16 +4,16 @@ use Rattle.pool_engines.specs.declared.engine_fault.EngineFault.{EngineFault}
 use Rattle.pool_engines.specs.declared.engine_fault.EngineFault.TheVariants.{Line, Full, OutOfMemory, Read, Write}
 
 -- whether something has failed: it has if that is reported, otherwise this is unchanged
-abbrev pub IsTold : Bool → Bool → Bool → Type 0
-IsTold true before after = after ≡ true
-IsTold false before after = after ≡ before
+abbrev pub IsReported : Bool → Bool → Bool → Type 0
+IsReported true before after = after ≡ true
+IsReported false before after = after ≡ before
 
 -- if a failure is reported, one has failed, and the others are unchanged; otherwise all are
-abbrev pub AreTold : Bool → List Bool → List Bool → Type 0
-AreTold told [] after = (told ≡ false) × (after ≡ [])
-AreTold told (b ∷ before) after =
+abbrev pub AreReported : Bool → List Bool → List Bool → Type 0
+AreReported reported [] after = (reported ≡ false) × (after ≡ [])
+AreReported reported (b ∷ before) after =
     (now : Bool) × (others : List Bool) × (after ≡ now ∷ others)
-    × ((IsTold told b now × (others ≡ before)) ⊎ ((now ≡ b) × AreTold told before others))
+    × ((IsReported reported b now × (others ≡ before)) ⊎ ((now ≡ b) × AreReported reported before others))
 
 -- did the reader fail?
 abbrev pub is_read_failure : {A : Type 0} → Result A EngineFault → Bool

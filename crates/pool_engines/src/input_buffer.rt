@@ -1,7 +1,7 @@
 ghost use Rattle.std.specs.Prelude.{◌≡◌, ℕ, ◌+◌, ◌-◌, ◌<◌, ◌≤◌, List, [], ◌++◌, length, take, drop, slice_range, is_err, IfOk, IfErr, OnOk, OnErr};
 ghost use Rattle.std.specs.Io.KnownBytes.{Consumes, IsAtEnd, Keeps};
 ghost use Rattle.pool_engines.specs.Leaving.{read_ahead};
-ghost use Rattle.pool_engines.specs.Faults.{IsTold};
+ghost use Rattle.pool_engines.specs.Faults.{IsReported};
 
 use crate::engine_fault::EngineFault;
 use crate::source::Source;
@@ -60,10 +60,10 @@ impl InputBuffer {
             × (self.new ≡ self.old ++ more)
             × Consumes (R.remaining reader.old) (R.remaining reader.new) more) }
         ensures end { result ≡ Ok 0 → IsAtEnd (R.remaining reader.new) }
-        ensures err { OnErr result ((self.new ≡ self.old)
+        ensures unchanged_on_error { OnErr result ((self.new ≡ self.old)
             × Keeps (R.remaining reader.old) (R.remaining reader.new)) }
         ensures fault { IfErr result (λ fault. fault ≡ EngineFault.Read) }
-        ensures told { IsTold (is_err result) (R.may_have_failed reader.old)
+        ensures reported { IsReported (is_err result) (R.may_have_failed reader.old)
             (R.may_have_failed reader.new) }
         ensures ahead { length self.new ≤ read_ahead }
     {
@@ -89,9 +89,9 @@ pub(crate) fn read_behind<R: Source>(
         × Consumes (R.remaining reader.old) (R.remaining reader.new)
         (slice_range buffer.new from (from + count))) }
     ensures end { result ≡ Ok 0 → IsAtEnd (R.remaining reader.new) }
-    ensures err { OnErr result (Keeps (R.remaining reader.old) (R.remaining reader.new)) }
+    ensures unchanged_on_error { OnErr result (Keeps (R.remaining reader.old) (R.remaining reader.new)) }
     ensures fault { IfErr result (λ fault. fault ≡ EngineFault.Read) }
-    ensures told { IsTold (is_err result) (R.may_have_failed reader.old)
+    ensures reported { IsReported (is_err result) (R.may_have_failed reader.old)
         (R.may_have_failed reader.new) }
 {
     match reader.read_some(&mut buffer[from..]) {

@@ -1,7 +1,7 @@
 ghost use Rattle.std.specs.Prelude.{◌≡◌, ℕ, ◌+◌, ◌<◌, ◌≤◌, List, [], ◌++◌, length, take, is_err, IsOk, IfOk, IfErr, OnOk, OnErr, vec_capacity};
 ghost use Rattle.std.specs.Io.KnownBytes.{Appends, Keeps};
 ghost use Rattle.pool_engines.specs.Handing.{AppendsFront, HasRoom, buffer_room};
-ghost use Rattle.pool_engines.specs.Faults.{IsTold};
+ghost use Rattle.pool_engines.specs.Faults.{IsReported};
 
 use crate::engine_fault::EngineFault;
 use crate::sink::Sink;
@@ -19,10 +19,10 @@ pub(crate) fn reserve_line<W: Sink>(
         × Appends (W.contents writer.old) (W.contents writer.new) sent) }
     ensures room { OnOk result (HasRoom buffered.new) }
     ensures capacity { vec_capacity buffered.new ≡ vec_capacity buffered.old }
-    ensures err { OnErr result
+    ensures on_error { OnErr result
         (AppendsFront (W.contents writer.old) (W.contents writer.new) buffered.old.items) }
     ensures fault { IfErr result (λ fault. fault ≡ EngineFault.Write) }
-    ensures told { IsTold (is_err result) (W.may_have_failed writer.old)
+    ensures reported { IsReported (is_err result) (W.may_have_failed writer.old)
         (W.may_have_failed writer.new) }
 {
     if buffered.len() > FULL {
@@ -40,10 +40,10 @@ pub(crate) fn write_buffered<W: Sink>(
 ) -> Result<(), EngineFault>
     ensures ok { OnOk result ((buffered.new.items ≡ [])
         × Appends (W.contents writer.old) (W.contents writer.new) buffered.old.items) }
-    ensures err { OnErr result
+    ensures on_error { OnErr result
         (AppendsFront (W.contents writer.old) (W.contents writer.new) buffered.old.items) }
     ensures fault { IfErr result (λ fault. fault ≡ EngineFault.Write) }
-    ensures told { IsTold (is_err result) (W.may_have_failed writer.old)
+    ensures reported { IsReported (is_err result) (W.may_have_failed writer.old)
         (W.may_have_failed writer.new) }
     ensures idle { buffered.old.items ≡ [] → IsOk result }
     ensures capacity { vec_capacity buffered.new ≡ vec_capacity buffered.old }
@@ -62,10 +62,10 @@ pub(crate) fn write_buffered<W: Sink>(
 /// Writes all the bytes. On an error a prefix of them is written.
 fn write_whole<W: Sink>(writer: &mut W, bytes: &[u8]) -> Result<(), EngineFault>
     ensures ok { OnOk result (Appends (W.contents writer.old) (W.contents writer.new) bytes.now) }
-    ensures err { OnErr result
+    ensures on_error { OnErr result
         (AppendsFront (W.contents writer.old) (W.contents writer.new) bytes.now) }
     ensures fault { IfErr result (λ fault. fault ≡ EngineFault.Write) }
-    ensures told { IsTold (is_err result) (W.may_have_failed writer.old)
+    ensures reported { IsReported (is_err result) (W.may_have_failed writer.old)
         (W.may_have_failed writer.new) }
 {
     let mut rest = bytes;

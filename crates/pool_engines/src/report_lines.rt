@@ -1,6 +1,6 @@
 ghost use Rattle.std.specs.Prelude.{◌≡◌, ◌++◌, OnOk};
 ghost use Rattle.pool_journal.specs.Appending.{Extends};
-ghost use Rattle.pool_engines.specs.Faults.{IsTold, is_write_failure};
+ghost use Rattle.pool_engines.specs.Faults.{IsReported, is_write_failure};
 ghost use Rattle.pool_engines.specs.ReportLines.{report_text, HandsReport};
 
 use crate::engine_fault::EngineFault;
@@ -26,7 +26,7 @@ pub fn write_report<W: Sink>(
 ) -> Result<(), EngineFault>
     ensures handed { HandsReport (report_text workers rounds refused stats.now)
         (W.contents writer.old) (W.contents writer.new) result }
-    ensures told { IsTold (is_write_failure result) (W.may_have_failed writer.old)
+    ensures reported { IsReported (is_write_failure result) (W.may_have_failed writer.old)
         (W.may_have_failed writer.new) }
 {
     let mut lines = Vec::new(alloc);

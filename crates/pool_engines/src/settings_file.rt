@@ -2,7 +2,7 @@ ghost use Rattle.std.specs.Prelude.{◌≡◌, ℕ, ◌<◌, ◌≤◌, List, le
 ghost use Rattle.std.specs.Io.KnownBytes.{Consumes, IsAtEnd, Keeps};
 ghost use Rattle.pool_settings.specs.Ranges.{IsInRange};
 ghost use Rattle.pool_engines.specs.SettingsFile.{TakesAtMost, IsAnswered, IsJudged, is_unread};
-ghost use Rattle.pool_engines.specs.Faults.{IsTold};
+ghost use Rattle.pool_engines.specs.Faults.{IsReported};
 
 use crate::file_fault::FileFault;
 use crate::input_buffer::read_behind;
@@ -27,7 +27,7 @@ pub fn read_settings<R: Source>(alloc: Global, reader: &mut R) -> Result<Setting
     ensures in_range { IfOk result IsInRange }
     ensures unread { result ≡ Err FileFault.OutOfMemory
         → Keeps (R.remaining reader.old) (R.remaining reader.new) }
-    ensures told { IsTold (is_unread result) (R.may_have_failed reader.old)
+    ensures reported { IsReported (is_unread result) (R.may_have_failed reader.old)
         (R.may_have_failed reader.new) }
 {
     let mut buffer = match buffer(alloc) {
@@ -51,9 +51,9 @@ fn fill<R: Source>(buffer: &mut [u8], reader: &mut R) -> Result<usize, FileFault
     ensures ok { IfOk result (λ count. (count ≤ length buffer.new)
         × Consumes (R.remaining reader.old) (R.remaining reader.new) (take count buffer.new)
         × (count < length buffer.new → IsAtEnd (R.remaining reader.new))) }
-    ensures err { IfErr result (λ fault. (fault ≡ FileFault.Read)
+    ensures error { IfErr result (λ fault. (fault ≡ FileFault.Read)
         × TakesAtMost (length buffer.old) (R.remaining reader.old) (R.remaining reader.new)) }
-    ensures told { IsTold (is_err result) (R.may_have_failed reader.old)
+    ensures reported { IsReported (is_err result) (R.may_have_failed reader.old)
         (R.may_have_failed reader.new) }
 {
     let mut count = 0;

@@ -15,7 +15,7 @@ pub trait Sink: Write {
     ghost use Rattle.std.specs.Prelude.{◌<◌, Bool, length, is_err, IfOk};
     ghost use Rattle.std.specs.Io.{WritesAtMost};
     ghost use Rattle.std.specs.Io.KnownBytes.{WriteAppends, Keeps};
-    ghost use Rattle.pool_engines.specs.Faults.{IsTold};
+    ghost use Rattle.pool_engines.specs.Faults.{IsReported};
 
     /// Whether a write or a flush may have failed.
     ghost may_have_failed: { Self → Bool };
@@ -30,7 +30,7 @@ pub trait Sink: Write {
         ensures bytes { WriteAppends (Self.contents self.old)
             (Self.contents self.new) result bytes.now }
         ensures some { IfOk result (λ count. 0 < length bytes.now → 0 < count) }
-        ensures told { IsTold (is_err result) (may_have_failed self.old)
+        ensures reported { IsReported (is_err result) (may_have_failed self.old)
             (may_have_failed self.new) };
 
     /// Flushes as `flush` does, and again if a signal interrupts it.
@@ -40,7 +40,7 @@ pub trait Sink: Write {
     /// A flush failed.
     fn flush_all(&mut self) -> io::Result<()>
         ensures bytes { Keeps (Self.contents self.old) (Self.contents self.new) }
-        ensures told { IsTold (is_err result) (may_have_failed self.old)
+        ensures reported { IsReported (is_err result) (may_have_failed self.old)
             (may_have_failed self.new) };
 }
 

@@ -15,7 +15,7 @@ pub trait Source: Read {
     ghost use Rattle.std.specs.Prelude.{Bool, is_err};
     ghost use Rattle.std.specs.Io.{ReadsAtMost};
     ghost use Rattle.std.specs.Io.KnownBytes.{ReadConsumes};
-    ghost use Rattle.pool_engines.specs.Faults.{IsTold};
+    ghost use Rattle.pool_engines.specs.Faults.{IsReported};
 
     /// Whether a read may have failed.
     ghost may_have_failed: { Self → Bool };
@@ -29,7 +29,7 @@ pub trait Source: Read {
         ensures bound { ReadsAtMost result buffer.new }
         ensures bytes { ReadConsumes (Self.remaining self.old)
             (Self.remaining self.new) result buffer.new }
-        ensures told { IsTold (is_err result) (may_have_failed self.old)
+        ensures reported { IsReported (is_err result) (may_have_failed self.old)
             (may_have_failed self.new) };
 }
 

@@ -9,7 +9,7 @@ use std::alloc::AllocError;
 /// Appends the lines of statistics, each a name and its number. On an error `out` is unchanged.
 pub(crate) fn push_statistics(out: &mut Vec<u8>, found: &Statistics) -> Result<(), AllocError>
     ensures ok { OnOk result (out.new.items ≡ out.old.items ++ statistics_text found.now) }
-    ensures err { OnErr result (out.new.items ≡ out.old.items) }
+    ensures unchanged_on_error { OnErr result (out.new.items ≡ out.old.items) }
 {
     let start = out.len();
     let pushed = push_lines(out, found);

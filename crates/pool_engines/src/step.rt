@@ -43,7 +43,7 @@ pub(crate) fn step(
         (λ b J. IsProducedFrom stepper.old.settings b J → MatchResult result
         (Answers request.now b J stepper.old stepper.new)
         (Refuses (pool_of stepper.old b J) number request.now)) }
-    ensures err { OnErr result (stepper.new ≡ stepper.old) }
+    ensures unchanged_on_error { OnErr result (stepper.new ≡ stepper.old) }
     ensures own { IfErr result IsOwnFault }
 {
     let Request { caller, at, input } = *request;

@@ -25,7 +25,7 @@ impl Verdict {
     }
 
     /// Appends the line of the verdict after `count` entries.
-    pub(crate) fn tell(&self, count: u64, line: &mut Vec<u8>) -> Result<(), AllocError>
+    pub(crate) fn report(&self, count: u64, line: &mut Vec<u8>) -> Result<(), AllocError>
         ensures { OnOk result (line.new.items ≡ line.old.items ++ verdict_line self.now count) }
     {
         self.push_words(count, line)?;

@@ -16,7 +16,7 @@ use Rattle.pool_settings.specs.declared.settings.Settings.{Settings}
 use Rattle.pool_stats.specs.Answers.{count_answers}
 use Rattle.pool_core.specs.Legal.{IsLegal}
 use Rattle.pool_history.specs.CellInvariant.{entries_with_number, AllBelow}
-use Rattle.pool_shared.specs.Walks.{run_stages, AllExpected}
+use Rattle.pool_shared.specs.Traces.{run_stages, AllExpected}
 use Rattle.pool_shared.specs.Borrows as borrows
 use Rattle.pool_shared.specs.Returns as returns
 use Rattle.pool_shared.specs.Reclaims as removals
@@ -280,8 +280,8 @@ all_rounds s workers rounds refused r load =
     let each = pairs (λ w. lent_in (entries_with_number w J)) (λ w. slice_index load.refusals w) rounds workers (λ w lt. worked_lends s rounds (slice_index load.refusals w) (entries_with_number w J) (ordered_own w J all) (load.worked w lt)) in
     let sums : refused ≡ sum_to (λ w. slice_index load.refusals w) workers =
     load.all ∙ sum_total load.refusals ∙ total_at load.refusals ∙ ap (λ n. sum_to (λ w. slice_index load.refusals w) n) load.each in
-    let told : r.stats.borrowed ≡ lent_in J = ap (λ t. t.borrowed) load.told ∙ lent_counted J in
-    omega (arith, lent, none, each, sums, told)
+    let reported : r.stats.borrowed ≡ lent_in J = ap (λ t. t.borrowed) load.reported ∙ lent_counted J in
+    omega (arith, lent, none, each, sums, reported)
 
 pub ok_rounds : (s : Settings) (workers rounds : ℕ) (r : Result LoadReport LoadFault) → IfOk r (λ r. IsLoad s workers rounds r.refused r.stats) → IfOk r (λ r. r.stats.borrowed + r.refused ≡ workers * rounds)
 ok_rounds s workers rounds (Ok r) load = all_rounds s workers rounds r.refused r load

@@ -12,7 +12,7 @@ use Rattle.pool_shared.specs.declared.faults.ReturnFault.{ReturnFault}
 use Rattle.pool_shared.specs.declared.faults.ReturnFault.TheVariants as refusals
 use Rattle.pool_shared.specs.declared.faults.Returned.{Returned}
 use Rattle.pool_shared.specs.declared.lent.Lent.{Lent}
-use Rattle.pool_shared.specs.Walks.{run_stages}
+use Rattle.pool_shared.specs.Traces.{run_stages}
 use Rattle.pool_shared.specs.Borrows as borrows
 use Rattle.pool_shared.specs.Returns as returns
 use Rattle.pool_shared.specs.Reclaims as removals

@@ -72,9 +72,9 @@ module _ (s : Settings) (rounds workers : ℕ) (front after : List CallerState) 
   worker new worked w lt =
       let a : CallerState = slice_index_or after w (newcomer_at 0) in
       let many : length after ≡ workers = worked.callers ∙ new.long in
-      let told : length fs ≡ workers = sym (length-map fs Ok) ∙ worked.results ∙ new.long in
+      let reported : length fs ≡ workers = sym (length-map fs Ok) ∙ worked.results ∙ new.long in
       let at_a = slice_get-get_or after w (newcomer_at 0) (omega (arith, many, lt)) in
-      let at_o : slice_get (map Ok fs) w ≡ Some (Ok (slice_index fs w)) = slice_get-map Ok fs w ∙ ap (option_map Ok) (slice_get-get_or fs w 0 (omega (arith, told, lt))) in
+      let at_o : slice_get (map Ok fs) w ≡ Some (Ok (slice_index fs w)) = slice_get-map Ok fs w ∙ ap (option_map Ok) (slice_get-get_or fs w 0 (omega (arith, reported, lt))) in
       let is = worked.each w (newcomer_at w) a (Ok (slice_index fs w)) (new.each w lt) at_a at_o in
       record { a = a; at = at_a; number = is.number; uncut = is.uncut; makes = is.worked }
 
@@ -104,7 +104,7 @@ module _ (s : Settings) (rounds workers : ℕ) (front after : List CallerState) 
   pub loaded : (refused taken : ℕ) (stats : Statistics) (all : List CallerState) → length all ≡ workers + 1 → ((k : ℕ) → k < workers + 1 → slice_get all k ≡ Some (newcomer_at k)) → all ≡ front ++ last ∷ []
       → AllWorked s rounds front after (map Ok fs) → Advances s last last' → CloseSpec s (Ok taken) last last'
       → IsLegal s H → EachAppended (after ++ last' ∷ []) H → AllByCallers (after ++ last' ∷ []) H → refused ≡ sum fs → stats ≡ statistics_of H → IsLoad s workers rounds refused stats
-  loaded refused taken stats all long is cut worked goes row legal made under sums told =
+  loaded refused taken stats all long is cut worked goes row legal made under sums reported =
       let new = newcomers workers all front last long is cut in
       let number : last'.number ≡ workers = goes.number ∙ ap (λ (c : CallerState). c.number) new.end in
       let closes = made (length after) last' (at_end after last') in
@@ -124,7 +124,7 @@ module _ (s : Settings) (rounds workers : ℕ) (front after : List CallerState) 
           row = subst (λ c. CloseSpec s (Ok taken) c last') new.end row;
         };
         all = sums;
-        told = told;
+        reported = reported;
       }
     where
       by_worker : (w : ℕ) → Worker w → IsWorked s rounds (slice_index fs w) (entries_with_number w H)

@@ -16,9 +16,9 @@ use Rattle.pool_load.specs.Workers.{StopsLoad}
 -- the numbers of workers and of rounds are in their ranges
 pub record IsInRange (workers rounds : ℕ) : Type 0 where
   pub some_workers : 0 < workers
-  pub few_workers : workers ≤ 1023
+  pub bounded_workers : workers ≤ 1023
   pub some_rounds : 0 < rounds
-  pub few_rounds : rounds ≤ 1000000
+  pub bounded_rounds : rounds ≤ 1000000
 
 -- all entries of the caller of this number in a history are those of one whole close, its first and last call: from a newcomer
 -- on it observed a legal history, up to its last entry at least, and appended the entries of a close, up to a stage at which
@@ -42,7 +42,7 @@ pub record IsLoad (s : Settings) (workers rounds refused : ℕ) (stats : Statist
   pub worked : (w : ℕ) → w < workers → IsWorked s rounds (slice_index refusals w) (entries_with_number w journal)
   pub closed : OnlyCloses s workers journal
   pub all : refused ≡ sum refusals
-  pub told : stats ≡ statistics_of journal
+  pub reported : stats ≡ statistics_of journal
 
 -- why there is no report: a number is out of its range, or, if both are in theirs, an entry of a caller didn't fit the journal,
 -- an allocation failed, or a thread was not created

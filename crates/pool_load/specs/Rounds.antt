@@ -11,7 +11,7 @@ use Rattle.pool_history.specs.CallerStates.{CallerState}
 use Rattle.pool_lock.specs.Sections.{IsFullFor}
 use Rattle.pool_shared.specs.declared.faults.BorrowFault.{BorrowFault}
 use Rattle.pool_shared.specs.declared.faults.BorrowFault.TheVariants as faults
-use Rattle.pool_shared.specs.Walks.{run_stages, AllExpected}
+use Rattle.pool_shared.specs.Traces.{run_stages, AllExpected}
 use Rattle.pool_shared.specs.Borrows as borrows
 use Rattle.pool_shared.specs.Returns as returns
 use Rattle.pool_engines.specs.declared.load_fault.LoadFault.{LoadFault}

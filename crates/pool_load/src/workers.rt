@@ -64,7 +64,7 @@ fn start_one<'s, E, B: Room + Send + Sync, G: Gate, R: Threads + Wait + Sync>(
     rounds: u64,
 ) -> Result<PromisedHandle<Worked<B>, WorkOf<B>>, LoadFault>
     ensures ok { IfOk result (λ h. (h.promise.before.value ≡ me) × (h.promise.rounds ≡ rounds)) }
-    ensures err { IfErr result (λ fault. fault ≡ LoadFault.NoThread) }
+    ensures error { IfErr result (λ fault. fault ≡ LoadFault.NoThread) }
 {
     let promise = WorkOf {
         before: Snapshot::of(&me),
@@ -90,7 +90,7 @@ fn start_all<'s, E, B: Room + Send + Sync, G: Gate, R: Threads + Wait + Sync>(
     ensures begun { IfOk result (λ v. map (λ h. h.promise.before.value) v.items ≡ callers.items) }
     ensures long { IfOk result (λ v.
         map (λ h. h.promise.rounds) v.items ≡ map (λ c. rounds) callers.items) }
-    ensures err { IfErr result (λ fault. IsWanting fault) }
+    ensures error { IfErr result (λ fault. IsWanting fault) }
 {
     let mut threads = Vec::new(alloc);
     for me in callers {
@@ -119,7 +119,7 @@ fn work_in<'s, E, B: Room + Send + Sync, G: Gate, R: Threads + Wait + Sync>(
 ) -> Result<Vec<Worked<B>>, LoadFault>
     ensures ok { IfOk result (λ v. AllWorked B.settings rounds callers.items
         (map (λ w. w.caller) v.items) (map (λ w. w.outcome) v.items)) }
-    ensures err { IfErr result (λ fault. IsWanting fault) }
+    ensures error { IfErr result (λ fault. IsWanting fault) }
 {
     let started = start_all(scope, rt, alloc, pool, gate, start, callers, rounds);
     start.give(rt, started.is_ok());
@@ -148,7 +148,7 @@ pub(crate) fn work_all<B: Room + Send + Sync, G: Gate, R: Threads + Wait + Sync>
 ) -> Result<Vec<Worked<B>>, LoadFault>
     ensures ok { IfOk result (λ v. AllWorked B.settings rounds callers.items
         (map (λ w. w.caller) v.items) (map (λ w. w.outcome) v.items)) }
-    ensures err { IfErr result (λ fault. IsWanting fault) }
+    ensures error { IfErr result (λ fault. IsWanting fault) }
 {
     let start = Start::new();
     let shared = &start;
@@ -158,7 +158,7 @@ pub(crate) fn work_all<B: Room + Send + Sync, G: Gate, R: Threads + Wait + Sync>
         move |scope| -> Result<Vec<Worked<B>>, LoadFault>
             ensures ok { IfOk result (λ v. AllWorked B.settings rounds callers.items
                 (map (λ w. w.caller) v.items) (map (λ w. w.outcome) v.items)) }
-            ensures err { IfErr result (λ fault. IsWanting fault) }
+            ensures error { IfErr result (λ fault. IsWanting fault) }
         { work_in(scope, rt, alloc, pool, gate, shared, callers, rounds) },
     )
 }
@@ -168,7 +168,7 @@ pub(crate) fn collect_all<B: Room>(
     alloc: Global,
     workers: Vec<Worked<B>>,
 ) -> Result<(u64, Vec<Caller<B>>), LoadFault>
-    requires few { length workers.items ≤ 1023 }
+    requires bounded { length workers.items ≤ 1023 }
     requires each { (i : ℕ) (d : _) → i < length workers.items → IsOutcome B.settings 1000000
         (slice_index_or workers.items i d).outcome (slice_index_or workers.items i d).caller }
     ensures callers { IfOk result (λ r. r.1.items ≡ map (λ w. w.caller) workers.items) }

@@ -19,10 +19,10 @@ pub record Found {T : Type 0} (ps : List (Place T)) (i k : ℕ) (q : Place T) : 
   pub read : q ≡ get_or ps k q
 
 -- a property of the record of i holds of the record that was read
-pub found_known : {T : Type 0} {ps : List (Place T)} {i k n : ℕ} {q : Place T} {s : PlacesModel T} (P : Record → Type 0) → Found ps i k q → (let seen : PlacesModel T = record { kept = ps; spare = n } in seen ≡ s)
-    → IsSomeAnd (record_in (records_in s.kept) i) P → P q.known
+pub found_known : {T : Type 0} {ps : List (Place T)} {i k n : ℕ} {q : Place T} {s : PlacesModel T} (P : Record → Type 0) → Found ps i k q → (let seen : PlacesModel T = record { objects = ps; spare_capacity = n } in seen ≡ s)
+    → IsSomeAnd (record_in (records_in s.objects) i) P → P q.known
 found_known {ps} {i} {k} {n} {q} {s} P here seen known =
-    known_at P ps i k q here.well_formed here.at here.read (subst (λ x. IsSomeAnd (record_in (records_in x.kept) i) P) (sym seen) known)
+    known_at P ps i k q here.well_formed here.at here.read (subst (λ x. IsSomeAnd (record_in (records_in x.objects) i) P) (sym seen) known)
 
 empty : {T : Type 0} (o : Option T) → is_some o ≡ false → o ≡ None
 empty None is = refl
@@ -35,7 +35,7 @@ pub found_full : {T : Type 0} {ps : List (Place T)} {i k : ℕ} {q : Place T} �
 found_full {ps} {i} {k} {q} here is = valued_at ps k q here.well_formed here.at.in_range here.read ∙ ap is_idle is
 
 pub found_value : {T : Type 0} {ps : List (Place T)} {i k : ℕ} {q : Place T} → Found ps i k q → value_in ps i ≡ q.value
-found_value {ps} {i} {k} {q} here = ap (option_and_then (λ p. p.value)) (place_found ps i k q here.well_formed.rising here.at here.read)
+found_value {ps} {i} {k} {q} here = ap (option_and_then (λ p. p.value)) (place_found ps i k q here.well_formed.ascending here.at here.read)
 
 -- the records after a change
 pub records_changed : {T : Type 0} (i : ℕ) (f : Place T → Place T) (t : Record → Record) (ps : List (Place T)) → ((p : Place T) → (f p).known ≡ t p.known)
@@ -82,7 +82,7 @@ set_others {ps} {i} {k} {q} f same here j other = ap (λ xs. value_in xs j) (set
 pub set_value : {T : Type 0} {ps : List (Place T)} {i k : ℕ} {q : Place T} (f : Place T → Place T) → ((p : Place T) → (f p).known.id ≡ p.known.id) → Found ps i k q → value_in (set ps k (f q)) i ≡ (f q).value
 set_value {ps} {i} {k} {q} f same here =
     ap (λ xs. value_in xs i) (set_kept f here)
-    ∙ ap (option_and_then (λ p. p.value)) (place_changed_here i f ps same ∙ ap (option_map f) (place_found ps i k q here.well_formed.rising here.at here.read))
+    ∙ ap (option_and_then (λ p. p.value)) (place_changed_here i f ps same ∙ ap (option_map f) (place_found ps i k q here.well_formed.ascending here.at here.read))
 
 -- a removal of the object
 pub well_formed_remove : {T : Type 0} {ps : List (Place T)} {i k : ℕ} {q : Place T} → Found ps i k q → PlacesInvariant (remove ps k)

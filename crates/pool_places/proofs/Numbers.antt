@@ -61,7 +61,7 @@ one_at_most test p = at_most (test p)
     at_most false = lit≤ tt
 
 total_at_most : {T : Type 0} (w : Phase → ℕ) (ps : List (Place T)) → ((p : Phase) → w p ≤ 5) → total w ps ≤ length ps * 5
-total_at_most {T} w ps few = omega (arith, total_is w ps, sum_by-le (λ (x : Place T). w x.known.phase) 5 ps (λ j d lt. few _))
+total_at_most {T} w ps bounded = omega (arith, total_is w ps, sum_by-le (λ (x : Place T). w x.known.phase) 5 ps (λ j d lt. bounded _))
 
 pub length_records : {T : Type 0} (ps : List (Place T)) → length (records_in ps) ≡ length ps
 length_records ps = length-map ps (λ p. p.known)
@@ -122,13 +122,13 @@ counted_push ps old new p is more = record {
 }
 
 pub small : {T : Type 0} (ps : List (Place T)) (c : PlaceCounts) → length ps ≤ 2 ^ 60 → IsCounts c (records_in ps) → IsSmall c
-small ps c few is = record {
-  present = omega (arith, few, is.present, length_records ps);
-  queue = omega (arith, few, is.queue, total_at_most (one is_queued) ps (one_at_most is_queued));
-  idle = omega (arith, few, is.idle, total_at_most (one is_idle) ps (one_at_most is_idle));
-  lent = omega (arith, few, is.lent, total_at_most (one is_lent) ps (one_at_most is_lent));
-  adding = omega (arith, few, is.adding, total_at_most (one is_adding) ps (one_at_most is_adding));
-  owed = omega (arith, few, is.owed, total_at_most max_remaining ps weight_at_most);
+small ps c bounded is = record {
+  present = omega (arith, bounded, is.present, length_records ps);
+  queue = omega (arith, bounded, is.queue, total_at_most (one is_queued) ps (one_at_most is_queued));
+  idle = omega (arith, bounded, is.idle, total_at_most (one is_idle) ps (one_at_most is_idle));
+  lent = omega (arith, bounded, is.lent, total_at_most (one is_lent) ps (one_at_most is_lent));
+  adding = omega (arith, bounded, is.adding, total_at_most (one is_adding) ps (one_at_most is_adding));
+  owed = omega (arith, bounded, is.owed, total_at_most max_remaining ps weight_at_most);
 }
 
 -- with one object fewer, the counts are small as well

@@ -11,7 +11,7 @@ use Rattle.pool_journal.specs.declared.record.Record.{Record}
 use Rattle.pool_journal.specs.declared.record.Phase.{Phase}
 use Rattle.pool_journal.specs.declared.record.Phase.TheVariants as phases
 use Rattle.pool_journal.specs.Queue.{record_in, is_idle, is_queued, idle_queue, first_of, last_of, earlier, later}
-use Rattle.pool_journal.proofs.Ascending.{first_of-by_rising, last_of-by_rising}
+use Rattle.pool_journal.proofs.Ascending.{first_of-by_ascending, last_of-by_ascending}
 use Rattle.pool_places.specs.After.{is_after}
 use Rattle.pool_places.specs.QueueEntries.{QueueEntry}
 use Rattle.pool_places.specs.QueueEntries.{IsAscendingQueue, IsEntry, HasEntry, IsQueueOf}
@@ -217,7 +217,7 @@ pick_first rs xs qs test passes agrees are is = by_case (find test qs) refl
   where
     by_case : (o : Option QueueEntry) → find test qs ≡ o → option_map (λ q. q.id) o ≡ option_map (λ r. r.id) (fold (earlier (λ r. r.parked)) None xs)
     by_case None found = ap (option_map (λ (r : Record). r.id)) (sym (pick_none (earlier (λ r. r.parked)) rs xs qs test passes agrees are is (find_none test qs found)))
-    by_case (Some q) found = sym (pick_one (earlier (λ r. r.parked)) (λ m n. m < n) rs xs qs test passes q prefers_earlier agrees are is (find_first test qs q is.rising found) (find_has (λ q. IsSomeAnd (record_in rs q.id) (IsEntry q)) test qs q is.each found))
+    by_case (Some q) found = sym (pick_one (earlier (λ r. r.parked)) (λ m n. m < n) rs xs qs test passes q prefers_earlier agrees are is (find_first test qs q is.ascending found) (find_has (λ q. IsSomeAnd (record_in rs q.id) (IsEntry q)) test qs q is.each found))
 
 -- the last
 pub pick_last : (rs xs : List Record) (qs : List QueueEntry) (test : QueueEntry → Bool) (passes : Record → Bool) → Agrees test passes → ArePassing rs xs passes → IsQueueOf (record_in rs) qs → option_map (λ q. q.id) (find test (reverse qs)) ≡ option_map (λ r. r.id) (fold (later (λ r. r.parked)) None xs)
@@ -225,7 +225,7 @@ pick_last rs xs qs test passes agrees are is = by_case (find test (reverse qs)) 
   where
     by_case : (o : Option QueueEntry) → find test (reverse qs) ≡ o → option_map (λ q. q.id) o ≡ option_map (λ r. r.id) (fold (later (λ r. r.parked)) None xs)
     by_case None found = ap (option_map (λ (r : Record). r.id)) (sym (pick_none (later (λ r. r.parked)) rs xs qs test passes agrees are is (last_none test qs found)))
-    by_case (Some q) found = sym (pick_one (later (λ r. r.parked)) (λ m n. n < m) rs xs qs test passes q prefers_later agrees are is (find_last test qs q is.rising found) (last_has (λ q. IsSomeAnd (record_in rs q.id) (IsEntry q)) test qs q is.each found))
+    by_case (Some q) found = sym (pick_one (later (λ r. r.parked)) (λ m n. n < m) rs xs qs test passes q prefers_later agrees are is (find_last test qs q is.ascending found) (last_has (λ q. IsSomeAnd (record_in rs q.id) (IsEntry q)) test qs q is.each found))
 
 -- ---- the idle ones
 idle_queued : (p : Phase) → is_idle p ≡ true → is_queued p ≡ true
@@ -242,10 +242,10 @@ idle_passing rs found = record {
 }
 
 pub first_entry : (rs : List Record) (qs : List QueueEntry) → AllByRecursion (λ r. record_in rs r.id ≡ Some r) rs → IsQueueOf (record_in rs) qs → option_map (λ q. q.id) (find (λ q. q.is_idle) qs) ≡ option_map (λ r. r.id) (first_of (idle_queue rs))
-first_entry rs qs found is = pick_first rs (filter (λ r. is_idle r.phase) rs) qs _ _ agrees_idle (idle_passing rs found) is ∙ ap (option_map (λ (r : Record). r.id)) (sym (first_of-by_rising (λ r. r.parked) (filter (λ r. is_idle r.phase) rs)))
+first_entry rs qs found is = pick_first rs (filter (λ r. is_idle r.phase) rs) qs _ _ agrees_idle (idle_passing rs found) is ∙ ap (option_map (λ (r : Record). r.id)) (sym (first_of-by_ascending (λ r. r.parked) (filter (λ r. is_idle r.phase) rs)))
 
 pub last_entry : (rs : List Record) (qs : List QueueEntry) → AllByRecursion (λ r. record_in rs r.id ≡ Some r) rs → IsQueueOf (record_in rs) qs → option_map (λ q. q.id) (find (λ q. q.is_idle) (reverse qs)) ≡ option_map (λ r. r.id) (last_of (idle_queue rs))
-last_entry rs qs found is = pick_last rs (filter (λ r. is_idle r.phase) rs) qs _ _ agrees_idle (idle_passing rs found) is ∙ ap (option_map (λ (r : Record). r.id)) (sym (last_of-by_rising (λ r. r.parked) (filter (λ r. is_idle r.phase) rs)))
+last_entry rs qs found is = pick_last rs (filter (λ r. is_idle r.phase) rs) qs _ _ agrees_idle (idle_passing rs found) is ∙ ap (option_map (λ (r : Record). r.id)) (sym (last_of-by_ascending (λ r. r.parked) (filter (λ r. is_idle r.phase) rs)))
 
 -- ---- the idle ones after a position
 and_left : (a b : Bool) → (a && b) ≡ true → a ≡ true

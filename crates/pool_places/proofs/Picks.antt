@@ -6,7 +6,7 @@ use Rattle.std.specs.Option.{option_map, ForSome}
 use Rattle.std.proofs.lemmas.Bool.Decides.{nat_tests}
 use Rattle.pool_journal.specs.Queue.{record_in, is_idle, first_of, last_of, idle_queue}
 use Rattle.pool_journal.specs.declared.record.Record.{Record}
-use Rattle.pool_journal.proofs.Ascending.{first_of-by_rising, last_of-by_rising}
+use Rattle.pool_journal.proofs.Ascending.{first_of-by_ascending, last_of-by_ascending}
 use Rattle.pool_journal.specs.Queue.{earlier, later}
 use Rattle.std.proofs.Common.{ltb}
 use Rattle.pool_journal.specs.declared.record.Phase.{Phase}
@@ -84,7 +84,7 @@ last_is_idle ps up r is =
     let idle = filter (λ (r : Record). is_idle r.phase) (records_in ps) in
     found_idle (records_in ps) r
     (pass_keeps (IsFoundIdle (records_in ps)) (later (λ r. r.parked)) (later_keeps (IsFoundIdle (records_in ps)) (λ r. r.parked)) None idle (no_one (IsFoundIdle (records_in ps)))
-    (all_filtered (λ r. record_in (records_in ps) r.id ≡ Some r) (λ r. is_idle r.phase) (records_in ps) (each_is_found ps up)) r (sym (last_of-by_rising (λ r. r.parked) idle) ∙ is))
+    (all_filtered (λ r. record_in (records_in ps) r.id ≡ Some r) (λ r. is_idle r.phase) (records_in ps) (each_is_found ps up)) r (sym (last_of-by_ascending (λ r. r.parked) idle) ∙ is))
 
 pub first_is_idle : {T : Type 0} (ps : List (Place T)) → IsAscending ps → (r : Record) → first_of (idle_queue (records_in ps)) ≡ Some r → IsSomeAnd (record_in (records_in ps) r.id) (λ r. r.phase ≡ phases.Idle)
 unfolding IsFoundIdle
@@ -92,7 +92,7 @@ first_is_idle ps up r is =
     let idle = filter (λ (r : Record). is_idle r.phase) (records_in ps) in
     found_idle (records_in ps) r
     (pass_keeps (IsFoundIdle (records_in ps)) (earlier (λ r. r.parked)) (earlier_keeps (IsFoundIdle (records_in ps)) (λ r. r.parked)) None idle (no_one (IsFoundIdle (records_in ps)))
-    (all_filtered (λ r. record_in (records_in ps) r.id ≡ Some r) (λ r. is_idle r.phase) (records_in ps) (each_is_found ps up)) r (sym (first_of-by_rising (λ r. r.parked) idle) ∙ is))
+    (all_filtered (λ r. record_in (records_in ps) r.id ≡ Some r) (λ r. is_idle r.phase) (records_in ps) (each_is_found ps up)) r (sym (first_of-by_ascending (λ r. r.parked) idle) ∙ is))
 
 pub next_is_idle : {T : Type 0} (k : ℕ) (ps : List (Place T)) → IsAscending ps → (r : Record) → first_of (filter (is_after (Some k)) (idle_queue (records_in ps))) ≡ Some r → IsSomeAnd (record_in (records_in ps) r.id) (λ r. r.phase ≡ phases.Idle)
 unfolding IsFoundIdle

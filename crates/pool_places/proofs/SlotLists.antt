@@ -14,7 +14,7 @@ use Rattle.sorted_index.specs.declared.pair.Pair.{Pair}
 use Rattle.sorted_index.specs.Pairs.{key_of, IsAscending}
 use Rattle.pool_places.specs.declared.place.Place.{Place}
 use Rattle.pool_places.specs.PlacesModel.{records_in, place_in, changed, new_place, PlacesInvariant}
-use Rattle.pool_places.specs.Stored.{place_of, place_at, kept_of, entry_at, entry_of, parked_of, IndexInvariant, QueueInvariant}
+use Rattle.pool_places.specs.Stored.{place_of, place_at, objects_of, entry_at, entry_of, parked_of, IndexInvariant, QueueInvariant}
 use Rattle.pool_places.specs.QueueEntries.{QueueEntry, IsAscendingQueue, IsEntry, HasEntry, IsQueueOf}
 use Rattle.pool_places.proofs.Entries.{all_mapped}
 use Rattle.pool_places.proofs.Found.{Found}
@@ -93,29 +93,29 @@ module _ {T : Type 0} where
     pub there : IsSome (item_at rack p.key)
 
   pub each_good : (rack : SlotsModel T) (pairs : List Pair) → IndexInvariant rack pairs → AllByRecursion (Good rack pairs) pairs
-  each_good rack pairs tied = all_mapped (λ p. key_of pairs p.id ≡ Some p.key) (Good rack pairs) pairs (λ p is. item_and (λ item. item.known.id ≡ p.id) rack p.key (tied.there p.id p.key is) (λ item found id. record { key = is; id = ap (λ x. x.known.id) (place_item rack p.key item found) ∙ id; there = ap is_some found })) (each_key pairs tied.rising)
+  each_good rack pairs tied = all_mapped (λ p. key_of pairs p.id ≡ Some p.key) (Good rack pairs) pairs (λ p is. item_and (λ item. item.known.id ≡ p.id) rack p.key (tied.there p.id p.key is) (λ item found id. record { key = is; id = ap (λ x. x.known.id) (place_item rack p.key item found) ∙ id; there = ap is_some found })) (each_key pairs tied.ascending)
 
-  place_kept : (rack : SlotsModel T) (pairs : List Pair) (i : ℕ) (ps : List Pair) → AllByRecursion (Good rack pairs) ps → place_in (kept_of rack ps) i ≡ option_map (place_at rack) (key_of ps i)
+  place_kept : (rack : SlotsModel T) (pairs : List Pair) (i : ℕ) (ps : List Pair) → AllByRecursion (Good rack pairs) ps → place_in (objects_of rack ps) i ≡ option_map (place_at rack) (key_of ps i)
   place_kept rack pairs i [] all = refl
   place_kept rack pairs i (p ∷ ps) all = rw all.0.id (by_test (i == p.id) (place_kept rack pairs i ps all.1))
     where
-      by_test : (b : Bool) → place_in (kept_of rack ps) i ≡ option_map (place_at rack) (key_of ps i) → cond b (Some (place_at rack p.key)) (place_in (kept_of rack ps) i) ≡ option_map (place_at rack) (option_map (λ q. q.key) (cond b (Some p) (find (λ q. i == q.id) ps)))
+      by_test : (b : Bool) → place_in (objects_of rack ps) i ≡ option_map (place_at rack) (key_of ps i) → cond b (Some (place_at rack p.key)) (place_in (objects_of rack ps) i) ≡ option_map (place_at rack) (option_map (λ q. q.key) (cond b (Some p) (find (λ q. i == q.id) ps)))
       by_test true later = refl
       by_test false later = later
 
   -- the object of an id is the one under its key
-  pub place_under : (rack : SlotsModel T) (pairs : List Pair) (i : ℕ) → IndexInvariant rack pairs → place_in (kept_of rack pairs) i ≡ option_map (place_at rack) (key_of pairs i)
+  pub place_under : (rack : SlotsModel T) (pairs : List Pair) (i : ℕ) → IndexInvariant rack pairs → place_in (objects_of rack pairs) i ≡ option_map (place_at rack) (key_of pairs i)
   place_under rack pairs i tied = place_kept rack pairs i pairs (each_good rack pairs tied)
 
-  pub record_under : (rack : SlotsModel T) (pairs : List Pair) (i : ℕ) → IndexInvariant rack pairs → record_in (records_in (kept_of rack pairs)) i ≡ option_map (λ key. (place_at rack key).known) (key_of pairs i)
-  record_under rack pairs i tied = record_in-records_in i (kept_of rack pairs) ∙ ap (option_map (λ p. p.known)) (place_under rack pairs i tied) ∙ twice (key_of pairs i)
+  pub record_under : (rack : SlotsModel T) (pairs : List Pair) (i : ℕ) → IndexInvariant rack pairs → record_in (records_in (objects_of rack pairs)) i ≡ option_map (λ key. (place_at rack key).known) (key_of pairs i)
+  record_under rack pairs i tied = record_in-records_in i (objects_of rack pairs) ∙ ap (option_map (λ p. p.known)) (place_under rack pairs i tied) ∙ twice (key_of pairs i)
     where
       twice : (o : Option ℕ) → option_map (λ p. p.known) (option_map (place_at rack) o) ≡ option_map (λ key. (place_at rack key).known) o
       twice None = refl
       twice (Some key) = refl
 
   -- a present object has a key
-  pub key_there : (rack : SlotsModel T) (pairs : List Pair) (i : ℕ) (P : Record → Type 0) → IndexInvariant rack pairs → IsSomeAnd (record_in (records_in (kept_of rack pairs)) i) P → IsSome (key_of pairs i)
+  pub key_there : (rack : SlotsModel T) (pairs : List Pair) (i : ℕ) (P : Record → Type 0) → IndexInvariant rack pairs → IsSomeAnd (record_in (records_in (objects_of rack pairs)) i) P → IsSome (key_of pairs i)
   key_there rack pairs i P tied known = by_case (key_of pairs i) (subst (λ o. IsSomeAnd o P) (record_under rack pairs i tied) known)
     where
       by_case : (o : Option ℕ) → IsSomeAnd (option_map (λ key. (place_at rack key).known) o) P → IsSome o
@@ -140,10 +140,10 @@ module _ {T : Type 0} where
         | inr differs ↦ (let later = placed_at ps i q (rw differs.0 at is) in rw differs.0 (record { in_range = omega (arith, later.in_range); read = later.read; id = later.id }))
       ]
 
-  pub found_key : (rack : SlotsModel T) (pairs : List Pair) (i key : ℕ) (r : Record) → IndexInvariant rack pairs → PlacesInvariant (kept_of rack pairs) → key_of pairs i ≡ Some key → known_at rack key ≡ Some r
-      → Found (kept_of rack pairs) i (spot i (kept_of rack pairs)) (record { known = r; value = value_at rack key })
+  pub found_key : (rack : SlotsModel T) (pairs : List Pair) (i key : ℕ) (r : Record) → IndexInvariant rack pairs → PlacesInvariant (objects_of rack pairs) → key_of pairs i ≡ Some key → known_at rack key ≡ Some r
+      → Found (objects_of rack pairs) i (spot i (objects_of rack pairs)) (record { known = r; value = value_at rack key })
   found_key rack pairs i key r tied well_formed at known =
-      let here = placed_at (kept_of rack pairs) i (record { known = r; value = value_at rack key }) (place_under rack pairs i tied ∙ ap (option_map (place_at rack)) at ∙ ap Some (place_known rack key r known)) in
+      let here = placed_at (objects_of rack pairs) i (record { known = r; value = value_at rack key }) (place_under rack pairs i tied ∙ ap (option_map (place_at rack)) at ∙ ap Some (place_known rack key r known)) in
       record {
         well_formed = well_formed;
         at = record { in_range = here.in_range; has_id = λ d. ap (λ x. x.known.id) (here.read d) ∙ here.id };
@@ -159,7 +159,7 @@ module _ {T : Type 0} where
     pub id : q.known.id ≡ i
     pub same : p.known.id ≡ q.known.id
 
-  changed_all : (rack rack2 : SlotsModel T) (pairs : List Pair) (i key : ℕ) (q p : Item T) → Turns rack rack2 pairs i key q p → (ps : List Pair) → AllByRecursion (Good rack pairs) ps → kept_of rack2 ps ≡ changed i (λ x. place_of p) (kept_of rack ps)
+  changed_all : (rack rack2 : SlotsModel T) (pairs : List Pair) (i key : ℕ) (q p : Item T) → Turns rack rack2 pairs i key q p → (ps : List Pair) → AllByRecursion (Good rack pairs) ps → objects_of rack2 ps ≡ changed i (λ x. place_of p) (objects_of rack ps)
   changed_all rack rack2 pairs i key q p turns [] all = refl
   changed_all rack rack2 pairs i key q p turns (x ∷ ps) all =
       elim (eqb_tells i x.id) [
@@ -176,12 +176,12 @@ module _ {T : Type 0} where
       place_at_here : x.key ≡ key → place_at rack2 x.key ≡ place_of p
       place_at_here here = ap (place_at rack2) here ∙ place_item rack2 key p turns.sets.changed
 
-  pub kept_turned : (rack rack2 : SlotsModel T) (pairs : List Pair) (i key : ℕ) (q p : Item T) → IndexInvariant rack pairs → Turns rack rack2 pairs i key q p → kept_of rack2 pairs ≡ changed i (λ x. place_of p) (kept_of rack pairs)
+  pub kept_turned : (rack rack2 : SlotsModel T) (pairs : List Pair) (i key : ℕ) (q p : Item T) → IndexInvariant rack pairs → Turns rack rack2 pairs i key q p → objects_of rack2 pairs ≡ changed i (λ x. place_of p) (objects_of rack pairs)
   kept_turned rack rack2 pairs i key q p tied turns = changed_all rack rack2 pairs i key q p turns pairs (each_good rack pairs tied)
 
   pub tied_turned : (rack rack2 : SlotsModel T) (pairs : List Pair) (i key : ℕ) (q p : Item T) → IndexInvariant rack pairs → Turns rack rack2 pairs i key q p → IndexInvariant rack2 pairs
   tied_turned rack rack2 pairs i key q p tied turns = record {
-    rising = tied.rising;
+    ascending = tied.ascending;
     there = λ j k is. elim (eqb_tells k key) [
       | inl same ↦
           (let was : q.known.id ≡ j = subst (λ o. IsSomeAnd o (λ item. item.known.id ≡ j)) (ap (item_at rack) same.1 ∙ turns.old) (tied.there j k is) in
@@ -208,7 +208,7 @@ module _ {T : Type 0} where
     pub sets : Sets rack rack2 key o
     pub here : is_in key rack2.queue ≡ is_queued_item o
     pub others : (other : ℕ) → other ≢ key → is_in other rack2.queue ≡ is_in other rack.queue
-    pub rises : IsAscendingQueue (parked_of rack2)
+    pub ascends : IsAscendingQueue (parked_of rack2)
 
   there_if_queued : (o : Option (Item T)) → is_queued_item o ≡ true → IsSome o
   there_if_queued None queued = absurd (cc queued)
@@ -224,7 +224,7 @@ module _ {T : Type 0} where
       | inl same ↦ ap (λ k. is_in k rack2.queue) same.1 ∙ turns.here ∙ ap is_queued_item (sym turns.sets.changed ∙ ap (item_at rack2) (sym same.1) ∙ is)
       | inr differs ↦ turns.others other differs.1 ∙ line.follows other item (sym (turns.sets.others other differs.1) ∙ is)
     ];
-    rises = turns.rises;
+    ascends = turns.ascends;
   }
 
 above_same : (e e2 : ℕ → QueueEntry) (m n : ℕ) (keys : List ℕ) → n ≡ m → ((k : ℕ) → is_in k keys ≡ true → (e2 k).parked ≡ (e k).parked) → AllByRecursion (λ q. m < q.parked) (map e keys) → AllByRecursion (λ q. n < q.parked) (map e2 keys)
@@ -232,9 +232,9 @@ above_same e e2 m n [] same each above = tt
 above_same e e2 m n (x ∷ xs) same each above = (omega (arith, same, each x (is_in_first x xs), above.0), above_same e e2 m n xs same (λ k there. each k (is_in_later k x xs there)) above.1)
 
 -- equal positions are ascending as well
-pub rises_same : (e e2 : ℕ → QueueEntry) (keys : List ℕ) → ((k : ℕ) → is_in k keys ≡ true → (e2 k).parked ≡ (e k).parked) → IsAscendingQueue (map e keys) → IsAscendingQueue (map e2 keys)
-rises_same e e2 [] each up = tt
-rises_same e e2 (x ∷ xs) each up = (above_same e e2 (e x).parked (e2 x).parked xs (each x (is_in_first x xs)) (λ k there. each k (is_in_later k x xs there)) up.0, rises_same e e2 xs (λ k there. each k (is_in_later k x xs there)) up.1)
+pub ascends_same : (e e2 : ℕ → QueueEntry) (keys : List ℕ) → ((k : ℕ) → is_in k keys ≡ true → (e2 k).parked ≡ (e k).parked) → IsAscendingQueue (map e keys) → IsAscendingQueue (map e2 keys)
+ascends_same e e2 [] each up = tt
+ascends_same e e2 (x ∷ xs) each up = (above_same e e2 (e x).parked (e2 x).parked xs (each x (is_in_first x xs)) (λ k there. each k (is_in_later k x xs there)) up.0, ascends_same e e2 xs (λ k there. each k (is_in_later k x xs there)) up.1)
 
 above_without : (e : ℕ → QueueEntry) (n key : ℕ) (keys : List ℕ) → AllByRecursion (λ q. n < q.parked) (map e keys) → AllByRecursion (λ q. n < q.parked) (map e (without_key key keys))
 above_without e n key [] above = tt
@@ -244,9 +244,9 @@ above_without e n key (x ∷ xs) above = by_test (eqb key x) (above_without e n 
     by_test true later = later
     by_test false later = (above.0, later)
 
-pub rises_without : (e : ℕ → QueueEntry) (key : ℕ) (keys : List ℕ) → IsAscendingQueue (map e keys) → IsAscendingQueue (map e (without_key key keys))
-rises_without e key [] up = tt
-rises_without e key (x ∷ xs) up = by_test (eqb key x) (rises_without e key xs up.1)
+pub ascends_without : (e : ℕ → QueueEntry) (key : ℕ) (keys : List ℕ) → IsAscendingQueue (map e keys) → IsAscendingQueue (map e (without_key key keys))
+ascends_without e key [] up = tt
+ascends_without e key (x ∷ xs) up = by_test (eqb key x) (ascends_without e key xs up.1)
   where
     by_test : (b : Bool) → IsAscendingQueue (map e (without_key key xs)) → IsAscendingQueue (map e (cond (not b) (x ∷ without_key key xs) (without_key key xs)))
     by_test true later = later
@@ -256,9 +256,9 @@ above_push : (e : ℕ → QueueEntry) (n key : ℕ) (keys : List ℕ) → AllByR
 above_push e n key [] above here = (here, tt)
 above_push e n key (x ∷ xs) above here = (above.0, above_push e n key xs above.1 here)
 
-pub rises_push : (e : ℕ → QueueEntry) (key : ℕ) (keys : List ℕ) → IsAscendingQueue (map e keys) → AllByRecursion (λ q. q.parked < (e key).parked) (map e keys) → IsAscendingQueue (map e (keys ++ key ∷ []))
-rises_push e key [] up below = (tt, tt)
-rises_push e key (x ∷ xs) up below = (above_push e (e x).parked key xs up.0 below.0, rises_push e key xs up.1 below.1)
+pub ascends_push : (e : ℕ → QueueEntry) (key : ℕ) (keys : List ℕ) → IsAscendingQueue (map e keys) → AllByRecursion (λ q. q.parked < (e key).parked) (map e keys) → IsAscendingQueue (map e (keys ++ key ∷ []))
+ascends_push e key [] up below = (tt, tt)
+ascends_push e key (x ∷ xs) up below = (above_push e (e x).parked key xs up.0 below.0, ascends_push e key xs up.1 below.1)
 
 below_same : (e e2 : ℕ → QueueEntry) (m n : ℕ) (keys : List ℕ) → n ≡ m → ((k : ℕ) → is_in k keys ≡ true → (e2 k).parked ≡ (e k).parked) → AllByRecursion (λ q. q.parked < m) (map e keys) → AllByRecursion (λ q. q.parked < n) (map e2 keys)
 below_same e e2 m n [] same each below = tt
@@ -276,7 +276,7 @@ module _ {T : Type 0} where
         sets = sets;
         here = ap (is_in key) queue ∙ out ∙ sym still;
         others = λ other apart. ap (is_in other) queue;
-        rises = rw queue (rises_same (entry_at rack) (entry_at rack2) rack.queue (λ k there. entry_same rack rack2 key k o sets (not_key key k rack.queue there out)) line.rises);
+        ascends = rw queue (ascends_same (entry_at rack) (entry_at rack2) rack.queue (λ k there. entry_same rack rack2 key k o sets (not_key key k rack.queue there out)) line.ascends);
       })
 
   -- the entries are unchanged if the key isn't in the queue
@@ -297,7 +297,7 @@ module _ {T : Type 0} where
         sets = sets;
         here = ap (is_in key) queue ∙ key_is_gone key rack.queue ∙ sym still;
         others = λ other apart. ap (is_in other) queue ∙ other_stays other key rack.queue apart;
-        rises = rw queue (rises_same (entry_at rack) (entry_at rack2) (without_key key rack.queue) (λ k there. entry_same rack rack2 key k o sets (not_key key k (without_key key rack.queue) there (key_is_gone key rack.queue))) (rises_without (entry_at rack) key rack.queue line.rises));
+        ascends = rw queue (ascends_same (entry_at rack) (entry_at rack2) (without_key key rack.queue) (λ k there. entry_same rack rack2 key k o sets (not_key key k (without_key key rack.queue) there (key_is_gone key rack.queue))) (ascends_without (entry_at rack) key rack.queue line.ascends));
       })
 
   -- an object that stays in the queue at its position
@@ -307,10 +307,10 @@ module _ {T : Type 0} where
         sets = sets;
         here = ap (is_in key) queue ∙ line.follows key q old ∙ was ∙ sym is;
         others = λ other apart. ap (is_in other) queue;
-        rises = rw queue (rises_same (entry_at rack) (entry_at rack2) rack.queue (λ k there. elim (eqb_tells k key) [
+        ascends = rw queue (ascends_same (entry_at rack) (entry_at rack2) rack.queue (λ k there. elim (eqb_tells k key) [
           | inl here ↦ ap (λ x. (entry_at rack2 x).parked) here.1 ∙ ap (λ x. x.known.parked) (place_item rack2 key p sets.changed) ∙ same ∙ ap (λ x. x.known.parked) (sym (place_item rack key q old)) ∙ ap (λ x. (entry_at rack x).parked) (sym here.1)
           | inr differs ↦ entry_same rack rack2 key k (Some p) sets differs.1
-        ]) line.rises);
+        ]) line.ascends);
       })
 
   -- an object that enters the queue at its end
@@ -322,16 +322,16 @@ module _ {T : Type 0} where
         sets = sets;
         here = ap (is_in key) queue ∙ in_pushed key rack.queue ∙ sym is;
         others = λ other apart. ap (is_in other) queue ∙ in_push_other other key rack.queue apart;
-        rises = rw queue (rises_push (entry_at rack2) key rack.queue (rises_same (entry_at rack) (entry_at rack2) rack.queue each line.rises) (below_same (entry_at rack) (entry_at rack2) p.known.parked (entry_at rack2 key).parked rack.queue (ap (λ x. x.known.parked) (place_item rack2 key p sets.changed)) each below));
+        ascends = rw queue (ascends_push (entry_at rack2) key rack.queue (ascends_same (entry_at rack) (entry_at rack2) rack.queue each line.ascends) (below_same (entry_at rack) (entry_at rack2) p.known.parked (entry_at rack2 key).parked rack.queue (ap (λ x. x.known.parked) (place_item rack2 key p sets.changed)) each below));
       })
 
   -- ---- the entries are those of the records
-  pub queue_kept : (rack : SlotsModel T) (pairs : List Pair) → IndexInvariant rack pairs → QueueInvariant rack → IsQueueOf (record_in (records_in (kept_of rack pairs))) (parked_of rack)
+  pub queue_kept : (rack : SlotsModel T) (pairs : List Pair) → IndexInvariant rack pairs → QueueInvariant rack → IsQueueOf (record_in (records_in (objects_of rack pairs))) (parked_of rack)
   queue_kept rack pairs tied line = record {
-    rising = line.rises;
-    each = each_entry (λ q. IsSomeAnd (record_in (records_in (kept_of rack pairs)) q.id) (IsEntry q)) (entry_at rack) rack.queue (λ k there. some_item rack k (line.present k there) (λ item found.
+    ascending = line.ascends;
+    each = each_entry (λ q. IsSomeAnd (record_in (records_in (objects_of rack pairs)) q.id) (IsEntry q)) (entry_at rack) rack.queue (λ k there. some_item rack k (line.present k there) (λ item found.
         let place = place_item rack k item found in
-        let under : record_in (records_in (kept_of rack pairs)) (entry_at rack k).id ≡ Some (place_at rack k).known = ap (λ p. record_in (records_in (kept_of rack pairs)) p.known.id) place ∙ record_under rack pairs item.known.id tied ∙ ap (option_map (λ key. (place_at rack key).known)) (tied.back k item found) in
+        let under : record_in (records_in (objects_of rack pairs)) (entry_at rack k).id ≡ Some (place_at rack k).known = ap (λ p. record_in (records_in (objects_of rack pairs)) p.known.id) place ∙ record_under rack pairs item.known.id tied ∙ ap (option_map (λ key. (place_at rack key).known)) (tied.back k item found) in
         let queued : is_queued (place_at rack k).known.phase ≡ true = ap (λ p. is_queued p.known.phase) place ∙ sym (line.follows k item found) ∙ there in
         subst (λ o. IsSomeAnd o (IsEntry (entry_at rack k))) (sym under) (record { parked = refl; queued = queued; idle = refl })));
     all = λ i queued. by_key i (key_of pairs i) refl (subst (λ o. IsSomeAnd o (λ r. is_queued r.phase ≡ true)) (record_under rack pairs i tied) queued);

@@ -19,7 +19,7 @@ use Rattle.pool_places.specs.Counts.{IsCounts}
 use Rattle.pool_places.specs.RepInvariant.{RepInvariant, IsWithin}
 use Rattle.pool_places.specs.Overdue.{IsBound}
 use Rattle.pool_places.specs.PlacesModel.{PlacesModel, records_in, without, PlacesInvariant}
-use Rattle.pool_places.specs.Stored.{place_of, place_at, kept_of, IndexInvariant, QueueInvariant}
+use Rattle.pool_places.specs.Stored.{place_of, place_at, objects_of, IndexInvariant, QueueInvariant}
 use Rattle.pool_places.proofs.Found.{Found, set_kept, well_formed_set}
 use Rattle.pool_places.proofs.Keeping.{found_id}
 use Rattle.pool_places.proofs.SlotLists.{item_known, key_there, record_under, place_item, place_same, item_and, Good, each_good, spot, found_key, Turns, kept_turned, tied_turned, line_left, line_stays}
@@ -28,9 +28,9 @@ all_push : (P : Pair → Type 0) (ps : List Pair) (p : Pair) → AllByRecursion 
 all_push P [] p all last = (last, tt)
 all_push P (q ∷ ps) p all last = (all.0, all_push P ps p all.1 last)
 
-pub rising_push : (ps : List Pair) (p : Pair) → IsAscending ps → IdsBelow p.id ps → IsAscending (ps ++ p ∷ [])
-rising_push [] p up below = (tt, tt)
-rising_push (q ∷ ps) p up below = (all_push (λ x. q.id < x.id) ps p up.0 below.0, rising_push ps p up.1 below.1)
+pub ascending_push : (ps : List Pair) (p : Pair) → IsAscending ps → IdsBelow p.id ps → IsAscending (ps ++ p ∷ [])
+ascending_push [] p up below = (tt, tt)
+ascending_push (q ∷ ps) p up below = (all_push (λ x. q.id < x.id) ps p up.0 below.0, ascending_push ps p up.1 below.1)
 
 below_without : (n i : ℕ) (ps : List Pair) → AllByRecursion (λ q. n < q.id) ps → AllByRecursion (λ q. n < q.id) (without_pair i ps)
 below_without n i [] above = tt
@@ -40,9 +40,9 @@ below_without n i (p ∷ ps) above = by_test (not (i == p.id)) (below_without n 
     by_test true later = (above.0, later)
     by_test false later = later
 
-pub rising_without : (i : ℕ) (ps : List Pair) → IsAscending ps → IsAscending (without_pair i ps)
-rising_without i [] up = tt
-rising_without i (p ∷ ps) up = by_test (not (i == p.id)) (rising_without i ps up.1)
+pub ascending_without : (i : ℕ) (ps : List Pair) → IsAscending ps → IsAscending (without_pair i ps)
+ascending_without i [] up = tt
+ascending_without i (p ∷ ps) up = by_test (not (i == p.id)) (ascending_without i ps up.1)
   where
     by_test : (b : Bool) → IsAscending (without_pair i ps) → IsAscending (cond b (p ∷ without_pair i ps) (without_pair i ps))
     by_test true later = (below_without p.id i ps up.0, later)
@@ -92,11 +92,11 @@ module _ {T : Type 0} where
   -- the record under the key of an id was this one
   pub record Reads (rack : SlotsModel T) (pairs : List Pair) (i key : ℕ) (r : Record) : Type 0 where
     pub tied : IndexInvariant rack pairs
-    pub well_formed : PlacesInvariant (kept_of rack pairs)
+    pub well_formed : PlacesInvariant (objects_of rack pairs)
     pub at : key_of pairs i ≡ Some key
     pub known : known_at rack key ≡ Some r
 
-  pub here : (rack : SlotsModel T) (pairs : List Pair) (i key : ℕ) (r : Record) → Reads rack pairs i key r → Found (kept_of rack pairs) i (spot i (kept_of rack pairs)) (record { known = r; value = value_at rack key })
+  pub here : (rack : SlotsModel T) (pairs : List Pair) (i key : ℕ) (r : Record) → Reads rack pairs i key r → Found (objects_of rack pairs) i (spot i (objects_of rack pairs)) (record { known = r; value = value_at rack key })
   here rack pairs i key r reads = found_key rack pairs i key r reads.tied reads.well_formed reads.at reads.known
 
   turns : (rack rack2 : SlotsModel T) (pairs : List Pair) (i key : ℕ) (r : Record) (p : Item T) → Reads rack pairs i key r → Sets rack rack2 key (Some p) → p.known.id ≡ r.id → Turns rack rack2 pairs i key (record { known = r; value = value_at rack key }) p
@@ -108,11 +108,11 @@ module _ {T : Type 0} where
     same = same;
   }
 
-  pub kept_is : (rack rack2 : SlotsModel T) (pairs : List Pair) (i key : ℕ) (r : Record) (p : Item T) → Reads rack pairs i key r → Sets rack rack2 key (Some p) → p.known.id ≡ r.id → kept_of rack2 pairs ≡ set (kept_of rack pairs) (spot i (kept_of rack pairs)) (place_of p)
+  pub kept_is : (rack rack2 : SlotsModel T) (pairs : List Pair) (i key : ℕ) (r : Record) (p : Item T) → Reads rack pairs i key r → Sets rack rack2 key (Some p) → p.known.id ≡ r.id → objects_of rack2 pairs ≡ set (objects_of rack pairs) (spot i (objects_of rack pairs)) (place_of p)
   kept_is rack rack2 pairs i key r p reads sets same = kept_turned rack rack2 pairs i key _ p reads.tied (turns rack rack2 pairs i key r p reads sets same) ∙ sym (set_kept (λ x. place_of p) (here rack pairs i key r reads))
 
   pub kept_after : (rack rack2 : SlotsModel T) (pairs : List Pair) (i key : ℕ) (r : Record) (p : Item T) (counts : PlaceCounts) (from : Option ℕ) (least : ℕ) → Reads rack pairs i key r → Sets rack rack2 key (Some p) → p.known.id ≡ r.id → is_some p.value ≡ is_idle p.known.phase
-      → IsCounts counts (records_in (set (kept_of rack pairs) (spot i (kept_of rack pairs)) (place_of p))) → QueueInvariant rack2 → IsWithin rack2.queue from → IsBound least (records_in (set (kept_of rack pairs) (spot i (kept_of rack pairs)) (place_of p))) → RepInvariant rack2 pairs counts from least
+      → IsCounts counts (records_in (set (objects_of rack pairs) (spot i (objects_of rack pairs)) (place_of p))) → QueueInvariant rack2 → IsWithin rack2.queue from → IsBound least (records_in (set (objects_of rack pairs) (spot i (objects_of rack pairs)) (place_of p))) → RepInvariant rack2 pairs counts from least
   kept_after rack rack2 pairs i key r p counts from least reads sets same valued counted line within bound =
       let is = kept_is rack rack2 pairs i key r p reads sets same in
       record {
@@ -126,10 +126,10 @@ module _ {T : Type 0} where
 
   -- ---- an object is added
   -- ids above all records are above all pairs
-  pub pairs_below : (rack : SlotsModel T) (pairs : List Pair) (n : ℕ) → IndexInvariant rack pairs → RecordsBelow n (records_in (kept_of rack pairs)) → IdsBelow n pairs
+  pub pairs_below : (rack : SlotsModel T) (pairs : List Pair) (n : ℕ) → IndexInvariant rack pairs → RecordsBelow n (records_in (objects_of rack pairs)) → IdsBelow n pairs
   pairs_below rack pairs n tied below = along pairs (each_good rack pairs tied) below
     where
-      along : (ps : List Pair) → AllByRecursion (Good rack pairs) ps → RecordsBelow n (records_in (kept_of rack ps)) → IdsBelow n ps
+      along : (ps : List Pair) → AllByRecursion (Good rack pairs) ps → RecordsBelow n (records_in (objects_of rack ps)) → IdsBelow n ps
       along [] all below = tt
       along (p ∷ ps) all below = (omega (arith, all.0.id, below.0), along ps all.1 below.1)
 
@@ -137,20 +137,20 @@ module _ {T : Type 0} where
   other_key : (rack : SlotsModel T) (pairs : List Pair) (key : ℕ) (p : Pair) → Good rack pairs p → item_at rack key ≡ None → p.key ≢ key
   other_key rack pairs key p good vacant same = cc (good.there, ap is_some (ap (item_at rack) same ∙ vacant))
 
-  kept_apart : (rack rack2 : SlotsModel T) (pairs : List Pair) (key : ℕ) (o : Option (Item T)) (ps : List Pair) → AllByRecursion (Good rack pairs) ps → item_at rack key ≡ None → Sets rack rack2 key o → kept_of rack2 ps ≡ kept_of rack ps
+  kept_apart : (rack rack2 : SlotsModel T) (pairs : List Pair) (key : ℕ) (o : Option (Item T)) (ps : List Pair) → AllByRecursion (Good rack pairs) ps → item_at rack key ≡ None → Sets rack rack2 key o → objects_of rack2 ps ≡ objects_of rack ps
   kept_apart rack rack2 pairs key o [] all vacant sets = refl
   kept_apart rack rack2 pairs key o (p ∷ ps) all vacant sets =
       let stays = place_same rack rack2 p.key (sets.others p.key (other_key rack pairs key p all.0 vacant)) in
       λ j. stays j ∷ kept_apart rack rack2 pairs key o ps all.1 vacant sets j
 
-  pub kept_opened : (rack rack2 : SlotsModel T) (pairs : List Pair) (p : Pair) (item : Item T) → IndexInvariant rack pairs → item_at rack p.key ≡ None → Sets rack rack2 p.key (Some item) → kept_of rack2 (pairs ++ p ∷ []) ≡ kept_of rack pairs ++ place_of item ∷ []
+  pub kept_opened : (rack rack2 : SlotsModel T) (pairs : List Pair) (p : Pair) (item : Item T) → IndexInvariant rack pairs → item_at rack p.key ≡ None → Sets rack rack2 p.key (Some item) → objects_of rack2 (pairs ++ p ∷ []) ≡ objects_of rack pairs ++ place_of item ∷ []
   kept_opened rack rack2 pairs p item tied vacant sets =
-      map-append (λ x. place_at rack2 x.key) pairs (p ∷ []) ∙ ap (λ ps. ps ++ place_at rack2 p.key ∷ []) (kept_apart rack rack2 pairs p.key (Some item) pairs (each_good rack pairs tied) vacant sets) ∙ ap (λ x. kept_of rack pairs ++ x ∷ []) (place_item rack2 p.key item sets.changed)
+      map-append (λ x. place_at rack2 x.key) pairs (p ∷ []) ∙ ap (λ ps. ps ++ place_at rack2 p.key ∷ []) (kept_apart rack rack2 pairs p.key (Some item) pairs (each_good rack pairs tied) vacant sets) ∙ ap (λ x. objects_of rack pairs ++ x ∷ []) (place_item rack2 p.key item sets.changed)
 
   pub tied_opened : (rack rack2 : SlotsModel T) (pairs after : List Pair) (p : Pair) (item : Item T) → IndexInvariant rack pairs → item_at rack p.key ≡ None → Sets rack rack2 p.key (Some item) → item.known.id ≡ p.id → IsAscending after → key_of pairs p.id ≡ None
       → key_of after p.id ≡ Some p.key → ((j : ℕ) → j ≢ p.id → key_of after j ≡ key_of pairs j) → IndexInvariant rack2 after
-  tied_opened rack rack2 pairs after p item tied vacant sets id rising absent found others = record {
-    rising = rising;
+  tied_opened rack rack2 pairs after p item tied vacant sets id ascending absent found others = record {
+    ascending = ascending;
     there = λ j k is. elim (eqb_tells j p.id) [
       | inl same ↦
           (let e : Some p.key ≡ Some k = sym found ∙ ap (key_of after) (sym same.1) ∙ is in
@@ -174,13 +174,13 @@ module _ {T : Type 0} where
   }
 
   -- ---- an object is removed
-  pub kept_freed : (rack rack2 : SlotsModel T) (pairs : List Pair) (i key : ℕ) (r : Record) → Reads rack pairs i key r → Sets rack rack2 key None → kept_of rack2 (without_pair i pairs) ≡ without i (kept_of rack pairs)
+  pub kept_freed : (rack rack2 : SlotsModel T) (pairs : List Pair) (i key : ℕ) (r : Record) → Reads rack pairs i key r → Sets rack rack2 key None → objects_of rack2 (without_pair i pairs) ≡ without i (objects_of rack pairs)
   kept_freed rack rack2 pairs i key r reads sets = along pairs (each_good rack pairs reads.tied)
     where
       id : r.id ≡ i
       id = found_id (here rack pairs i key r reads)
 
-      along : (ps : List Pair) → AllByRecursion (Good rack pairs) ps → kept_of rack2 (without_pair i ps) ≡ without i (kept_of rack ps)
+      along : (ps : List Pair) → AllByRecursion (Good rack pairs) ps → objects_of rack2 (without_pair i ps) ≡ without i (objects_of rack ps)
       along [] all = refl
       along (p ∷ ps) all =
           elim (eqb_tells i p.id) [
@@ -192,8 +192,8 @@ module _ {T : Type 0} where
           ]
 
   pub tied_freed : (rack rack2 : SlotsModel T) (pairs after : List Pair) (i key : ℕ) (r : Record) → Reads rack pairs i key r → Sets rack rack2 key None → IsAscending after → key_of after i ≡ None → ((j : ℕ) → j ≢ i → key_of after j ≡ key_of pairs j) → IndexInvariant rack2 after
-  tied_freed rack rack2 pairs after i key r reads sets rising gone others = record {
-    rising = rising;
+  tied_freed rack rack2 pairs after i key r reads sets ascending gone others = record {
+    ascending = ascending;
     there = λ j k is. elim (eqb_tells j i) [
       | inl same ↦ absurd (cc (sym is ∙ ap (key_of after) same.1 ∙ gone))
       | inr differs ↦
@@ -211,8 +211,8 @@ module _ {T : Type 0} where
   }
 
   -- ---- by the model
-  pub key_seen : {n : ℕ} {s : PlacesModel T} (P : Record → Type 0) (rack : SlotsModel T) (pairs : List Pair) (i : ℕ) → IndexInvariant rack pairs → (let seen : PlacesModel T = record { kept = kept_of rack pairs; spare = n } in seen ≡ s) → IsSomeAnd (record_in (records_in s.kept) i) P → IsSome (key_of pairs i)
-  key_seen P rack pairs i tied seen known = key_there rack pairs i P tied (subst (λ s. IsSomeAnd (record_in (records_in s.kept) i) P) (sym seen) known)
+  pub key_seen : {n : ℕ} {s : PlacesModel T} (P : Record → Type 0) (rack : SlotsModel T) (pairs : List Pair) (i : ℕ) → IndexInvariant rack pairs → (let seen : PlacesModel T = record { objects = objects_of rack pairs; spare_capacity = n } in seen ≡ s) → IsSomeAnd (record_in (records_in s.objects) i) P → IsSome (key_of pairs i)
+  key_seen P rack pairs i tied seen known = key_there rack pairs i P tied (subst (λ s. IsSomeAnd (record_in (records_in s.objects) i) P) (sym seen) known)
 
   pub item_there : (rack : SlotsModel T) (pairs : List Pair) (i key : ℕ) → IndexInvariant rack pairs → key_of pairs i ≡ Some key → IsSome (item_at rack key)
   item_there rack pairs i key tied at = item_and (λ x. x.known.id ≡ i) rack key (tied.there i key at) (λ x found own. ap is_some found)
@@ -225,8 +225,8 @@ module _ {T : Type 0} where
   kept_reserved rack pairs counts from least n kept = record {
     well_formed = kept.well_formed;
     counted = kept.counted;
-    tied = record { rising = kept.tied.rising; there = kept.tied.there; back = kept.tied.back };
-    line = record { present = kept.line.present; follows = kept.line.follows; rises = kept.line.rises };
+    tied = record { ascending = kept.tied.ascending; there = kept.tied.there; back = kept.tied.back };
+    line = record { present = kept.line.present; follows = kept.line.follows; ascends = kept.line.ascends };
     remembered = kept.remembered;
     bound = kept.bound;
   }
@@ -254,7 +254,7 @@ module _ {T : Type 0} where
     others = λ other apart. sets.others other apart ∙ ap (λ rack. item_at rack other) is;
   }
 
-  pub key_absent : (rack : SlotsModel T) (pairs : List Pair) (i : ℕ) → IndexInvariant rack pairs → record_in (records_in (kept_of rack pairs)) i ≡ None → key_of pairs i ≡ None
+  pub key_absent : (rack : SlotsModel T) (pairs : List Pair) (i : ℕ) → IndexInvariant rack pairs → record_in (records_in (objects_of rack pairs)) i ≡ None → key_of pairs i ≡ None
   key_absent rack pairs i tied none = by_case (key_of pairs i) (sym (record_under rack pairs i tied) ∙ none)
     where
       by_case : (o : Option ℕ) → option_map (λ key. (place_at rack key).known) o ≡ None → o ≡ None

@@ -301,9 +301,9 @@ not_first : (x : ℕ) (xs : List ℕ) (o : Option ℕ) → is_in x xs ≡ false 
 not_first x xs None out there = refl
 not_first x xs (Some n) out there = apart_of n x xs there out
 
-pub rises_put : (e : ℕ → QueueEntry) (key : ℕ) (keys : List ℕ) → AreDistinct keys → IsAscendingQueue (map e keys) → AllByRecursion (λ q. q.parked ≢ (e key).parked) (map e keys) → IsAscendingQueue (map e (put_before (find (λ k. nat_lt (e key).parked (e k).parked) keys) key keys))
-rises_put e key [] distinct up free = (tt, tt)
-rises_put e key (x ∷ xs) distinct up free = by_test (nat_lt (e key).parked (e x).parked) refl (rises_put e key xs distinct.1 up.1 free.1)
+pub ascends_put : (e : ℕ → QueueEntry) (key : ℕ) (keys : List ℕ) → AreDistinct keys → IsAscendingQueue (map e keys) → AllByRecursion (λ q. q.parked ≢ (e key).parked) (map e keys) → IsAscendingQueue (map e (put_before (find (λ k. nat_lt (e key).parked (e k).parked) keys) key keys))
+ascends_put e key [] distinct up free = (tt, tt)
+ascends_put e key (x ∷ xs) distinct up free = by_test (nat_lt (e key).parked (e x).parked) refl (ascends_put e key xs distinct.1 up.1 free.1)
   where
     later : Option ℕ
     later = find (λ k. nat_lt (e key).parked (e k).parked) xs

@@ -93,18 +93,18 @@ all_above_set n k p d [] lt same all = tt
 all_above_set n zero p d (q ∷ ps) lt same all = (omega (arith, same, all.0), all.1)
 all_above_set n (suc k) p d (q ∷ ps) lt same all = (all.0, all_above_set n k p d ps (omega arith) same all.1)
 
-rising_set : {T : Type 0} (k : ℕ) (p d : Place T) (ps : List (Place T)) → k < length ps → p.known.id ≡ (get_or ps k d).known.id → IsAscending ps → IsAscending (set ps k p)
-rising_set k p d [] lt same up = tt
-rising_set zero p d (q ∷ ps) lt same up = (subst (λ (n : ℕ). AllByRecursion (λ x. n < x.known.id) ps) (sym same) up.0, up.1)
-rising_set (suc k) p d (q ∷ ps) lt same up = (all_above_set q.known.id k p d ps (omega arith) same up.0, rising_set k p d ps (omega arith) same up.1)
+ascending_set : {T : Type 0} (k : ℕ) (p d : Place T) (ps : List (Place T)) → k < length ps → p.known.id ≡ (get_or ps k d).known.id → IsAscending ps → IsAscending (set ps k p)
+ascending_set k p d [] lt same up = tt
+ascending_set zero p d (q ∷ ps) lt same up = (subst (λ (n : ℕ). AllByRecursion (λ x. n < x.known.id) ps) (sym same) up.0, up.1)
+ascending_set (suc k) p d (q ∷ ps) lt same up = (all_above_set q.known.id k p d ps (omega arith) same up.0, ascending_set k p d ps (omega arith) same up.1)
 
 pub shelf_set : {T : Type 0} (ps : List (Place T)) (k : ℕ) (q p : Place T) → PlacesInvariant ps → k < length ps → q ≡ get_or ps k q → p.known.id ≡ q.known.id → IsValued p → PlacesInvariant (set ps k p)
 shelf_set ps k q p well_formed lt read same valued =
-    record { rising = rising_set k p q ps lt (same ∙ ap (λ x. x.known.id) read) well_formed.rising; valued = All-set IsValued ps k p valued well_formed.valued; few = omega (arith, well_formed.few, length-set ps k p) }
+    record { ascending = ascending_set k p q ps lt (same ∙ ap (λ x. x.known.id) read) well_formed.ascending; valued = All-set IsValued ps k p valued well_formed.valued; bounded = omega (arith, well_formed.bounded, length-set ps k p) }
 
 -- a write at the position of i is a change of i
 pub change_is : {T : Type 0} (f : Place T → Place T) (ps : List (Place T)) (i k : ℕ) (q : Place T) → PlacesInvariant ps → IsAt ps i k → q ≡ get_or ps k q → set ps k (f q) ≡ changed i f ps
-change_is f ps i k q well_formed at read = ap (λ x. set ps k (f x)) read ∙ set-changed i k f q ps well_formed.rising (at_read ps i k q at read)
+change_is f ps i k q well_formed at read = ap (λ x. set ps k (f x)) read ∙ set-changed i k f q ps well_formed.ascending (at_read ps i k q at read)
 
 all_without : {T : Type 0} (n i : ℕ) (ps : List (Place T)) → AllByRecursion (λ q. n < q.known.id) ps → AllByRecursion (λ q. n < q.known.id) (without i ps)
 all_without n i [] all = tt
@@ -114,35 +114,35 @@ all_without n i (p ∷ ps) all = by_test (not (i == p.known.id)) all.0 (all_with
     by_test true here rest = (here, rest)
     by_test false here rest = rest
 
-rising_without : {T : Type 0} (i : ℕ) (ps : List (Place T)) → IsAscending ps → IsAscending (without i ps)
-rising_without i [] up = tt
-rising_without i (p ∷ ps) up = by_test (not (i == p.known.id)) (all_without p.known.id i ps up.0) (rising_without i ps up.1)
+ascending_without : {T : Type 0} (i : ℕ) (ps : List (Place T)) → IsAscending ps → IsAscending (without i ps)
+ascending_without i [] up = tt
+ascending_without i (p ∷ ps) up = by_test (not (i == p.known.id)) (all_without p.known.id i ps up.0) (ascending_without i ps up.1)
   where
     by_test : (b : Bool) → AllByRecursion (λ q. p.known.id < q.known.id) (without i ps) → IsAscending (without i ps) → IsAscending (cond b (p ∷ without i ps) (without i ps))
     by_test true here rest = (here, rest)
     by_test false here rest = rest
 
 pub shelf_without : {T : Type 0} (i : ℕ) (ps : List (Place T)) → PlacesInvariant ps → PlacesInvariant (without i ps)
-shelf_without i ps well_formed = record { rising = rising_without i ps well_formed.rising; valued = All-filter (λ p. not (i == p.known.id)) IsValued ps well_formed.valued; few = omega (arith, well_formed.few, length-filter (λ (p : Place _). not (i == p.known.id)) ps, count_by-le-length (λ (p : Place _). not (i == p.known.id)) ps) }
+shelf_without i ps well_formed = record { ascending = ascending_without i ps well_formed.ascending; valued = All-filter (λ p. not (i == p.known.id)) IsValued ps well_formed.valued; bounded = omega (arith, well_formed.bounded, length-filter (λ (p : Place _). not (i == p.known.id)) ps, count_by-le-length (λ (p : Place _). not (i == p.known.id)) ps) }
 
 pub remove_is : {T : Type 0} (ps : List (Place T)) (i k : ℕ) (q : Place T) → PlacesInvariant ps → IsAt ps i k → q ≡ get_or ps k q → remove ps k ≡ without i ps
-remove_is ps i k q well_formed at read = remove-without i k q ps well_formed.rising (at_read ps i k q at read)
+remove_is ps i k q well_formed at read = remove-without i k q ps well_formed.ascending (at_read ps i k q at read)
 
 all_above_push : {T : Type 0} (n : ℕ) (ps : List (Place T)) (p : Place T) → AllByRecursion (λ q. n < q.known.id) ps → n < p.known.id → AllByRecursion (λ q. n < q.known.id) (ps ++ p ∷ [])
 all_above_push n [] p all lt = (lt, tt)
 all_above_push n (q ∷ ps) p all lt = (all.0, all_above_push n ps p all.1 lt)
 
-rising_push : {T : Type 0} (ps : List (Place T)) (p : Place T) → IsAscending ps → AllByRecursion (λ q. q.known.id < p.known.id) ps → IsAscending (ps ++ p ∷ [])
-rising_push [] p up all = (tt, tt)
-rising_push (q ∷ ps) p up all = (all_above_push q.known.id ps p up.0 all.0, rising_push ps p up.1 all.1)
+ascending_push : {T : Type 0} (ps : List (Place T)) (p : Place T) → IsAscending ps → AllByRecursion (λ q. q.known.id < p.known.id) ps → IsAscending (ps ++ p ∷ [])
+ascending_push [] p up all = (tt, tt)
+ascending_push (q ∷ ps) p up all = (all_above_push q.known.id ps p up.0 all.0, ascending_push ps p up.1 all.1)
 
 pub well_formed_push : {T : Type 0} (ps : List (Place T)) (p : Place T) → PlacesInvariant ps → AllByRecursion (λ q. q.known.id < p.known.id) ps → IsValued p → length ps < 2 ^ 60 → PlacesInvariant (ps ++ p ∷ [])
-well_formed_push ps p well_formed above valued few = record { rising = rising_push ps p well_formed.rising above; valued = All-push IsValued ps p well_formed.valued valued; few = omega (arith, length_push ps p) }
+well_formed_push ps p well_formed above valued bounded = record { ascending = ascending_push ps p well_formed.ascending above; valued = All-push IsValued ps p well_formed.valued valued; bounded = omega (arith, length_push ps p) }
 
 -- a property of the record of i holds of the record of the object that was read
 pub known_at : {T : Type 0} (P : Record → Type 0) (ps : List (Place T)) (i k : ℕ) (q : Place T) → PlacesInvariant ps → IsAt ps i k → q ≡ get_or ps k q → IsSomeAnd (record_in (records_in ps) i) P → P q.known
 known_at P ps i k q well_formed at read known =
-    subst (λ o. IsSomeAnd o P) (record_in-records_in i ps ∙ ap (option_map (λ p. p.known)) (place_found ps i k q well_formed.rising at read)) known
+    subst (λ o. IsSomeAnd o P) (record_in-records_in i ps ∙ ap (option_map (λ p. p.known)) (place_found ps i k q well_formed.ascending at read)) known
 
 pub valued_at : {T : Type 0} (ps : List (Place T)) (k : ℕ) (q : Place T) → PlacesInvariant ps → k < length ps → q ≡ get_or ps k q → IsValued q
 valued_at ps k q well_formed lt read = subst IsValued (sym read) (well_formed.valued k q lt)

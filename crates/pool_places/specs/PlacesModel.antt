@@ -11,8 +11,8 @@ use Rattle.pool_places.specs.declared.place.Place.{Place}
 
 -- the model of the objects
 pub record PlacesModel (T : Type 0) : Type 0 where
-  pub kept : List (Place T)  -- in ascending order of id
-  pub spare : ℕ  -- the number of objects that can be opened without memory
+  pub objects : List (Place T)  -- in ascending order of id
+  pub spare_capacity : ℕ  -- the number of objects that can be opened without memory
 
 -- the records of the objects
 abbrev pub records_in : {T : Type 0} → List (Place T) → List Record
@@ -73,9 +73,9 @@ IsValued p = is_some p.value ≡ is_idle p.known.phase
 
 -- the ids are ascending, exactly the idle objects have values, and there are no more objects than memory has addresses for
 pub record PlacesInvariant {T : Type 0} (ps : List (Place T)) : Type 0 where
-  pub rising : IsAscending ps
+  pub ascending : IsAscending ps
   pub valued : All IsValued ps
-  pub few : length ps ≤ 2 ^ 60
+  pub bounded : length ps ≤ 2 ^ 60
 
 -- i is at position k
 pub record IsAt {T : Type 0} (ps : List (Place T)) (i k : ℕ) : Type 0 where

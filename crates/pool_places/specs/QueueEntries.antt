@@ -33,6 +33,6 @@ HasEntry i (q ∷ qs) = (q.id ≡ i) ⊎ HasEntry i qs
 
 -- qs are the entries of the queue, if `record_of` maps each id to its record
 pub record IsQueueOf (record_of : ℕ → Option Record) (qs : List QueueEntry) : Type 0 where
-  pub rising : IsAscendingQueue qs
+  pub ascending : IsAscendingQueue qs
   pub each : AllByRecursion (λ q. IsSomeAnd (record_of q.id) (IsEntry q)) qs
   pub all : (i : ℕ) → IsSomeAnd (record_of i) (λ r. is_queued r.phase ≡ true) → HasEntry i qs

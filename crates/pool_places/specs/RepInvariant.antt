@@ -6,7 +6,7 @@ use Rattle.pool_places.specs.declared.place_counts.PlaceCounts.{PlaceCounts}
 use Rattle.pool_places.specs.Counts.{IsCounts}
 use Rattle.pool_places.specs.Overdue.{IsBound}
 use Rattle.pool_places.specs.PlacesModel.{records_in, PlacesInvariant}
-use Rattle.pool_places.specs.Stored.{kept_of, IndexInvariant, QueueInvariant}
+use Rattle.pool_places.specs.Stored.{objects_of, IndexInvariant, QueueInvariant}
 
 -- the key is in the queue, if there is one
 abbrev pub IsWithin : List ℕ → Option ℕ → Type 0
@@ -15,9 +15,9 @@ IsWithin queue o = IfSome o (λ key. is_in key queue ≡ true)
 -- the objects are in order, these are their keys, queue and counts, the remembered key is in the queue, and no lent object was
 -- last used before the bound
 pub record RepInvariant {T : Type 0} (rack : SlotsModel T) (pairs : List Pair) (counts : PlaceCounts) (from : Option ℕ) (least : ℕ) : Type 0 where
-  pub well_formed : PlacesInvariant (kept_of rack pairs)
-  pub counted : IsCounts counts (records_in (kept_of rack pairs))
+  pub well_formed : PlacesInvariant (objects_of rack pairs)
+  pub counted : IsCounts counts (records_in (objects_of rack pairs))
   pub tied : IndexInvariant rack pairs
   pub line : QueueInvariant rack
   pub remembered : IsWithin rack.queue from
-  pub bound : IsBound least (records_in (kept_of rack pairs))
+  pub bound : IsBound least (records_in (objects_of rack pairs))

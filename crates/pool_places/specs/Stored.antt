@@ -31,8 +31,8 @@ module _ {T : Type 0} where
   place_at rack key = unwrap_or (option_map place_of (item_at rack key)) (new_place 0 phases.Absent)
 
   -- the objects, in ascending order of id
-  abbrev pub kept_of : SlotsModel T → List Pair → List (Place T)
-  kept_of rack pairs = map (λ p. place_at rack p.key) pairs
+  abbrev pub objects_of : SlotsModel T → List Pair → List (Place T)
+  objects_of rack pairs = map (λ p. place_at rack p.key) pairs
 
   -- the entry of the object under a key
   abbrev pub entry_at : SlotsModel T → ℕ → QueueEntry
@@ -48,7 +48,7 @@ module _ {T : Type 0} where
 
   -- each id leads to its object, and each object is led to
   pub record IndexInvariant (rack : SlotsModel T) (pairs : List Pair) : Type 0 where
-    pub rising : IsAscending pairs
+    pub ascending : IsAscending pairs
     pub there : (i key : ℕ) → key_of pairs i ≡ Some key → IsSomeAnd (item_at rack key) (λ item. item.known.id ≡ i)
     pub back : (key : ℕ) (item : Item T) → item_at rack key ≡ Some item → key_of pairs item.known.id ≡ Some key
 
@@ -56,4 +56,4 @@ module _ {T : Type 0} where
   pub record QueueInvariant (rack : SlotsModel T) : Type 0 where
     pub present : (key : ℕ) → is_in key rack.queue ≡ true → IsSome (item_at rack key)
     pub follows : (key : ℕ) (item : Item T) → item_at rack key ≡ Some item → is_in key rack.queue ≡ is_queued item.known.phase
-    pub rises : IsAscendingQueue (parked_of rack)
+    pub ascends : IsAscendingQueue (parked_of rack)

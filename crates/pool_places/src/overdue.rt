@@ -2,7 +2,7 @@ ghost use Rattle.std.specs.Prelude.{◌≡◌, ◌≤◌, true, count_by, find};
 ghost use Rattle.std.specs.Option.{option_map};
 ghost use Rattle.pool_places.specs.Overdue.{is_overdue, is_lent, IsBound};
 ghost use Rattle.pool_places.specs.PlacesModel.{records_in, PlacesInvariant};
-ghost use Rattle.pool_places.specs.Stored.{kept_of, IndexInvariant};
+ghost use Rattle.pool_places.specs.Stored.{objects_of, IndexInvariant};
 
 use crate::phase_tests::is_lent_phase;
 use pool_journal::Record;
@@ -25,7 +25,7 @@ pub(crate) fn first_overdue<T>(
 ) -> Option<u64>
     requires { IndexInvariant slots.now index.now.pairs }
     ensures { result ≡ option_map (λ r. r.id)
-        (find (is_overdue at timeout) (records_in (kept_of slots.now index.now.pairs))) }
+        (find (is_overdue at timeout) (records_in (objects_of slots.now index.now.pairs))) }
 {
     for pair in index.walk() {
         let known = slots.known(pair.key);
@@ -39,9 +39,9 @@ pub(crate) fn first_overdue<T>(
 /// Returns the number of abandoned objects.
 pub(crate) fn overdue_count<T>(slots: &Slots<T>, index: &SortedIndex, at: u64, timeout: u64) -> u64
     requires tied { IndexInvariant slots.now index.now.pairs }
-    requires well_formed { PlacesInvariant (kept_of slots.now index.now.pairs) }
+    requires well_formed { PlacesInvariant (objects_of slots.now index.now.pairs) }
     ensures { result ≡ count_by (is_overdue at timeout)
-        (records_in (kept_of slots.now index.now.pairs)) }
+        (records_in (objects_of slots.now index.now.pairs)) }
 {
     let mut count = 0;
     for pair in index.walk() {
@@ -74,7 +74,7 @@ pub(crate) fn last_use(known: Record) -> u64
 /// Returns the earliest time at which a lent object was last used, and `u64::MAX` if none is lent.
 pub(crate) fn least_use<T>(slots: &Slots<T>, index: &SortedIndex) -> u64
     requires { IndexInvariant slots.now index.now.pairs }
-    ensures { IsBound result (records_in (kept_of slots.now index.now.pairs)) }
+    ensures { IsBound result (records_in (objects_of slots.now index.now.pairs)) }
 {
     let mut least = u64::MAX;
     for pair in index.walk() {

@@ -53,13 +53,13 @@ impl<T> Model for Places<T> {
     ghost use Rattle.std.specs.Prelude.{◌-◌, ◌^◌, min, length};
     ghost use Rattle.pool_places.specs.PlacesModel.{PlacesModel};
     ghost use Rattle.pool_places.specs.RepInvariant.{RepInvariant};
-    ghost use Rattle.pool_places.specs.Stored.{kept_of};
+    ghost use Rattle.pool_places.specs.Stored.{objects_of};
 
     ghost Value = { PlacesModel T };
 
     ghost view = { λ a. record {
-      kept = kept_of a.slots a.index.pairs;
-      spare = min (min a.slots.room a.index.spare) (2 ^ 60 - length a.index.pairs);
+      objects = objects_of a.slots a.index.pairs;
+      spare_capacity = min (min a.slots.room a.index.spare) (2 ^ 60 - length a.index.pairs);
     } };
 
     ghost invariant = { λ a. RepInvariant a.slots a.index.pairs a.counts a.remembered
@@ -69,7 +69,7 @@ impl<T> Model for Places<T> {
 impl<T> Places<T> {
     /// Returns places without objects.
     pub fn new(alloc: Global) -> Self
-        ensures { result.kept ≡ [] }
+        ensures { result.objects ≡ [] }
     {
         Places {
             slots: Slots::new(alloc),
@@ -82,30 +82,30 @@ impl<T> Places<T> {
 
     /// Returns the number of present objects.
     pub fn present(&self) -> usize
-        ensures { result ≡ length self.now.kept }
+        ensures { result ≡ length self.now.objects }
     {
         self.index.len()
     }
 
     /// Returns the number of objects in the queue.
     pub fn queued(&self) -> usize
-        ensures { result ≡ queue_length (records_in self.now.kept) }
+        ensures { result ≡ queue_length (records_in self.now.objects) }
     {
         self.counts.queue as usize
     }
 
     /// Returns the record of an object, if it is present.
     pub fn find(&self, id: u64) -> Option<Record>
-        ensures value { result ≡ record_in (records_in self.now.kept) id }
-        ensures well_formed { PlacesInvariant self.now.kept }
+        ensures value { result ≡ record_in (records_in self.now.objects) id }
+        ensures well_formed { PlacesInvariant self.now.objects }
 
         // The outstanding entries with another record in its place, and those of the other objects.
         ensures owed_changed { (change : Known → Known) → IfSome result (λ r.
-            owed_for (with_changed id change (records_in self.now.kept)) + max_remaining r.phase
-            ≡ owed_for (records_in self.now.kept) + max_remaining (change r).phase) }
+            owed_for (with_changed id change (records_in self.now.objects)) + max_remaining r.phase
+            ≡ owed_for (records_in self.now.objects) + max_remaining (change r).phase) }
         ensures owed_without { IfSome result (λ r.
-            owed_for (without_id id (records_in self.now.kept)) + max_remaining r.phase
-            ≡ owed_for (records_in self.now.kept)) }
+            owed_for (without_id id (records_in self.now.objects)) + max_remaining r.phase
+            ≡ owed_for (records_in self.now.objects)) }
     {
         let key = self.index.find(id)?;
         Some(self.slots.known(key))
@@ -114,7 +114,7 @@ impl<T> Places<T> {
     /// Returns the record at position `n`, from 0, in ascending order of id, or `None` if at most `n` objects are
     /// present.
     pub fn nth(&self, n: u64) -> Option<Record>
-        ensures { result ≡ slice_get (records_in self.now.kept) n }
+        ensures { result ≡ slice_get (records_in self.now.objects) n }
     {
         let pair = self.index.nth(n as usize)?;
         Some(self.slots.known(pair.key))
@@ -123,8 +123,8 @@ impl<T> Places<T> {
     /// Makes `nth` take the same time for each position, until an object is freed. The objects are unchanged. There may
     /// be memory for more of them.
     pub fn compact_index(&mut self)
-        ensures kept { self.new.kept ≡ self.old.kept }
-        ensures spare { self.old.spare ≤ self.new.spare }
+        ensures objects { self.new.objects ≡ self.old.objects }
+        ensures spare_capacity { self.old.spare_capacity ≤ self.new.spare_capacity }
     {
         self.index.sweep();
     }
@@ -132,8 +132,8 @@ impl<T> Places<T> {
     /// Returns the id of the idle object that was parked first.
     pub fn first_idle(&self) -> Option<u64>
         ensures value { result ≡ option_map (λ r. r.id)
-            (first_of (idle_queue (records_in self.now.kept))) }
-        ensures idle { IfSome result (λ i. IsInPhase (records_in self.now.kept) i phases.Idle) }
+            (first_of (idle_queue (records_in self.now.objects))) }
+        ensures idle { IfSome result (λ i. IsInPhase (records_in self.now.objects) i phases.Idle) }
     {
         first_wanted(&self.slots, self.slots.first(), None)
     }
@@ -141,8 +141,8 @@ impl<T> Places<T> {
     /// Returns the id of the idle object that was parked last.
     pub fn last_idle(&self) -> Option<u64>
         ensures value { result ≡ option_map (λ r. r.id)
-            (last_of (idle_queue (records_in self.now.kept))) }
-        ensures idle { IfSome result (λ i. IsInPhase (records_in self.now.kept) i phases.Idle) }
+            (last_of (idle_queue (records_in self.now.objects))) }
+        ensures idle { IfSome result (λ i. IsInPhase (records_in self.now.objects) i phases.Idle) }
     {
         last_wanted(&self.slots, self.slots.last())
     }
@@ -150,8 +150,8 @@ impl<T> Places<T> {
     /// Returns the id of the idle object that was parked first, of those that were parked after position `parked`.
     pub fn next_idle_after(&self, parked: u64) -> Option<u64>
         ensures value { result ≡ option_map (λ r. r.id)
-            (first_of (filter (is_after (Some parked)) (idle_queue (records_in self.now.kept)))) }
-        ensures idle { IfSome result (λ i. IsInPhase (records_in self.now.kept) i phases.Idle) }
+            (first_of (filter (is_after (Some parked)) (idle_queue (records_in self.now.objects)))) }
+        ensures idle { IfSome result (λ i. IsInPhase (records_in self.now.objects) i phases.Idle) }
     {
         let first = self.slots.first()?;
         let from = self.remembered.unwrap_or(first);
@@ -174,10 +174,10 @@ impl<T> Places<T> {
     /// milliseconds. A use after `at` counts as a use at `at`.
     pub fn least_overdue(&self, at: u64, timeout: u64) -> Option<u64>
         ensures value { result ≡ option_map (λ r. r.id)
-            (first_of (overdue at timeout (records_in self.now.kept))) }
+            (first_of (overdue at timeout (records_in self.now.objects))) }
         ensures least { IfSome result (λ i.
-            AllByRecursion (λ r. i ≤ r.id) (overdue at timeout (records_in self.now.kept))) }
-        ensures lent { IfSome result (λ i. IsInPhase (records_in self.now.kept) i phases.Lent) }
+            AllByRecursion (λ r. i ≤ r.id) (overdue at timeout (records_in self.now.objects))) }
+        ensures lent { IfSome result (λ i. IsInPhase (records_in self.now.objects) i phases.Lent) }
     {
         if at.saturating_sub(self.least_used) < timeout {
             return None;
@@ -188,7 +188,7 @@ impl<T> Places<T> {
     /// Returns the number of lent objects that, at time `at`, were not used for at least `timeout` (both in
     /// milliseconds).
     pub fn count_overdue(&self, at: u64, timeout: u64) -> u64
-        ensures { result ≡ length (overdue at timeout (records_in self.now.kept)) }
+        ensures { result ≡ length (overdue at timeout (records_in self.now.objects)) }
     {
         if at.saturating_sub(self.least_used) < timeout {
             return 0;
@@ -208,15 +208,15 @@ impl<T> Places<T> {
 
     /// Returns the number of objects of each kind, and of their outstanding entries.
     pub fn counts(&self) -> PlaceCounts
-        ensures present { result.present ≡ length self.now.kept }
-        ensures queue { result.queue ≡ queue_length (records_in self.now.kept) }
-        ensures idle { result.idle ≡ count_by (λ r. is_idle r.phase) (records_in self.now.kept) }
-        ensures lent { result.lent ≡ count_by (λ r. is_lent r.phase) (records_in self.now.kept) }
+        ensures present { result.present ≡ length self.now.objects }
+        ensures queue { result.queue ≡ queue_length (records_in self.now.objects) }
+        ensures idle { result.idle ≡ count_by (λ r. is_idle r.phase) (records_in self.now.objects) }
+        ensures lent { result.lent ≡ count_by (λ r. is_lent r.phase) (records_in self.now.objects) }
         ensures adding { result.adding
-            ≡ count_by (λ r. is_adding r.phase) (records_in self.now.kept) }
-        ensures owed { result.owed ≡ owed_for (records_in self.now.kept) }
+            ≡ count_by (λ r. is_adding r.phase) (records_in self.now.objects) }
+        ensures owed { result.owed ≡ owed_for (records_in self.now.objects) }
         ensures small { result.owed < 2 ^ 63 }
-        ensures well_formed { PlacesInvariant self.now.kept }
+        ensures well_formed { PlacesInvariant self.now.objects }
     {
         self.counts
     }
@@ -227,10 +227,10 @@ impl<T> Places<T> {
     ///
     /// An allocation failed, or 2^60 objects are present.
     pub fn reserve_one(&mut self) -> Result<(), AllocError>
-        ensures kept { self.new.kept ≡ self.old.kept }
-        ensures ok { OnOk result (1 ≤ self.new.spare) }
-        ensures full { OnErr result (self.old.spare ≡ 0) }
-        ensures spare { self.old.spare ≤ self.new.spare }
+        ensures objects { self.new.objects ≡ self.old.objects }
+        ensures ok { OnOk result (1 ≤ self.new.spare_capacity) }
+        ensures full { OnErr result (self.old.spare_capacity ≡ 0) }
+        ensures spare_capacity { self.old.spare_capacity ≤ self.new.spare_capacity }
     {
         if self.present() >= MOST_PLACES {
             return Err(AllocError);
@@ -245,10 +245,10 @@ impl<T> Places<T> {
     ///
     /// An allocation failed, or there would be more than 2^60 objects.
     pub fn reserve(&mut self, n: usize) -> Result<(), AllocError>
-        ensures kept { self.new.kept ≡ self.old.kept }
-        ensures ok { OnOk result (n ≤ self.new.spare) }
-        ensures full { OnErr result (self.old.spare < n) }
-        ensures spare { self.old.spare ≤ self.new.spare }
+        ensures objects { self.new.objects ≡ self.old.objects }
+        ensures ok { OnOk result (n ≤ self.new.spare_capacity) }
+        ensures full { OnErr result (self.old.spare_capacity < n) }
+        ensures spare_capacity { self.old.spare_capacity ≤ self.new.spare_capacity }
     {
         if n > MOST_PLACES - self.present() {
             return Err(AllocError);
@@ -264,22 +264,22 @@ impl<T> Places<T> {
     /// takes the same time for every length of the queue if positions ascend or descend from object to object, or if
     /// one of the neighbours in the queue was named. If positions have no order, it walks along the queue.
     pub fn restore(&mut self, known: Record, value: Option<T>)
-        requires reserved { 1 ≤ self.old.spare }
-        requires above { IdsBelow known.id (records_in self.old.kept) }
+        requires reserved { 1 ≤ self.old.spare_capacity }
+        requires above { IdsBelow known.id (records_in self.old.objects) }
         requires phase { IsTrue (is_present known.phase) }
         requires valued { is_some value ≡ is_idle known.phase }
         requires position { is_queued known.phase ≡ true
-            → IsFreePosition known.parked (records_in self.old.kept) }
-        ensures kept { self.new.kept ≡ self.old.kept
+            → IsFreePosition known.parked (records_in self.old.objects) }
+        ensures objects { self.new.objects ≡ self.old.objects
             ++ record { known = known; value = value } ∷ [] }
-        ensures records { records_in self.new.kept ≡ records_in self.old.kept ++ known ∷ [] }
-        ensures value { value_in self.new.kept known.id ≡ value }
+        ensures records { records_in self.new.objects ≡ records_in self.old.objects ++ known ∷ [] }
+        ensures value { value_in self.new.objects known.id ≡ value }
         ensures others { (j : ℕ) → j ≢ known.id →
-            value_in self.new.kept j ≡ value_in self.old.kept j }
-        ensures owed { owed_for (records_in self.new.kept)
-            ≡ owed_for (records_in self.old.kept) + max_remaining known.phase }
-        ensures spare { self.new.spare + 1 ≡ self.old.spare }
-        ensures well_formed { PlacesInvariant self.new.kept }
+            value_in self.new.objects j ≡ value_in self.old.objects j }
+        ensures owed { owed_for (records_in self.new.objects)
+            ≡ owed_for (records_in self.old.objects) + max_remaining known.phase }
+        ensures spare_capacity { self.new.spare_capacity + 1 ≡ self.old.spare_capacity }
+        ensures well_formed { PlacesInvariant self.new.objects }
     {
         let key = self.slots.insert_with(known, value);
         enter(&mut self.slots, &mut self.remembered, key, known);
@@ -290,16 +290,16 @@ impl<T> Places<T> {
 
     /// Adds an object that was just created, in the memory that was reserved. Its phase is `Readying` or `Adding`.
     pub fn open(&mut self, id: u64, phase: Phase)
-        requires reserved { 1 ≤ self.old.spare }
-        requires above { IdsBelow id (records_in self.old.kept) }
+        requires reserved { 1 ≤ self.old.spare_capacity }
+        requires above { IdsBelow id (records_in self.old.objects) }
         requires phase { IsTrue (opens_as phase) }
-        ensures kept { self.new.kept ≡ self.old.kept ++ new_place id phase ∷ [] }
-        ensures records { records_in self.new.kept
-            ≡ records_in self.old.kept ++ new_record id phase ∷ [] }
-        ensures values { (j : ℕ) → value_in self.new.kept j ≡ value_in self.old.kept j }
-        ensures owed { owed_for (records_in self.new.kept)
-            ≡ owed_for (records_in self.old.kept) + max_remaining phase }
-        ensures spare { self.new.spare + 1 ≡ self.old.spare }
+        ensures objects { self.new.objects ≡ self.old.objects ++ new_place id phase ∷ [] }
+        ensures records { records_in self.new.objects
+            ≡ records_in self.old.objects ++ new_record id phase ∷ [] }
+        ensures values { (j : ℕ) → value_in self.new.objects j ≡ value_in self.old.objects j }
+        ensures owed { owed_for (records_in self.new.objects)
+            ≡ owed_for (records_in self.old.objects) + max_remaining phase }
+        ensures spare_capacity { self.new.spare_capacity + 1 ≡ self.old.spare_capacity }
     {
         let key = self.slots.insert(Record {
             id,
@@ -316,17 +316,17 @@ impl<T> Places<T> {
 
     /// Moves an object that isn't idle to `Returning` or `Destroying`.
     pub fn set_phase(&mut self, id: u64, phase: Phase)
-        requires present { IsSomeAnd (record_in (records_in self.old.kept) id)
+        requires present { IsSomeAnd (record_in (records_in self.old.objects) id)
             (λ r. is_idle r.phase ≡ false) }
         requires phase { IsTrue (sets_to phase) }
-        ensures kept { self.new.kept ≡ changed id (to_phase phase) self.old.kept }
-        ensures records { records_in self.new.kept
-            ≡ with_changed id (phase_set phase) (records_in self.old.kept) }
-        ensures values { (j : ℕ) → value_in self.new.kept j ≡ value_in self.old.kept j }
-        ensures owed { owed_for (records_in self.new.kept)
-            + weight_of (record_in (records_in self.old.kept) id)
-            ≡ owed_for (records_in self.old.kept) + max_remaining phase }
-        ensures spare { self.old.spare ≤ self.new.spare }
+        ensures objects { self.new.objects ≡ changed id (to_phase phase) self.old.objects }
+        ensures records { records_in self.new.objects
+            ≡ with_changed id (phase_set phase) (records_in self.old.objects) }
+        ensures values { (j : ℕ) → value_in self.new.objects j ≡ value_in self.old.objects j }
+        ensures owed { owed_for (records_in self.new.objects)
+            + weight_of (record_in (records_in self.old.objects) id)
+            ≡ owed_for (records_in self.old.objects) + max_remaining phase }
+        ensures spare_capacity { self.old.spare_capacity ≤ self.new.spare_capacity }
     {
         let key = key_under(&self.index, id);
         let known = self.slots.known(key);
@@ -342,14 +342,14 @@ impl<T> Places<T> {
 
     /// Lends an activated object at time `at` (milliseconds).
     pub fn set_lent(&mut self, id: u64, at: u64)
-        requires present { IsInPhase (records_in self.old.kept) id phases.Readying }
-        ensures kept { self.new.kept ≡ changed id (to_lent at) self.old.kept }
-        ensures records { records_in self.new.kept
-            ≡ with_changed id (lent_at at) (records_in self.old.kept) }
-        ensures values { (j : ℕ) → value_in self.new.kept j ≡ value_in self.old.kept j }
-        ensures owed { owed_for (records_in self.new.kept) + max_remaining phases.Readying
-            ≡ owed_for (records_in self.old.kept) + max_remaining phases.Lent }
-        ensures spare { self.old.spare ≤ self.new.spare }
+        requires present { IsInPhase (records_in self.old.objects) id phases.Readying }
+        ensures objects { self.new.objects ≡ changed id (to_lent at) self.old.objects }
+        ensures records { records_in self.new.objects
+            ≡ with_changed id (lent_at at) (records_in self.old.objects) }
+        ensures values { (j : ℕ) → value_in self.new.objects j ≡ value_in self.old.objects j }
+        ensures owed { owed_for (records_in self.new.objects) + max_remaining phases.Readying
+            ≡ owed_for (records_in self.old.objects) + max_remaining phases.Lent }
+        ensures spare_capacity { self.old.spare_capacity ≤ self.new.spare_capacity }
     {
         let key = key_under(&self.index, id);
         let known = self.slots.known(key);
@@ -368,13 +368,13 @@ impl<T> Places<T> {
 
     /// Records that a lent object is used at time `at` (milliseconds).
     pub fn set_used(&mut self, id: u64, at: u64)
-        requires present { IsInPhase (records_in self.old.kept) id phases.Lent }
-        ensures kept { self.new.kept ≡ changed id (to_used at) self.old.kept }
-        ensures records { records_in self.new.kept
-            ≡ with_changed id (used_at at) (records_in self.old.kept) }
-        ensures values { (j : ℕ) → value_in self.new.kept j ≡ value_in self.old.kept j }
-        ensures owed { owed_for (records_in self.new.kept) ≡ owed_for (records_in self.old.kept) }
-        ensures spare { self.old.spare ≤ self.new.spare }
+        requires present { IsInPhase (records_in self.old.objects) id phases.Lent }
+        ensures objects { self.new.objects ≡ changed id (to_used at) self.old.objects }
+        ensures records { records_in self.new.objects
+            ≡ with_changed id (used_at at) (records_in self.old.objects) }
+        ensures values { (j : ℕ) → value_in self.new.objects j ≡ value_in self.old.objects j }
+        ensures owed { owed_for (records_in self.new.objects) ≡ owed_for (records_in self.old.objects) }
+        ensures spare_capacity { self.old.spare_capacity ≤ self.new.spare_capacity }
     {
         let key = key_under(&self.index, id);
         let known = self.slots.known(key);
@@ -386,19 +386,19 @@ impl<T> Places<T> {
     /// Puts an object at the end of the queue, with its value. The position `parked` is above all in the queue, and
     /// `since` is a time in milliseconds.
     pub fn park(&mut self, id: u64, parked: u64, since: u64, value: T)
-        requires present { IsSomeAnd (record_in (records_in self.old.kept) id)
+        requires present { IsSomeAnd (record_in (records_in self.old.objects) id)
             (λ r. is_queued r.phase ≡ false) }
-        requires above { QueueBelow parked (records_in self.old.kept) }
-        ensures kept { self.new.kept ≡ changed id (to_idle parked since value) self.old.kept }
-        ensures records { records_in self.new.kept
-            ≡ with_changed id (parked_at parked since) (records_in self.old.kept) }
-        ensures value { value_in self.new.kept id ≡ Some value }
+        requires above { QueueBelow parked (records_in self.old.objects) }
+        ensures objects { self.new.objects ≡ changed id (to_idle parked since value) self.old.objects }
+        ensures records { records_in self.new.objects
+            ≡ with_changed id (parked_at parked since) (records_in self.old.objects) }
+        ensures value { value_in self.new.objects id ≡ Some value }
         ensures others { (j : ℕ) → j ≢ id →
-            value_in self.new.kept j ≡ value_in self.old.kept j }
-        ensures owed { owed_for (records_in self.new.kept)
-            + weight_of (record_in (records_in self.old.kept) id)
-            ≡ owed_for (records_in self.old.kept) + max_remaining phases.Idle }
-        ensures spare { self.old.spare ≤ self.new.spare }
+            value_in self.new.objects j ≡ value_in self.old.objects j }
+        ensures owed { owed_for (records_in self.new.objects)
+            + weight_of (record_in (records_in self.old.objects) id)
+            ≡ owed_for (records_in self.old.objects) + max_remaining phases.Idle }
+        ensures spare_capacity { self.old.spare_capacity ≤ self.new.spare_capacity }
     {
         let key = key_under(&self.index, id);
         let known = self.slots.known(key);
@@ -421,18 +421,18 @@ impl<T> Places<T> {
     /// Removes the value of an idle object and returns it. In phase `Testing` the object keeps its position in the
     /// queue, in phase `Readying` or `Destroying` it leaves the queue.
     pub fn take_value(&mut self, id: u64, phase: Phase) -> T
-        requires present { IsInPhase (records_in self.old.kept) id phases.Idle }
+        requires present { IsInPhase (records_in self.old.objects) id phases.Idle }
         requires phase { IsTrue (takes_to phase) }
-        ensures kept { self.new.kept ≡ changed id (to_taken phase) self.old.kept }
-        ensures records { records_in self.new.kept
-            ≡ with_changed id (phase_set phase) (records_in self.old.kept) }
-        ensures value { value_in self.old.kept id ≡ Some result }
-        ensures given { value_in self.new.kept id ≡ None }
+        ensures objects { self.new.objects ≡ changed id (to_taken phase) self.old.objects }
+        ensures records { records_in self.new.objects
+            ≡ with_changed id (phase_set phase) (records_in self.old.objects) }
+        ensures value { value_in self.old.objects id ≡ Some result }
+        ensures given { value_in self.new.objects id ≡ None }
         ensures others { (j : ℕ) → j ≢ id →
-            value_in self.new.kept j ≡ value_in self.old.kept j }
-        ensures owed { owed_for (records_in self.new.kept) + max_remaining phases.Idle
-            ≡ owed_for (records_in self.old.kept) + max_remaining phase }
-        ensures spare { self.old.spare ≤ self.new.spare }
+            value_in self.new.objects j ≡ value_in self.old.objects j }
+        ensures owed { owed_for (records_in self.new.objects) + max_remaining phases.Idle
+            ≡ owed_for (records_in self.old.objects) + max_remaining phase }
+        ensures spare_capacity { self.old.spare_capacity ≤ self.new.spare_capacity }
     {
         let key = key_under(&self.index, id);
         let known = self.slots.known(key);
@@ -450,16 +450,16 @@ impl<T> Places<T> {
 
     /// Stores the value of an object under an idle test, so that it is idle again. It keeps its position in the queue.
     pub fn put_value(&mut self, id: u64, value: T)
-        requires present { IsInPhase (records_in self.old.kept) id phases.Testing }
-        ensures kept { self.new.kept ≡ changed id (to_kept value) self.old.kept }
-        ensures records { records_in self.new.kept
-            ≡ with_changed id (phase_set phases.Idle) (records_in self.old.kept) }
-        ensures value { value_in self.new.kept id ≡ Some value }
+        requires present { IsInPhase (records_in self.old.objects) id phases.Testing }
+        ensures objects { self.new.objects ≡ changed id (to_kept value) self.old.objects }
+        ensures records { records_in self.new.objects
+            ≡ with_changed id (phase_set phases.Idle) (records_in self.old.objects) }
+        ensures value { value_in self.new.objects id ≡ Some value }
         ensures others { (j : ℕ) → j ≢ id →
-            value_in self.new.kept j ≡ value_in self.old.kept j }
-        ensures owed { owed_for (records_in self.new.kept) + max_remaining phases.Testing
-            ≡ owed_for (records_in self.old.kept) + max_remaining phases.Idle }
-        ensures spare { self.old.spare ≤ self.new.spare }
+            value_in self.new.objects j ≡ value_in self.old.objects j }
+        ensures owed { owed_for (records_in self.new.objects) + max_remaining phases.Testing
+            ≡ owed_for (records_in self.old.objects) + max_remaining phases.Idle }
+        ensures spare_capacity { self.old.spare_capacity ≤ self.new.spare_capacity }
     {
         let key = key_under(&self.index, id);
         let known = self.slots.known(key);
@@ -476,15 +476,15 @@ impl<T> Places<T> {
 
     /// Frees the place of an object that isn't idle.
     pub fn free(&mut self, id: u64)
-        requires present { IsSomeAnd (record_in (records_in self.old.kept) id)
+        requires present { IsSomeAnd (record_in (records_in self.old.objects) id)
             (λ r. is_idle r.phase ≡ false) }
-        ensures kept { self.new.kept ≡ without id self.old.kept }
-        ensures records { records_in self.new.kept ≡ without_id id (records_in self.old.kept) }
-        ensures values { (j : ℕ) → value_in self.new.kept j ≡ value_in self.old.kept j }
-        ensures owed { owed_for (records_in self.new.kept)
-            + weight_of (record_in (records_in self.old.kept) id)
-            ≡ owed_for (records_in self.old.kept) }
-        ensures spare { self.old.spare ≤ self.new.spare }
+        ensures objects { self.new.objects ≡ without id self.old.objects }
+        ensures records { records_in self.new.objects ≡ without_id id (records_in self.old.objects) }
+        ensures values { (j : ℕ) → value_in self.new.objects j ≡ value_in self.old.objects j }
+        ensures owed { owed_for (records_in self.new.objects)
+            + weight_of (record_in (records_in self.old.objects) id)
+            ≡ owed_for (records_in self.old.objects) }
+        ensures spare_capacity { self.old.spare_capacity ≤ self.new.spare_capacity }
     {
         let key = self.index.remove(id);
         let phase = self.slots.known(key).phase;

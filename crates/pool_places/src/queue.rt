@@ -122,7 +122,7 @@ pub(crate) fn last_wanted<T>(slots: &Slots<T>, from: Option<usize>) -> Option<u6
 pub(crate) fn start_after<T>(slots: &Slots<T>, from: usize, position: u64) -> usize
     requires rack { SlotsInvariant slots.now }
     requires from { is_in from slots.now.queue ≡ true }
-    requires rises { IsAscendingQueue (parked_of slots.now) }
+    requires ascends { IsAscendingQueue (parked_of slots.now) }
     ensures queued { is_in result slots.now.queue ≡ true }
     ensures start { find (is_wanted (Some position)) (parked_of slots.now)
         ≡ find (is_wanted (Some position))
@@ -144,7 +144,7 @@ pub(crate) fn start_after<T>(slots: &Slots<T>, from: usize, position: u64) -> us
 /// object if `from` is `None`.
 pub(crate) fn first_after<T>(slots: &Slots<T>, from: Option<usize>, position: u64) -> Option<usize>
     requires from { IsWithin slots.now.queue from }
-    requires rises { IsAscendingQueue (parked_of slots.now) }
+    requires ascends { IsAscendingQueue (parked_of slots.now) }
     ensures first { result ≡ first_parked slots.now position slots.now.queue }
     ensures rack { SlotsInvariant slots.now }
 {
@@ -169,7 +169,7 @@ pub(crate) fn enter<T>(
 )
     requires known { known_at slots.old key ≡ Some known }
     requires out { is_in key slots.old.queue ≡ false }
-    requires rises { IsAscendingQueue (parked_of slots.old) }
+    requires ascends { IsAscendingQueue (parked_of slots.old) }
     requires free { is_queued known.phase ≡ true
         → AllByRecursion (λ q. q.parked ≢ known.parked) (parked_of slots.old) }
     requires remembered { IsWithin slots.old.queue remembered.old }
@@ -177,7 +177,7 @@ pub(crate) fn enter<T>(
     ensures here { is_in key slots.new.queue ≡ is_queued known.phase }
     ensures others { (other : ℕ) → other ≢ key →
         is_in other slots.new.queue ≡ is_in other slots.old.queue }
-    ensures rises { IsAscendingQueue (parked_of slots.new) }
+    ensures ascends { IsAscendingQueue (parked_of slots.new) }
     ensures remembered { IsWithin slots.new.queue remembered.new }
 {
     if is_queued_phase(known.phase) {

@@ -73,8 +73,8 @@ all_clean [] = refl
 all_clean (c ∷ cs) = rw (list_any-append is_control (escape c) (flat_map escape cs), escape-clean c, all_clean cs) refl
 
 -- a text is printed on one line
-pub told_on_one_line : (s : List ℕ) → IsOnOneLine (escaped s)
-told_on_one_line s =
+pub escaped_on_one_line : (s : List ℕ) → IsOnOneLine (escaped s)
+escaped_on_one_line s =
     elim (cases_Bool (list_any is_control s)) [
       | inl some ↦ rw some (all_clean s)
       | inr none ↦ rw none none

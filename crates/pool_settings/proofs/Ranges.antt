@@ -14,12 +14,12 @@ use Rattle.pool_settings.specs.Ranges.{IsInRange, greatest_millis, IsBetween}
 use Rattle.pool_settings.specs.Values.{flag_in, number_in}
 
 -- a setting leads from settings in their ranges to settings in their ranges
-abbrev Keeps : Setting → Type 0
-Keeps f = (key : List ℕ) (value : Data) (s t : Settings) → IsInRange s → f key value s ≡ Ok t → IsInRange t
+abbrev KeepsInRange : Setting → Type 0
+KeepsInRange f = (key : List ℕ) (value : Data) (s t : Settings) → IsInRange s → f key value s ≡ Ok t → IsInRange t
 
-abbrev AllKeep : Rows → Type 0
-AllKeep [] = ⊤
-AllKeep (row ∷ rows) = Keeps row.1 × AllKeep rows
+abbrev AllKeepInRange : Rows → Type 0
+AllKeepInRange [] = ⊤
+AllKeepInRange (row ∷ rows) = KeepsInRange row.1 × AllKeepInRange rows
 
 after_ok : {A B : Type 0} (r : Result A Fault) (f : A → Result B Fault) (y : B) → r >>= f ≡ Ok y
     → (x : A) × (r ≡ Ok x) × (f x ≡ Ok y)
@@ -29,7 +29,7 @@ after_ok (Err fault) f y e = cc
 inside : {A : Type 0} (x y : A) → ◌≡◌ {A = Result A Fault} (Ok x) (Ok y) → x ≡ y
 inside x y e = cc
 
-flag_keeps : (put : Bool → Settings → Settings) → ((b : Bool) (s : Settings) → IsInRange s → IsInRange (put b s)) → Keeps (flag put)
+flag_keeps : (put : Bool → Settings → Settings) → ((b : Bool) (s : Settings) → IsInRange s → IsInRange (put b s)) → KeepsInRange (flag put)
 flag_keeps put h key value s t r e =
     let (b, found, made) = after_ok (flag_in key value) (λ b. Ok (put b s)) t e in
     subst IsInRange (inside _ _ made) (h b s r)
@@ -52,15 +52,15 @@ number_within key least greatest z (array x) e = cc
 number_within key least greatest z (table x) e = cc
 
 number_keeps : (least greatest : ℤ) (put : ℤ → Settings → Settings)
-    → ((z : ℤ) (s : Settings) → IsBetween least greatest z → IsInRange s → IsInRange (put z s)) → Keeps (number least greatest put)
+    → ((z : ℤ) (s : Settings) → IsBetween least greatest z → IsInRange s → IsInRange (put z s)) → KeepsInRange (number least greatest put)
 number_keeps least greatest put h key value s t r e =
     let (z, found, made) = after_ok (number_in key least greatest value) (λ z. Ok (put z s)) t e in
     subst IsInRange (inside _ _ made) (h z s (number_within key least greatest z value found) r)
 
-count_keeps : (put : ℤ → Settings → Settings) → ((z : ℤ) (s : Settings) → IsInRange s → IsInRange (put z s)) → Keeps (count put)
+count_keeps : (put : ℤ → Settings → Settings) → ((z : ℤ) (s : Settings) → IsInRange s → IsInRange (put z s)) → KeepsInRange (count put)
 count_keeps put h = number_keeps (negsuc 2147483647) (pos 2147483647) put (λ z s within. h z s)
 
-read_key_keeps : (prefix : List ℕ) (rs : Rows) → AllKeep rs → Keeps (read_key prefix rs)
+read_key_keeps : (prefix : List ℕ) (rs : Rows) → AllKeepInRange rs → KeepsInRange (read_key prefix rs)
 read_key_keeps prefix [] all key value s t r e = cc
 read_key_keeps prefix (row ∷ rs) all key value s t r e =
     elim (cases_Bool (bytes_eq key row.0)) [
@@ -68,15 +68,15 @@ read_key_keeps prefix (row ∷ rs) all key value s t r e =
       | inr other ↦ read_key_keeps prefix rs all.1 key value s t r (rw other at e)
     ]
 
-read_keys_keeps : (prefix : List ℕ) (rs : Rows) → AllKeep rs → (ms : Members) (s t : Settings)
+read_keys_keeps : (prefix : List ℕ) (rs : Rows) → AllKeepInRange rs → (ms : Members) (s t : Settings)
     → IsInRange s → read_keys prefix rs ms s ≡ Ok t → IsInRange t
 read_keys_keeps prefix rs all no_members s t r e = subst IsInRange (inside _ _ e) r
 read_keys_keeps prefix rs all (member key value ms) s t r e =
     let (u, here, more) = after_ok (read_key prefix rs key value s) (read_keys prefix rs ms) t e in
     read_keys_keeps prefix rs all ms u t (read_key_keeps prefix rs all key value s u r here) more
 
-section_keeps : (prefix : List ℕ) (rs : Rows) (put : Settings → Settings) → AllKeep rs
-    → ((s : Settings) → IsInRange s → IsInRange (put s)) → Keeps (section prefix rs put)
+section_keeps : (prefix : List ℕ) (rs : Rows) (put : Settings → Settings) → AllKeepInRange rs
+    → ((s : Settings) → IsInRange s → IsInRange (put s)) → KeepsInRange (section prefix rs put)
 section_keeps prefix rs put all h key (table ms) s t r e = read_keys_keeps prefix rs all (in_byte_order ms) (put s) t (h s r) e
 section_keeps prefix rs put all h key (string x) s t r e = cc
 section_keeps prefix rs put all h key (integer x) s t r e = cc
@@ -109,7 +109,7 @@ with_limit : (z : ℤ) (s : Settings) → IsBetween (pos 1) (pos 4294967296) z �
 with_limit (pos n) s within r = search rules
 with_limit (negsuc n) s within r = absurd (omega arith)
 
-abandoned_keep : AllKeep abandoned_rows
+abandoned_keep : AllKeepInRange abandoned_rows
 abandoned_keep = (
   flag_keeps _ (λ b s. same _ _ refl refl refl refl refl refl),
   (
@@ -121,12 +121,12 @@ abandoned_keep = (
   ),
 )
 
-abandoned_table_keeps : Keeps abandoned_table
+abandoned_table_keeps : KeepsInRange abandoned_table
 abandoned_table_keeps =
     let put = λ (s : Settings). record s { abandoned = true } in
     section_keeps (codes "abandoned.") abandoned_rows put abandoned_keep (λ s. same _ _ refl refl refl refl refl refl)
 
-rows_keep : AllKeep rows
+rows_keep : AllKeepInRange rows
 rows_keep = (
   abandoned_table_keeps,
   (

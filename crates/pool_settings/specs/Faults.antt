@@ -1,7 +1,7 @@
 -- The errors of a settings text, with the names of keys as bytes.
 use Rattle.std.specs.Prelude.{◌≡◌, ◌≢◌, ⊤, ℕ, List, Result, Ok, Err, IsErr}
 use Rattle.pool_settings.specs.declared.fault.SettingsFault.{SettingsFault}
-use Rattle.pool_settings.specs.declared.fault.SettingsFault.TheVariants as told
+use Rattle.pool_settings.specs.declared.fault.SettingsFault.TheVariants as errors
 
 pub data Fault : Type 0 where
   not_toml : Fault
@@ -11,11 +11,11 @@ pub data Fault : Type 0 where
   out_of_memory : Fault
 
 abbrev pub fault_of : SettingsFault → Fault
-fault_of told.NotToml = not_toml
-fault_of (told.UnknownKey key) = unknown_key key
-fault_of (told.WrongType key) = wrong_type key.now
-fault_of (told.OutOfRange key) = out_of_range key.now
-fault_of told.OutOfMemory = out_of_memory
+fault_of errors.NotToml = not_toml
+fault_of (errors.UnknownKey key) = unknown_key key
+fault_of (errors.WrongType key) = wrong_type key.now
+fault_of (errors.OutOfRange key) = out_of_range key.now
+fault_of errors.OutOfMemory = out_of_memory
 
 -- The result of a function is the given one.
 abbrev pub ReturnsReading : {A : Type 0} → Result A SettingsFault → Result A Fault → Type 0

@@ -11,16 +11,16 @@ use Rattle.pool_history.specs.CallerStates.{CallerState, Advances}
 use Rattle.pool_lock.specs.Sections.{AppendsAnswer}
 use Rattle.pool_shared.specs.declared.faults.BorrowFault.{BorrowFault}
 use Rattle.pool_shared.specs.declared.lent.Lent.{Lent}
-use Rattle.pool_shared.specs.Walks.{Trace, Ends}
+use Rattle.pool_shared.specs.Traces.{Trace, Ends}
 use Rattle.pool_shared.specs.Borrows.{Stage, removes, asks, after_asking, next, IsExpected, BorrowEnds, BorrowsFrom, first_stage, IsFound}
 use Rattle.pool_shared.specs.Reclaims as removal
-use Rattle.pool_shared.proofs.Walking.{walk_on, walk_more, ComesFrom, comes_on}
-use Rattle.pool_shared.proofs.Rowing.{row_on}
+use Rattle.pool_shared.proofs.Traces.{trace_on, trace_more, ComesFrom, comes_on}
+use Rattle.pool_shared.proofs.TracesToResults.{row_on}
 
 module _ (s : Settings) (began : ℕ) where
   -- a borrow that asked once more
   pub asked_on : (a : Answer) (first now after : CallerState) → Trace (IsExpected s began) next asks first now asks → AppendsAnswer (Borrow began) a now after → Trace (IsExpected s began) next asks first after (after_asking a)
-  asked_on a first now after w made = walk_more (IsExpected s began) next asks asks (after_asking a) (Borrow began) a a first now after w refl made (λ n at. refl) (λ n at. refl)
+  asked_on a first now after w made = trace_more (IsExpected s began) next asks asks (after_asking a) (Borrow began) a a first now after w refl made (λ n at. refl) (λ n at. refl)
 
   pub to_there : (a b : Answer) (before after : CallerState) → a ≡ b → Trace (IsExpected s began) next asks before after (after_asking a) → Trace (IsExpected s began) next asks before after (after_asking b)
   to_there a b before after is w = subst (λ c. Trace (IsExpected s began) next asks before after (after_asking c)) is w
@@ -33,7 +33,7 @@ module _ (s : Settings) (began : ℕ) where
   -- a borrow whose round had no result
   pub once_more : (first now after : CallerState) → ComesFrom first now → Trace (IsExpected s began) next asks first now asks
       → Advances s now after → Trace (IsExpected s began) next asks now after asks → ComesFrom first after × Trace (IsExpected s began) next asks first after asks
-  once_more first now after come w goes more = (comes_on s first now after come goes, walk_on (IsExpected s began) next asks asks asks first now after w more)
+  once_more first now after come w goes more = (comes_on s first now after come goes, trace_on (IsExpected s began) next asks asks asks first now after w more)
 
 pub is_found : (began : ℕ) (a : Answer) → IsPossibleAnswer (Borrow began) a → (a ≡ answers.Wait → ⊥) → IsFound a
 is_found began (answers.Take i) it other = tt

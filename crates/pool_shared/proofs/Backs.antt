@@ -22,19 +22,19 @@ use Rattle.pool_shared.specs.declared.faults.Returned.{Returned}
 use Rattle.pool_shared.specs.declared.faults.Returned.TheVariants as returned
 use Rattle.pool_shared.specs.declared.lent.Lent.{Lent}
 use Rattle.pool_lock.specs.Sections.{AppendsAnswer, Refuses}
-use Rattle.pool_shared.specs.Walks.{Trace, EndsWithOwn}
+use Rattle.pool_shared.specs.Traces.{Trace, EndsWithOwn}
 use Rattle.pool_shared.specs.Returns as returns
 use Rattle.pool_shared.specs.Returns.{gives, checks, destroys, done, IsPossibleOutcome, ReturnEnds, ReturnSpec}
 use Rattle.pool_shared.specs.Invalidates as invalidates
 use Rattle.pool_shared.specs.Invalidates.{begins, InvalidateEnds, InvalidateSpec}
-use Rattle.pool_shared.proofs.Walking.{walk_by, walk_on, walk_destroyed}
-use Rattle.pool_shared.proofs.Rowing.{row_at, row_none, full_for, short_for}
+use Rattle.pool_shared.proofs.Traces.{trace_by, trace_on, trace_destroyed}
+use Rattle.pool_shared.proofs.TracesToResults.{row_at, row_none, full_for, short_for}
 
 -- a returned object is destroyed
 pub destroyed : (s : Settings) (i : ℕ) (o : Outcome) (a : Answer) (before mid after : CallerState) → IsPossibleOutcome s o → a ≡ answers.Destroy → AppendsAnswer (Park i o) a before mid → AppendsAnswer (Destroyed i) answers.Freed mid after
     → Trace (returns.IsExpected s i) returns.next checks before after (done returned.Destroyed)
 destroyed s i o a before mid after may is made freed =
-    walk_destroyed (returns.IsExpected s i) returns.next checks destroys (done returned.Destroyed) i (Park i o) a answers.Destroy before mid after is made freed (λ n at. (refl, may)) (λ n at. refl) (λ n at. refl) (λ n at. refl)
+    trace_destroyed (returns.IsExpected s i) returns.next checks destroys (done returned.Destroyed) i (Park i o) a answers.Destroy before mid after is made freed (λ n at. (refl, may)) (λ n at. refl) (λ n at. refl) (λ n at. refl)
 
 -- a return whose object was checked
 pub checked : {T : Type 0} (s : Settings) (number : ℕ) (l : Lent T) (q : Returned) (x : Answer) (a b c : CallerState) → l.pool ≡ number → x ≡ answers.Check → AppendsAnswer (GiveBack l.id) x a b
@@ -42,7 +42,7 @@ pub checked : {T : Type 0} (s : Settings) (number : ℕ) (l : Lent T) (q : Retur
 checked s number l q x a b c pool is made w ends = (
   pool,
   row_at (returns.IsExpected s l.id) returns.next (ReturnEnds s l.id) gives (done q) (Ok q) a c
-      (walk_on (returns.IsExpected s l.id) returns.next gives checks (done q) a b c (walk_by (returns.IsExpected s l.id) returns.next gives checks (GiveBack l.id) x answers.Check a b is made (λ n at. refl) (λ n at. refl)) w) (refl, ends),
+      (trace_on (returns.IsExpected s l.id) returns.next gives checks (done q) a b c (trace_by (returns.IsExpected s l.id) returns.next gives checks (GiveBack l.id) x answers.Check a b is made (λ n at. refl) (λ n at. refl)) w) (refl, ends),
 )
 
 -- an input that would complete a step if the object were lent

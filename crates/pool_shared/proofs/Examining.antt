@@ -17,22 +17,22 @@ use Rattle.pool_shared.specs.declared.evicting.Disposition.{Disposition}
 use Rattle.pool_shared.specs.declared.evicting.Disposition.TheVariants as fates
 use Rattle.pool_shared.specs.declared.faults.PoolFault.{PoolFault}
 use Rattle.pool_shared.specs.declared.faults.PoolFault.TheVariants as faults
-use Rattle.pool_shared.specs.Walks.{Trace, EndsWithOwn}
+use Rattle.pool_shared.specs.Traces.{Trace, EndsWithOwn}
 use Rattle.pool_shared.specs.Evicts.{examines, tests, destroys, through, none_yet, one_more, one_gone, next, IsExpected, fared, after_test, after_one, IsSpared, IsStopped, EvictEnds, EvictsFrom}
-use Rattle.pool_shared.proofs.Walking.{walk_by, walk_on, walk_destroyed}
-use Rattle.pool_shared.proofs.Rowing.{row_at, row_stopped, full_for, short_for}
+use Rattle.pool_shared.proofs.Traces.{trace_by, trace_on, trace_destroyed}
+use Rattle.pool_shared.proofs.TracesToResults.{row_at, row_stopped, full_for, short_for}
 
 -- an object is destroyed after its test
 pub rejected : (i left : ℕ) (run : EvictRun) (o : Outcome) (x : Answer) (a b c : CallerState) → IsTestOutcome o → x ≡ answers.Destroy → AppendsAnswer (Tested i o) x a b → AppendsAnswer (Destroyed i) answers.Freed b c
     → Trace IsExpected next (tests i left run) a c (examines left (one_gone run))
 rejected i left run o x a b c can is made freed =
-    walk_destroyed IsExpected next (tests i left run) (destroys i left run) (examines left (one_gone run)) i (Tested i o) x answers.Destroy a b c is made freed (λ n at. (refl, can)) (λ n at. refl) (λ n at. refl) (λ n at. refl)
+    trace_destroyed IsExpected next (tests i left run) (destroys i left run) (examines left (one_gone run)) i (Tested i o) x answers.Destroy a b c is made freed (λ n at. (refl, can)) (λ n at. refl) (λ n at. refl) (λ n at. refl)
 
 -- an object is destroyed without a test
 pub destroyed_idle : (i left : ℕ) (run : EvictRun) (x : Answer) (a b c : CallerState) → 0 < left → x ≡ answers.DestroyIdle i → AppendsAnswer EvictNext x a b → AppendsAnswer (Destroyed i) answers.Freed b c
     → Trace IsExpected next (examines left run) a c (examines (left - 1) (one_gone (one_more run)))
 destroyed_idle i left run x a b c some is made freed =
-    walk_destroyed IsExpected next (examines left run) (destroys i (left - 1) (one_more run)) (examines (left - 1) (one_gone (one_more run))) i EvictNext x (answers.DestroyIdle i) a b c is made freed (λ n at. (some, refl)) (λ n at. refl)
+    trace_destroyed IsExpected next (examines left run) (destroys i (left - 1) (one_more run)) (examines (left - 1) (one_gone (one_more run))) i EvictNext x (answers.DestroyIdle i) a b c is made freed (λ n at. (some, refl)) (λ n at. refl)
     (λ n at. refl) (λ n at. refl)
 
 -- an object is tested
@@ -40,7 +40,7 @@ pub tested_idle : (i left : ℕ) (run : EvictRun) (fate : Disposition) (x : Answ
     → Trace IsExpected next (tests i (left - 1) (one_more run)) b c (after_test (left - 1) (one_more run) fate) → Trace IsExpected next (examines left run) a c (after_one left run (Some fate))
 tested_idle i left run fate x a b c some is made w =
     let at = tests i (left - 1) (one_more run) in
-    walk_on IsExpected next (examines left run) at (after_test (left - 1) (one_more run) fate) a b c (walk_by IsExpected next (examines left run) at EvictNext x (answers.Test i) a b is made (λ n at. (some, refl)) (λ n at. refl)) w
+    trace_on IsExpected next (examines left run) at (after_test (left - 1) (one_more run) fate) a b c (trace_by IsExpected next (examines left run) at EvictNext x (answers.Test i) a b is made (λ n at. (some, refl)) (λ n at. refl)) w
 
 pub fared_examined : (run : EvictRun) (fate : Disposition) → (fared run fate).examined ≡ run.examined
 fared_examined run fates.Kept = refl
@@ -55,7 +55,7 @@ pub one_examined : (count left : ℕ) (run more : EvictRun) (fate : Disposition)
     → Trace IsExpected next (examines left run) b c (after_one left run o) → Trace IsExpected next (examines count none_yet) a c (examines (left - 1) more)
 one_examined count left run more fate o a b c is counted w one =
     let more_one : Trace IsExpected next (examines left run) b c (examines (left - 1) (fared (one_more run) fate)) = subst (λ x. Trace IsExpected next (examines left run) b c (after_one left run x)) is one in
-    walk_on IsExpected next (examines count none_yet) (examines left run) (examines (left - 1) more) a b c w (subst (λ r. Trace IsExpected next (examines left run) b c (examines (left - 1) r)) (sym counted) more_one)
+    trace_on IsExpected next (examines count none_yet) (examines left run) (examines (left - 1) more) a b c w (subst (λ r. Trace IsExpected next (examines left run) b c (examines (left - 1) r)) (sym counted) more_one)
 
 spared : (a : Answer) → is_completing a EvictNext ≡ false → IsSpared a
 spared (answers.DestroyIdle i) is = absurd (true≢false is)
@@ -85,4 +85,4 @@ pub out_of_objects : (s : Settings) (count left : ℕ) (run : EvictRun) (o : Opt
     → EvictsFrom s (examines count none_yet) (Ok run) a c
 out_of_objects s count left run o a b c is w one ends =
     let none : Trace IsExpected next (examines left run) b c (through run) = subst (λ x. Trace IsExpected next (examines left run) b c (after_one left run x)) is one in
-    row_at IsExpected next (EvictEnds s) (examines count none_yet) (through run) (Ok run) a c (walk_on IsExpected next (examines count none_yet) (examines left run) (through run) a b c w none) (refl, ends)
+    row_at IsExpected next (EvictEnds s) (examines count none_yet) (through run) (Ok run) a c (trace_on IsExpected next (examines count none_yet) (examines left run) (through run) a b c w none) (refl, ends)

@@ -20,7 +20,7 @@ use Rattle.pool_shared.specs.declared.lent.Lent.{Lent}
 use Rattle.pool_lock.proofs.Sections.{state_of}
 use Rattle.pool_shared.specs.Borrows.{Stage, BorrowsFrom}
 use Rattle.pool_shared.specs.Promises.{IsAlone}
-use Rattle.pool_shared.specs.Walks.{Ends}
+use Rattle.pool_shared.specs.Traces.{Ends}
 use Rattle.pool_shared.proofs.Sweeping.{goes_self}
 
 -- an element of a prefix of a list has the same position in the list

@@ -1,11 +1,11 @@
-pub mod Walking
+pub mod Traces
 pub mod Looking
 pub mod Opening
 pub mod Backs
 pub mod Sweeping
 pub mod Asking
 pub mod Removing
-pub mod Rowing
+pub mod TracesToResults
 pub mod Examining
 pub mod Removals
 pub mod Stocking

@@ -16,23 +16,23 @@ use Rattle.pool_history.specs.CallerStates.{CallerState}
 use Rattle.pool_lock.specs.Sections.{AppendsAnswer, Refuses}
 use Rattle.pool_shared.specs.declared.faults.PoolFault.{PoolFault}
 use Rattle.pool_shared.specs.declared.faults.PoolFault.TheVariants as faults
-use Rattle.pool_shared.specs.Walks.{Trace, EndsWithOwn}
+use Rattle.pool_shared.specs.Traces.{Trace, EndsWithOwn}
 use Rattle.pool_shared.specs.Reclaims.{begins, reclaims, through, next, IsExpected, IsStopped, ReclaimEnds, ReclaimsFrom, ReclaimSpec}
-use Rattle.pool_shared.proofs.Walking.{walk_by, walk_more}
-use Rattle.pool_shared.proofs.Rowing.{row_at, row_on, row_stopped, full_for, short_for}
+use Rattle.pool_shared.proofs.Traces.{trace_by, trace_more}
+use Rattle.pool_shared.proofs.TracesToResults.{row_at, row_on, row_stopped, full_for, short_for}
 
 -- an object was reclaimed
 pub took_away : (time : When) (count left taken i : ℕ) (x : Answer) (a b c : CallerState) → 0 < left → Trace (IsExpected time) next (reclaims count 0) a b (reclaims left taken) → x ≡ answers.Reclaimed i → AppendsAnswer ReclaimNext x b c
     → Trace (IsExpected time) next (reclaims count 0) a c (reclaims (left - 1) (taken + 1))
 took_away time count left taken i x a b c some w is made =
-    walk_more (IsExpected time) next (reclaims count 0) (reclaims left taken) (reclaims (left - 1) (taken + 1)) ReclaimNext x (answers.Reclaimed i) a b c w is made (λ n at. (some, refl)) (λ n at. refl)
+    trace_more (IsExpected time) next (reclaims count 0) (reclaims left taken) (reclaims (left - 1) (taken + 1)) ReclaimNext x (answers.Reclaimed i) a b c w is made (λ n at. (some, refl)) (λ n at. refl)
 
 -- no object was left
 pub none_abandoned : (s : Settings) (time : When) (count left taken : ℕ) (x : Answer) (a b c : CallerState) → 0 < left → Trace (IsExpected time) next (reclaims count 0) a b (reclaims left taken) → x ≡ answers.Nothing → AppendsAnswer ReclaimNext x b c → EndsWithOwn c
     → ReclaimsFrom s time (reclaims count 0) (Ok taken) a c
 none_abandoned s time count left taken x a b c some w is made ends =
     row_at (IsExpected time) next (ReclaimEnds s time) (reclaims count 0) (through taken) (Ok taken) a c
-    (walk_more (IsExpected time) next (reclaims count 0) (reclaims left taken) (through taken) ReclaimNext x answers.Nothing a b c w is made (λ n at. (some, refl)) (λ n at. refl)) (refl, ends)
+    (trace_more (IsExpected time) next (reclaims count 0) (reclaims left taken) (through taken) ReclaimNext x answers.Nothing a b c w is made (λ n at. (some, refl)) (λ n at. refl)) (refl, ends)
 
 -- a removal that reclaimed up to its full number
 pub all_taken : (s : Settings) (time : When) (count left taken : ℕ) (a b : CallerState) → left ≡ 0 → taken ≡ count → Trace (IsExpected time) next (reclaims count 0) a b (reclaims left taken) → EndsWithOwn b → ReclaimsFrom s time (reclaims count 0) (Ok count) a b
@@ -65,4 +65,4 @@ stopped s time count left taken f a b c some w same room =
 -- a whole removal
 pub removal : (s : Settings) (time : When) (n : ℕ) (r : Result ℕ PoolFault) (x : Answer) (a b c : CallerState) → x ≡ answers.Count n → AppendsAnswer (Reclaim time) x a b → ReclaimsFrom s time (reclaims n 0) r b c → ReclaimSpec s time r a c
 removal s time n r x a b c is made row =
-    row_on (IsExpected time) next (ReclaimEnds s time) begins (reclaims n 0) r a b c (walk_by (IsExpected time) next begins (reclaims n 0) (Reclaim time) x (answers.Count n) a b is made (λ m at. refl) (λ m at. refl)) row
+    row_on (IsExpected time) next (ReclaimEnds s time) begins (reclaims n 0) r a b c (trace_by (IsExpected time) next begins (reclaims n 0) (Reclaim time) x (answers.Count n) a b is made (λ m at. refl) (λ m at. refl)) row

@@ -7,12 +7,12 @@ use Rattle.pool_history.specs.CallerStates.{CallerState}
 use Rattle.pool_shared.specs.declared.faults.BorrowFault.{BorrowFault}
 use Rattle.pool_shared.specs.declared.faults.PoolFault.{PoolFault}
 use Rattle.pool_shared.specs.declared.lent.Lent.{Lent}
-use Rattle.pool_shared.specs.Walks.{run_stages, Trace}
+use Rattle.pool_shared.specs.Traces.{run_stages, Trace}
 use Rattle.pool_shared.specs.Borrows as borrows
 use Rattle.pool_shared.specs.Borrows.{removes, removing, asks, IsStopped, BorrowEnds, BorrowsFrom}
 use Rattle.pool_shared.specs.Reclaims as removal
 use Rattle.pool_shared.specs.Reclaims.{ReclaimEnds, ReclaimSpec}
-use Rattle.pool_shared.proofs.Rowing.{row_at, walk_of, walk_along}
+use Rattle.pool_shared.proofs.TracesToResults.{row_at, trace_of, trace_along}
 
 module _ (s : Settings) (began : ℕ) where
   due_within : (st : removal.Stage) (e : Entry) → removal.IsExpected times.Borrow st e → borrows.IsExpected s began (removing st) e
@@ -30,8 +30,8 @@ module _ (s : Settings) (began : ℕ) where
   -- a borrow whose removal has a trace
   along : (r : Result ℕ PoolFault) (a b : CallerState) (row : ReclaimSpec s times.Borrow r a b) → Trace (borrows.IsExpected s began) borrows.next (removes removal.begins) a b (removing (run_stages removal.next removal.begins row.es))
   along r a b row =
-      walk_along (removal.IsExpected times.Borrow) removal.next (borrows.IsExpected s began) borrows.next removing due_within goes_within removal.begins (run_stages removal.next removal.begins row.es) a b
-      (walk_of (removal.IsExpected times.Borrow) removal.next (ReclaimEnds s times.Borrow) removal.begins r a b row)
+      trace_along (removal.IsExpected times.Borrow) removal.next (borrows.IsExpected s began) borrows.next removing due_within goes_within removal.begins (run_stages removal.next removal.begins row.es) a b
+      (trace_of (removal.IsExpected times.Borrow) removal.next (ReclaimEnds s times.Borrow) removal.begins r a b row)
 
   over : (st : removal.Stage) (n : ℕ) (me : CallerState) → ReclaimEnds s times.Borrow st (Ok n) me → removing st ≡ asks
   over (removal.through taken) n me ends = refl

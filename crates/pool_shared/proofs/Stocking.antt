@@ -20,13 +20,13 @@ use Rattle.pool_shared.specs.declared.faults.Addition.TheVariants as additions
 use Rattle.pool_shared.specs.declared.faults.AddFault.{AddFault}
 use Rattle.pool_shared.specs.declared.faults.AddFault.TheVariants as faults
 use Rattle.pool_lock.specs.Sections.{OwnsObject, AppendsAnswer, Refuses}
-use Rattle.pool_shared.specs.Walks.{run_stages, Trace, EndsWithOwn}
+use Rattle.pool_shared.specs.Traces.{run_stages, Trace, EndsWithOwn}
 use Rattle.pool_shared.specs.Adds as addition
 use Rattle.pool_shared.specs.Adds.{makes, ending, FinalState, AddEnds, AddSpec, IsStocked}
 use Rattle.pool_shared.specs.Fills as fills
 use Rattle.pool_shared.specs.Fills.{Stage, asks, adds, adding, through, failed, lost, after_asking, next, IsExpected, FillEnds, FillsFrom, FillSpec, FillStep}
-use Rattle.pool_shared.proofs.Walking.{walk_by, walk_on, walk_destroyed}
-use Rattle.pool_shared.proofs.Rowing.{row_at, row_none, row_on, walk_along, full_for, short_for}
+use Rattle.pool_shared.proofs.Traces.{trace_by, trace_on, trace_destroyed}
+use Rattle.pool_shared.proofs.TracesToResults.{row_at, row_none, row_on, trace_along, full_for, short_for}
 
 stocked_leaves : {E : Type 0} (s : Settings) (input : Input) (r : Result Addition (AddFault E)) (me : CallerState) → IsStocked r → EndsWithOwn me → FinalState s input r me
 stocked_leaves s input (Ok a) me is ends = ends
@@ -42,14 +42,14 @@ pub added : {E : Type 0} (s : Settings) (i : ℕ) (x : Answer) (r : Result Addit
     → IsStocked r → Trace (addition.IsExpected s) addition.next (makes i) b c (ending r) → EndsWithOwn c → AddSpec s r a c
 added s i x r a b c is made stocked w ends =
     row_at (addition.IsExpected s) addition.next (AddEnds s) addition.asks (ending r) r a c
-    (walk_on (addition.IsExpected s) addition.next addition.asks (makes i) (ending r) a b c (walk_by (addition.IsExpected s) addition.next addition.asks (makes i) Add x (answers.Make i) a b is made (λ n at. refl) (λ n at. refl)) w)
+    (trace_on (addition.IsExpected s) addition.next addition.asks (makes i) (ending r) a b c (trace_by (addition.IsExpected s) addition.next addition.asks (makes i) Add x (answers.Make i) a b is made (λ n at. refl) (λ n at. refl)) w)
     (refl, stocked_leaves s Add r c stocked ends)
 
 -- the pool was closed before the new object could become idle
 pub shut_out : (s : Settings) (i : ℕ) (a : Answer) (before mid after : CallerState) → a ≡ answers.Destroy → AppendsAnswer (Added i outcomes.Good) a before mid → AppendsAnswer (Destroyed i) answers.Freed mid after
     → Trace (addition.IsExpected s) addition.next (makes i) before after (addition.gone outcomes.Good)
 shut_out s i a before mid after is made freed =
-    walk_destroyed (addition.IsExpected s) addition.next (makes i) (addition.destroys i outcomes.Good) (addition.gone outcomes.Good) i (Added i outcomes.Good) a answers.Destroy before mid after is made freed
+    trace_destroyed (addition.IsExpected s) addition.next (makes i) (addition.destroys i outcomes.Good) (addition.gone outcomes.Good) i (Added i outcomes.Good) a answers.Destroy before mid after is made freed
     (λ n at. (refl, tt)) (λ n at. refl) (λ n at. refl) (λ n at. refl)
 
 -- the caller then owns it, and has to destroy it
@@ -88,8 +88,8 @@ module _ (s : Settings) (n : ℕ) where
       → IsStocked r → Trace (addition.IsExpected s) addition.next (makes i) mid after (ending r) → EndsWithOwn after → FillStep s n r before after
   turned i a r before mid after is made stocked w ends =
       turn_made r before after stocked
-      (walk_on (IsExpected s) next (asks n) (adds n (makes i)) (adding n (ending r)) before mid after (walk_by (IsExpected s) next (asks n) (adds n (makes i)) Fill a (answers.Make i) before mid is made (λ m at. refl) (λ m at. refl))
-      (walk_along (addition.IsExpected s) addition.next (IsExpected s) next (adding n) due_within goes_within (makes i) (ending r) mid after w)) ends
+      (trace_on (IsExpected s) next (asks n) (adds n (makes i)) (adding n (ending r)) before mid after (trace_by (IsExpected s) next (asks n) (adds n (makes i)) Fill a (answers.Make i) before mid is made (λ m at. refl) (λ m at. refl))
+      (trace_along (addition.IsExpected s) addition.next (IsExpected s) next (adding n) due_within goes_within (makes i) (ending r) mid after w)) ends
 
   -- a turn that failed for lack of room
   pub full_turn : {T E : Type 0} (f : StepFault T) (out : Option T) (before after : CallerState) → f ≡ JournalFull out → Refuses s Fill None f before after → FillStep {E = E} s n (Err faults.JournalFull) before after
@@ -130,48 +130,48 @@ reached_next (through n) e = omega arith
 reached_next (failed o) e = omega arith
 reached_next lost e = omega arith
 
-reached_walked : (stage : Stage) (es : List Entry) → reached (run_stages next stage es) ≤ reached stage + length es
-reached_walked stage [] = omega arith
-reached_walked stage (e ∷ es) = omega (arith, reached_next stage e, reached_walked (next stage e) es)
+reached_traced : (stage : Stage) (es : List Entry) → reached (run_stages next stage es) ≤ reached stage + length es
+reached_traced stage [] = omega arith
+reached_traced stage (e ∷ es) = omega (arith, reached_next stage e, reached_traced (next stage e) es)
 
 -- a fill has parked at most one object per entry that it appended
-pub few_parked : (s : Settings) (n : ℕ) (first now : CallerState) → Trace (IsExpected s) next (asks 0) first now (asks n) → n ≤ length now.appended
+pub bounded_parked : (s : Settings) (n : ℕ) (first now : CallerState) → Trace (IsExpected s) next (asks 0) first now (asks n) → n ≤ length now.appended
 unfolding reached
-few_parked s n first now w =
+bounded_parked s n first now w =
     let parked : reached (run_stages next (asks 0) w.es) ≡ n = ap reached w.comes in
-    omega (arith, parked, reached_walked (asks 0) w.es, ap length w.made, length-append first.appended w.es)
+    omega (arith, parked, reached_traced (asks 0) w.es, ap length w.made, length-append first.appended w.es)
 
 own_within : (n : ℕ) (J : List Entry) → length (entries_with_number n J) ≤ length J
 own_within n J = omega (arith, length-filter_both (λ (e : Entry). e.caller == n) (λ e. not (e.caller == n)) (λ e. refl) J)
 
 -- the entries that a caller has appended, and one more, are fewer than 2^64
-pub few_made : (s : Settings) (input : Input) (a : Answer) (before after : CallerState) → AppendsAnswer input a before after → Advances s before after → length after.observed < 2 ^ 64 → length before.appended + 1 < 2 ^ 64
-few_made s input a before after made goes few =
+pub bounded_made : (s : Settings) (input : Input) (a : Answer) (before after : CallerState) → AppendsAnswer input a before after → Advances s before after → length after.observed < 2 ^ 64 → length before.appended + 1 < 2 ^ 64
+bounded_made s input a before after made goes bounded =
     let e = entry_of before.number made.0 input a in
     let mine : length after.appended ≤ length after.observed = subst (λ l. length l ≤ length after.observed) (sym goes.all) (own_within after.number after.observed) in
-    omega (arith, mine, few, ap length made.1.more, length-append before.appended (e ∷ []))
+    omega (arith, mine, bounded, ap length made.1.more, length-append before.appended (e ∷ []))
 
 pub either_way : {A E : Type 0} (r : Result A E) (n : ℕ) → n + 1 < 2 ^ 64 → OnOk r (n + 1 < 2 ^ 64)
-either_way (Ok a) n few = few
-either_way (Err f) n few = tt
+either_way (Ok a) n bounded = bounded
+either_way (Err f) n bounded = tt
 
 -- the invariant of a fill that has parked this many: the number that it returns
 abbrev pub IsFilling : Settings → ℕ → CallerState → CallerState → Type 0
-IsFilling s told first now = (n : ℕ) × (told ≡ n) × Trace (IsExpected s) next (asks 0) first now (asks n)
+IsFilling s reported first now = (n : ℕ) × (reported ≡ n) × Trace (IsExpected s) next (asks 0) first now (asks n)
 
 -- a fill after one more turn
-module _ (s : Settings) (n told : ℕ) (first now after : CallerState) (telling : told ≡ n) (w : Trace (IsExpected s) next (asks 0) first now (asks n)) where
+module _ (s : Settings) (n reported : ℕ) (first now after : CallerState) (reporting : reported ≡ n) (w : Trace (IsExpected s) next (asks 0) first now (asks n)) where
   turned_to : (a b : Addition) → a ≡ b → Trace (IsExpected s) next (asks n) now after (fills.turned n a) → Trace (IsExpected s) next (asks 0) first after (fills.turned n b)
-  turned_to a b is turn = walk_on (IsExpected s) next (asks 0) (asks n) (fills.turned n b) first now after w (subst (λ x. Trace (IsExpected s) next (asks n) now after (fills.turned n x)) is turn)
+  turned_to a b is turn = trace_on (IsExpected s) next (asks 0) (asks n) (fills.turned n b) first now after w (subst (λ x. Trace (IsExpected s) next (asks n) now after (fills.turned n x)) is turn)
 
-  pub one_parked : (a : Addition) (more : ℕ) → a ≡ additions.Idle → more ≡ told + 1 → Trace (IsExpected s) next (asks n) now after (fills.turned n a) → IsFilling s more first after
-  one_parked a more is counted turn = (n + 1, omega (arith, counted, telling), turned_to a additions.Idle is turn)
+  pub one_parked : (a : Addition) (more : ℕ) → a ≡ additions.Idle → more ≡ reported + 1 → Trace (IsExpected s) next (asks n) now after (fills.turned n a) → IsFilling s more first after
+  one_parked a more is counted turn = (n + 1, omega (arith, counted, reporting), turned_to a additions.Idle is turn)
 
-  pub one_lost : (a : Addition) → a ≡ additions.Destroyed → Trace (IsExpected s) next (asks n) now after (fills.turned n a) → IsFilling s told first after
-  one_lost a is turn = (n, telling, turned_to a additions.Destroyed is turn)
+  pub one_lost : (a : Addition) → a ≡ additions.Destroyed → Trace (IsExpected s) next (asks n) now after (fills.turned n a) → IsFilling s reported first after
+  one_lost a is turn = (n, reporting, turned_to a additions.Destroyed is turn)
 
-  pub all_filled : {E : Type 0} (a : Addition) → a ≡ additions.NoPlace → Trace (IsExpected s) next (asks n) now after (fills.turned n a) → EndsWithOwn after → FillSpec {E = E} s (Ok told) first after
-  all_filled {E} a is turn ends = row_at (IsExpected s) next (FillEnds {E = E} s) (asks 0) (through n) (Ok told) first after (turned_to a additions.NoPlace is turn) (ap through (sym telling), ends)
+  pub all_filled : {E : Type 0} (a : Addition) → a ≡ additions.NoPlace → Trace (IsExpected s) next (asks n) now after (fills.turned n a) → EndsWithOwn after → FillSpec {E = E} s (Ok reported) first after
+  all_filled {E} a is turn ends = row_at (IsExpected s) next (FillEnds {E = E} s) (asks 0) (through n) (Ok reported) first after (turned_to a additions.NoPlace is turn) (ap through (sym reporting), ends)
 
   pub filled_part : {E : Type 0} (f : AddFault E) → FillsFrom s (asks n) (Err f) now after → FillSpec s (Err f) first after
   filled_part f turn = row_on (IsExpected s) next (FillEnds s) (asks 0) (asks n) (Err f) first now after w turn

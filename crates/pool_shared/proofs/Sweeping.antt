@@ -18,11 +18,11 @@ use Rattle.pool_history.proofs.Fragments.{prefix_trans, prefix_self}
 use Rattle.pool_shared.specs.declared.faults.PoolFault.{PoolFault}
 use Rattle.pool_shared.specs.declared.faults.PoolFault.TheVariants as faults
 use Rattle.pool_lock.specs.Sections.{AppendsAnswer, Refuses}
-use Rattle.pool_shared.specs.Walks.{Trace, EndsWithOwn}
-use Rattle.pool_shared.specs.Rows.{TraceToResult, IsRoomFault}
+use Rattle.pool_shared.specs.Traces.{Trace, EndsWithOwn}
+use Rattle.pool_shared.specs.TraceToResult.{TraceToResult, IsRoomFault}
 use Rattle.pool_shared.specs.Clears.{Stage, begins, sweeps, destroys, through, next, IsExpected, NoneIdle, IsOver, Sweeps, ClearEnds, CloseEnds, ClearSpec, CloseSpec}
-use Rattle.pool_shared.proofs.Walking.{walk_none, walk_on, walk_by, walk_more, walk_destroyed}
-use Rattle.pool_shared.proofs.Rowing.{row_at, row_none, full_for, short_for}
+use Rattle.pool_shared.proofs.Traces.{trace_none, trace_on, trace_by, trace_more, trace_destroyed}
+use Rattle.pool_shared.proofs.TracesToResults.{row_at, row_none, full_for, short_for}
 
 pub goes_then : (s : Settings) (a b c : CallerState) → Advances s a b → Advances s b c → Advances s a c
 goes_then s a b c p q =
@@ -43,13 +43,13 @@ goes_self s a k = record { number = refl; later = prefix_self a.observed; legal 
 pub took_one : (first : Input) (count left taken i : ℕ) (a b c d : CallerState) → 0 < left → Trace (IsExpected first) next (sweeps count 0) a b (sweeps left taken) → AppendsAnswer ClearNext (answers.DestroyIdle i) b c → AppendsAnswer (Destroyed i) answers.Freed c d
     → Trace (IsExpected first) next (sweeps count 0) a d (sweeps (left - 1) (taken + 1))
 took_one first count left taken i a b c d some w took freed =
-    walk_on (IsExpected first) next (sweeps count 0) (sweeps left taken) (sweeps (left - 1) (taken + 1)) a b d w
-    (walk_destroyed (IsExpected first) next (sweeps left taken) (destroys i (left - 1) (taken + 1)) (sweeps (left - 1) (taken + 1)) i ClearNext (answers.DestroyIdle i) (answers.DestroyIdle i) b c d refl took freed
+    trace_on (IsExpected first) next (sweeps count 0) (sweeps left taken) (sweeps (left - 1) (taken + 1)) a b d w
+    (trace_destroyed (IsExpected first) next (sweeps left taken) (destroys i (left - 1) (taken + 1)) (sweeps (left - 1) (taken + 1)) i ClearNext (answers.DestroyIdle i) (answers.DestroyIdle i) b c d refl took freed
     (λ n at. (some, refl)) (λ n at. refl) (λ n at. refl) (λ n at. refl))
 
 pub took_none : (first : Input) (count left taken : ℕ) (a b c : CallerState) → 0 < left → Trace (IsExpected first) next (sweeps count 0) a b (sweeps left taken) → AppendsAnswer ClearNext answers.Nothing b c → Trace (IsExpected first) next (sweeps count 0) a c (through taken)
 took_none first count left taken a b c some w none =
-    walk_more (IsExpected first) next (sweeps count 0) (sweeps left taken) (through taken) ClearNext answers.Nothing answers.Nothing a b c w refl none (λ n at. (some, refl)) (λ n at. refl)
+    trace_more (IsExpected first) next (sweeps count 0) (sweeps left taken) (through taken) ClearNext answers.Nothing answers.Nothing a b c w refl none (λ n at. (some, refl)) (λ n at. refl)
 
 none_first : {X : Type 0} (xs : List X) → first_of xs ≡ None → xs ≡ []
 none_first [] is = refl
@@ -80,7 +80,7 @@ stopped s first count left taken f a b c some w same room none =
     let more : left ≡ suc (left - 1) = omega (arith, some) in (
       left - 1,
       subst (λ (k : ℕ). Trace (IsExpected first) next (sweeps count 0) a c (sweeps k taken)) more
-          (walk_on (IsExpected first) next (sweeps count 0) (sweeps left taken) (sweeps left taken) a b c w (walk_none (IsExpected first) next (sweeps left taken) b c same)),
+          (trace_on (IsExpected first) next (sweeps count 0) (sweeps left taken) (sweeps left taken) a b c w (trace_none (IsExpected first) next (sweeps left taken) b c same)),
       room,
       none,
     )
@@ -98,7 +98,7 @@ refused_memory s first count left taken f out a b c is some w refuses =
     stopped s first count left taken faults.OutOfMemory a b c some w refuses.same short (none_idle s short.0 c short.1.unfinished)
 
 begun : (first : Input) (n : ℕ) (a : Answer) (b c : CallerState) → a ≡ answers.Count n → AppendsAnswer first a b c → Trace (IsExpected first) next begins b c (sweeps n 0)
-begun first n a b c is made = walk_by (IsExpected first) next begins (sweeps n 0) first a (answers.Count n) b c is made (λ m at. refl) (λ m at. refl)
+begun first n a b c is made = trace_by (IsExpected first) next begins (sweeps n 0) first a (answers.Count n) b c is made (λ m at. refl) (λ m at. refl)
 
 -- a clear or a close whose sweep is complete, and one whose sweep stopped
 module _ {R : Type 0} (first : Input) (Ends : Stage → R → CallerState → Type 0) (n taken : ℕ) (a : Answer) (r : R) (b c d : CallerState) (is : a ≡ answers.Count n) (made : AppendsAnswer first a b c) where
@@ -110,11 +110,11 @@ module _ {R : Type 0} (first : Input) (Ends : Stage → R → CallerState → Ty
 
   swept_out : (s : Settings) → Sweeps s first n (Ok taken) c d → Ends (through taken) r d → Ends (sweeps 0 taken) r d → TraceToResult (IsExpected first) next Ends begins r b d
   swept_out s swept full part =
-      row_at (IsExpected first) next Ends begins swept.0 r b d (walk_on (IsExpected first) next begins (sweeps n 0) swept.0 b c d (begun first n a b c is made) swept.1) (over swept.0 swept.2 full part)
+      row_at (IsExpected first) next Ends begins swept.0 r b d (trace_on (IsExpected first) next begins (sweeps n 0) swept.0 b c d (begun first n a b c is made) swept.1) (over swept.0 swept.2 full part)
 
   swept_part : (s : Settings) (f : PoolFault) (swept : Sweeps s first n (Err (taken, f)) c d) → Ends (sweeps (suc swept.0) taken) r d → TraceToResult (IsExpected first) next Ends begins r b d
   swept_part s f swept ends =
-      row_at (IsExpected first) next Ends begins (sweeps (suc swept.0) taken) r b d (walk_on (IsExpected first) next begins (sweeps n 0) (sweeps (suc swept.0) taken) b c d (begun first n a b c is made) swept.1) ends
+      row_at (IsExpected first) next Ends begins (sweeps (suc swept.0) taken) r b d (trace_on (IsExpected first) next begins (sweeps n 0) (sweeps (suc swept.0) taken) b c d (begun first n a b c is made) swept.1) ends
 
 module _ (s : Settings) (n taken : ℕ) (a : Answer) (b c d : CallerState) (is : a ≡ answers.Count n) where
   pub cleared : AppendsAnswer Clear a b c → Sweeps s Clear n (Ok taken) c d → EndsWithOwn d → ClearSpec s (Ok taken) b d

@@ -17,8 +17,8 @@ use Rattle.pool_shared.specs.declared.faults.AddFault.{AddFault}
 use Rattle.pool_shared.specs.declared.faults.AddFault.TheVariants as faults
 use Rattle.pool_shared.specs.declared.adding.PrepareError.{PrepareError}
 use Rattle.pool_shared.specs.declared.adding.PrepareError.TheVariants as unfit
-use Rattle.pool_shared.specs.Walks.{EndsWithOwn}
-use Rattle.pool_shared.specs.Rows.{TraceToResult}
+use Rattle.pool_shared.specs.Traces.{EndsWithOwn}
+use Rattle.pool_shared.specs.TraceToResult.{TraceToResult}
 
 -- the stage of an addition: it asks for a place; it makes an object; it destroys one, with this outcome; it has parked one; the
 -- object is gone again, with this outcome; it ended with this answer

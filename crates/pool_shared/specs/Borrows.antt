@@ -19,8 +19,8 @@ use Rattle.pool_shared.specs.declared.borrowing.ActivateError.TheVariants as unr
 use Rattle.pool_history.specs.Answers.{IsPossibleAnswer}
 use Rattle.pool_shared.specs.declared.faults.PoolFault.{PoolFault}
 use Rattle.pool_shared.specs.declared.faults.PoolFault.TheVariants as pool_faults
-use Rattle.pool_shared.specs.Walks.{Ends, EndsWithOwn}
-use Rattle.pool_shared.specs.Rows.{TraceToResult, IsRoomFault}
+use Rattle.pool_shared.specs.Traces.{Ends, EndsWithOwn}
+use Rattle.pool_shared.specs.TraceToResult.{TraceToResult, IsRoomFault}
 use Rattle.pool_shared.specs.Reclaims as removal
 
 -- the stage of a borrow: it removes abandoned objects; it asks; it makes an object ready, a new one or one that it took; it

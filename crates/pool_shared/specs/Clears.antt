@@ -10,8 +10,8 @@ use Rattle.pool_journal.specs.Queue.{idle_queue}
 use Rattle.pool_settings.specs.declared.settings.Settings.{Settings}
 use Rattle.pool_history.specs.CallerStates.{CallerState}
 use Rattle.pool_shared.specs.declared.faults.PoolFault.{PoolFault}
-use Rattle.pool_shared.specs.Walks.{Trace, EndsWithOwn}
-use Rattle.pool_shared.specs.Rows.{TraceToResult, IsRoomFault}
+use Rattle.pool_shared.specs.Traces.{Trace, EndsWithOwn}
+use Rattle.pool_shared.specs.TraceToResult.{TraceToResult, IsRoomFault}
 
 -- the stage of a clear: it begins; it destroys up to this many more objects, after this many; it destroys one; it is complete
 pub data Stage : Type 0 where

@@ -17,8 +17,8 @@ use Rattle.pool_shared.specs.declared.evicting.Disposition.{Disposition}
 use Rattle.pool_shared.specs.declared.evicting.Disposition.TheVariants as fates
 use Rattle.pool_shared.specs.declared.faults.PoolFault.{PoolFault}
 use Rattle.pool_shared.specs.declared.faults.PoolFault.TheVariants as faults
-use Rattle.pool_shared.specs.Walks.{EndsWithOwn}
-use Rattle.pool_shared.specs.Rows.{TraceToResult, IsRoomFault, IsRoomFaultAt}
+use Rattle.pool_shared.specs.Traces.{EndsWithOwn}
+use Rattle.pool_shared.specs.TraceToResult.{TraceToResult, IsRoomFault, IsRoomFaultAt}
 
 -- the stage of an eviction run: it begins; it examines up to this many more objects, with these counts; it tests one; it
 -- destroys one; it is complete; the pool is closed

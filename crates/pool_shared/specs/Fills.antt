@@ -12,8 +12,8 @@ use Rattle.pool_shared.specs.declared.faults.Addition.{Addition}
 use Rattle.pool_shared.specs.declared.faults.Addition.TheVariants as additions
 use Rattle.pool_shared.specs.declared.faults.AddFault.{AddFault}
 use Rattle.pool_shared.specs.declared.faults.AddFault.TheVariants as faults
-use Rattle.pool_shared.specs.Walks.{Trace, EndsWithOwn}
-use Rattle.pool_shared.specs.Rows.{TraceToResult}
+use Rattle.pool_shared.specs.Traces.{Trace, EndsWithOwn}
+use Rattle.pool_shared.specs.TraceToResult.{TraceToResult}
 use Rattle.pool_shared.specs.Adds as addition
 use Rattle.pool_shared.specs.Adds.{FinalState}
 

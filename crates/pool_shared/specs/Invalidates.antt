@@ -15,8 +15,8 @@ use Rattle.pool_shared.specs.declared.faults.ReturnFault.TheVariants as faults
 use Rattle.pool_shared.specs.declared.faults.Returned.{Returned}
 use Rattle.pool_shared.specs.declared.faults.Returned.TheVariants as returned
 use Rattle.pool_shared.specs.declared.lent.Lent.{Lent}
-use Rattle.pool_shared.specs.Walks.{EndsWithOwn}
-use Rattle.pool_shared.specs.Rows.{TraceToResult}
+use Rattle.pool_shared.specs.Traces.{EndsWithOwn}
+use Rattle.pool_shared.specs.TraceToResult.{TraceToResult}
 
 -- the stage of an invalidation: it begins; it destroys the object; it is complete; it ended with this answer
 pub data Stage : Type 0 where

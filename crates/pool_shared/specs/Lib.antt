@@ -1,10 +1,10 @@
 pub mod Pools
-pub mod Walks
+pub mod Traces
 pub mod Touches
 pub mod Borrows
 pub mod Returns
 pub mod Clears
-pub mod Rows
+pub mod TraceToResult
 pub mod Evicts
 pub mod Reclaims
 pub mod Invalidates

@@ -9,7 +9,7 @@ use Rattle.pool_journal.specs.declared.input.Outcome.TheVariants.{Good}
 use Rattle.pool_journal.specs.declared.record.Phase.TheVariants as phases
 use Rattle.pool_core.specs.Laws.{LeavesLent}
 use Rattle.pool_history.specs.CallerStates.{CallerState}
-use Rattle.pool_shared.specs.Walks.{Ends}
+use Rattle.pool_shared.specs.Traces.{Ends}
 
 -- the caller's last entry, at the end of its observed history, lends the object to it; each earlier loan of the object ended
 -- before that entry

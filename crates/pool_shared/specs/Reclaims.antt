@@ -9,8 +9,8 @@ use Rattle.pool_settings.specs.declared.settings.Settings.{Settings}
 use Rattle.pool_core.specs.Reply.{reply}
 use Rattle.pool_history.specs.CallerStates.{CallerState}
 use Rattle.pool_shared.specs.declared.faults.PoolFault.{PoolFault}
-use Rattle.pool_shared.specs.Walks.{EndsWithOwn}
-use Rattle.pool_shared.specs.Rows.{TraceToResult, IsRoomFault, IsRoomFaultAt}
+use Rattle.pool_shared.specs.Traces.{EndsWithOwn}
+use Rattle.pool_shared.specs.TraceToResult.{TraceToResult, IsRoomFault, IsRoomFaultAt}
 
 -- the stage of a removal: it begins; it reclaims up to this many more objects, after this many; it is complete
 pub data Stage : Type 0 where

@@ -10,7 +10,7 @@ ghost use Rattle.pool_history.specs.CallerStates.{Advances};
 ghost use Rattle.pool_history.specs.Answers.{IsPossibleAnswer};
 ghost use Rattle.pool_lock.specs.Sections.{OwnsObject, IsPermitted, AppendsAnswer, ReturnsValue, IsWhy, continues_object};
 ghost use Rattle.pool_shared.specs.Promises.{IsAlone};
-ghost use Rattle.pool_shared.specs.Walks.{Trace, Ends};
+ghost use Rattle.pool_shared.specs.Traces.{Trace, Ends};
 ghost use Rattle.pool_shared.specs.Reclaims.{begins};
 ghost use Rattle.pool_shared.specs.Borrows.{removes, asks, readies, lent, after_asking, after_destroying, next, IsExpected, BorrowsFrom, BorrowSpec, IsLentWell, IsFaultFrom, IsWhyUnready, IsFound, taken_to, IsFailure};
 
@@ -110,7 +110,7 @@ impl<T: Drop, E: Drop, F: Factory<T, E> + Drop, C: Clock + Drop, B: Room> Shared
     // Activates a value for a holder, and tests it if that is set.
     fn activate(&self, value: &mut T) -> Result<(), ActivateError<E>>
         ensures ok { OnOk result (IsLentWell B.settings F.active F.valid value.new) }
-        ensures err { IfErr result (IsWhyUnready B.settings F.from_activate) }
+        ensures error { IfErr result (IsWhyUnready B.settings F.from_activate) }
     {
         match self.factory.activate(value) {
             Ok(()) => {

@@ -2,7 +2,7 @@
 ghost use Rattle.std.specs.Prelude.{◌≡◌, ℕ, IfOk};
 ghost use Rattle.pool_journal.specs.declared.input.Input.TheVariants as inputs;
 ghost use Rattle.pool_history.specs.CallerStates.{Advances, IsConsistent};
-ghost use Rattle.pool_shared.specs.Walks.{EndsWithOwn};
+ghost use Rattle.pool_shared.specs.Traces.{EndsWithOwn};
 ghost use Rattle.pool_shared.specs.Clears.{Sweeps, ClearSpec, CloseSpec};
 
 use crate::faults::{PoolFault, SectionError};

@@ -3,7 +3,7 @@ ghost use Rattle.std.specs.Prelude.{◌≡◌, ◌<◌, ℕ, IfOk, OnOk, IfErr, 
 ghost use Rattle.pool_journal.specs.declared.record.Phase.TheVariants as phases;
 ghost use Rattle.pool_history.specs.CallerStates.{Advances, IsConsistent};
 ghost use Rattle.pool_lock.specs.Sections.{OwnsObject};
-ghost use Rattle.pool_shared.specs.Walks.{Trace, EndsWithOwn};
+ghost use Rattle.pool_shared.specs.Traces.{Trace, EndsWithOwn};
 ghost use Rattle.pool_shared.specs.declared.evicting.EvictRun.{EvictRun};
 ghost use Rattle.pool_shared.specs.declared.evicting.Disposition.TheVariants as fates;
 ghost use Rattle.pool_shared.specs.Evicts.{examines, tests, none_yet, one_more, next, IsExpected, fared, after_test, after_one, IsStopped, EvictsFrom, EvictSpec, IsFailedTest, IsUnfit};
@@ -58,7 +58,7 @@ impl<T: Drop, E: Drop, F: Factory<T, E> + Drop, C: Clock + Drop, B: Room> Shared
     // Activates a value and tests it.
     fn activate_and_test(&self, value: &mut T) -> Result<(), Outcome>
         ensures ok { OnOk result (F.active value.new × F.valid value.new) }
-        ensures err { IfErr result IsUnfit }
+        ensures error { IfErr result IsUnfit }
     {
         match self.factory.activate(value) {
             Ok(()) => {
@@ -75,7 +75,7 @@ impl<T: Drop, E: Drop, F: Factory<T, E> + Drop, C: Clock + Drop, B: Room> Shared
     // Activates a value, tests it and passivates it.
     fn run_idle_test(&self, value: &mut T) -> Result<(), Outcome>
         ensures ok { OnOk result (F.passive value.new) }
-        ensures err { IfErr result IsFailedTest }
+        ensures error { IfErr result IsFailedTest }
     {
         self.activate_and_test(value)?;
         match self.factory.passivate(value) {

@@ -3,7 +3,7 @@ ghost use Rattle.std.specs.Prelude.{◌≡◌};
 ghost use Rattle.pool_journal.specs.declared.input.When.{When};
 ghost use Rattle.pool_journal.specs.declared.input.When.TheVariants as times;
 ghost use Rattle.pool_history.specs.CallerStates.{Advances, IsConsistent};
-ghost use Rattle.pool_shared.specs.Walks.{EndsWithOwn};
+ghost use Rattle.pool_shared.specs.Traces.{EndsWithOwn};
 ghost use Rattle.pool_shared.specs.Reclaims.{reclaims, ReclaimsFrom, ReclaimSpec};
 
 use crate::faults::{PoolFault, SectionError};

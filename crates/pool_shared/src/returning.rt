@@ -6,7 +6,7 @@ ghost use Rattle.pool_journal.specs.declared.input.Outcome.TheVariants as outcom
 ghost use Rattle.pool_journal.specs.declared.record.Phase.TheVariants as phases;
 ghost use Rattle.pool_history.specs.CallerStates.{Advances};
 ghost use Rattle.pool_lock.specs.Sections.{OwnsObject};
-ghost use Rattle.pool_shared.specs.Walks.{Trace, EndsWithOwn};
+ghost use Rattle.pool_shared.specs.Traces.{Trace, EndsWithOwn};
 ghost use Rattle.pool_shared.specs.Returns.{checks, done, next, IsPossibleOutcome, IsExpected, ReturnSpec};
 ghost use Rattle.pool_shared.specs.declared.faults.Returned.TheVariants as returned;
 

@@ -19,7 +19,7 @@ ended_of-push J e =
 
 -- each number may grow by one, since it is at most the number of entries
 pub ended_of-small : (J : List Entry) → length J + 1 < 2 ^ 64 → MayGrow (ended_of J)
-ended_of-small J few =
+ended_of-small J bounded =
     record {
       destroyed = omega (arith, count_by-le-length (λ x. is_freed x.answer) J);
       evicted = omega (arith, count_by-le-length (λ x. is_evicting x.answer x.input) J);

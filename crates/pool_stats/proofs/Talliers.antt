@@ -21,11 +21,11 @@ tally_of-push J e =
     ) refl
 
 pub tally_of-small : (J : List Entry) → length J + 1 < 2 ^ 64 → MayTally (tally_of J)
-tally_of-small J few =
+tally_of-small J bounded =
     record {
       borrowed = omega (arith, count_by-le-length (λ x. is_lent_answer x.answer) J);
       returned = omega (arith, count_by-le-length (λ x. is_check x.answer) J);
-      created = omega (arith, few, drawn_from-le empty_base J (omega arith));
+      created = omega (arith, bounded, drawn_from-le empty_base J (omega arith));
       borrow_test_failed = omega (arith, count_by-le-length (λ x. is_failing x.answer x.input) J);
-      ended = ended_of-small J few;
+      ended = ended_of-small J bounded;
     }

@@ -23,7 +23,7 @@ moment_of moments i = lookup (is_at (nat_cmp i)) moments
 -- t is the tally of the entries J
 pub record IsTallyOf (t : RunningTallyModel) (J : List Entry) : Type 0 where
   pub counted : t.taken ≡ length J
-  pub told : t.statistics ≡ statistics_of J
+  pub reported : t.statistics ≡ statistics_of J
   pub moments : (i : ℕ) → moment_of t.begun i ≡ begun i J
 
 -- the statistics with these numbers

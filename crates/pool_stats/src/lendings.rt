@@ -62,7 +62,7 @@ pub(crate) fn note_begun(begun: &mut BTreeMap<u64, u64>, entry: &Entry) -> Resul
     ensures noted { OnOk result ((i : ℕ) → get nat_cmp begun.new i
         ≡ (if is_of i (begun_by entry.now.answer entry.now.input) then Some entry.now.at
         else get nat_cmp begun.old i)) }
-    ensures err { OnErr result (begun.new.entries ≡ begun.old.entries) }
+    ensures unchanged_on_error { OnErr result (begun.new.entries ≡ begun.old.entries) }
 {
     if let Some(id) = begun_by(entry) {
         begun.insert(id, entry.at)?;

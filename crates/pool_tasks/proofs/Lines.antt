@@ -6,7 +6,7 @@ use Rattle.std.specs.Prelude.{codes, IfSome}
 use Rattle.pool_settings.specs.Escaped.{escaped, is_control, IsOnOneLine}
 use Rattle.pool_settings.specs.Faults as read
 use Rattle.pool_settings.specs.Messages as read_texts
-use Rattle.pool_settings.proofs.Escapes.{told_on_one_line}
+use Rattle.pool_settings.proofs.Escapes.{escaped_on_one_line}
 use Rattle.pool_engines.specs.Messages.{file_text}
 use Rattle.pool_engines.specs.declared.file_fault.FileFault.{FileFault}
 use Rattle.pool_engines.specs.declared.file_fault.FileFault.TheVariants as files
@@ -15,13 +15,13 @@ use Rattle.pool_tasks.specs.declared.fault.Fault.{Fault}
 use Rattle.pool_tasks.specs.declared.fault.Fault.TheVariants as faults
 
 after : (front rest : List ℕ) → list_any is_control front ≡ false → IsOnOneLine rest → IsOnOneLine (front ++ rest)
-after front rest clean told = list_any-append is_control front rest ∙ rw (clean, told) refl
+after front rest clean reported = list_any-append is_control front rest ∙ rw (clean, reported) refl
 
 settings_line : (fault : read.Fault) → IsOnOneLine (read_texts.text_of fault)
 settings_line read.not_toml = refl
-settings_line (read.unknown_key key) = after (codes "settings: unknown key ") (escaped key) refl (told_on_one_line key)
-settings_line (read.wrong_type key) = after (codes "settings: wrong type ") (escaped key) refl (told_on_one_line key)
-settings_line (read.out_of_range key) = after (codes "settings: out of range ") (escaped key) refl (told_on_one_line key)
+settings_line (read.unknown_key key) = after (codes "settings: unknown key ") (escaped key) refl (escaped_on_one_line key)
+settings_line (read.wrong_type key) = after (codes "settings: wrong type ") (escaped key) refl (escaped_on_one_line key)
+settings_line (read.out_of_range key) = after (codes "settings: out of range ") (escaped key) refl (escaped_on_one_line key)
 settings_line read.out_of_memory = refl
 
 file_line : (fault : FileFault) → IsOnOneLine (file_text fault)
@@ -35,7 +35,7 @@ pub fault_line : (fault : Fault) → IfSome (text_of fault) IsOnOneLine
 fault_line faults.WrongArguments = refl
 fault_line faults.Asked = refl
 fault_line faults.WrongNumbers = refl
-fault_line (faults.Unopened path) = after (codes "pool: cannot open ") (escaped path.now) refl (told_on_one_line path.now)
+fault_line (faults.Unopened path) = after (codes "pool: cannot open ") (escaped path.now) refl (escaped_on_one_line path.now)
 fault_line faults.OutOfMemory = refl
 fault_line (faults.Settings _ fault) = file_line fault
 fault_line (faults.Engine _ _) = tt

@@ -57,7 +57,7 @@ impl<'a> Fault<'a> {
 
     /// Writes the line of the error, and the hint after it. Control characters of a key or a path in the line are
     /// escaped.
-    pub(crate) fn tell<W: Write>(&self, hint: &Hint<'_>, writer: &mut W) -> io::Result<()>
+    pub(crate) fn report<W: Write>(&self, hint: &Hint<'_>, writer: &mut W) -> io::Result<()>
         ensures line { OnOk result (IfSome (text_of self.now)
             (λ text. Appends (W.contents writer.old) (W.contents writer.new)
             (text ++ 10 ∷ shown hint.now))) }

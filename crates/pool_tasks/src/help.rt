@@ -9,7 +9,7 @@ pool run SETTINGS SCRIPT           plays a script, and writes its journal
   pool run examples/patient.toml examples/one-object.script > journal
 pool check SETTINGS JOURNAL..      judges a journal, or its segments in their order: legal, or what was due at the first wrong answer
   pool check examples/patient.toml journal
-pool stats JOURNAL                 tells the statistics of a journal
+pool stats JOURNAL                 reports the statistics of a journal
   pool stats journal
 pool load SETTINGS WORKERS ROUNDS  lets threads borrow from one pool and give back, and reports
   pool load examples/settings.toml 4 1000

@@ -10,11 +10,11 @@ mod help;
 mod hint;
 mod line_kind;
 mod progress;
+mod reporting;
 mod runs;
-mod telling;
 mod watched;
 
 pub use checks::check_journal;
 pub use fault::{Fault, engine_result};
-pub use runs::{run_input, run_script, settings_in, tell_statistics};
-pub use telling::{refuse, tell};
+pub use reporting::{refuse, report};
+pub use runs::{report_statistics, run_input, run_script, settings_in};

@@ -22,7 +22,7 @@ pub(crate) struct Progress<'a> {
     /// The time at which the check began, or `None` if no message is printed.
     began: Option<Instant>,
     /// The number of seconds from then to the last message.
-    told: AtomicU64,
+    reported: AtomicU64,
     is_shown: AtomicBool,
 }
 
@@ -39,7 +39,7 @@ impl<'a> Progress<'a> {
             length: AtomicU64::new(0),
             read: AtomicU64::new(0),
             began,
-            told: AtomicU64::new(0),
+            reported: AtomicU64::new(0),
             is_shown: AtomicBool::new(false),
         }
     }
@@ -61,17 +61,17 @@ impl<'a> Progress<'a> {
             return;
         };
         let passed = now.duration_since(began).as_secs();
-        let told = self.told.load(Ordering::SeqCst);
-        if passed >= told.saturating_add(PERIOD) && self.is_first_to_tell(told, passed) {
+        let reported = self.reported.load(Ordering::SeqCst);
+        if passed >= reported.saturating_add(PERIOD) && self.is_first_to_report(reported, passed) {
             self.show();
         }
     }
 
     /// Returns whether this thread is to print: notes the time `passed`, in seconds, unless another thread has printed
     /// since.
-    fn is_first_to_tell(&self, told: u64, passed: u64) -> bool {
-        self.told
-            .compare_exchange(told, passed, Ordering::SeqCst, Ordering::SeqCst)
+    fn is_first_to_report(&self, reported: u64, passed: u64) -> bool {
+        self.reported
+            .compare_exchange(reported, passed, Ordering::SeqCst, Ordering::SeqCst)
             .is_ok()
     }
 

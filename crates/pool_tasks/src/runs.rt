@@ -32,7 +32,7 @@ pub fn run_script<'a>(
 }
 
 /// Writes the statistics of the journal in a file.
-pub fn tell_statistics<'a>(rt: &HostRuntime, journal: &'a str) -> Result<ExitCode, Fault<'a>> {
+pub fn report_statistics<'a>(rt: &HostRuntime, journal: &'a str) -> Result<ExitCode, Fault<'a>> {
     let mut file = open(rt, journal)?;
     engine_result(
         Some(journal),

@@ -9,7 +9,7 @@ use Rattle.sorted_index.specs.declared.pair.Pair.{Pair}
 use Rattle.sorted_index.specs.declared.stored.Stored.{Stored}
 use Rattle.sorted_index.specs.Pairs.{IdsBelow, IsAscending}
 use Rattle.sorted_index.specs.Marks.{all_in, pairs_in, is_there, is_last_gone, ends_gone, IsCounted, IsCapped, IsTidy}
-use Rattle.sorted_index.proofs.There.{rising_there, pairs_in-append, weighs_one}
+use Rattle.sorted_index.proofs.There.{ascending_there, pairs_in-append, weighs_one}
 
 last_read : (s : Stored) (ss : List Stored) (d : Stored) → (get_or (s ∷ ss) (length ss) d).is_gone ≡ is_last_gone s ss
 last_read s [] d = refl
@@ -52,9 +52,9 @@ all_front : (P : Pair → Type 0) (ps qs : List Pair) → AllByRecursion P (ps +
 all_front P [] qs all = tt
 all_front P (p ∷ ps) qs all = (all.0, all_front P ps qs all.1)
 
-rising_front : (ps qs : List Pair) → IsAscending (ps ++ qs) → IsAscending ps
-rising_front [] qs up = tt
-rising_front (p ∷ ps) qs up = (all_front (λ q. p.id < q.id) ps qs up.0, rising_front ps qs up.1)
+ascending_front : (ps qs : List Pair) → IsAscending (ps ++ qs) → IsAscending ps
+ascending_front [] qs up = tt
+ascending_front (p ∷ ps) qs up = (all_front (λ q. p.id < q.id) ps qs up.0, ascending_front ps qs up.1)
 
 pub count_push : (ss : List Stored) (t : Stored) → count_by (λ s. s.is_gone) (ss ++ t ∷ []) ≡ count_by (λ s. s.is_gone) ss + cond t.is_gone 1 0
 count_push ss t = omega (arith, sum_by-append (λ (s : Stored). cond s.is_gone 1 0) ss (t ∷ []))
@@ -65,7 +65,7 @@ pop_pairs ts t gone = pairs_in-append ts (t ∷ []) ∙ ap (λ g. pairs_in ts ++
 
 pop_counted : (ts : List Stored) (t : Stored) (n : ℕ) → t.is_gone ≡ true → IsCounted (ts ++ t ∷ []) n → IsCounted ts (n - 1)
 pop_counted ts t n gone old = record {
-  rising = rising_front (all_in ts) (t.pair ∷ []) (subst IsAscending (map-append (λ (s : Stored). s.pair) ts (t ∷ [])) old.rising);
+  ascending = ascending_front (all_in ts) (t.pair ∷ []) (subst IsAscending (map-append (λ (s : Stored). s.pair) ts (t ∷ [])) old.ascending);
   counted =
       omega (arith, count_push ts t, weighs_one t.is_gone gone, old.counted);
 }
@@ -113,7 +113,7 @@ swept_pairs ss ts is = ap pairs_in is ∙ ap all_in (filter_twice ss)
 
 pub swept_tidy : (ss ts : List Stored) (n : ℕ) → ts ≡ filter is_there ss → IsCounted ss n → IsTidy ts 0
 swept_tidy ss ts n is old = subst (λ xs. IsTidy xs 0) (sym is) (record {
-  counted = record { rising = rising_there ss old.rising; counted = sym (none_gone ss) };
+  counted = record { ascending = ascending_there ss old.ascending; counted = sym (none_gone ss) };
   capped = λ n below. subst (IdsBelow n) (ap all_in (filter_twice ss)) below;
   mostly_there = omega arith;
 })

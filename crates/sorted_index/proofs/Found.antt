@@ -27,16 +27,16 @@ id_above n k d [] all lt = absurd (omega arith)
 id_above n zero d (s ∷ ss) all lt = all.0
 id_above n (suc k) d (s ∷ ss) all lt = id_above n k d ss all.1 (omega arith)
 
-ids_rise : (j k : ℕ) (d : Stored) (ss : List Stored) → IsAscending (all_in ss) → j ≤ k → k < length ss → (get_or ss j d).pair.id ≤ (get_or ss k d).pair.id
-ids_rise j k d [] up le lt = absurd (omega arith)
-ids_rise zero zero d (s ∷ ss) up le lt = omega arith
-ids_rise (suc j) zero d (s ∷ ss) up le lt = absurd (omega arith)
-ids_rise zero (suc k) d (s ∷ ss) up le lt = omega (arith, id_above s.pair.id k d ss up.0 (omega arith))
-ids_rise (suc j) (suc k) d (s ∷ ss) up le lt = ids_rise j k d ss up.1 (omega arith) (omega arith)
+ids_ascending : (j k : ℕ) (d : Stored) (ss : List Stored) → IsAscending (all_in ss) → j ≤ k → k < length ss → (get_or ss j d).pair.id ≤ (get_or ss k d).pair.id
+ids_ascending j k d [] up le lt = absurd (omega arith)
+ids_ascending zero zero d (s ∷ ss) up le lt = omega arith
+ids_ascending (suc j) zero d (s ∷ ss) up le lt = absurd (omega arith)
+ids_ascending zero (suc k) d (s ∷ ss) up le lt = omega (arith, id_above s.pair.id k d ss up.0 (omega arith))
+ids_ascending (suc j) (suc k) d (s ∷ ss) up le lt = ids_ascending j k d ss up.1 (omega arith) (omega arith)
 
 -- the comparisons with i are ascending along the list, as a binary search requires
-comparisons_rise : (i : ℕ) (ss : List Stored) → IsAscending (all_in ss) → IsNonDecreasingBy (λ s. ordering_index (nat_cmp s.pair.id i)) ss
-comparisons_rise i ss up = λ j k d le lt. let ids = ids_rise j k d ss up le lt in grind (arith, nat_tests)
+comparisons_ascending : (i : ℕ) (ss : List Stored) → IsAscending (all_in ss) → IsNonDecreasingBy (λ s. ordering_index (nat_cmp s.pair.id i)) ss
+comparisons_ascending i ss up = λ j k d le lt. let ids = ids_ascending j k d ss up le lt in grind (arith, nat_tests)
 
 pub found_stored : (i : ℕ) (ss : List Stored) (r : Result ℕ ℕ) → IsSearchInRange r (length ss) → IsBinarySearchResult (λ s. nat_cmp s.pair.id i) ss r → IfSome (result_ok r) (IsStoredAt ss i)
 found_stored i ss (Ok k) in_range equal = record { in_range = in_range; has_id = λ d. ranked _ i _ (sym (equal d)) }
@@ -48,8 +48,8 @@ apart j k a i before after same = elim (cases_lt j k) [ inl h ↦ omega (arith, 
 pub found_nowhere : (i : ℕ) (ss : List Stored) (r : Result ℕ ℕ) → IsAscending (all_in ss) → IsBinarySearchResult (λ s. nat_cmp s.pair.id i) ss r → IfNone (result_ok r) (IsNowhere ss i)
 found_nowhere i ss (Ok k) up equal = tt
 found_nowhere i ss (Err k) up parted = λ j d lt same.
-    let before : j < k → (get_or ss j d).pair.id < i = λ below. ranked _ i _ (sym ((parted (comparisons_rise i ss up)).0 j d (omega arith) below)) in
-    let after : k ≤ j → i < (get_or ss j d).pair.id = λ above. ranked _ i _ (sym ((parted (comparisons_rise i ss up)).1 j d above lt)) in
+    let before : j < k → (get_or ss j d).pair.id < i = λ below. ranked _ i _ (sym ((parted (comparisons_ascending i ss up)).0 j d (omega arith) below)) in
+    let after : k ≤ j → i < (get_or ss j d).pair.id = λ above. ranked _ i _ (sym ((parted (comparisons_ascending i ss up)).1 j d above lt)) in
     apart j k (get_or ss j d).pair.id i before after same
 
 key_other : (i : ℕ) (ps : List Pair) → AllByRecursion (λ q. q.id ≢ i) ps → key_of ps i ≡ None

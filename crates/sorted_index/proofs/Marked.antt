@@ -46,6 +46,6 @@ mark_pairs i k s t ss up at gone = pairs_in-set i k s t ss up at.stored.in_range
 
 pub mark_counted : (i k n : ℕ) (s t : Stored) (ss : List Stored) → IsCounted ss n → IsThereAt ss i k → t ≡ get_or ss k t → s.pair ≡ t.pair → s.is_gone ≡ true → IsCounted (set ss k s) (n + 1)
 mark_counted i k n s t ss old at read same gone = record {
-  rising = subst IsAscending (sym (all_in-set k s t ss (same ∙ ap (λ (x : Stored). x.pair) read))) old.rising;
+  ascending = subst IsAscending (sym (all_in-set k s t ss (same ∙ ap (λ (x : Stored). x.pair) read))) old.ascending;
   counted = omega (arith, sum_by-set (λ (x : Stored). cond x.is_gone 1 0) ss k s t at.stored.in_range, weighs_one s.is_gone gone, weighs_none (get_or ss k t).is_gone (at.is_there t), old.counted);
 }

@@ -13,16 +13,16 @@ all_push : (P : Pair → Type 0) (ps : List Pair) (p : Pair) → AllByRecursion 
 all_push P [] p all here = (here, tt)
 all_push P (q ∷ ps) p all here = (all.0, all_push P ps p all.1 here)
 
-rising_push : (ps : List Pair) (p : Pair) → IsAscending ps → IdsBelow p.id ps → IsAscending (ps ++ p ∷ [])
-rising_push [] p up below = (tt, tt)
-rising_push (q ∷ ps) p up below = (all_push (λ x. q.id < x.id) ps p up.0 below.0, rising_push ps p up.1 below.1)
+ascending_push : (ps : List Pair) (p : Pair) → IsAscending ps → IdsBelow p.id ps → IsAscending (ps ++ p ∷ [])
+ascending_push [] p up below = (tt, tt)
+ascending_push (q ∷ ps) p up below = (all_push (λ x. q.id < x.id) ps p up.0 below.0, ascending_push ps p up.1 below.1)
 
 pub push_tidy : (ss : List Stored) (s : Stored) (n : ℕ) → IsTidy ss n → IdsBelow s.pair.id (pairs_in ss) → s.is_gone ≡ false → IsTidy (ss ++ s ∷ []) n
 push_tidy ss s n old above there =
-    let rising : IsAscending (all_in (ss ++ s ∷ [])) = subst IsAscending (sym (map-append (λ (t : Stored). t.pair) ss (s ∷ []))) (rising_push (all_in ss) s.pair old.counted.rising (old.capped s.pair.id above)) in
+    let ascending : IsAscending (all_in (ss ++ s ∷ [])) = subst IsAscending (sym (map-append (λ (t : Stored). t.pair) ss (s ∷ []))) (ascending_push (all_in ss) s.pair old.counted.ascending (old.capped s.pair.id above)) in
     record {
-      counted = record { rising = rising; counted = omega (arith, count_push ss s, weighs_none s.is_gone there, old.counted.counted) };
-      capped = capped_by_last (ss ++ s ∷ []) rising (ends_pushed ss s ∙ there);
+      counted = record { ascending = ascending; counted = omega (arith, count_push ss s, weighs_none s.is_gone there, old.counted.counted) };
+      capped = capped_by_last (ss ++ s ∷ []) ascending (ends_pushed ss s ∙ there);
       mostly_there = omega (arith, old.mostly_there, length_push ss s);
     }
 

@@ -19,9 +19,9 @@ all_there P (s ∷ ss) all = by_test (is_there s) all.0 (all_there P ss all.1)
     by_test true here rest = (here, rest)
     by_test false here rest = rest
 
-pub rising_there : (ss : List Stored) → IsAscending (all_in ss) → IsAscending (pairs_in ss)
-rising_there [] up = tt
-rising_there (s ∷ ss) up = by_test (is_there s) (all_there (λ q. s.pair.id < q.id) ss up.0) (rising_there ss up.1)
+pub ascending_there : (ss : List Stored) → IsAscending (all_in ss) → IsAscending (pairs_in ss)
+ascending_there [] up = tt
+ascending_there (s ∷ ss) up = by_test (is_there s) (all_there (λ q. s.pair.id < q.id) ss up.0) (ascending_there ss up.1)
   where
     by_test : (b : Bool) → AllByRecursion (λ q. s.pair.id < q.id) (pairs_in ss) → IsAscending (pairs_in ss) → IsAscending (all_in (cond b (s ∷ filter is_there ss) (filter is_there ss)))
     by_test true here rest = (here, rest)

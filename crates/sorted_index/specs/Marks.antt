@@ -43,7 +43,7 @@ IsNowhere ss i = All (λ s. s.pair.id ≢ i) ss
 
 -- the ids of all stored pairs are ascending, and `gone` pairs are marked
 pub record IsCounted (ss : List Stored) (gone : ℕ) : Type 0 where
-  pub rising : IsAscending (all_in ss)
+  pub ascending : IsAscending (all_in ss)
   pub counted : gone ≡ count_by (λ s. s.is_gone) ss
 
 -- an id above all present pairs is above all stored pairs

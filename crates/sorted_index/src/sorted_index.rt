@@ -52,7 +52,7 @@ impl SortedIndex {
     /// Returns the number of pairs.
     pub fn len(&self) -> usize
         ensures value { result ≡ length self.now.pairs }
-        ensures rising { IsAscending self.now.pairs }
+        ensures ascending { IsAscending self.now.pairs }
     {
         self.stored.len() - self.gone
     }
@@ -67,7 +67,7 @@ impl SortedIndex {
     /// Returns the key under an id, if there is one.
     pub fn find(&self, id: u64) -> Option<usize>
         ensures value { result ≡ key_of self.now.pairs id }
-        ensures rising { IsAscending self.now.pairs }
+        ensures ascending { IsAscending self.now.pairs }
     {
         let position = position_there(&self.stored, id)?;
         Some(self.stored[position].pair.key)
@@ -99,7 +99,7 @@ impl SortedIndex {
     /// Returns an iterator over the pairs, in ascending order of id.
     pub fn walk(&self) -> Walk<'_>
         ensures pairs { result ≡ self.now.pairs }
-        ensures rising { IsAscending self.now.pairs }
+        ensures ascending { IsAscending self.now.pairs }
     {
         Walk::new(&self.stored)
     }

@@ -139,7 +139,7 @@ fn is_refused_thrice(rt: &impl Abort, alloc: Global) -> (Base, Vec<(u64, u64)>) 
 }
 
 // A pool that is opened after `ONE_WAY` lends the idle object, and is cut.
-fn goes_on(rt: &impl Abort, alloc: Global, core: &mut Core<u64>) {
+fn continues(rt: &impl Abort, alloc: Global, core: &mut Core<u64>) {
     let taken = "0 0 borrow 0 = take 0\n";
     come_to(rt, counted(core), [4, 1, 0, 0, 1, 0, 0, 0]);
     play(rt, alloc, core, taken);
@@ -152,7 +152,7 @@ fn opened_from_a_base(rt: HostRuntime) {
     let (base, values) = is_refused_thrice(&rt, rt.alloc());
     let settings = settings_of(&rt, rt.alloc(), SEVEN);
     let mut core = is_opened(&rt, rt.alloc(), settings, base, values);
-    goes_on(&rt, rt.alloc(), &mut core);
+    continues(&rt, rt.alloc(), &mut core);
 }
 
 // A pool from a base with no objects.

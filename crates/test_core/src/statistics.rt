@@ -70,7 +70,7 @@ fn come_to(rt: &impl Abort, journal: &str, found: Statistics, wanted: Statistics
 }
 
 // Passes one more entry to a tally.
-fn tells(rt: &impl Abort, tally: &mut RunningTally, entry: &Entry) {
+fn reports(rt: &impl Abort, tally: &mut RunningTally, entry: &Entry) {
     if tally.taken() < u64::MAX {
         given(rt, tally.take(entry));
     } else {
@@ -79,33 +79,39 @@ fn tells(rt: &impl Abort, tally: &mut RunningTally, entry: &Entry) {
 }
 
 // Ends the test unless a tally has the statistics of these entries.
-fn is_told(rt: &impl Abort, alloc: Global, journal: &str, tally: &RunningTally, told: &[Entry]) {
-    let wanted = given(rt, Statistics::of(alloc, told));
+fn is_reported(
+    rt: &impl Abort,
+    alloc: Global,
+    journal: &str,
+    tally: &RunningTally,
+    reported: &[Entry],
+) {
+    let wanted = given(rt, Statistics::of(alloc, reported));
     come_to(rt, journal, tally.statistics(), wanted);
-    assert_eq!(rt; tally.taken(), told.len() as u64);
+    assert_eq!(rt; tally.taken(), reported.len() as u64);
 }
 
 // Passes entries to a tally one by one, and compares its statistics after each with those of all entries so far.
-fn told_of(rt: &impl Abort, alloc: Global, journal: &str, entries: &[Entry]) -> Statistics {
+fn reported_of(rt: &impl Abort, alloc: Global, journal: &str, entries: &[Entry]) -> Statistics {
     let mut tally = RunningTally::new(alloc);
-    let mut told = Vec::new(alloc);
+    let mut reported = Vec::new(alloc);
     for entry in entries {
-        tells(rt, &mut tally, entry);
-        given(rt, told.push(*entry));
-        is_told(rt, alloc, journal, &tally, &told);
+        reports(rt, &mut tally, entry);
+        given(rt, reported.push(*entry));
+        is_reported(rt, alloc, journal, &tally, &reported);
     }
     tally.statistics()
 }
 
 #[test]
-fn told_one_by_one(rt: HostRuntime) {
+fn reported_one_by_one(rt: HostRuntime) {
     for (text, wanted) in [
         (LENT_AGAIN, [3, 2, 2, 0, 0, 0, 0, 15, 15]),
         (RECLAIMED, [1, 0, 1, 0, 0, 0, 1, 100, 100]),
         (DESTROYED, [0, 0, 2, 2, 2, 1, 0, 0, 0]),
     ] {
         let entries = entries(&rt, rt.alloc(), text);
-        let found = told_of(&rt, rt.alloc(), text, &entries);
+        let found = reported_of(&rt, rt.alloc(), text, &entries);
         come_to(&rt, text, found, numbers(wanted));
     }
 }

@@ -182,7 +182,7 @@ fn refused_without_a_journal(rt: HostRuntime) {
 }
 
 // A stepper that was opened after four entries lends the idle object with its value.
-fn goes_on(rt: &impl Abort, stepper: &mut Stepper<u64>, next: &[Entry]) {
+fn continues(rt: &impl Abort, stepper: &mut Stepper<u64>, next: &[Entry]) {
     for wanted in next {
         let (entry, out) = take_step(rt, stepper, wanted);
         assert!(rt; entry.answer == wanted.answer);
@@ -198,7 +198,7 @@ fn opened_without_a_journal(rt: HostRuntime) {
     assert!(rt; is_refused(&rt, rt.alloc(), &mut base, 1));
     let next = entries(&rt, rt.alloc(), "0 20 borrow 20 = take 0\n");
     match from_base(&rt, rt.alloc(), &mut base, 0) {
-        Ok(mut stepper) => goes_on(&rt, &mut stepper, &next),
+        Ok(mut stepper) => continues(&rt, &mut stepper, &next),
         Err(_) => panic!(rt; "refused"),
     }
 }

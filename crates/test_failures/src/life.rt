@@ -22,7 +22,7 @@ pub const FULL: u64 = 16;
 
 /// The result of a call.
 #[derive(Clone, Copy, Debug)]
-enum Told {
+enum Outcome {
     Done,
     WantsMemory,
     WantsRoom,
@@ -46,29 +46,29 @@ impl Display for End {
     }
 }
 
-fn told_of_addition<A: Drop>(told: Result<A, AddFault<()>>) -> Told {
-    match told {
-        Ok(_) => Told::Done,
-        Err(AddFault::OutOfMemory) => Told::WantsMemory,
-        Err(AddFault::JournalFull) => Told::WantsRoom,
-        Err(_) => Told::Wrong,
+fn reported_of_addition<A: Drop>(reported: Result<A, AddFault<()>>) -> Outcome {
+    match reported {
+        Ok(_) => Outcome::Done,
+        Err(AddFault::OutOfMemory) => Outcome::WantsMemory,
+        Err(AddFault::JournalFull) => Outcome::WantsRoom,
+        Err(_) => Outcome::Wrong,
     }
 }
 
-fn told_of_return(fault: ReturnFault) -> Told {
+fn reported_of_return(fault: ReturnFault) -> Outcome {
     match fault {
-        ReturnFault::OutOfMemory => Told::WantsMemory,
-        ReturnFault::JournalFull => Told::WantsRoom,
-        _ => Told::Wrong,
+        ReturnFault::OutOfMemory => Outcome::WantsMemory,
+        ReturnFault::JournalFull => Outcome::WantsRoom,
+        _ => Outcome::Wrong,
     }
 }
 
-fn told_of_run<A: Drop>(told: Result<A, PoolFault>) -> Told {
-    match told {
-        Ok(_) => Told::Done,
-        Err(PoolFault::OutOfMemory) => Told::WantsMemory,
-        Err(PoolFault::JournalFull) => Told::WantsRoom,
-        Err(PoolFault::Closed) => Told::Wrong,
+fn reported_of_run<A: Drop>(reported: Result<A, PoolFault>) -> Outcome {
+    match reported {
+        Ok(_) => Outcome::Done,
+        Err(PoolFault::OutOfMemory) => Outcome::WantsMemory,
+        Err(PoolFault::JournalFull) => Outcome::WantsRoom,
+        Err(PoolFault::Closed) => Outcome::Wrong,
     }
 }
 
@@ -104,113 +104,113 @@ impl<B: Room> Life<B> {
         (me, segment)
     }
 
-    fn borrow<R: Wait>(&mut self, rt: &R, pool: &Pool<B>) -> Told {
+    fn borrow<R: Wait>(&mut self, rt: &R, pool: &Pool<B>) -> Outcome {
         match pool.borrow(rt, &mut self.me) {
             Ok(lent) => {
                 self.held = Some(lent);
                 self.loans = self.loans.saturating_add(1);
-                Told::Done
+                Outcome::Done
             }
-            Err(BorrowFault::OutOfMemory) => Told::WantsMemory,
-            Err(BorrowFault::JournalFull) => Told::WantsRoom,
-            Err(_) => Told::Wrong,
+            Err(BorrowFault::OutOfMemory) => Outcome::WantsMemory,
+            Err(BorrowFault::JournalFull) => Outcome::WantsRoom,
+            Err(_) => Outcome::Wrong,
         }
     }
 
     // Returns the result of a return or an invalidation. If it failed, the object stays with its holder.
-    fn ended(&mut self, ended: Result<Returned, (ReturnFault, Lent<Thing>)>) -> Told {
+    fn ended(&mut self, ended: Result<Returned, (ReturnFault, Lent<Thing>)>) -> Outcome {
         match ended {
-            Ok(Returned::Gone) => Told::Done,
+            Ok(Returned::Gone) => Outcome::Done,
             Ok(_) => {
                 self.loans = self.loans.saturating_sub(1);
-                Told::Done
+                Outcome::Done
             }
             Err((fault, lent)) => {
                 self.held = Some(lent);
-                told_of_return(fault)
+                reported_of_return(fault)
             }
         }
     }
 
-    fn give_back<R: Wait>(&mut self, rt: &R, pool: &Pool<B>) -> Told {
+    fn give_back<R: Wait>(&mut self, rt: &R, pool: &Pool<B>) -> Outcome {
         match self.held.take() {
             Some(lent) => {
                 let ended = pool.give_back(rt, &mut self.me, lent);
                 self.ended(ended)
             }
-            None => Told::Done,
+            None => Outcome::Done,
         }
     }
 
-    fn invalidate<R: Wait>(&mut self, rt: &R, pool: &Pool<B>) -> Told {
+    fn invalidate<R: Wait>(&mut self, rt: &R, pool: &Pool<B>) -> Outcome {
         match self.held.take() {
             Some(lent) => {
                 let ended = pool.invalidate(rt, &mut self.me, lent);
                 self.ended(ended)
             }
-            None => Told::Done,
+            None => Outcome::Done,
         }
     }
 
-    fn touch<R: Wait>(&mut self, rt: &R, pool: &Pool<B>) -> Told {
+    fn touch<R: Wait>(&mut self, rt: &R, pool: &Pool<B>) -> Outcome {
         match &self.held {
             Some(lent) => match pool.touch(rt, &mut self.me, lent) {
-                Ok(_) => Told::Done,
-                Err(fault) => told_of_return(fault),
+                Ok(_) => Outcome::Done,
+                Err(fault) => reported_of_return(fault),
             },
-            None => Told::Wrong,
+            None => Outcome::Wrong,
         }
     }
 
     // Cuts the journal, and checks that a cut that fails changes no count.
-    fn cut<R: Wait>(&mut self, rt: &R, alloc: Global, pool: &Pool<B>) -> Told {
+    fn cut<R: Wait>(&mut self, rt: &R, alloc: Global, pool: &Pool<B>) -> Outcome {
         let before = pool.counts(rt, &mut self.me);
         match pool.cut(rt, alloc, &mut self.me) {
             Ok(segment) => {
                 self.segment = Some(segment);
-                Told::Done
+                Outcome::Done
             }
-            Err(_) if pool.counts(rt, &mut self.me) == before => Told::WantsMemory,
-            Err(_) => Told::Wrong,
+            Err(_) if pool.counts(rt, &mut self.me) == before => Outcome::WantsMemory,
+            Err(_) => Outcome::Wrong,
         }
     }
 
     // Cuts the journal if it has less room than `u64::MAX`, so always, and checks that a cut that fails changes no
     // count.
-    fn cut_below<R: Wait>(&mut self, rt: &R, alloc: Global, pool: &Pool<B>) -> Told {
+    fn cut_below<R: Wait>(&mut self, rt: &R, alloc: Global, pool: &Pool<B>) -> Outcome {
         let before = pool.counts(rt, &mut self.me);
         match pool.cut_below(rt, alloc, &mut self.me, u64::MAX) {
             Ok(Some(segment)) => {
                 self.segment = Some(segment);
-                Told::Done
+                Outcome::Done
             }
-            Err(_) if pool.counts(rt, &mut self.me) == before => Told::WantsMemory,
-            _ => Told::Wrong,
+            Err(_) if pool.counts(rt, &mut self.me) == before => Outcome::WantsMemory,
+            _ => Outcome::Wrong,
         }
     }
 
     // Makes a call once.
-    fn ask<R: Wait>(&mut self, rt: &R, alloc: Global, pool: &Pool<B>, part: Part) -> Told {
+    fn ask<R: Wait>(&mut self, rt: &R, alloc: Global, pool: &Pool<B>, part: Part) -> Outcome {
         let me = &mut self.me;
         match part {
             Part::Borrow => self.borrow(rt, pool),
             Part::GiveBack => self.give_back(rt, pool),
             Part::Invalidate => self.invalidate(rt, pool),
             Part::Touch => self.touch(rt, pool),
-            Part::Add => told_of_addition(pool.add(rt, me)),
-            Part::Fill => told_of_addition(pool.fill(rt, me)),
-            Part::Evict => told_of_run(pool.evict(rt, me)),
-            Part::Reclaim => told_of_run(pool.reclaim(rt, me)),
-            Part::Maintain => told_of_addition(pool.maintain(rt, me)),
-            Part::Clear => told_of_run(pool.clear(rt, me)),
-            Part::Close => told_of_run(pool.close(rt, me)),
+            Part::Add => reported_of_addition(pool.add(rt, me)),
+            Part::Fill => reported_of_addition(pool.fill(rt, me)),
+            Part::Evict => reported_of_run(pool.evict(rt, me)),
+            Part::Reclaim => reported_of_run(pool.reclaim(rt, me)),
+            Part::Maintain => reported_of_addition(pool.maintain(rt, me)),
+            Part::Clear => reported_of_run(pool.clear(rt, me)),
+            Part::Close => reported_of_run(pool.close(rt, me)),
             Part::JournalCopy => match pool.journal_copy(rt, alloc, me) {
-                Ok(_) => Told::Done,
-                Err(_) => Told::WantsMemory,
+                Ok(_) => Outcome::Done,
+                Err(_) => Outcome::WantsMemory,
             },
             Part::Cut => self.cut(rt, alloc, pool),
             Part::CutBelow => self.cut_below(rt, alloc, pool),
-            _ => Told::Wrong,
+            _ => Outcome::Wrong,
         }
     }
 
@@ -273,16 +273,16 @@ impl<B: Room> Life<B> {
         notes: &mut Notes,
     ) -> Result<End, Fault> {
         for _ in 0..TRIES {
-            let told = self.ask(rt, alloc, pool, part);
+            let reported = self.ask(rt, alloc, pool, part);
             self.look(rt, pool)?;
-            match told {
-                Told::Done => return Ok(End::Done),
-                Told::Wrong => return Err(Fault::WrongAnswer),
-                Told::WantsRoom => {
+            match reported {
+                Outcome::Done => return Ok(End::Done),
+                Outcome::Wrong => return Err(Fault::WrongAnswer),
+                Outcome::WantsRoom => {
                     self.look_back(rt, alloc, pool, settings, notes)?;
                     return Ok(End::Refused);
                 }
-                Told::WantsMemory => {
+                Outcome::WantsMemory => {
                     notes.note(part);
                     self.look_back(rt, alloc, pool, settings, notes)?;
                 }

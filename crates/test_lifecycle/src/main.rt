@@ -18,7 +18,7 @@ use std::process::ExitCode;
 const LIMITS: [u64; 4] = [1, 8, 16, 30];
 
 /// Returns how two lives of one kind ended.
-fn told(one: &Life, other: &Life) -> &'static str {
+fn reported(one: &Life, other: &Life) -> &'static str {
     if !one.is_finished() || !other.is_finished() {
         "something is left"
     } else if !one.is_same(other) {
@@ -32,7 +32,7 @@ fn told(one: &Life, other: &Life) -> &'static str {
 fn verdict(rt: &HostRuntime, limit: u64) -> Result<&'static str, AllocError> {
     let one = Life::lived(rt.alloc(), limit)?;
     let other = Life::lived(rt.alloc(), limit)?;
-    Ok(told(&one, &other))
+    Ok(reported(&one, &other))
 }
 
 fn main(rt: HostRuntime) -> ExitCode {

@@ -130,7 +130,7 @@ fn flags_alone() -> &'static [(&'static str, [bool; 9])] {
 }
 
 #[test]
-fn flags_are_told_apart(rt: HostRuntime) {
+fn flags_are_distinguished(rt: HostRuntime) {
     for &(text, wanted) in flags_alone() {
         expect_equal(&rt, (text, flags(&read(&rt, text))), (text, wanted));
     }

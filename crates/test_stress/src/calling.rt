@@ -3,7 +3,7 @@ use crate::TRIES;
 use crate::dice::Dice;
 use crate::fault::Fault;
 use crate::judging::Played;
-use crate::marks::{Mark, tells};
+use crate::marks::{Mark, reports};
 use crate::refusals::{Call, Refusals};
 use crate::things::{Fickle, Thing, Ticking};
 use pool_journal::{Entry, Segment};
@@ -103,12 +103,12 @@ impl<'a, B: Room> Player<'a, B> {
         begun: &[Mark],
     ) -> Result<(), Fault> {
         let number = self.me.number();
-        if tells(segments, stored, number, &self.marks) {
+        if reports(segments, stored, number, &self.marks) {
             return Ok(());
         }
         for mark in begun {
             self.mark(*mark)?;
-            if tells(segments, stored, number, &self.marks) {
+            if reports(segments, stored, number, &self.marks) {
                 return Ok(());
             }
         }

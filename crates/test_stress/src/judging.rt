@@ -1,8 +1,8 @@
 // The check of a pool once all callers are back. A call that fails for lack of memory is tried again.
 use crate::TRIES;
-use crate::again::goes_on;
+use crate::again::continues;
 use crate::fault::Fault;
-use crate::marks::{Mark, tells};
+use crate::marks::{Mark, reports};
 use crate::refusals::Refusals;
 use crate::things::{Tally, Thing};
 use pool_core::Core;
@@ -103,8 +103,8 @@ fn is_legal(alloc: Global, settings: Settings, text: &[u8]) -> Result<bool, Faul
 }
 
 // Returns whether a journal has the calls of each caller, in its order.
-fn tells_all(segments: &[Segment], stored: &[Entry], all: &[Played]) -> bool {
-    all.iter().all(|played| tells(segments, stored, played.number, &played.marks))
+fn reports_all(segments: &[Segment], stored: &[Entry], all: &[Played]) -> bool {
+    all.iter().all(|played| reports(segments, stored, played.number, &played.marks))
 }
 
 /// Checks a pool that has ended with this core, its segments, the calls of all callers, and the objects.
@@ -126,9 +126,9 @@ pub fn judge(
     let text = text_of(alloc, segments, stored)?;
     Ok(if !is_legal(alloc, settings, &text)? {
         Verdict::Illegal
-    } else if !goes_on(alloc, settings, segments, core)? {
+    } else if !continues(alloc, settings, segments, core)? {
         Verdict::BasesDiffer
-    } else if !tells_all(segments, stored, all) {
+    } else if !reports_all(segments, stored, all) {
         Verdict::CallsDiffer
     } else if !tally.leaves(forgotten.saturating_add(counts.idle)) {
         Verdict::ObjectsLost

@@ -70,7 +70,7 @@ fn mark_of(entry: &Entry) -> Option<Mark> {
 }
 
 // Returns whether the entries of one caller have the next of its marks, and takes those marks.
-fn tells_next(entries: &[Entry], caller: u32, left: &mut Iter<Mark>) -> bool {
+fn reports_next(entries: &[Entry], caller: u32, left: &mut Iter<Mark>) -> bool {
     for entry in entries {
         if entry.caller == caller {
             if let Some(mark) = mark_of(entry) {
@@ -84,12 +84,12 @@ fn tells_next(entries: &[Entry], caller: u32, left: &mut Iter<Mark>) -> bool {
 }
 
 /// Returns whether a journal with these segments and stored entries has exactly these marks of one caller.
-pub fn tells(segments: &[Segment], stored: &[Entry], caller: u32, marks: &[Mark]) -> bool {
+pub fn reports(segments: &[Segment], stored: &[Entry], caller: u32, marks: &[Mark]) -> bool {
     let mut left = marks.iter();
     for segment in segments {
-        if !tells_next(segment.entries.as_slice(), caller, &mut left) {
+        if !reports_next(segment.entries.as_slice(), caller, &mut left) {
             return false;
         }
     }
-    tells_next(stored, caller, &mut left) && left.next().is_none()
+    reports_next(stored, caller, &mut left) && left.next().is_none()
 }

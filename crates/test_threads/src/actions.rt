@@ -337,8 +337,8 @@ pub fn does<B: Room, R: Wait>(
 }
 
 /// Compares the result of an action with the expected one.
-pub fn expects(rt: &impl Abort, action: Action, told: Reply, wanted: Reply) {
-    let (word, number) = told;
+pub fn expects(rt: &impl Abort, action: Action, reported: Reply, wanted: Reply) {
+    let (word, number) = reported;
     assert!(rt;
         word == wanted.0 && number == wanted.1,
         "{action:?} came to {word} {number}"
@@ -359,7 +359,7 @@ pub fn goes_through<B: Room, R: Wait + Abort>(
     rows: &[Expectation],
 ) {
     for (action, word, number) in rows {
-        let told = does(rt, pool, me, held, *action);
-        expects(rt, *action, told, (word, *number));
+        let reported = does(rt, pool, me, held, *action);
+        expects(rt, *action, reported, (word, *number));
     }
 }

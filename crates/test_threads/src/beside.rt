@@ -188,7 +188,7 @@ fn takes_part<B: Room, R: Wait + Abort>(
     let mut held = None;
     let mut segments = Vec::new(alloc);
     for (action, word, number) in rows {
-        let told = does_any(
+        let reported = does_any(
             rt,
             alloc,
             pool,
@@ -198,7 +198,7 @@ fn takes_part<B: Room, R: Wait + Abort>(
             &mut segments,
             *action,
         );
-        expects(rt, *action, told, (word, *number));
+        expects(rt, *action, reported, (word, *number));
     }
     (caller, segments)
 }

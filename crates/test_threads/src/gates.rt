@@ -72,6 +72,6 @@ fn counts_beside() -> Parts<'static> {
 }
 
 #[test]
-fn counts_are_told_beside_a_section(rt: HostRuntime) {
+fn counts_are_reported_beside_a_section(rt: HostRuntime) {
     pass(&rt, rt.alloc(), Gated::Telling, counts_beside());
 }

@@ -99,8 +99,8 @@ fn goes_through_cuts<B: Room, R: Wait + Abort>(
     let mut segments = Vec::new(alloc);
     let mut held = None;
     for &(action, word, number) in rows {
-        let told = comes_to(rt, alloc, pool, me, &mut held, &mut segments, action);
-        expects(rt, action, told, (word, number));
+        let reported = comes_to(rt, alloc, pool, me, &mut held, &mut segments, action);
+        expects(rt, action, reported, (word, number));
     }
     segments
 }

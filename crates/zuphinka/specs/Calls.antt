@@ -62,7 +62,7 @@ abbrev pub handed_in : Request → Input → Option ℕ
 handed_in q input = if carries input then Some q.object else None
 
 -- the properties of a pool after each step
-pub record IsSound (pool : CoreModel ℕ) : Type 0 where
+pub record IsConsistent (pool : CoreModel ℕ) : Type 0 where
   pub legal : IsLegalFrom pool.settings pool.base pool.journal
   pub objects : records_in pool.places ≡ records_from pool.base pool.journal
   pub values : StoresIdleValuesFrom pool.base pool.journal pool.places
@@ -70,13 +70,13 @@ pub record IsSound (pool : CoreModel ℕ) : Type 0 where
 
 -- the pool took the step, and the reply is its answer with the token that is returned; after the pool is closed, no object
 -- becomes idle
-pub record Took (q : Request) (old new : CoreModel ℕ) (told : Reply) (input : Input) : Type 0 where
+pub record Took (q : Request) (old new : CoreModel ℕ) (reported : Reply) (input : Input) : Type 0 where
   pub answer : Answer
   pub out : Option ℕ
   pub answered : Answered q.caller q.at input (handed_in q input) old new answer out
-  pub tells : told ≡ reply_of answer out
+  pub reports : reported ≡ reply_of answer out
   pub closed : closed_from old.base old.journal ≡ true → keeps_value answer ≡ false
-  pub sound : IsSound new
+  pub consistent : IsConsistent new
 
 -- the journal with the expected entry
 abbrev pub grown : Request → CoreModel ℕ → Input → List Entry

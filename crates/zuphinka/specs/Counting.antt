@@ -21,7 +21,7 @@ tally_of c =
 
 -- the counts after all entries; the number of present objects is within the limit of the settings, and none that was made is
 -- lost
-pub record TellsCounts (pool : CoreModel ℕ) (told : Tally) : Type 0 where
-  pub counts : told ≡ tally_of (counts_from pool.base pool.journal)
-  pub within : IsWithin pool.settings.max_total (told.idle + told.lent + told.reserved)
+pub record ReportsCounts (pool : CoreModel ℕ) (reported : Tally) : Type 0 where
+  pub counts : reported ≡ tally_of (counts_from pool.base pool.journal)
+  pub within : IsWithin pool.settings.max_total (reported.idle + reported.lent + reported.reserved)
   pub adds_up : AddsUp (counts_from pool.base pool.journal)

@@ -3,7 +3,7 @@
 
 ghost use Rattle.std.specs.Prelude.{◌≡◌, None, IsSomeAnd};
 ghost use Rattle.zuphinka.specs.Calls.{Came, Opens, Steps, IsCompleting, Reads, TellsSteps, TellsRoom, Lines, BaseLines, Cuts};
-ghost use Rattle.zuphinka.specs.Counting.{TellsCounts};
+ghost use Rattle.zuphinka.specs.Counting.{ReportsCounts};
 ghost use Rattle.zuphinka.specs.Setting.{SetsTo};
 ghost use Rattle.zuphinka.specs.Status.{status_code};
 ghost use Rattle.zuphinka.specs.declared.status.Status.TheVariants.{Done};
@@ -101,7 +101,7 @@ pub extern "C" fn zuphinka_step(
 /// Stores the counts in `counts`.
 #[unsafe(no_mangle)]
 pub extern "C" fn zuphinka_counts(alloc: Global, pool: &mut Handle, counts: &mut Tally) -> u32
-    ensures { Reads TellsCounts pool.old.core pool.new.core counts.old counts.new result }
+    ensures { Reads ReportsCounts pool.old.core pool.new.core counts.old counts.new result }
 {
     let Some(core) = pool.take(alloc) else {
         return Status::NotOpen.code();

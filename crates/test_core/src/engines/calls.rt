@@ -95,37 +95,41 @@ fn is_nothing_asked(rt: &impl Abort, alloc: Global, script: &str) {
 }
 
 #[test]
-fn nothing_told_is_nothing_asked(rt: HostRuntime) {
+fn nothing_reported_is_nothing_asked(rt: HostRuntime) {
     is_nothing_asked(&rt, rt.alloc(), "");
     is_nothing_asked(&rt, rt.alloc(), "0 0 borrow");
 }
 
 #[test]
 fn nothing_is_read_after_a_wrong_answer(rt: HostRuntime) {
-    let mut told = Vec::new(rt.alloc());
+    let mut reported = Vec::new(rt.alloc());
     let mut wrong = [Endless::new(b"0 0 borrow 0 = wait\n")];
-    let found = check(rt.alloc(), Settings::default(), &mut wrong, &mut told);
+    let found = check(rt.alloc(), Settings::default(), &mut wrong, &mut reported);
     let illegal = b"illegal 0 make 0\n".as_slice();
-    let found = (found, wrong[0].reads(), told.as_slice());
+    let found = (found, wrong[0].reads(), reported.as_slice());
     is(&rt, found, (Ok(false), 1, illegal));
 }
 
 #[test]
 fn nothing_is_read_after_a_long_line(rt: HostRuntime) {
-    let mut told = Vec::new(rt.alloc());
+    let mut reported = Vec::new(rt.alloc());
     let mut none = Endless::new(b"a");
-    let made = run(rt.alloc(), Settings::default(), &mut none, &mut told);
+    let made = run(rt.alloc(), Settings::default(), &mut none, &mut reported);
     let too_long = EngineFault::Line(1, LineFault::LineTooLong);
-    is(&rt, (made, none.reads(), told.len()), (Err(too_long), 1, 0));
+    is(
+        &rt,
+        (made, none.reads(), reported.len()),
+        (Err(too_long), 1, 0),
+    );
 }
 
 #[test]
 fn nothing_is_read_after_what_is_no_entry(rt: HostRuntime) {
-    let mut told = Vec::new(rt.alloc());
+    let mut reported = Vec::new(rt.alloc());
     let mut none = Endless::new(b"no entry\n");
-    let tallied = stats(rt.alloc(), &mut none, &mut told);
+    let tallied = stats(rt.alloc(), &mut none, &mut reported);
     let not_a_line = EngineFault::Line(1, LineFault::NotALine);
-    let found = (tallied, none.reads(), told.len());
+    let found = (tallied, none.reads(), reported.len());
     is(&rt, found, (Err(not_a_line), 1, 0));
 }
 
@@ -202,7 +206,7 @@ fn signals_are_no_fault_of_settings(rt: HostRuntime) {
 fn a_journal_in_pieces_is_read_to_its_end_once(rt: HostRuntime) {
     let written = Cell::new(0);
     let mut readers = [Pieces::new(PLAIN_LIFE.as_bytes(), 24, &written)];
-    let mut told = Vec::new(rt.alloc());
-    let found = check(rt.alloc(), Settings::default(), &mut readers, &mut told);
+    let mut reported = Vec::new(rt.alloc());
+    let found = check(rt.alloc(), Settings::default(), &mut readers, &mut reported);
     is(&rt, (found, readers[0].reads()), (Ok(true), 6));
 }

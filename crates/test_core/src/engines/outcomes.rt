@@ -27,11 +27,11 @@ pub fn sums_up(
     limit: u64,
     journal: &str,
     ended: Result<(), EngineFault>,
-    told: &str,
+    reported: &str,
 ) {
     let mut rest = journal.as_bytes();
     let mut written = Vec::new(alloc);
     let found = stats_of_at_most(alloc, limit, &mut rest, &mut written);
-    let wanted = (ended, told.as_bytes());
+    let wanted = (ended, reported.as_bytes());
     is_at(rt, journal, (found, written.as_slice()), wanted);
 }

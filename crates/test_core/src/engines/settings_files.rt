@@ -11,12 +11,12 @@ use std::process::Abort;
 const MOST: usize = 1_048_576;
 
 /// Returns the message of a file that is not read, and `read` for one that is.
-fn told<R: Source>(rt: &impl Abort, alloc: Global, reader: &mut R) -> String {
-    let told = match read_settings(alloc, reader) {
+fn reported<R: Source>(rt: &impl Abort, alloc: Global, reader: &mut R) -> String {
+    let reported = match read_settings(alloc, reader) {
         Ok(_) => String::from_str(alloc, "read"),
         Err(fault) => format!(in alloc; "{fault}"),
     };
-    told.expect(rt, "what is told of a file")
+    reported.expect(rt, "the message for a file")
 }
 
 /// Returns whether the settings of a file allow three objects.
@@ -62,7 +62,7 @@ fn long_files_are_refused(rt: HostRuntime) {
 
     too_long.push(0xff).expect(&rt, "one byte more");
     let mut rest = too_long.as_slice();
-    let answer = told(&rt, rt.alloc(), &mut rest);
+    let answer = reported(&rt, rt.alloc(), &mut rest);
     let wanted = ("pool: settings: too long", [0xff].as_slice());
     is(&rt, (answer.as_str(), rest), wanted);
 }
@@ -72,14 +72,14 @@ fn files_that_are_not_text_are_refused(rt: HostRuntime) {
     let bytes = b"maxTotal = 3 # \xff";
     let answer = read_settings(rt.alloc(), &mut bytes.as_slice());
     assert!(rt; matches!(answer, Err(FileFault::NotUtf8)));
-    let answer = told(&rt, rt.alloc(), &mut bytes.as_slice());
+    let answer = reported(&rt, rt.alloc(), &mut bytes.as_slice());
     is(&rt, answer.as_str(), "pool: settings: not TOML");
 }
 
 #[test]
-fn a_failed_read_is_told(rt: HostRuntime) {
+fn a_failed_read_is_reported(rt: HostRuntime) {
     let mut reader = Failing::new(b"maxTotal = 3\n", 5);
-    let answer = told(&rt, rt.alloc(), &mut reader);
+    let answer = reported(&rt, rt.alloc(), &mut reader);
     is(&rt, answer.as_str(), "pool: read failed");
 }
 

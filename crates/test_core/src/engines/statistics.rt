@@ -58,20 +58,20 @@ fn limited_journals() -> &'static [(u64, &'static str, Result<(), EngineFault>, 
 // If there is one entry too many, nothing is written.
 #[test]
 fn statistics_end_at_their_limit(rt: HostRuntime) {
-    for &(limit, journal, ended, told) in limited_journals() {
-        sums_up(&rt, rt.alloc(), limit, journal, ended, told);
+    for &(limit, journal, ended, reported) in limited_journals() {
+        sums_up(&rt, rt.alloc(), limit, journal, ended, reported);
     }
 }
 
 // The limit counts the objects of the base and the entries, not the first line.
 #[test]
 fn statistics_of_a_segment_end_at_their_limit(rt: HostRuntime) {
-    for &(limit, ended, told) in &[
+    for &(limit, ended, reported) in &[
         (2, Ok(()), OF_NOTHING),
         (1, Err(EngineFault::Full(3)), ""),
         (0, Err(EngineFault::Full(2)), ""),
     ] {
-        sums_up(&rt, rt.alloc(), limit, SEGMENT, ended, told);
+        sums_up(&rt, rt.alloc(), limit, SEGMENT, ended, reported);
     }
 }
 

@@ -64,7 +64,7 @@ fn drawn_by(answer: Answer) -> Option<u64> {
 }
 
 // The object that an answer names.
-fn told_by(answer: Answer) -> Option<u64> {
+fn reported_by(answer: Answer) -> Option<u64> {
     match answer {
         Answer::Take(id)
         | Answer::Make(id)
@@ -130,7 +130,7 @@ fn play(
         if let Some(answer) = step_both(rt, alloc, settings, core, at, input) {
             seen[kind_of(answer)] = true;
             last = drawn_by(answer).unwrap_or(last);
-            met = told_by(answer).unwrap_or(met);
+            met = reported_by(answer).unwrap_or(met);
         } else {
             seen[FULL] = true;
         }

@@ -339,7 +339,7 @@ fn reclaims_for_a_borrow_where_objects_are_scarce(rt: HostRuntime) {
 }
 
 #[test]
-fn reclaims_nothing_unless_told(rt: HostRuntime) {
+fn reclaims_nothing_unless_set(rt: HostRuntime) {
     let lines = [
         (500, Input::ReclaimNext, Answer::Nothing),
         (

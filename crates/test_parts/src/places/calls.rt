@@ -63,9 +63,9 @@ fn turn(place: &mut Place<u64>, choice: u64, moment: u64) {
 
 // The same in the places, for an object without a value.
 fn move_on(places: &mut Places<u64>, id: u64, known: Record, choice: u64, moment: u64)
-    requires known { record_in (records_in places.old.kept) id ≡ Some known }
-    requires before { AllBefore moment (records_in places.old.kept) }
-    ensures { AllBefore (moment + 1) (records_in places.new.kept) }
+    requires known { record_in (records_in places.old.objects) id ≡ Some known }
+    requires before { AllBefore moment (records_in places.old.objects) }
+    ensures { AllBefore (moment + 1) (records_in places.new.objects) }
 {
     match known.phase {
         Phase::Readying if choice == 0 => places.set_phase(id, Phase::Destroying),
@@ -82,9 +82,9 @@ fn move_on(places: &mut Places<u64>, id: u64, known: Record, choice: u64, moment
 
 // The same in the places, for any object. Returns the value of an idle one.
 fn take(places: &mut Places<u64>, id: u64, known: Record, choice: u64, moment: u64) -> Option<u64>
-    requires known { record_in (records_in places.old.kept) id ≡ Some known }
-    requires before { AllBefore moment (records_in places.old.kept) }
-    ensures { AllBefore (moment + 1) (records_in places.new.kept) }
+    requires known { record_in (records_in places.old.objects) id ≡ Some known }
+    requires before { AllBefore moment (records_in places.old.objects) }
+    ensures { AllBefore (moment + 1) (records_in places.new.objects) }
 {
     match known.phase {
         Phase::Idle if choice == 0 => Some(places.take_value(id, Phase::Destroying)),
@@ -99,9 +99,9 @@ fn take(places: &mut Places<u64>, id: u64, known: Record, choice: u64, moment: u
 
 // Opens an object.
 fn open(rt: &impl Abort, places: &mut Places<u64>, id: u64, phase: Phase)
-    requires before { AllBefore id (records_in places.old.kept) }
+    requires before { AllBefore id (records_in places.old.objects) }
     requires phase { IsTrue (opens_as phase) }
-    ensures { AllBefore (id + 1) (records_in places.new.kept) }
+    ensures { AllBefore (id + 1) (records_in places.new.objects) }
 {
     places.reserve_one().expect(rt, "memory");
     places.open(id, phase);
@@ -129,8 +129,8 @@ fn go_on(
     choice: u64,
     moment: u64,
 )
-    requires { AllBefore moment (records_in places.old.kept) }
-    ensures { AllBefore (moment + 1) (records_in places.new.kept) }
+    requires { AllBefore moment (records_in places.old.objects) }
+    ensures { AllBefore (moment + 1) (records_in places.new.objects) }
 {
     let known = places.find(id).expect(rt, "an object is missing");
     let out = take(places, id, known, choice, moment);
@@ -146,8 +146,8 @@ fn call(
     number: u64,
     moment: u64,
 )
-    requires { AllBefore moment (records_in places.old.kept) }
-    ensures { AllBefore (moment + 1) (records_in places.new.kept) }
+    requires { AllBefore moment (records_in places.old.objects) }
+    ensures { AllBefore (moment + 1) (records_in places.new.objects) }
 {
     if plain.len() < most && number % 3 == 0 {
         come(rt, plain, moment, Phase::Adding);
@@ -275,7 +275,7 @@ pub(crate) fn ask_queue(
     plain: &[Place<u64>],
     position: u64,
 ) {
-    let told = [
+    let reported = [
         places.first_idle(),
         places.last_idle(),
         places.next_idle_after(position),
@@ -285,7 +285,7 @@ pub(crate) fn ask_queue(
         last_of(plain),
         first_from(plain, position.saturating_add(1)),
     ];
-    expect_equal(rt, told, due);
+    expect_equal(rt, reported, due);
 }
 
 // Compares the answers about abandoned objects.
@@ -296,11 +296,11 @@ pub(crate) fn ask_overdue(
     at: u64,
     timeout: u64,
 ) {
-    let told = (
+    let reported = (
         places.count_overdue(at, timeout),
         places.least_overdue(at, timeout),
     );
-    expect_equal(rt, told, overdue_of(plain, at, timeout));
+    expect_equal(rt, reported, overdue_of(plain, at, timeout));
 }
 
 // Compares the record of one object, and all counts.

@@ -85,8 +85,8 @@ fn by_position(rt: HostRuntime) {
     let three = Some(Pair { id: 3, key: 30 });
     let seven = Some(Pair { id: 7, key: 70 });
     let nine = Some(Pair { id: 9, key: 90 });
-    let told = [first, second, index.nth(0), index.nth(2)];
-    expect_equal(&rt, told, [three, nine, seven, None]);
+    let reported = [first, second, index.nth(0), index.nth(2)];
+    expect_equal(&rt, reported, [three, nine, seven, None]);
 }
 
 // An id may be pushed again after it and all above it were removed.

@@ -12,9 +12,9 @@ use std::process::Abort;
 
 // Opens an object.
 fn open(rt: &impl Abort, places: &mut Places<u64>, id: u64, phase: Phase)
-    requires above { IdsBelow id (records_in places.old.kept) }
+    requires above { IdsBelow id (records_in places.old.objects) }
     requires phase { IsTrue (opens_as phase) }
-    ensures { records_in places.new.kept ≡ records_in places.old.kept ++ new_record id phase ∷ [] }
+    ensures { records_in places.new.objects ≡ records_in places.old.objects ++ new_record id phase ∷ [] }
 {
     places.reserve_one().expect(rt, "memory");
     places.open(id, phase);
@@ -22,25 +22,25 @@ fn open(rt: &impl Abort, places: &mut Places<u64>, id: u64, phase: Phase)
 
 // Parks an object.
 fn park(places: &mut Places<u64>, id: u64, parked: u64, since: u64, value: u64)
-    requires present { IsSomeAnd (record_in (records_in places.old.kept) id)
+    requires present { IsSomeAnd (record_in (records_in places.old.objects) id)
         (λ r. is_queued r.phase ≡ false) }
-    requires above { QueueBelow parked (records_in places.old.kept) }
-    ensures { records_in places.new.kept
-        ≡ with_changed id (parked_at parked since) (records_in places.old.kept) }
+    requires above { QueueBelow parked (records_in places.old.objects) }
+    ensures { records_in places.new.objects
+        ≡ with_changed id (parked_at parked since) (records_in places.old.objects) }
 {
     places.park(id, parked, since, value);
 }
 
 // Restores an object, in the memory that was reserved.
 fn restore(places: &mut Places<u64>, known: Record, value: Option<u64>)
-    requires reserved { 1 ≤ places.old.spare }
-    requires above { IdsBelow known.id (records_in places.old.kept) }
+    requires reserved { 1 ≤ places.old.spare_capacity }
+    requires above { IdsBelow known.id (records_in places.old.objects) }
     requires phase { IsTrue (is_present known.phase) }
     requires valued { is_some value ≡ is_idle known.phase }
     requires position { is_queued known.phase ≡ true
-        → IsFreePosition known.parked (records_in places.old.kept) }
-    ensures records { records_in places.new.kept ≡ records_in places.old.kept ++ known ∷ [] }
-    ensures spare { places.new.spare + 1 ≡ places.old.spare }
+        → IsFreePosition known.parked (records_in places.old.objects) }
+    ensures records { records_in places.new.objects ≡ records_in places.old.objects ++ known ∷ [] }
+    ensures spare { places.new.spare_capacity + 1 ≡ places.old.spare_capacity }
 {
     places.restore(known, value);
 }
@@ -73,8 +73,8 @@ fn parked() -> Record {
 
 // Lends the first object, and returns it.
 fn lend(rt: &impl Abort, places: &mut Places<u64>)
-    requires { records_in places.old.kept ≡ new_record 0 phases.Readying ∷ [] }
-    ensures { records_in places.new.kept
+    requires { records_in places.old.objects ≡ new_record 0 phases.Readying ∷ [] }
+    ensures { records_in places.new.objects
         ≡ phase_set phases.Returning (used_at 12 (lent_at 11 (new_record 0 phases.Readying))) ∷ [] }
 {
     places.set_lent(0, 11);
@@ -87,7 +87,7 @@ fn lend(rt: &impl Abort, places: &mut Places<u64>)
 
 // Tests the first object, and then destroys it.
 fn give_up(rt: &impl Abort, places: &mut Places<u64>)
-    requires { records_in places.old.kept
+    requires { records_in places.old.objects
         ≡ record {
           id = 0;
           phase = phases.Idle;
@@ -173,8 +173,8 @@ fn put_back(rt: HostRuntime) {
     restore(&mut places, tested, None);
     restore(&mut places, lent, None);
     places.compact_index();
-    let told = [places.nth(0), places.nth(1), places.nth(2), places.nth(3)];
-    expect_equal(&rt, told, [Some(idle), Some(tested), Some(lent), None]);
+    let reported = [places.nth(0), places.nth(1), places.nth(2), places.nth(3)];
+    expect_equal(&rt, reported, [Some(idle), Some(tested), Some(lent), None]);
     places.put_value(6, 60);
     let ids = [
         places.first_idle(),

@@ -81,14 +81,14 @@ fn put_back(
     plain: &mut Vec<Place<u64>>,
     place: Place<u64>,
 )
-    requires same { places.old.kept ≡ plain.old.items }
-    requires reserved { 1 ≤ places.old.spare }
+    requires same { places.old.objects ≡ plain.old.items }
+    requires reserved { 1 ≤ places.old.spare_capacity }
     requires above { IdsBelow place.known.id (records_in plain.old.items) }
     requires phase { IsTrue (is_present place.known.phase) }
     requires valued { is_some place.value ≡ is_idle place.known.phase }
     requires free { IsFreePosition place.known.parked (records_in plain.old.items) }
-    ensures same { places.new.kept ≡ plain.new.items }
-    ensures spare { places.new.spare + 1 ≡ places.old.spare }
+    ensures same { places.new.objects ≡ plain.new.items }
+    ensures spare { places.new.spare_capacity + 1 ≡ places.old.spare_capacity }
     ensures below { IdsBelow (place.known.id + 1) (records_in plain.new.items) }
 {
     places.restore(place.known, place.value);

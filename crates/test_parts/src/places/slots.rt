@@ -34,8 +34,8 @@ fn one_object(rt: HostRuntime) {
     let ends = [slots.first(), slots.last()];
     let sides = [slots.before(key), slots.after(key)];
     slots.unlink(key);
-    let told = [ends, sides, [slots.first(), slots.last()]];
-    expect_equal(&rt, told, [[Some(key); 2], [None; 2], [None; 2]]);
+    let reported = [ends, sides, [slots.first(), slots.last()]];
+    expect_equal(&rt, reported, [[Some(key); 2], [None; 2], [None; 2]]);
     expect_equal(&rt, slots.take(key), 70);
     slots.remove(key);
     expect_equal(&rt, [before, inserted, slots.len()], [0, 1, 0]);

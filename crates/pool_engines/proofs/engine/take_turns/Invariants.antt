@@ -10,7 +10,7 @@ invariant-loop-count g l =
     record {
       past : e.past;
       keeps : e.keeps l.engine past;
-      going : Going e.settings e.taken e.told e.active e.is_partial e.ends (e.with_past l.fn.engine e.none) (g.R.Read.remaining l.fn.reader)
+      going : Going e.settings e.taken e.reported e.active e.is_partial e.ends (e.with_past l.fn.engine e.none) (g.R.Read.remaining l.fn.reader)
           (g.W.Write.contents l.fn.writer) (e.with_past l.engine past) (g.R.Read.remaining l.reader) (g.W.Write.contents l.writer) l.incoming l.buffered.items;
       room : HasRoom l.buffered;
       capacity : buffer_room ≤ vec_capacity l.buffered;

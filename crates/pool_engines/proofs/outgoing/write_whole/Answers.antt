@@ -15,5 +15,5 @@ loop-rest-preserved g c =
     let n = c.in-Ok.count in
     record {
       got = (front ++ take n rest, front_more _ front rest n parts, Appends-trans _ _ _ _ _ written c.in-Ok.ensures.bytes);
-      works = c.in-Ok.ensures.told ∙ c.loop-rest.invariant.works;
+      works = c.in-Ok.ensures.reported ∙ c.loop-rest.invariant.works;
     }

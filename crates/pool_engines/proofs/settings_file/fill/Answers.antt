@@ -16,5 +16,5 @@ loop-count-preserved g c =
       length_stays = c.read_behind.auto.buffer ∙ c.loop-count.invariant.length_stays;
       within = more.0;
       came = subst (Consumes known left) (sym grown) (Consumes-trans known _ left _ _ c.loop-count.invariant.came more.1);
-      reads = c.in-Ok.ensures.told ∙ c.loop-count.invariant.reads;
+      reads = c.in-Ok.ensures.reported ∙ c.loop-count.invariant.reads;
     }

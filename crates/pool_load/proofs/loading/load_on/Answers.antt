@@ -12,7 +12,7 @@ use Rattle.pool_load.proofs.loading.load_on.Goals as goal
 
 pub collect_all-requires-clause-each : goal.collect_all-requires-clause-each
 collect_all-requires-clause-each g c =
-    outcomes_within (λ w. w.caller) (λ w. w.outcome) g.B.Room.settings c.args.rounds 1000000 c.pop.new.self.items c.in_ok-worked.worked.items c.in_ok-worked.ensures.ok c.requires.range.few_rounds
+    outcomes_within (λ w. w.caller) (λ w. w.outcome) g.B.Room.settings c.args.rounds 1000000 c.pop.new.self.items c.in_ok-worked.worked.items c.in_ok-worked.ensures.ok c.requires.range.bounded_rounds
 
 pub returns-in-Ok-of-clause-load : goal.returns-in-Ok-of-clause-load
 returns-in-Ok-of-clause-load g c =
@@ -36,7 +36,7 @@ returns-in-Ok-of-clause-load g c =
     let none = none_cut s rounds workers front after last last' fs whole.history c.in-Ok.opened.1.items c.in-Ok.ensures.count.1 c.in-Ok.ensures.new c.in-Some.ensures.items worked close.advances.number close.advances.uncut in
     let uncut = whole.uncut (subst NoneCut (sym back) none) in
     let stored : c.journal.result.now ≡ whole.history = c.journal.ensures.entries ∙ (is_first _ _ _ whole.ends (ap (λ (b : Base). b.first) uncut)).1 in
-    let told : stats ≡ statistics_of whole.history = c.in-Ok-of.ensures ∙ ap statistics_of stored in
+    let reported : stats ≡ statistics_of whole.history = c.in-Ok-of.ensures ∙ ap statistics_of stored in
     subst (λ (S : Settings). IsLoad S workers rounds refused stats) (sym c.requires.room.1)
     (loaded s rounds workers front after last last' fs whole.history refused row.0 stats c.in-Ok.opened.1.items c.in-Ok.ensures.count.1 c.in-Ok.ensures.new c.in-Some.ensures.items worked close.advances row.1 whole.legal
-    (subst (λ l. EachAppended l whole.history) back whole.each) (subst (λ l. AllByCallers l whole.history) back whole.all) took.refused.2 told)
+    (subst (λ l. EachAppended l whole.history) back whole.each) (subst (λ l. AllByCallers l whole.history) back whole.all) took.refused.2 reported)

@@ -1,5 +1,5 @@
 use Rattle.std.proofs.Common.{rules}
 use Rattle.pool_load.proofs.workers.start_one.Goals as goal
 
-pub returns-clause-err : goal.returns-clause-err
-returns-clause-err g c = search rules
+pub returns-clause-error : goal.returns-clause-error
+returns-clause-error g c = search rules

@@ -3,7 +3,7 @@ use Rattle.std.specs.Prelude.{find}
 use Rattle.std.specs.List.{AllByRecursion}
 use Rattle.pool_places.specs.Overdue.{is_overdue}
 use Rattle.pool_places.specs.PlacesModel.{records_in}
-use Rattle.pool_places.specs.Stored.{kept_of}
+use Rattle.pool_places.specs.Stored.{objects_of}
 use Rattle.pool_places.proofs.SlotLists.{Good}
 use Rattle.pool_places.proofs.overdue.first_overdue.Given as goal
 
@@ -12,5 +12,5 @@ invariant-loop-pair g l = record {
   can_next : (goal.iterator-loop-pair g).can_next l.pair-iterator;
   is_finite : (goal.iterator-loop-pair g).is_finite l.pair-iterator;
   good : AllByRecursion (Good l.slots l.index.pairs) l.pair-iterator;
-  later : find (is_overdue l.at l.timeout) (records_in (kept_of l.slots l.pair-iterator)) ≡ find (is_overdue l.at l.timeout) (records_in (kept_of l.slots l.index.pairs));
+  later : find (is_overdue l.at l.timeout) (records_in (objects_of l.slots l.pair-iterator)) ≡ find (is_overdue l.at l.timeout) (records_in (objects_of l.slots l.index.pairs));
 }

@@ -2,7 +2,7 @@ use Rattle.std.proofs.Common.{ℕ, ◌≤◌}
 use Rattle.std.specs.List.{AllByRecursion}
 use Rattle.pool_places.specs.Overdue.{IsBound}
 use Rattle.pool_places.specs.PlacesModel.{records_in}
-use Rattle.pool_places.specs.Stored.{kept_of}
+use Rattle.pool_places.specs.Stored.{objects_of}
 use Rattle.pool_places.proofs.SlotLists.{Good}
 use Rattle.pool_places.proofs.overdue.least_use.Given as goal
 
@@ -11,5 +11,5 @@ invariant-loop-pair g l = record {
   can_next : (goal.iterator-loop-pair g).can_next l.pair-iterator;
   is_finite : (goal.iterator-loop-pair g).is_finite l.pair-iterator;
   good : AllByRecursion (Good l.slots l.index.pairs) l.pair-iterator;
-  whole : (n : ℕ) → n ≤ l.least → IsBound n (records_in (kept_of l.slots l.pair-iterator)) → IsBound n (records_in (kept_of l.slots l.index.pairs));
+  whole : (n : ℕ) → n ≤ l.least → IsBound n (records_in (objects_of l.slots l.pair-iterator)) → IsBound n (records_in (objects_of l.slots l.index.pairs));
 }

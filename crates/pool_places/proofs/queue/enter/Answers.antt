@@ -6,7 +6,7 @@ use Rattle.pool_places.specs.RepInvariant.{IsWithin}
 use Rattle.pool_places.specs.Stored.{entry_at, parked_of, first_parked}
 use Rattle.pool_places.specs.QueueEntries.{IsAscendingQueue}
 use Rattle.pool_places.proofs.SlotLists.{known_place}
-use Rattle.pool_places.proofs.Walks.{found_in, in_put_here, in_put_other, rises_put}
+use Rattle.pool_places.proofs.Walks.{found_in, in_put_here, in_put_other, ascends_put}
 use Rattle.pool_places.proofs.queue.enter.Goals as goal
 
 pub returns-then-is_queued_phase-clause-here : goal.returns-then-is_queued_phase-clause-here
@@ -17,12 +17,12 @@ pub returns-then-is_queued_phase-clause-others : goal.returns-then-is_queued_pha
 returns-then-is_queued_phase-clause-others g c other apart =
     ap (λ (r : SlotsModel g.row.T.Denot). is_in other r.queue) c.link_before.ensures ∙ in_put_other other c.args.key c.first_after-next.result c.args.slots.now.queue apart
 
-pub returns-then-is_queued_phase-clause-rises : goal.returns-then-is_queued_phase-clause-rises
-returns-then-is_queued_phase-clause-rises g c =
+pub returns-then-is_queued_phase-clause-ascends : goal.returns-then-is_queued_phase-clause-ascends
+returns-then-is_queued_phase-clause-ascends g c =
     let rack = c.args.slots.now in
     let at : (entry_at rack c.args.key).parked ≡ c.args.known.parked = ap (λ (r : Record). r.parked) (known_place rack c.args.key c.args.known c.requires.known) in
     let free = subst (λ (n : ℕ). AllByRecursion (λ q. q.parked ≢ n) (parked_of rack)) (sym at) (c.requires.free (sym c.is_queued_phase.ensures ∙ c.if-is_queued_phase.true)) in
-    let up = rises_put (entry_at rack) c.args.key rack.queue c.first_after-next.ensures.rack.distinct c.requires.rises free in
+    let up = ascends_put (entry_at rack) c.args.key rack.queue c.first_after-next.ensures.rack.distinct c.requires.ascends free in
     let next = ap (λ (n : ℕ). first_parked rack n rack.queue) at ∙ sym c.first_after-next.ensures.first in
     subst (λ r. IsAscendingQueue (parked_of r)) (sym c.link_before.ensures) (subst (λ o. IsAscendingQueue (map (entry_at rack) (put_before o c.args.key rack.queue))) next up)
 

@@ -18,7 +18,7 @@ returns-then-known-position-clause-start g c =
     let rack = c.args.slots.now in
     let known = known_place rack c.in-Some.before c.known.result c.known.ensures in
     let parked : (entry_at rack c.in-Some.before).parked ≤ c.args.position = omega (arith, ap (λ (r : Record). r.parked) known, c.if-known-position.true) in
-    start_here (entry_at rack) c.args.position rack.queue c.loop-before.start c.before-in-loop-before.result c.requires.rises c.loop-before.invariant c.before-in-loop-before.ensures (subst (λ o. IfSome o (λ k. (entry_at rack k).parked ≤ c.args.position)) (sym c.in-Some.is) parked)
+    start_here (entry_at rack) c.args.position rack.queue c.loop-before.start c.before-in-loop-before.result c.requires.ascends c.loop-before.invariant c.before-in-loop-before.ensures (subst (λ o. IfSome o (λ k. (entry_at rack k).parked ≤ c.args.position)) (sym c.in-Some.is) parked)
 
 pub loop-before-smaller : goal.loop-before-smaller
 loop-before-smaller g c =
@@ -36,17 +36,17 @@ pub returns-clause-start : goal.returns-clause-start
 returns-clause-start g c =
     let rack = c.args.slots.now in
     let none : c.before-in-loop-before.result ≡ None = c.in_default.is in
-    start_here (entry_at rack) c.args.position rack.queue c.loop-before.start c.before-in-loop-before.result c.requires.rises c.loop-before.invariant c.before-in-loop-before.ensures (subst (λ o. IfSome o (λ k. (entry_at rack k).parked ≤ c.args.position)) (sym none) tt)
+    start_here (entry_at rack) c.args.position rack.queue c.loop-before.start c.before-in-loop-before.result c.requires.ascends c.loop-before.invariant c.before-in-loop-before.ensures (subst (λ o. IfSome o (λ k. (entry_at rack k).parked ≤ c.args.position)) (sym none) tt)
 
 pub returns-then-known-position-clause-parked : goal.returns-then-known-position-clause-parked
 returns-then-known-position-clause-parked g c =
     let rack = c.args.slots.now in
     let known = known_place rack c.in-Some.before c.known.result c.known.ensures in
     let parked : (entry_at rack c.in-Some.before).parked ≤ c.args.position = omega (arith, ap (λ (r : Record). r.parked) known, c.if-known-position.true) in
-    start_parked (entry_at rack) c.args.position rack.queue c.loop-before.start c.before-in-loop-before.result c.requires.rises c.loop-before.invariant c.before-in-loop-before.ensures (subst (λ o. IfSome o (λ k. (entry_at rack k).parked ≤ c.args.position)) (sym c.in-Some.is) parked)
+    start_parked (entry_at rack) c.args.position rack.queue c.loop-before.start c.before-in-loop-before.result c.requires.ascends c.loop-before.invariant c.before-in-loop-before.ensures (subst (λ o. IfSome o (λ k. (entry_at rack k).parked ≤ c.args.position)) (sym c.in-Some.is) parked)
 
 pub returns-clause-parked : goal.returns-clause-parked
 returns-clause-parked g c =
     let rack = c.args.slots.now in
     let none : c.before-in-loop-before.result ≡ None = c.in_default.is in
-    start_parked (entry_at rack) c.args.position rack.queue c.loop-before.start c.before-in-loop-before.result c.requires.rises c.loop-before.invariant c.before-in-loop-before.ensures (subst (λ o. IfSome o (λ k. (entry_at rack k).parked ≤ c.args.position)) (sym none) tt)
+    start_parked (entry_at rack) c.args.position rack.queue c.loop-before.start c.before-in-loop-before.result c.requires.ascends c.loop-before.invariant c.before-in-loop-before.ensures (subst (λ o. IfSome o (λ k. (entry_at rack k).parked ≤ c.args.position)) (sym none) tt)

@@ -24,4 +24,4 @@ loop-stored-preserved c =
 pub returns-clause-capped : goal.returns-clause-capped
 returns-clause-capped c =
     let ends = ap ends_gone (sym c.deref.ensures.value) ∙ sym c.is_last_gone.ensures ∙ c.loop-stored-test.false in
-    capped_by_last c.loop-stored.stored.items c.loop-stored.invariant.counted.rising ends
+    capped_by_last c.loop-stored.stored.items c.loop-stored.invariant.counted.ascending ends

@@ -4,4 +4,4 @@ use Rattle.pool_core.proofs.Queues.{length-idle_queue}
 use Rattle.pool_core.proofs.state.State.count_idle.Goals as goal
 
 pub returns : goal.returns
-returns g c = c.counts.ensures.idle ∙ sym (length-idle_queue (records_in c.args.self.now.places.kept))
+returns g c = c.counts.ensures.idle ∙ sym (length-idle_queue (records_in c.args.self.now.places.objects))

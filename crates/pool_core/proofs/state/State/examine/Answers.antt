@@ -8,5 +8,5 @@ use Rattle.pool_core.proofs.state.State.examine.Goals as goal
 pub returns : goal.returns
 returns g c =
     c.find.ensures.value
-    ∙ examined_found c.args.self.now.cursor (records_in c.args.self.now.places.kept) c.in_ok-id.id
-    (each_is_found c.args.self.now.places.kept c.find.ensures.well_formed.rising) (sym c.examined_id.ensures ∙ c.in_ok-id.was)
+    ∙ examined_found c.args.self.now.cursor (records_in c.args.self.now.places.objects) c.in_ok-id.id
+    (each_is_found c.args.self.now.places.objects c.find.ensures.well_formed.ascending) (sym c.examined_id.ensures ∙ c.in_ok-id.was)

@@ -8,11 +8,11 @@ returns-in-Parked-clause-known g c =
     let s = c.args.self.now in
     rw c.in-Parked.is
     (c.park.ensures.records
-    ∙ parked_known c.args.now s.next c.named_by-id.result c.args.input (records_in s.places.kept) c.named_by-id.ensures c.requires.before.stay)
+    ∙ parked_known c.args.now s.next c.named_by-id.result c.args.input (records_in s.places.objects) c.named_by-id.ensures c.requires.before.stay)
 
 pub returns-in-Kept-clause-known : goal.returns-in-Kept-clause-known
 returns-in-Kept-clause-known g c =
     let s = c.args.self.now in
     rw c.in-Kept.is
     (c.put_value.ensures.records
-    ∙ kept_known c.args.now s.next c.named_by-id.result c.args.input (records_in s.places.kept) c.named_by-id.ensures c.requires.before.stay)
+    ∙ kept_known c.args.now s.next c.named_by-id.result c.args.input (records_in s.places.objects) c.named_by-id.ensures c.requires.before.stay)

@@ -12,28 +12,28 @@ returns-in-Take-clause-known g c =
     let finds = rw c.in-Take.is at c.requires.finds in
     rw c.in-Take.is
     (c.take_value.ensures.records
-    ∙ taken_known c.args.now s.next c.in-Take.id c.args.input (records_in s.places.kept) finds.1 c.requires.before.stay)
+    ∙ taken_known c.args.now s.next c.in-Take.id c.args.input (records_in s.places.objects) finds.1 c.requires.before.stay)
 
 pub returns-in-Test-clause-known : goal.returns-in-Test-clause-known
 returns-in-Test-clause-known g c =
     let s = c.args.self.now in
     rw c.in-Test.is
     (c.take_value-in-Test.ensures.records
-    ∙ test_known c.args.now s.next c.in-Test.id c.args.input (records_in s.places.kept) c.requires.before.stay)
+    ∙ test_known c.args.now s.next c.in-Test.id c.args.input (records_in s.places.objects) c.requires.before.stay)
 
 pub returns-in-DestroyIdle-clause-known : goal.returns-in-DestroyIdle-clause-known
 returns-in-DestroyIdle-clause-known g c =
     let s = c.args.self.now in
     rw c.in-DestroyIdle.is
     (c.take_value-in-DestroyIdle.ensures.records
-    ∙ destroy_idle_known c.args.now s.next c.in-DestroyIdle.id c.args.input (records_in s.places.kept) c.requires.before.stay)
+    ∙ destroy_idle_known c.args.now s.next c.in-DestroyIdle.id c.args.input (records_in s.places.objects) c.requires.before.stay)
 
 pub returns-in-Reclaimed-clause-known : goal.returns-in-Reclaimed-clause-known
 returns-in-Reclaimed-clause-known g c =
     let s = c.args.self.now in
     rw c.in-Reclaimed.is
     (c.free.ensures.records
-    ∙ reclaimed_known c.args.now s.next c.in-Reclaimed.id c.args.input (records_in s.places.kept) c.requires.before.stay)
+    ∙ reclaimed_known c.args.now s.next c.in-Reclaimed.id c.args.input (records_in s.places.objects) c.requires.before.stay)
 
 pub returns-in-Make-clause-known : goal.returns-in-Make-clause-known
 returns-in-Make-clause-known g c =
@@ -41,12 +41,12 @@ returns-in-Make-clause-known g c =
     let finds = rw c.in-Make.is at c.requires.finds in
     let makes = rw finds.0 at finds.1 in
     rw (c.in-Make.is, c.open.ensures.records, c.begins_as.ensures, finds.0)
-    (made_known c.args.now s.next c.args.input (records_in s.places.kept) makes c.requires.before.below c.requires.before.stay)
+    (made_known c.args.now s.next c.args.input (records_in s.places.objects) makes c.requires.before.below c.requires.before.stay)
 
 pub returns-in_default-clause-known : goal.returns-in_default-clause-known
 returns-in_default-clause-known g c =
     let s = c.args.self.now in
-    silent_known c.args.now s.next c.args.input (records_in s.places.kept) c.requires.before.stay c.args.answer
+    silent_known c.args.now s.next c.args.input (records_in s.places.objects) c.requires.before.stay c.args.answer
     (by_answer c.args.answer refl)
   where
     by_answer : (a : Answer) → c.args.answer ≡ a → is_silent a ≡ true

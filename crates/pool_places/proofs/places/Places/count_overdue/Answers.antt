@@ -4,11 +4,11 @@ use Rattle.pool_places.proofs.Bounds.{none_overdue}
 use Rattle.std.proofs.lemmas.List.Sums.{length-filter}
 use Rattle.pool_places.specs.Overdue.{is_overdue}
 use Rattle.pool_places.specs.PlacesModel.{records_in}
-use Rattle.pool_places.specs.Stored.{kept_of}
+use Rattle.pool_places.specs.Stored.{objects_of}
 use Rattle.pool_places.proofs.places.Places.count_overdue.Goals as goal
 
 pub returns : goal.returns
-returns g c = rw (← c.self.view_is) (c.overdue_count.ensures ∙ sym (length-filter (is_overdue c.args.at c.args.timeout) (records_in (kept_of c.self.inside.slots c.self.inside.index.pairs))))
+returns g c = rw (← c.self.view_is) (c.overdue_count.ensures ∙ sym (length-filter (is_overdue c.args.at c.args.timeout) (records_in (objects_of c.self.inside.slots c.self.inside.index.pairs))))
 
 pub returns-then-saturating_sub-timeout : goal.returns-then-saturating_sub-timeout
 returns-then-saturating_sub-timeout g c =

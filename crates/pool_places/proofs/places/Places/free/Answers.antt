@@ -8,7 +8,7 @@ use Rattle.sorted_index.specs.Pairs.{IsAscending}
 use Rattle.pool_places.specs.Counts.{IsCounts}
 use Rattle.pool_places.specs.RepInvariant.{IsWithin}
 use Rattle.pool_places.specs.PlacesModel.{records_in, PlacesInvariant}
-use Rattle.pool_places.specs.Stored.{kept_of, place_at}
+use Rattle.pool_places.specs.Stored.{objects_of, place_at}
 use Rattle.pool_places.proofs.Found.{found_known, found_empty, well_formed_remove, remove_kept, remove_records, remove_values}
 use Rattle.pool_places.proofs.Outstanding.{remove_owed_of}
 use Rattle.pool_places.proofs.Numbers.{has_one, counted_remove}
@@ -16,7 +16,7 @@ use Rattle.pool_places.proofs.SlotLists.{line_left}
 use Rattle.pool_places.proofs.Walks.{key_is_gone}
 use Rattle.pool_places.specs.Overdue.{IsBound}
 use Rattle.pool_places.proofs.Bounds.{bound_remove}
-use Rattle.pool_places.proofs.Turned.{Reads, here, key_seen, item_there, follows_known, no_value, sets_requeued, kept_freed, tied_freed, rising_without}
+use Rattle.pool_places.proofs.Turned.{Reads, here, key_seen, item_there, follows_known, no_value, sets_requeued, kept_freed, tied_freed, ascending_without}
 use Rattle.pool_places.proofs.places.Places.free.Goals as goal
 
 pub remove-key-requires : goal.remove-key-requires
@@ -51,14 +51,14 @@ invariant_of-self g c =
     let reads : Reads rack pairs c.args.id c.remove-key.result c.known-phase.result = record { tied = c.self.invariant.tied; well_formed = c.self.invariant.well_formed; at = c.remove-key.ensures.value; known = c.known-phase.ensures } in
     let found = here _ _ _ _ _ reads in
     let sets = sets_requeued c.remove.ensures.sets c.leave.ensures.queue in
-    let is = ap (kept_of c.remove.new.self) c.remove-key.ensures.pairs ∙ kept_freed rack c.remove.new.self pairs c.args.id c.remove-key.result _ reads sets ∙ sym (remove_kept found) in
+    let is = ap (objects_of c.remove.new.self) c.remove-key.ensures.pairs ∙ kept_freed rack c.remove.new.self pairs c.args.id c.remove-key.result _ reads sets ∙ sym (remove_kept found) in
     record {
       well_formed = subst PlacesInvariant (sym is) (well_formed_remove found);
       counted = subst (λ qs. IsCounts c.remove-2.new.self (records_in qs)) (sym is) (counted_remove _ _ found c.self.invariant.counted c.remove-2.ensures);
-      tied = tied_freed rack c.remove.new.self pairs c.remove-key.new.self.pairs c.args.id c.remove-key.result _ reads sets (subst IsAscending (sym c.remove-key.ensures.pairs) (rising_without c.args.id pairs c.self.invariant.tied.rising)) c.remove-key.ensures.gone c.remove-key.ensures.others;
+      tied = tied_freed rack c.remove.new.self pairs c.remove-key.new.self.pairs c.args.id c.remove-key.result _ reads sets (subst IsAscending (sym c.remove-key.ensures.pairs) (ascending_without c.args.id pairs c.self.invariant.tied.ascending)) c.remove-key.ensures.gone c.remove-key.ensures.others;
       line = line_left rack c.remove.new.self c.remove-key.result None c.self.invariant.line sets (c.remove.ensures.queue ∙ ap (λ r. r.queue) c.leave.ensures.queue) refl;
       remembered = subst (λ ks. IsWithin ks c.leave.new.remembered) (sym c.remove.ensures.queue) c.leave.ensures.remembered;
-      bound = subst (λ qs. IsBound c.self.inside.least_used (records_in qs)) (sym is) (bound_remove _ _ (kept_of rack pairs) c.self.invariant.bound);
+      bound = subst (λ qs. IsBound c.self.inside.least_used (records_in qs)) (sym is) (bound_remove _ _ (objects_of rack pairs) c.self.invariant.bound);
     }
 
 pub returns : goal.returns
@@ -69,12 +69,12 @@ returns g c =
     let found = here _ _ _ _ _ reads in
     let none = found_empty found (found_known _ found c.self.view_is c.requires.present) in
     let sets = sets_requeued c.remove.ensures.sets c.leave.ensures.queue in
-    let is = ap (kept_of c.remove.new.self) c.remove-key.ensures.pairs ∙ kept_freed rack c.remove.new.self pairs c.args.id c.remove-key.result _ reads sets ∙ sym (remove_kept found) in
+    let is = ap (objects_of c.remove.new.self) c.remove-key.ensures.pairs ∙ kept_freed rack c.remove.new.self pairs c.args.id c.remove-key.result _ reads sets ∙ sym (remove_kept found) in
     rw (← c.self.view_is, is)
     record {
-      kept = remove_kept found;
+      objects = remove_kept found;
       records = remove_records found;
       values = remove_values found none;
       owed = remove_owed_of found;
-      spare = omega (arith, ap length is, length-map c.remove-key.new.self.pairs (λ (x : Pair). place_at c.remove.new.self x.key), length-map pairs (λ (x : Pair). place_at rack x.key), length-remove (kept_of rack pairs) _ found.at.in_range, c.remove.ensures.room, ap (λ r. r.room) c.leave.ensures.queue, c.remove-key.ensures.spare);
+      spare_capacity = omega (arith, ap length is, length-map c.remove-key.new.self.pairs (λ (x : Pair). place_at c.remove.new.self x.key), length-map pairs (λ (x : Pair). place_at rack x.key), length-remove (objects_of rack pairs) _ found.at.in_range, c.remove.ensures.room, ap (λ r. r.room) c.leave.ensures.queue, c.remove-key.ensures.spare);
     }

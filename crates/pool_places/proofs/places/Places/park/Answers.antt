@@ -29,7 +29,7 @@ remove-requires g c =
     has_one _ found c.self.invariant.counted
 
 pub add-requires : goal.add-requires
-add-requires g c = small_less _ _ _ (small _ _ c.self.invariant.well_formed.few c.self.invariant.counted) c.remove.ensures
+add-requires g c = small_less _ _ _ (small _ _ c.self.invariant.well_formed.bounded c.self.invariant.counted) c.remove.ensures
 
 pub put-requires : goal.put-requires
 put-requires g c =
@@ -54,7 +54,7 @@ invariant_of-self g c =
     let both = sets_then _ _ _ _ _ _ first valued.sets in
     let sets = sets_queued both c.link_last.ensures in
     let queue = ap (λ r. r.queue) c.link_last.ensures ∙ ap (λ ks. ks ++ c.key_under-key.result ∷ []) (c.put.ensures.queue ∙ c.set_known.ensures.queue) in
-    let above = subst (λ s. QueueBelow c.args.parked (records_in s.kept)) (sym c.self.view_is) c.requires.above in
+    let above = subst (λ s. QueueBelow c.args.parked (records_in s.objects)) (sym c.self.view_is) c.requires.above in
     let below = entries_below _ _ _ above (queue_kept _ _ c.self.invariant.tied c.self.invariant.line) in
     kept_after _ _ _ _ _ _ _ _ _ _ reads sets refl refl (counted_set _ _ _ _ found c.self.invariant.counted c.remove.ensures c.add.ensures) (line_joined _ _ _ _ _ c.self.invariant.line sets (item_known c.self.inside.slots c.key_under-key.result c.known-known.result c.known-known.ensures) queue (found_known _ found c.self.view_is c.requires.present) refl below) (subst (λ ks. IsWithin ks c.self.inside.remembered) (sym queue) (within_push _ c.self.inside.slots.queue c.self.inside.remembered c.self.invariant.remembered)) (bound_set _ _ _ _ (λ yes. absurd (cc yes)) c.self.invariant.bound)
 
@@ -70,10 +70,10 @@ returns g c =
     let f = to_idle c.args.parked c.args.since c.args.value in
     rw (← c.self.view_is, is)
     record {
-      kept = set_kept f found;
+      objects = set_kept f found;
       records = set_records f (parked_at c.args.parked c.args.since) (λ p. refl) found;
       value = set_value f (λ p. refl) found;
       others = set_others f (λ p. refl) found;
       owed = set_owed_of _ found;
-      spare = omega (arith, ap (λ r. r.room) c.link_last.ensures, c.put.ensures.room, c.set_known.ensures.room);
+      spare_capacity = omega (arith, ap (λ r. r.room) c.link_last.ensures, c.put.ensures.room, c.set_known.ensures.room);
     }

@@ -34,7 +34,7 @@ remove-requires g c =
     has_one _ found c.self.invariant.counted
 
 pub add-requires : goal.add-requires
-add-requires g c = small_less _ _ _ (small _ _ c.self.invariant.well_formed.few c.self.invariant.counted) c.remove.ensures
+add-requires g c = small_less _ _ _ (small _ _ c.self.invariant.well_formed.bounded c.self.invariant.counted) c.remove.ensures
 
 pub change-requires : goal.change-requires
 change-requires g c =
@@ -64,10 +64,10 @@ returns g c =
     let f = to_kept c.args.value in
     rw (← c.self.view_is, is)
     record {
-      kept = set_kept f found;
+      objects = set_kept f found;
       records = set_records f (phase_set phases.Idle) (λ p. refl) found;
       value = set_value f (λ p. refl) found;
       others = set_others f (λ p. refl) found;
       owed = set_owed_from _ found (found_known _ found c.self.view_is c.requires.present);
-      spare = omega (arith, c.change.ensures.room, c.put.ensures.room);
+      spare_capacity = omega (arith, c.change.ensures.room, c.put.ensures.room);
     }

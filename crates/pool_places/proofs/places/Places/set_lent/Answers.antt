@@ -25,7 +25,7 @@ remove-requires g c =
     has_one _ found c.self.invariant.counted
 
 pub add-requires : goal.add-requires
-add-requires g c = small_less _ _ _ (small _ _ c.self.invariant.well_formed.few c.self.invariant.counted) c.remove.ensures
+add-requires g c = small_less _ _ _ (small _ _ c.self.invariant.well_formed.bounded c.self.invariant.counted) c.remove.ensures
 
 pub change-requires-clause-follows : goal.change-requires-clause-follows
 change-requires-clause-follows g c = follows_known c.self.inside.slots c.key_under-key.result c.known-known.result c.self.invariant.line c.known-known.ensures
@@ -44,9 +44,9 @@ returns g c =
     let f = to_lent c.args.at in
     rw (← c.self.view_is, is)
     record {
-      kept = set_kept f found;
+      objects = set_kept f found;
       records = set_records f (lent_at c.args.at) (λ p. refl) found;
       values = set_values f (λ p. refl) (λ p. refl) found;
       owed = set_owed_from _ found (found_known _ found c.self.view_is c.requires.present);
-      spare = omega (arith, c.change.ensures.room);
+      spare_capacity = omega (arith, c.change.ensures.room);
     }

@@ -36,9 +36,9 @@ returns g c =
     let f = to_used c.args.at in
     rw (← c.self.view_is, is)
     record {
-      kept = set_kept f found;
+      objects = set_kept f found;
       records = set_records f (used_at c.args.at) (λ p. refl) found;
       values = set_values f (λ p. refl) (λ p. refl) found;
       owed = omega (arith, set_owed (f (record { known = c.known-known.result; value = value_at c.self.inside.slots c.key_under-key.result })) found);
-      spare = omega (arith, c.change.ensures.room);
+      spare_capacity = omega (arith, c.change.ensures.room);
     }

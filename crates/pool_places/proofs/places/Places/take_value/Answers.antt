@@ -34,7 +34,7 @@ remove-requires g c =
     has_one _ found c.self.invariant.counted
 
 pub add-requires : goal.add-requires
-add-requires g c = small_less _ _ _ (small _ _ c.self.invariant.well_formed.few c.self.invariant.counted) c.remove.ensures
+add-requires g c = small_less _ _ _ (small _ _ c.self.invariant.well_formed.bounded c.self.invariant.counted) c.remove.ensures
 
 pub change-requires : goal.change-requires
 change-requires g c =
@@ -64,11 +64,11 @@ returns g c =
     let f = to_taken c.args.phase in
     rw (← c.self.view_is, is)
     record {
-      kept = set_kept f found;
+      objects = set_kept f found;
       records = set_records f (phase_set c.args.phase) (λ p. refl) found;
       value = found_value found ∙ c.take-value.ensures.value;
       given = set_value f (λ p. refl) found;
       others = set_others f (λ p. refl) found;
       owed = set_owed_from _ found (found_known _ found c.self.view_is c.requires.present);
-      spare = omega (arith, c.change.ensures.room, c.take-value.ensures.room);
+      spare_capacity = omega (arith, c.change.ensures.room, c.take-value.ensures.room);
     }

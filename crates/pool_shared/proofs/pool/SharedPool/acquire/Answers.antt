@@ -1,5 +1,5 @@
 use Rattle.pool_shared.proofs.Asking.{waited, asked_on, is_found}
-use Rattle.pool_shared.proofs.Walking.{ends_of, goes_far}
+use Rattle.pool_shared.proofs.Traces.{ends_of, goes_far}
 use Rattle.pool_shared.proofs.pool.SharedPool.acquire.Goals as goal
 
 pub loop-preserved : goal.loop-preserved

@@ -1,6 +1,6 @@
 use Rattle.pool_shared.specs.Borrows.{asks, next, IsExpected}
-use Rattle.pool_shared.specs.Walks.{Trace}
-use Rattle.pool_shared.proofs.Walking.{ComesFrom}
+use Rattle.pool_shared.specs.Traces.{Trace}
+use Rattle.pool_shared.proofs.Traces.{ComesFrom}
 use Rattle.pool_shared.proofs.pool.SharedPool.acquire.Given as goal
 
 abbrev pub invariant-loop : goal.invariant-loop

@@ -1,5 +1,5 @@
 use Rattle.std.proofs.Common.{ap}
-use Rattle.pool_shared.proofs.Stocking.{few_made, either_way, turned, full_turn, short_turn}
+use Rattle.pool_shared.proofs.Stocking.{bounded_made, either_way, turned, full_turn, short_turn}
 use Rattle.pool_shared.specs.Pools.{refusal}
 use Rattle.pool_shared.proofs.pool.SharedPool.add_missing.Goals as goal
 
@@ -17,14 +17,14 @@ returns-in-Err-OutOfMemory-clause-turn g c n = short_turn g.B.Room.settings n _ 
 pub returns-in-Ok-Make-clause-bounded : goal.returns-in-Ok-Make-clause-bounded
 returns-in-Ok-Make-clause-bounded g c =
     let e = c.in-Ok-Make.ensures in
-    either_way c.make_idle.result _ (few_made g.B.Room.settings _ _ _ _ e.appended e.advances e.bounded)
+    either_way c.make_idle.result _ (bounded_made g.B.Room.settings _ _ _ _ e.appended e.advances e.bounded)
 
 pub returns-in-Ok-Enough-clause-bounded : goal.returns-in-Ok-Enough-clause-bounded
 returns-in-Ok-Enough-clause-bounded g c =
     let e = c.in-Ok-Enough.ensures in
-    few_made g.B.Room.settings _ _ _ _ e.appended e.advances e.bounded
+    bounded_made g.B.Room.settings _ _ _ _ e.appended e.advances e.bounded
 
 pub returns-in-Ok-NoPlace-clause-bounded : goal.returns-in-Ok-NoPlace-clause-bounded
 returns-in-Ok-NoPlace-clause-bounded g c =
     let e = c.in-Ok-NoPlace.ensures in
-    few_made g.B.Room.settings _ _ _ _ e.appended e.advances e.bounded
+    bounded_made g.B.Room.settings _ _ _ _ e.appended e.advances e.bounded

@@ -2,8 +2,8 @@ use Rattle.std.proofs.Common.{sym, ap}
 use Rattle.pool_shared.specs.Borrows as borrows
 use Rattle.pool_shared.specs.Borrows.{lent, BorrowEnds}
 use Rattle.pool_shared.proofs.Asking.{to_there}
-use Rattle.pool_shared.proofs.Rowing.{row_at, row_on}
-use Rattle.pool_shared.proofs.Walking.{walk_on}
+use Rattle.pool_shared.proofs.TracesToResults.{row_at, row_on}
+use Rattle.pool_shared.proofs.Traces.{trace_on}
 use Rattle.pool_shared.proofs.pool.SharedPool.borrow_once.Goals as goal
 
 pub returns-in-Some-clause-spec : goal.returns-in-Some-clause-spec
@@ -12,14 +12,14 @@ returns-in-Some-clause-spec g c =
     let w = to_there s c.args.began _ _ _ _ c.in-Ok-Take-Some.field-0-0-is c.in-Ok-Take-Some.ensures.trace in
     let loan = c.in-Some.ensures.lent in
     row_at (borrows.IsExpected s c.args.began) borrows.next (BorrowEnds s c.args.self.now.number c.args.began) _ _ _ _ _
-    (walk_on (borrows.IsExpected s c.args.began) borrows.next _ _ _ _ _ _ w (c.in-Some.ensures.trace c.args.began))
+    (trace_on (borrows.IsExpected s c.args.began) borrows.next _ _ _ _ _ _ w (c.in-Some.ensures.trace c.args.began))
     (ap lent (sym loan.1), loan.0, c.in-Some.ensures.ends)
 
 pub returns-in-Ok-Take-Some-clause-again : goal.returns-in-Ok-Take-Some-clause-again
 returns-in-Ok-Take-Some-clause-again g c =
     let s = g.B.Room.settings in
     let w = to_there s c.args.began _ _ _ _ c.in-Ok-Take-Some.field-0-0-is c.in-Ok-Take-Some.ensures.trace in
-    walk_on (borrows.IsExpected s c.args.began) borrows.next _ _ _ _ _ _ w (c.in-None.ensures.trace c.args.began)
+    trace_on (borrows.IsExpected s c.args.began) borrows.next _ _ _ _ _ _ w (c.in-None.ensures.trace c.args.began)
 
 pub returns-in-Ok-Make-default-clause-spec : goal.returns-in-Ok-Make-default-clause-spec
 returns-in-Ok-Make-default-clause-spec g c =

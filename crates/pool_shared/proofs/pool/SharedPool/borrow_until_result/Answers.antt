@@ -1,7 +1,7 @@
 use Rattle.pool_shared.specs.Borrows as borrows
 use Rattle.pool_shared.specs.Borrows.{BorrowEnds}
 use Rattle.pool_shared.proofs.Asking.{once_more}
-use Rattle.pool_shared.proofs.Rowing.{row_on}
+use Rattle.pool_shared.proofs.TracesToResults.{row_on}
 use Rattle.pool_shared.proofs.pool.SharedPool.borrow_until_result.Goals as goal
 
 pub returns-in-Some-borrow_once-clause-spec : goal.returns-in-Some-borrow_once-clause-spec

@@ -2,7 +2,7 @@ use Rattle.std.proofs.Common.{◌<◌, ◌+◌, ◌-◌, refl, ap, ◌∙◌, ar
 use Rattle.pool_shared.specs.declared.evicting.EvictRun.{EvictRun}
 use Rattle.pool_shared.specs.Evicts as evicts
 use Rattle.pool_shared.specs.Evicts.{examines, none_yet, one_more, fared}
-use Rattle.pool_shared.proofs.Walking.{walk_none}
+use Rattle.pool_shared.proofs.Traces.{trace_none}
 use Rattle.pool_shared.proofs.Sweeping.{goes_self, goes_then}
 use Rattle.pool_shared.proofs.Examining.{stopped, all_examined, out_of_objects, one_examined, fared_examined, fared_destroyed}
 use Rattle.pool_shared.proofs.pool.SharedPool.examine.Goals as goal
@@ -15,7 +15,7 @@ loop-taken-init g c = record {
   destroyed = omega arith;
   left = c.args.count;
   all = omega arith;
-  walk = walk_none evicts.IsExpected evicts.next (examines c.args.count none_yet) _ _ refl;
+  trace = trace_none evicts.IsExpected evicts.next (examines c.args.count none_yet) _ _ refl;
 }
 
 pub loop-taken-preserved : goal.loop-taken-preserved
@@ -34,7 +34,7 @@ loop-taken-preserved g c =
       destroyed = omega (arith, destroyed, most, i.destroyed);
       left = i.left - 1;
       all = omega (arith, i.all, some);
-      walk = one_examined c.args.count i.left before _ fate _ _ _ _ c.in-Ok-Some.field-0-is c.count_in-run.ensures i.walk (c.in-Ok-Some.ensures.trace i.left before some);
+      trace = one_examined c.args.count i.left before _ fate _ _ _ _ c.in-Ok-Some.field-0-is c.count_in-run.ensures i.trace (c.in-Ok-Some.ensures.trace i.left before some);
     }
 
 pub returns-in-Ok-None-clause-advances : goal.returns-in-Ok-None-clause-advances
@@ -44,7 +44,7 @@ pub returns-in-Ok-None-clause-spec : goal.returns-in-Ok-None-clause-spec
 returns-in-Ok-None-clause-spec g c =
     let i = c.loop-taken.invariant in
     let some : 0 < i.left = omega (arith, i.all, c.loop-taken-test.true) in
-    out_of_objects g.B.Room.settings c.args.count i.left c.loop-taken.run _ _ _ _ c.in-Ok-None.field-0-is i.walk (c.in-Ok-None.ensures.trace i.left c.loop-taken.run some) c.in-Ok-None.ensures.ends
+    out_of_objects g.B.Room.settings c.args.count i.left c.loop-taken.run _ _ _ _ c.in-Ok-None.field-0-is i.trace (c.in-Ok-None.ensures.trace i.left c.loop-taken.run some) c.in-Ok-None.ensures.ends
 
 pub returns-in-Err-clause-advances : goal.returns-in-Err-clause-advances
 returns-in-Err-clause-advances g c = goes_then g.B.Room.settings c.args.me.now c.loop-taken.me c.examine_next.new.me c.loop-taken.invariant.goes c.in-Err.ensures.advances
@@ -53,7 +53,7 @@ pub returns-in-Err-clause-spec : goal.returns-in-Err-clause-spec
 returns-in-Err-clause-spec g c =
     let i = c.loop-taken.invariant in
     let some : 0 < i.left = omega (arith, i.all, c.loop-taken-test.true) in
-    stopped g.B.Room.settings c.args.count i.left c.loop-taken.run _ _ _ _ some i.walk c.in-Err.ensures.same c.in-Err.ensures.refused
+    stopped g.B.Room.settings c.args.count i.left c.loop-taken.run _ _ _ _ some i.trace c.in-Err.ensures.same c.in-Err.ensures.refused
 
 pub returns-clause-advances : goal.returns-clause-advances
 returns-clause-advances g c = c.loop-taken.invariant.goes
@@ -61,4 +61,4 @@ returns-clause-advances g c = c.loop-taken.invariant.goes
 pub returns-clause-spec : goal.returns-clause-spec
 returns-clause-spec g c =
     let i = c.loop-taken.invariant in
-    all_examined g.B.Room.settings c.args.count i.left c.loop-taken.run _ _ (omega (arith, i.all, c.loop-taken-test.false)) i.walk i.ends
+    all_examined g.B.Room.settings c.args.count i.left c.loop-taken.run _ _ (omega (arith, i.all, c.loop-taken-test.false)) i.trace i.ends

@@ -1,7 +1,7 @@
 use Rattle.std.proofs.Common.{◌≡◌, ℕ, ◌+◌, ◌≤◌}
 use Rattle.pool_history.specs.CallerStates.{Advances}
 use Rattle.pool_shared.specs.Evicts.{examines, none_yet, next, IsExpected}
-use Rattle.pool_shared.specs.Walks.{Trace, EndsWithOwn}
+use Rattle.pool_shared.specs.Traces.{Trace, EndsWithOwn}
 use Rattle.pool_shared.proofs.pool.SharedPool.examine.Given as goal
 
 abbrev pub invariant-loop-taken : goal.invariant-loop-taken
@@ -12,5 +12,5 @@ invariant-loop-taken g l = record {
   destroyed : l.run.destroyed ≤ l._taken;
   left : ℕ;
   all : left + l._taken ≡ l.count;
-  walk : Trace IsExpected next (examines l.count none_yet) l.initial.me l.me (examines left l.run);
+  trace : Trace IsExpected next (examines l.count none_yet) l.initial.me l.me (examines left l.run);
 }

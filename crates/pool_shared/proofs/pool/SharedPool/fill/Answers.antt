@@ -1,6 +1,6 @@
 use Rattle.std.proofs.Common.{refl, arith}
-use Rattle.pool_shared.proofs.Walking.{comes_on, goes_far}
-use Rattle.pool_shared.proofs.Stocking.{few_parked, one_parked, one_lost, all_filled, filled_part}
+use Rattle.pool_shared.proofs.Traces.{comes_on, goes_far}
+use Rattle.pool_shared.proofs.Stocking.{bounded_parked, one_parked, one_lost, all_filled, filled_part}
 use Rattle.pool_shared.proofs.pool.SharedPool.fill.Goals as goal
 
 pub loop-preserved-in-Ok-Idle : goal.loop-preserved-in-Ok-Idle
@@ -39,4 +39,4 @@ returns-in-Err-clause-spec g c =
 pub overflow_add-parked : goal.overflow_add-parked
 overflow_add-parked g c =
     let i = c.loop.invariant in
-    omega (arith, i.1.1, c.in-Ok-Idle.ensures.bounded, few_parked g.B.Room.settings i.1.0 _ _ i.1.2)
+    omega (arith, i.1.1, c.in-Ok-Idle.ensures.bounded, bounded_parked g.B.Room.settings i.1.0 _ _ i.1.2)

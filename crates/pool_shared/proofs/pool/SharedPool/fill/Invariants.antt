@@ -1,5 +1,5 @@
 use Rattle.pool_shared.proofs.Stocking.{IsFilling}
-use Rattle.pool_shared.proofs.Walking.{ComesFrom}
+use Rattle.pool_shared.proofs.Traces.{ComesFrom}
 use Rattle.pool_shared.proofs.pool.SharedPool.fill.Given as goal
 
 abbrev pub invariant-loop : goal.invariant-loop

@@ -1,5 +1,5 @@
 use Rattle.std.proofs.Common.{arith}
-use Rattle.sorted_index.proofs.There.{length_there, rising_there}
+use Rattle.sorted_index.proofs.There.{length_there, ascending_there}
 use Rattle.sorted_index.proofs.sorted_index.SortedIndex.len.Goals as goal
 
 pub returns-clause-value : goal.returns-clause-value
@@ -7,5 +7,5 @@ returns-clause-value c =
     let ss = c.self.inside.stored.items in
     rw (← c.self.view_is) (omega (arith, length_there ss, c.self.invariant.counted.counted, c.self.inside.stored.ok.0))
 
-pub returns-clause-rising : goal.returns-clause-rising
-returns-clause-rising c = rw (← c.self.view_is) (rising_there c.self.inside.stored.items c.self.invariant.counted.rising)
+pub returns-clause-ascending : goal.returns-clause-ascending
+returns-clause-ascending c = rw (← c.self.view_is) (ascending_there c.self.inside.stored.items c.self.invariant.counted.ascending)

@@ -14,21 +14,21 @@ tidy-requires c =
 pub returns-clause-value : goal.returns-clause-value
 returns-clause-value c =
     let at = subst (λ xs. IsThereAt xs c.args.id c.in-Some.position) c.deref.ensures.value c.in-Some.ensures.there in
-    rw (← c.self.view_is) (key_there c.args.id c.in-Some.position c.index_mut-taken.result.now c.self.inside.stored.items c.self.invariant.counted.rising at c.index_mut-taken.ensures.value)
+    rw (← c.self.view_is) (key_there c.args.id c.in-Some.position c.index_mut-taken.result.now c.self.inside.stored.items c.self.invariant.counted.ascending at c.index_mut-taken.ensures.value)
 
 pub returns-clause-gone : goal.returns-clause-gone
 returns-clause-gone c =
     let at = subst (λ xs. IsThereAt xs c.args.id c.in-Some.position) c.deref.ensures.value c.in-Some.ensures.there in
-    let left = c.tidy.ensures.pairs ∙ mark_pairs c.args.id c.in-Some.position _ c.index_mut-taken.result.now c.self.inside.stored.items c.self.invariant.counted.rising at refl in
+    let left = c.tidy.ensures.pairs ∙ mark_pairs c.args.id c.in-Some.position _ c.index_mut-taken.result.now c.self.inside.stored.items c.self.invariant.counted.ascending at refl in
     ap (λ ps. key_of ps c.args.id) left ∙ key_without c.args.id (pairs_in c.self.inside.stored.items)
 
 pub returns-clause-others : goal.returns-clause-others
 returns-clause-others c j other =
     let at = subst (λ xs. IsThereAt xs c.args.id c.in-Some.position) c.deref.ensures.value c.in-Some.ensures.there in
-    let left = c.tidy.ensures.pairs ∙ mark_pairs c.args.id c.in-Some.position _ c.index_mut-taken.result.now c.self.inside.stored.items c.self.invariant.counted.rising at refl in
+    let left = c.tidy.ensures.pairs ∙ mark_pairs c.args.id c.in-Some.position _ c.index_mut-taken.result.now c.self.inside.stored.items c.self.invariant.counted.ascending at refl in
     rw (← c.self.view_is) (ap (λ ps. key_of ps j) left ∙ key_without_other c.args.id j (pairs_in c.self.inside.stored.items) other)
 
 pub returns-clause-pairs : goal.returns-clause-pairs
 returns-clause-pairs c =
     let at = subst (λ xs. IsThereAt xs c.args.id c.in-Some.position) c.deref.ensures.value c.in-Some.ensures.there in
-    rw (← c.self.view_is) (c.tidy.ensures.pairs ∙ mark_pairs c.args.id c.in-Some.position _ c.index_mut-taken.result.now c.self.inside.stored.items c.self.invariant.counted.rising at refl)
+    rw (← c.self.view_is) (c.tidy.ensures.pairs ∙ mark_pairs c.args.id c.in-Some.position _ c.index_mut-taken.result.now c.self.inside.stored.items c.self.invariant.counted.ascending at refl)

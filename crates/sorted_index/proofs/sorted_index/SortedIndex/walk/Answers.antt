@@ -1,5 +1,5 @@
-use Rattle.sorted_index.proofs.There.{rising_there}
+use Rattle.sorted_index.proofs.There.{ascending_there}
 use Rattle.sorted_index.proofs.sorted_index.SortedIndex.walk.Goals as goal
 
-pub returns-clause-rising : goal.returns-clause-rising
-returns-clause-rising c = rw (← c.self.view_is) (rising_there c.self.inside.stored.items c.self.invariant.counted.rising)
+pub returns-clause-ascending : goal.returns-clause-ascending
+returns-clause-ascending c = rw (← c.self.view_is) (ascending_there c.self.inside.stored.items c.self.invariant.counted.ascending)

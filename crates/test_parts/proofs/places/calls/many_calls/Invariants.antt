@@ -3,4 +3,4 @@ use Rattle.test_parts.specs.Before.{AllBefore}
 use Rattle.test_parts.proofs.places.calls.many_calls.Given as goal
 
 abbrev pub invariant-loop-moment : goal.invariant-loop-moment
-invariant-loop-moment g l = AllBefore l.moment (records_in l.places.kept)
+invariant-loop-moment g l = AllBefore l.moment (records_in l.places.objects)

@@ -7,10 +7,10 @@ use Rattle.test_parts.proofs.Moments.{before_changed}
 use Rattle.test_parts.proofs.places.calls.take.Goals as goal
 
 pub returns-in-Idle : goal.returns-in-Idle
-returns-in-Idle c = subst (AllBefore (c.args.moment + 1)) (sym c.take_value.ensures.records) (before_changed c.args.moment c.args.id (phase_set phases.Destroying) (records_in c.args.places.now.kept) (λ r. refl) (λ r under. omega (arith, under)) c.requires.before)
+returns-in-Idle c = subst (AllBefore (c.args.moment + 1)) (sym c.take_value.ensures.records) (before_changed c.args.moment c.args.id (phase_set phases.Destroying) (records_in c.args.places.now.objects) (λ r. refl) (λ r under. omega (arith, under)) c.requires.before)
 
 pub returns-in-Idle-2 : goal.returns-in-Idle-2
-returns-in-Idle-2 c = subst (AllBefore (c.args.moment + 1)) (sym c.take_value-in-Idle-2.ensures.records) (before_changed c.args.moment c.args.id (phase_set phases.Readying) (records_in c.args.places.now.kept) (λ r. refl) (λ r under. omega (arith, under)) c.requires.before)
+returns-in-Idle-2 c = subst (AllBefore (c.args.moment + 1)) (sym c.take_value-in-Idle-2.ensures.records) (before_changed c.args.moment c.args.id (phase_set phases.Readying) (records_in c.args.places.now.objects) (λ r. refl) (λ r under. omega (arith, under)) c.requires.before)
 
 pub returns-in-Idle-3 : goal.returns-in-Idle-3
-returns-in-Idle-3 c = subst (AllBefore (c.args.moment + 1)) (sym c.take_value-in-Idle-3.ensures.records) (before_changed c.args.moment c.args.id (phase_set phases.Testing) (records_in c.args.places.now.kept) (λ r. refl) (λ r under. omega (arith, under)) c.requires.before)
+returns-in-Idle-3 c = subst (AllBefore (c.args.moment + 1)) (sym c.take_value-in-Idle-3.ensures.records) (before_changed c.args.moment c.args.id (phase_set phases.Testing) (records_in c.args.places.now.objects) (λ r. refl) (λ r under. omega (arith, under)) c.requires.before)

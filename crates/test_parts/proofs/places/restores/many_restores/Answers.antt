@@ -14,12 +14,12 @@ loop-id-preserved g c =
     elim c.if-is_free.branch [
       | then-is_free w ↦
           record {
-            same = ap (λ s. s.kept) w.places-is ∙ w.put_back.ensures.same ∙ sym (ap (λ v. v.items) w.plain-is);
+            same = ap (λ s. s.objects) w.places-is ∙ w.put_back.ensures.same ∙ sym (ap (λ v. v.items) w.plain-is);
             below = subst (λ v. IdsBelow (c.loop-id.id + 1) (records_in v.items)) (sym w.plain-is) (subst (λ (n : ℕ). IdsBelow (n + 1) (records_in w.put_back.new.plain.items)) w.some_place-place.ensures.id w.put_back.ensures.below);
           }
       | else-is_free w ↦
           record {
-            same = ap (λ s. s.kept) w.places-is ∙ ap (λ s. s.kept) c.start_search_at.ensures ∙ c.reserve.ensures.kept ∙ c.loop-id.invariant.same ∙ sym (ap (λ v. v.items) w.plain-is);
+            same = ap (λ s. s.objects) w.places-is ∙ ap (λ s. s.objects) c.start_search_at.ensures ∙ c.reserve.ensures.objects ∙ c.loop-id.invariant.same ∙ sym (ap (λ v. v.items) w.plain-is);
             below = subst (λ v. IdsBelow (c.loop-id.id + 1) (records_in v.items)) (sym w.plain-is) (below_later c.loop-id.id (records_in c.loop-id.plain.items) c.loop-id.invariant.below);
           }
     ]

@@ -5,6 +5,6 @@ use Rattle.test_parts.proofs.places.restores.many_restores.Given as goal
 
 abbrev pub invariant-loop-id : goal.invariant-loop-id
 invariant-loop-id g l = record {
-  same : l.places.kept ≡ l.plain.items;
+  same : l.places.objects ≡ l.plain.items;
   below : IdsBelow l.id (records_in l.plain.items);
 }

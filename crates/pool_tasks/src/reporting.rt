@@ -23,7 +23,7 @@ pub fn refuse<'a>(rt: &HostRuntime, arguments: &[String]) -> Fault<'a> {
 
 /// Prints the error on standard error, with a hint if that is a terminal, and returns the exit status. A failed write
 /// is ignored.
-pub fn tell(rt: &HostRuntime, fault: &Fault<'_>) -> ExitCode {
+pub fn report(rt: &HostRuntime, fault: &Fault<'_>) -> ExitCode {
     let is_terminal = rt.stderr().is_terminal();
     let found = if is_terminal {
         look(rt, fault)
@@ -31,6 +31,6 @@ pub fn tell(rt: &HostRuntime, fault: &Fault<'_>) -> ExitCode {
         NOTHING
     };
     let hint = Hint::of(fault, found, is_terminal);
-    let _ = fault.tell(&hint, &mut rt.stderr());
+    let _ = fault.report(&hint, &mut rt.stderr());
     ExitCode::from(fault.status())
 }

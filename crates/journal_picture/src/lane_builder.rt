@@ -9,7 +9,7 @@ use std::collections::HashMap;
 ///
 /// A time before an earlier entry's counts as that one.
 #[derive(Drop)]
-pub(crate) struct Teller {
+pub(crate) struct LaneBuilder {
     history: History,
     now: Sample,
     /// The bar that an object is in.
@@ -18,9 +18,9 @@ pub(crate) struct Teller {
     waits: HashMap<u32, usize>,
 }
 
-impl Teller {
-    pub(crate) fn new(alloc: Global) -> Teller {
-        Teller {
+impl LaneBuilder {
+    pub(crate) fn new(alloc: Global) -> LaneBuilder {
+        LaneBuilder {
             history: History {
                 entries: 0,
                 position: 0,

@@ -7,47 +7,47 @@ use Rattle.pool_core.specs.declared.step_fault.StepFault.{StepFault}
 use Rattle.pool_core.specs.declared.step_fault.StepFault.TheVariants.{JournalFull, OutOfMemory}
 use Rattle.pool_history.specs.CallerStates.{CallerState}
 use Rattle.pool_lock.specs.Sections.{Refuses, IsWhy, IsFullFor, IsShortFor}
-use Rattle.pool_shared.specs.Walks.{run_stages, AllExpected, Trace}
-use Rattle.pool_shared.specs.Rows.{TraceToResult}
-use Rattle.pool_shared.proofs.Walking.{walk_on, walk_none}
+use Rattle.pool_shared.specs.Traces.{run_stages, AllExpected, Trace}
+use Rattle.pool_shared.specs.TraceToResult.{TraceToResult}
+use Rattle.pool_shared.proofs.Traces.{trace_on, trace_none}
 
-module _ {A R : Type 0} (Due : A → Entry → Type 0) (next : A → Entry → A) (Ends : A → R → CallerState → Type 0) where
+module _ {A R : Type 0} (Expects : A → Entry → Type 0) (next : A → Entry → A) (Ends : A → R → CallerState → Type 0) where
   -- an operation that ends at its stage
-  pub row_at : (from to : A) (r : R) (a b : CallerState) → Trace Due next from a b to → Ends to r b → TraceToResult Due next Ends from r a b
+  pub row_at : (from to : A) (r : R) (a b : CallerState) → Trace Expects next from a b to → Ends to r b → TraceToResult Expects next Ends from r a b
   row_at from to r a b w ends = record { es = w.es; made = w.made; due = w.due; ends = subst (λ st. Ends st r b) (sym w.comes) ends }
 
   -- the trace of a call, without its result
-  pub walk_of : (from : A) (r : R) (a b : CallerState) (row : TraceToResult Due next Ends from r a b) → Trace Due next from a b (run_stages next from row.es)
-  walk_of from r a b row = record { es = row.es; made = row.made; due = row.due; comes = refl }
+  pub trace_of : (from : A) (r : R) (a b : CallerState) (row : TraceToResult Expects next Ends from r a b) → Trace Expects next from a b (run_stages next from row.es)
+  trace_of from r a b row = record { es = row.es; made = row.made; due = row.due; comes = refl }
 
   -- an operation that continues, and then ends
-  pub row_on : (from mid : A) (r : R) (a b c : CallerState) → Trace Due next from a b mid → TraceToResult Due next Ends mid r b c → TraceToResult Due next Ends from r a c
+  pub row_on : (from mid : A) (r : R) (a b c : CallerState) → Trace Expects next from a b mid → TraceToResult Expects next Ends mid r b c → TraceToResult Expects next Ends from r a c
   row_on from mid r a b c w row =
       let to = run_stages next mid row.es in
-      row_at from to r a c (walk_on Due next from mid to a b c w (walk_of mid r b c row)) row.ends
+      row_at from to r a c (trace_on Expects next from mid to a b c w (trace_of mid r b c row)) row.ends
 
   -- an operation whose first critical section failed
-  pub row_none : (at : A) (r : R) (b c : CallerState) → c.appended ≡ b.appended → Ends at r c → TraceToResult Due next Ends at r b c
-  row_none at r b c same ends = row_at at at r b c (walk_none Due next at b c same) ends
+  pub row_none : (at : A) (r : R) (b c : CallerState) → c.appended ≡ b.appended → Ends at r c → TraceToResult Expects next Ends at r b c
+  row_none at r b c same ends = row_at at at r b c (trace_none Expects next at b c same) ends
 
   -- an operation whose next critical section failed
-  pub row_stopped : (from at : A) (r : R) (a b c : CallerState) → Trace Due next from a b at → c.appended ≡ b.appended → Ends at r c → TraceToResult Due next Ends from r a c
-  row_stopped from at r a b c w same ends = row_at from at r a c (walk_on Due next from at at a b c w (walk_none Due next at b c same)) ends
+  pub row_stopped : (from at : A) (r : R) (a b c : CallerState) → Trace Expects next from a b at → c.appended ≡ b.appended → Ends at r c → TraceToResult Expects next Ends from r a c
+  row_stopped from at r a b c w same ends = row_at from at r a c (trace_on Expects next from at at a b c w (trace_none Expects next at b c same)) ends
 
 -- an operation whose stages another embeds: an entry that leads from stage to stage in the first does so in the second
-module _ {A B : Type 0} (Due : A → Entry → Type 0) (next : A → Entry → A) (Due' : B → Entry → Type 0) (next' : B → Entry → B) (f : A → B)
-    (due : (st : A) (e : Entry) → Due st e → Due' (f st) e) (goes : (st : A) (e : Entry) → Due st e → next' (f st) e ≡ f (next st e)) where
-  due_along : (st : A) (es : List Entry) → AllExpected Due next st es → AllExpected Due' next' (f st) es
+module _ {A B : Type 0} (Expects : A → Entry → Type 0) (next : A → Entry → A) (Due' : B → Entry → Type 0) (next' : B → Entry → B) (f : A → B)
+    (due : (st : A) (e : Entry) → Expects st e → Due' (f st) e) (goes : (st : A) (e : Entry) → Expects st e → next' (f st) e ≡ f (next st e)) where
+  due_along : (st : A) (es : List Entry) → AllExpected Expects next st es → AllExpected Due' next' (f st) es
   due_along st [] d = tt
   due_along st (e ∷ es) d = (due st e d.0, subst (λ t. AllExpected Due' next' t es) (sym (goes st e d.0)) (due_along (next st e) es d.1))
 
-  walked_along : (st : A) (es : List Entry) → AllExpected Due next st es → run_stages next' (f st) es ≡ f (run_stages next st es)
-  walked_along st [] d = refl
-  walked_along st (e ∷ es) d = ap (λ t. run_stages next' t es) (goes st e d.0) ∙ walked_along (next st e) es d.1
+  traced_along : (st : A) (es : List Entry) → AllExpected Expects next st es → run_stages next' (f st) es ≡ f (run_stages next st es)
+  traced_along st [] d = refl
+  traced_along st (e ∷ es) d = ap (λ t. run_stages next' t es) (goes st e d.0) ∙ traced_along (next st e) es d.1
 
-  pub walk_along : (from to : A) (a b : CallerState) → Trace Due next from a b to → Trace Due' next' (f from) a b (f to)
-  walk_along from to a b w =
-      record { es = w.es; made = w.made; due = due_along from w.es w.due; comes = walked_along from w.es w.due ∙ ap f w.comes }
+  pub trace_along : (from to : A) (a b : CallerState) → Trace Expects next from a b to → Trace Due' next' (f from) a b (f to)
+  trace_along from to a b w =
+      record { es = w.es; made = w.made; due = due_along from w.es w.due; comes = traced_along from w.es w.due ∙ ap f w.comes }
 
 -- the reason why a critical section failed
 pub full_for : {T : Type 0} (s : Settings) (input : Input) (f : StepFault T) (out : Option T) (b c : CallerState) → f ≡ JournalFull out → Refuses s input None f b c → IsFullFor s input c

@@ -13,14 +13,14 @@ run_stages next stage (e ∷ es) = run_stages next (next stage e) es
 
 -- each entry is expected at the stage before it
 abbrev pub AllExpected : {A : Type 0} → (A → Entry → Type 0) → (A → Entry → A) → A → List Entry → Type 0
-AllExpected Due next stage [] = Unit {0}
-AllExpected Due next stage (e ∷ es) = Due stage e × AllExpected Due next (next stage e) es
+AllExpected Expects next stage [] = Unit {0}
+AllExpected Expects next stage (e ∷ es) = Expects stage e × AllExpected Expects next (next stage e) es
 
 -- the caller appended entries that lead from one stage to another, and no others
-pub record Trace {A : Type 0} (Due : A → Entry → Type 0) (next : A → Entry → A) (from : A) (before after : CallerState) (to : A) : Type 0 where
+pub record Trace {A : Type 0} (Expects : A → Entry → Type 0) (next : A → Entry → A) (from : A) (before after : CallerState) (to : A) : Type 0 where
   pub es : List Entry
   pub made : after.appended ≡ before.appended ++ es
-  pub due : AllExpected Due next from es
+  pub due : AllExpected Expects next from es
   pub comes : run_stages next from es ≡ to
 
 -- the last entry that the caller appended is at the end of its observed history

@@ -7,13 +7,13 @@ use Rattle.pool_history.specs.CallerStates.{CallerState}
 use Rattle.pool_lock.specs.Sections.{LacksRoom, LacksMemory}
 use Rattle.pool_shared.specs.declared.faults.PoolFault.{PoolFault}
 use Rattle.pool_shared.specs.declared.faults.PoolFault.TheVariants as faults
-use Rattle.pool_shared.specs.Walks.{run_stages, AllExpected}
+use Rattle.pool_shared.specs.Traces.{run_stages, AllExpected}
 
 -- from one stage on, the caller appended entries, each expected at its stage, and the last stage allows the result
-pub record TraceToResult {A R : Type 0} (Due : A → Entry → Type 0) (next : A → Entry → A) (Ends : A → R → CallerState → Type 0) (from : A) (result : R) (before after : CallerState) : Type 0 where
+pub record TraceToResult {A R : Type 0} (Expects : A → Entry → Type 0) (next : A → Entry → A) (Ends : A → R → CallerState → Type 0) (from : A) (result : R) (before after : CallerState) : Type 0 where
   pub es : List Entry
   pub made : after.appended ≡ before.appended ++ es
-  pub due : AllExpected Due next from es
+  pub due : AllExpected Expects next from es
   pub ends : Ends (run_stages next from es) result after
 
 -- the next critical section failed at this time, with this error
