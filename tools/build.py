@@ -35,7 +35,7 @@ BYTES = 400
 # For how long to wait before looking again, and before saying again how long it has been, in seconds.
 PAUSE, REMIND = 0.2, 60
 # The part of a proof that one processor does alone, and the part of all processors that is at work on average.
-ALONE, AT_WORK = 1 / 3, 3 / 4
+ALONE, AT_WORK = 1 / 3, 4 / 5
 # By how much nicer a build is for each one beside it that a longer chain waits for, and the most that it may be.
 NICER, NICEST = 3, 19
 # How many builds have a job for each processor.
