@@ -17,6 +17,10 @@ final class Sections<T> {
     private static final Cleaner CLEANER = Cleaner.create();
     /** A wait that may take longer, in nanoseconds, has no limit. */
     private static final long ENDLESS = TimeUnit.DAYS.toNanos(10_000);
+    /** How long a thread pauses before it looks at the lock again: at first, at most, and in all before it sleeps, in nanoseconds. */
+    private static final long FIRST_PAUSE = 250;
+    private static final long LONGEST_PAUSE = 10_000;
+    private static final long ALL_PAUSES = 50_000;
 
     private final CoreSettings settings;
     private final long start = System.nanoTime();
@@ -142,6 +146,33 @@ final class Sections<T> {
         wakeOne();
     }
 
+    /** Takes the lock. It is held for a fraction of a microsecond, while it takes some to wake a thread: so a thread pauses before it sleeps. */
+    private void acquire() {
+        if (lock.tryLock()) {
+            return;
+        }
+        long now = System.nanoTime();
+        long end = now + ALL_PAUSES;
+        for (long pause = FIRST_PAUSE; now - end < 0; pause = Math.min(2 * pause, LONGEST_PAUSE)) {
+            now = pauseUntil(now + pause);
+            if (!lock.isLocked() && lock.tryLock()) {
+                return;
+            }
+        }
+        lock.lock();
+    }
+
+    /** Pauses until this time of {@link System#nanoTime} is over, and returns what it is then. */
+    private static long pauseUntil(long until) {
+        for (;;) {
+            Thread.onSpinWait();
+            long now = System.nanoTime();
+            if (now - until >= 0) {
+                return now;
+            }
+        }
+    }
+
     private void release() {
         journal.cutIfLow(members.size());
         lock.unlock();
@@ -210,7 +241,7 @@ final class Sections<T> {
      * @throws IllegalStateException if the pool is closed, or its journal is full
      */
     Member<T> borrow(long first, long longestNanos, boolean isBare) throws InterruptedException {
-        lock.lock();
+        acquire();
         try {
             long reply = ask(first, longestNanos, isBare);
             switch (Core.answer(reply)) {
@@ -280,7 +311,7 @@ final class Sections<T> {
     /** Lends an object that was made, or activated and tested, by a borrow that began at this time of {@link System#nanoTime}. */
     void lend(Member<T> member, long first) {
         long now = System.nanoTime();
-        lock.lock();
+        acquire();
         try {
             step(now, Core.READY, member.id, 0, Core.GOOD);
             lent(member, now, now - first);
@@ -300,7 +331,7 @@ final class Sections<T> {
 
     /** Notes that an object failed its test for a borrow. */
     void noteFailedOnBorrow() {
-        lock.lock();
+        acquire();
         try {
             failedOnBorrow++;
         } finally {
@@ -313,7 +344,7 @@ final class Sections<T> {
     /** Returns an object that needs no test and no passivation, and parks it. Returns the answer. */
     long giveBackBare(Member<T> member) {
         long now = System.nanoTime();
-        lock.lock();
+        acquire();
         try {
             long at = timeOf(now);
             long reply = Core.giveBack(core, at, member.id, member.slot, caller());
@@ -332,7 +363,7 @@ final class Sections<T> {
     /** Returns an object to be tested or passivated. Returns the answer. */
     long giveBack(Member<T> member) {
         long now = System.nanoTime();
-        lock.lock();
+        acquire();
         try {
             return noteReturn(step(now, Core.RETURN, member.id, 0, 0), member, now);
         } finally {
@@ -352,7 +383,7 @@ final class Sections<T> {
     /** Reports on an object that stays present. Returns the answer. */
     long report(int input, Member<T> member, int outcome) {
         long now = System.nanoTime();
-        lock.lock();
+        acquire();
         try {
             return step(now, input, member.id, member.slot, outcome);
         } finally {
@@ -362,7 +393,7 @@ final class Sections<T> {
 
     /** Reports that an object was destroyed, or could not be made: its place is free. */
     void end(int input, Member<T> member, int outcome) {
-        lock.lock();
+        acquire();
         try {
             step(input, member.id, 0, outcome);
             free(member);
@@ -375,7 +406,7 @@ final class Sections<T> {
     void noteUse(Member<T> member, long nanosAgo) {
         long now = System.nanoTime();
         long used = now - Math.min(nanosAgo, now - start);
-        lock.lock();
+        acquire();
         try {
             stepAt(millis(used), Core.USE, member.id, 0, 0);
         } finally {
@@ -387,7 +418,7 @@ final class Sections<T> {
 
     /** Asks for something that concerns no object. Returns the answer. */
     long ask(int input) {
-        lock.lock();
+        acquire();
         try {
             return step(input, 0, 0, 0);
         } finally {
@@ -397,7 +428,7 @@ final class Sections<T> {
 
     /** Asks for a place for a new object. Returns the object; null if there is none or there are enough, or for a fill of a closed pool. */
     Member<T> place(int input) {
-        lock.lock();
+        acquire();
         try {
             members.reserve();
             long reply = step(input, 0, 0, 0);
@@ -421,7 +452,7 @@ final class Sections<T> {
     /** Examines the next idle object, or takes it for a clear. */
     Found<T> next(int input) {
         Found<T> found = new Found<>(); // here, since an object whose answer is lost would lose its place
-        lock.lock();
+        acquire();
         try {
             long reply = step(input, 0, 0, 0);
             found.answer = Core.answer(reply);
@@ -436,7 +467,7 @@ final class Sections<T> {
 
     /** Takes the next abandoned object from its holder: its place is free. Returns it, or null if none is left. */
     Member<T> reclaimNext() {
-        lock.lock();
+        acquire();
         try {
             long reply = step(Core.RECLAIM_NEXT, 0, 0, 0);
             if (Core.answer(reply) != Core.RECLAIMED) {
@@ -452,7 +483,7 @@ final class Sections<T> {
 
     /** Closes the pool and wakes all threads that wait. Returns how many idle objects are to be destroyed, 0 if it was closed before. */
     long close() {
-        lock.lock();
+        acquire();
         try {
             if (isClosed) {
                 return 0;
@@ -481,7 +512,7 @@ final class Sections<T> {
 
     /** Cuts and stores the rest of a journal that is stored. */
     void storeRest() throws IOException {
-        lock.lock();
+        acquire();
         try {
             journal.cutRest();
         } finally {
@@ -492,7 +523,7 @@ final class Sections<T> {
 
     /** Returns the journal since it was last cut. */
     Segment segment() {
-        lock.lock();
+        acquire();
         try {
             Segment segment = journal.segment();
             if (segment == null) {
@@ -506,7 +537,7 @@ final class Sections<T> {
 
     /** Cuts the journal, and returns what was cut. */
     Segment cut() {
-        lock.lock();
+        acquire();
         try {
             return journal.cutNow();
         } finally {
@@ -518,7 +549,7 @@ final class Sections<T> {
 
     /** Returns the counts of the core. */
     Counts counts() {
-        lock.lock();
+        acquire();
         try {
             return journal.counts();
         } finally {
@@ -528,7 +559,7 @@ final class Sections<T> {
 
     /** Returns the loans of an object. */
     Loans loansOf(Member<?> member) {
-        lock.lock();
+        acquire();
         try {
             return member.loans();
         } finally {
@@ -538,7 +569,7 @@ final class Sections<T> {
 
     /** Returns what the pool counts besides. */
     Usage usage() {
-        lock.lock();
+        acquire();
         try {
             return new Usage(borrowed, returned, failedOnBorrow, waitedNanos, longestWaitNanos, waiters);
         } finally {
@@ -548,7 +579,7 @@ final class Sections<T> {
 
     /** Returns whether the pool was closed. */
     boolean isClosed() {
-        lock.lock();
+        acquire();
         try {
             return isClosed;
         } finally {
