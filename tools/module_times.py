@@ -1,29 +1,32 @@
 #!/usr/bin/env python3
-"""Tells what each part of a crate's check costs, dearest first: for each function the prover checks modules one after the other, and keeps
-each as a file, so the time between two files is what the second took.
+"""Reports what each part of a crate's check costs, the most expensive first: for each function the prover checks modules one after the other, and
+keeps each as a file, so the time between two files is what the second took.
 
     tools/module_times.py CRATE [--test]
 
-Checks the crate, or with --test the crate with its tests, from nothing and by one job, over libraries that are built first where they
-aren't. Writes the modules that took LEAST seconds or more, then the sums by kind of module. `Lts` is what a function's code can do, by
-each way through it; `Tie` holds it against its source; `Proof` is the search for what its contract asks.
+Checks the crate, or with --test the crate with its tests, from nothing and by one job. The libraries below it are built first if they aren't, as
+tools/build.py leaves them: with their statements alone. Writes the modules that took LEAST seconds or more, then the sums by kind of module. `Lts`
+is what a function's code can do, by each way through it; `Tie` holds it against its source; `Proof` is the search for what its contract asks.
 """
 
 import collections
+import os
 import pathlib
-import shutil
-import subprocess
 import sys
+import tempfile
 
-TOP = pathlib.Path(__file__).resolve().parent.parent
-# The seconds from which on a module is told.
+import build
+import kit
+from sources import TOP, libraries
+
+# The seconds from which on a module is reported.
 LEAST = 3
-# How many kinds of modules are told.
+# How many kinds of modules are reported.
 KINDS = 12
 
 
 def kept_modules(crate, folder):
-    """The modules that a check has kept, each with the moment at which it was there, in this order."""
+    """The modules that a check has kept, each with the time at which it was there, in this order."""
     files = [path for path in folder.rglob("*.oantt") if path.parent.name != "records"]
     return sorted((path.stat().st_mtime, path.stem.removeprefix(f"Rattle-{crate}").lstrip("-.")) for path in files)
 
@@ -33,17 +36,25 @@ def times(modules):
     return [(at - before, name) for (before, _), (at, name) in zip(modules, modules[1:])]
 
 
+def checked(crate, with_tests, kept):
+    """Checks a crate by one job, and keeps its modules in a folder. Returns the status."""
+    view = kit.crate_of(crate)
+    words = view.words(["--jobs", "1"], with_tests, keeps=False)
+    with open(os.devnull, "w") as view.out:
+        return view.call(kit.rtlib().RATTLE, "check", *words, "--incremental", kept)
+
+
 def main():
     if len(sys.argv) not in (2, 3) or sys.argv[2:] not in ([], ["--test"]):
         sys.exit(__doc__)
     crate = sys.argv[1]
-    folder = TOP / "crates" / crate
-    if not folder.is_dir():
+    if not (TOP / "crates" / crate).is_dir():
         sys.exit(f"{crate}: no crate of this repository")
-    kept = folder / "out" / "incremental"
-    shutil.rmtree(kept, ignore_errors=True)
-    status = subprocess.run(["rt", "check", "--jobs", "1", *sys.argv[2:]], cwd=folder, stdout=subprocess.DEVNULL).returncode
-    found = times(kept_modules(crate, kept))
+    for library in libraries()[crate]:
+        build.build(library)
+    with tempfile.TemporaryDirectory() as kept:
+        status = checked(crate, "--test" in sys.argv, kept)
+        found = times(kept_modules(crate, pathlib.Path(kept)))
     for seconds, name in sorted(found, reverse=True):
         if seconds >= LEAST:
             print(f"{seconds:7.1f} {name}")
