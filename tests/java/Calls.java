@@ -12,7 +12,6 @@ import java.util.Arrays;
 import java.util.Collections;
 import java.util.List;
 import java.util.NoSuchElementException;
-import java.util.Objects;
 import java.util.Set;
 import java.util.concurrent.Callable;
 import java.util.concurrent.atomic.AtomicInteger;
@@ -38,12 +37,9 @@ import zuphinka.Segment;
 import zuphinka.ZuphinkaPool;
 
 /** Makes each call of a pool, with what the factory throws, and sees what it returns, throws and leaves. Writes journals to a folder. */
-public final class Calls {
+public final class Calls extends Expectations {
     /** A thread that was woken and has nothing after this time was not woken. */
     private static final long LONGEST_MILLIS = 20_000;
-
-    private static int passed;
-    private static int failed;
 
     private Calls() {}
 
@@ -132,15 +128,6 @@ public final class Calls {
         @Override
         protected void swallowed(Exception failure) {
             noted.add(failure);
-        }
-    }
-
-    private static void expect(String name, Object wanted, Object got) {
-        if (Objects.equals(wanted, got)) {
-            passed++;
-        } else {
-            failed++;
-            System.out.println(name + ": wanted " + wanted + ", got " + got);
         }
     }
 
@@ -888,6 +875,6 @@ public final class Calls {
         bean();
         throwingSink();
         journals(folder);
-        System.out.println(passed + " passed, " + failed + " failed");
+        printCounts();
     }
 }

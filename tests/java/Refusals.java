@@ -31,7 +31,7 @@ import zuphinka.ZuphinkaPool;
  * <p>{@code Refusals FOLDER} writes journals to folders in this one. The native library is linked with tests/refuse_java.c. {@code Refusals heap}
  * fills the heap of the virtual machine instead, so that a segment has no memory.
  */
-public final class Refusals {
+public final class Refusals extends Expectations {
     private static final int MOST = 12;
     /** Calls of several steps, of which those before the one that throws are taken. */
     private static final Set<String> CHANGING = Set.of("evict", "prepare", "clear", "close");
@@ -42,19 +42,7 @@ public final class Refusals {
     /** One stored journal in this number is written. */
     private static final int WRITTEN = 4;
 
-    private static int passed;
-    private static int failed;
-
     private Refusals() {}
-
-    private static void expect(String name, Object wanted, Object got) {
-        if (Objects.equals(wanted, got)) {
-            passed++;
-        } else {
-            failed++;
-            System.out.println(name + ": wanted " + wanted + ", got " + got);
-        }
-    }
 
     private static final class Things extends BasePooledObjectFactory<Object> {
         @Override
@@ -325,6 +313,6 @@ public final class Refusals {
             expect("calls that throw", THROWING, throwing.stream().filter(THROWING::contains).collect(Collectors.toSet()));
             expect("calls that never do", Set.of(), throwing.stream().filter(SAFE::contains).collect(Collectors.toSet()));
         }
-        System.out.println(passed + " passed, " + failed + " failed");
+        printCounts();
     }
 }
