@@ -1,10 +1,13 @@
 -- The program's command as clap receives it, and the task that its matches name.
-use Rattle.std.specs.Prelude.{◌^◌, true, List, codes, bytes_eq, Option, None, Some, option_map, if◌then◌else◌}
+use Rattle.std.specs.Prelude.{◌^◌, ◌≡◌, false, true, List, codes, bytes_eq, Option, None, Some, option_map, Result, IfOk, if◌then◌else◌}
+use Rattle.std.specs.declared.alloc.AllocError.{AllocError}
 use Rattle.clap.specs.Lexer.{usize_max}
 use Rattle.clap.specs.Walk.{Rule, Text}
 use Rattle.clap.specs.Matches.{found_of, matched_of, raw_values}
 use Rattle.clap.specs.declared.ArgMatches.{ArgMatches}
-use Rattle.clap.specs.Simple.{App, new_app, new_rule, on_top, with_rule, with_subcommand}
+use Rattle.clap.specs.declared.Command.{Command}
+use Rattle.clap.specs.declared.Command.TheViews.{out-Command as fields_of}
+use Rattle.clap.specs.Simple.{App, app_of, new_app, new_rule, on_top, with_rule, with_subcommand}
 use Rattle.pool_arguments.specs.Arguments.{Asked, check, load, number_below, run, stats, ◌>>=◌}
 
 abbrev pub operand_rule : Text → Rule
@@ -32,6 +35,10 @@ pool_app =
     with_subcommand (with_subcommand (with_subcommand (with_subcommand
     (on_top (λ shape. record shape { subcommand_required = true }) (new_app (codes "pool")))
     run_app.top) check_app.top) stats_app.top) load_app.top
+
+-- a command that has this application and no argument for all subcommands, unless memory was short
+abbrev pub Builds : App → Result Command AllocError → Type 0
+Builds app built = IfOk built (λ command. (app_of command ≡ app) × ((fields_of command).has_globals ≡ false))
 
 -- the values of an argument
 abbrev pub all_values : ArgMatches → Text → Option (List Text)

@@ -4,8 +4,7 @@
 ghost use Rattle.std.specs.Prelude.{◌≡◌, ◌^◌, false, IfOk, IsErr, drop, map, option_map, string_bytes};
 ghost use Rattle.std.specs.List.{list_all};
 ghost use Rattle.std.specs.Char.{is_ascii_digit};
-ghost use Rattle.clap.specs.Words.{app_of, first_value, found_of};
-ghost use Rattle.clap.specs.declared.Command.TheViews.{out-Command as fields_of};
+ghost use Rattle.clap.specs.Words.{App, Rule, first_value, found_of, rule_of, with_rule, with_subcommand as add_subcommand};
 ghost use Rattle.pool_arguments.specs.Arguments as Spec;
 ghost use Rattle.pool_arguments.specs.Matches as Clap;
 
@@ -76,59 +75,76 @@ fn refusal<'a>(kind: ErrorKind) -> Result<Option<Task<'a>>, AllocError>
 
 /// Returns the program's command, which has a subcommand for each use with words.
 fn pool_command<'a>(alloc: Global) -> Result<Command<'a>, AllocError>
-    ensures { IfOk result (λ command. app_of command ≡ Clap.pool_app) }
+    ensures { Clap.Builds Clap.pool_app result }
 {
-    let run = run_command(alloc)?;
-    let check = check_command(alloc)?;
-    let stats = stats_command(alloc)?;
-    let load = load_command(alloc)?;
-    let command = Command::new(alloc, "pool").subcommand_required(true);
-    Ok(
-        command
-            .subcommand(run)?
-            .subcommand(check)?
-            .subcommand(stats)?
-            .subcommand(load)?,
-    )
+    let command = Ok(Command::new(alloc, "pool").subcommand_required(true));
+    let command = with_subcommand(command, run_command(alloc));
+    let command = with_subcommand(command, check_command(alloc));
+    let command = with_subcommand(command, stats_command(alloc));
+    with_subcommand(command, load_command(alloc))
 }
 
 fn run_command<'a>(alloc: Global) -> Result<Command<'a>, AllocError>
-    ensures app { IfOk result (λ command. app_of command ≡ Clap.run_app) }
-    ensures local { IfOk result (λ command. (fields_of command).has_globals ≡ false) }
+    ensures { Clap.Builds Clap.run_app result }
 {
-    let settings = Arg::new(alloc, "settings").required(true);
-    let script = Arg::new(alloc, "script").required(true);
-    Command::new(alloc, "run").arg(settings)?.arg(script)
+    let command = Ok(Command::new(alloc, "run"));
+    let command = with_argument(command, operand(alloc, "settings"));
+    with_argument(command, operand(alloc, "script"))
 }
 
 fn check_command<'a>(alloc: Global) -> Result<Command<'a>, AllocError>
-    ensures app { IfOk result (λ command. app_of command ≡ Clap.check_app) }
-    ensures local { IfOk result (λ command. (fields_of command).has_globals ≡ false) }
+    ensures { Clap.Builds Clap.check_app result }
 {
-    let settings = Arg::new(alloc, "settings").required(true);
-    let journals = Arg::new(alloc, "journals").required(true).num_args(1..);
-    Command::new(alloc, "check").arg(settings)?.arg(journals)
+    let command = Ok(Command::new(alloc, "check"));
+    let command = with_argument(command, operand(alloc, "settings"));
+    with_argument(command, operand(alloc, "journals").num_args(1..))
 }
 
 fn stats_command<'a>(alloc: Global) -> Result<Command<'a>, AllocError>
-    ensures app { IfOk result (λ command. app_of command ≡ Clap.stats_app) }
-    ensures local { IfOk result (λ command. (fields_of command).has_globals ≡ false) }
+    ensures { Clap.Builds Clap.stats_app result }
 {
-    let journal = Arg::new(alloc, "journal").required(true);
-    Command::new(alloc, "stats").arg(journal)
+    let command = Ok(Command::new(alloc, "stats"));
+    with_argument(command, operand(alloc, "journal"))
 }
 
 fn load_command<'a>(alloc: Global) -> Result<Command<'a>, AllocError>
-    ensures app { IfOk result (λ command. app_of command ≡ Clap.load_app) }
-    ensures local { IfOk result (λ command. (fields_of command).has_globals ≡ false) }
+    ensures { Clap.Builds Clap.load_app result }
 {
-    let settings = Arg::new(alloc, "settings").required(true);
-    let workers = Arg::new(alloc, "workers").required(true);
-    let rounds = Arg::new(alloc, "rounds").required(true);
-    Command::new(alloc, "load")
-        .arg(settings)?
-        .arg(workers)?
-        .arg(rounds)
+    let command = Ok(Command::new(alloc, "load"));
+    let command = with_argument(command, operand(alloc, "settings"));
+    let command = with_argument(command, operand(alloc, "workers"));
+    with_argument(command, operand(alloc, "rounds"))
+}
+
+/// Returns a required operand with this name.
+fn operand<'a>(alloc: Global, name: &'a str) -> Arg<'a>
+    ensures rule { rule_of result ≡ Clap.operand_rule name.entry.now }
+    ensures local { result.global ≡ false }
+{
+    Arg::new(alloc, name).required(true)
+}
+
+/// Adds an argument to a command, unless memory was short before.
+fn with_argument<'a>(
+    command: Result<Command<'a>, AllocError>,
+    argument: Arg<'a>,
+) -> Result<Command<'a>, AllocError>
+    ensures { (app : App) (rule : Rule) → rule_of argument.entry ≡ rule
+        → argument.entry.global ≡ false → Clap.Builds app command.entry
+        → Clap.Builds (with_rule app rule) result }
+{
+    command?.arg(argument)
+}
+
+/// Adds a subcommand to a command, unless memory was short before.
+fn with_subcommand<'a>(
+    command: Result<Command<'a>, AllocError>,
+    subcommand: Result<Command<'a>, AllocError>,
+) -> Result<Command<'a>, AllocError>
+    ensures { (app subapp : App) → Clap.Builds app command.entry → Clap.Builds subapp subcommand.entry
+        → Clap.Builds (add_subcommand app subapp.top) result }
+{
+    command?.subcommand(subcommand?)
 }
 
 /// Returns the task that the matches of the subcommand with this name hold.

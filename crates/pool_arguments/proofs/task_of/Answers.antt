@@ -14,7 +14,7 @@ pub returns-in-Err : goal.returns-in-Err
 returns-in-Err c =
     let fits : length c.args.arguments.now ≤ usize_max = search rules in
     let kinds : HasKind (fault_of pool_app (map string_bytes c.args.arguments.now)) c.in-Err.error =
-    subst (λ (a : App). is_simple_and_free a ≡ true → HasKind (fault_of a (map string_bytes c.args.arguments.now)) c.in-Err.error) c.in_ok-command.ensures c.in-Err.ensures.kinds refl in
+    subst (λ (a : App). is_simple_and_free a ≡ true → HasKind (fault_of a (map string_bytes c.args.arguments.now)) c.in-Err.error) c.in_ok-command.ensures.0 c.in-Err.ensures.kinds refl in
     elim kinds [
       | inl none ↦ IfOk-from_err _ _ (c.refusal.ensures.known (c.kind.ensures ∙ none))
       | inr among ↦ IfOk-weaker c.refusal.result _ _ (λ task nothing. ap (option_map Spec.asked) nothing ∙ sym (fault_at c.args.arguments.now c.if-count-lt2.false fits _ among))
@@ -30,8 +30,8 @@ subcommand_at a words m e matches = (subst (λ b. HasMatchesOf b words m) e matc
 pub returns-in-Some : goal.returns-in-Some
 returns-in-Some c =
     let fits : length c.args.arguments.now ≤ usize_max = search rules in
-    let clean = clean_at _ (map string_bytes c.args.arguments.now) c.in_ok-command.ensures c.in-Ok.ensures.kinds in
-    let matches = subcommand_at _ (map string_bytes c.args.arguments.now) c.in-Ok.matches c.in_ok-command.ensures c.in-Ok.ensures.matches in
+    let clean = clean_at _ (map string_bytes c.args.arguments.now) c.in_ok-command.ensures.0 c.in-Ok.ensures.kinds in
+    let matches = subcommand_at _ (map string_bytes c.args.arguments.now) c.in-Ok.matches c.in_ok-command.ensures.0 c.in-Ok.ensures.matches in
     let reported_is = reported c.in-Ok.matches c.in-Some.name.now (rows_of (found_of c.in-Some.found.now)) c.in-Some.ensures.name c.in-Some.ensures.rows in
     IfOk-weaker c.task_by.result _ _ (λ task same. same ∙ found_asked c.in-Some.found.now c.in-Some.name.now _ refl ∙ ap entered_asked (reported_is ∙ matches)
     ∙ matches_at c.args.arguments.now c.if-count-lt2.false fits clean) c.task_by.ensures
@@ -39,6 +39,6 @@ returns-in-Some c =
 pub returns : goal.returns
 returns c =
     let fits : length c.args.arguments.now ≤ usize_max = search rules in
-    let clean = clean_at _ (map string_bytes c.args.arguments.now) c.in_ok-command.ensures c.in-Ok.ensures.kinds in
-    let matches = subcommand_at _ (map string_bytes c.args.arguments.now) c.in-Ok.matches c.in_ok-command.ensures c.in-Ok.ensures.matches in
+    let clean = clean_at _ (map string_bytes c.args.arguments.now) c.in_ok-command.ensures.0 c.in-Ok.ensures.kinds in
+    let matches = subcommand_at _ (map string_bytes c.args.arguments.now) c.in-Ok.matches c.in_ok-command.ensures.0 c.in-Ok.ensures.matches in
     ap entered_asked (sym (none_reported c.in-Ok.matches c.in-None.ensures.variant) ∙ matches) ∙ matches_at c.args.arguments.now c.if-count-lt2.false fits clean
