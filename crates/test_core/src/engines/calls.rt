@@ -95,7 +95,7 @@ fn is_nothing_asked(rt: &impl Abort, alloc: Global, script: &str) {
 }
 
 #[test]
-fn nothing_reported_is_nothing_asked(rt: HostRuntime) {
+fn no_whole_line_is_no_request(rt: HostRuntime) {
     is_nothing_asked(&rt, rt.alloc(), "");
     is_nothing_asked(&rt, rt.alloc(), "0 0 borrow");
 }

@@ -1,3 +1,4 @@
+use Rattle.pool_shared.proofs.Sweeping.{goes_then}
 use Rattle.std.proofs.Common.{ap}
 use Rattle.pool_shared.proofs.Stocking.{bounded_made, either_way, turned, full_turn, short_turn}
 use Rattle.pool_shared.specs.Pools.{refusal}
@@ -28,3 +29,6 @@ pub returns-in-Ok-NoPlace-clause-bounded : goal.returns-in-Ok-NoPlace-clause-bou
 returns-in-Ok-NoPlace-clause-bounded g c =
     let e = c.in-Ok-NoPlace.ensures in
     bounded_made g.B.Room.settings _ _ _ _ e.appended e.advances e.bounded
+
+pub returns-in-Ok-Make-clause-advances : goal.returns-in-Ok-Make-clause-advances
+returns-in-Ok-Make-clause-advances g c = goes_then g.B.Room.settings _ _ _ c.in-Ok-Make.ensures.advances c.make_idle.ensures.advances

@@ -1,3 +1,4 @@
+use Rattle.pool_shared.proofs.Sweeping.{goes_then}
 use Rattle.std.proofs.Common.{◌-◌}
 use Rattle.pool_shared.specs.Evicts.{one_more}
 use Rattle.pool_shared.proofs.Examining.{destroyed_idle, tested_idle, stops_full, stops_short}
@@ -16,3 +17,9 @@ returns-in-Err-JournalFull-clause-refused g c = stops_full g.B.Room.settings _ _
 
 pub returns-clause-refused : goal.returns-clause-refused
 returns-clause-refused g c = stops_short g.B.Room.settings _ _ _ _ c.in-Err-OutOfMemory.field-0-is c.in-Err-OutOfMemory.ensures.refused
+
+pub returns-in-Ok-DestroyIdle-Some-clause-advances : goal.returns-in-Ok-DestroyIdle-Some-clause-advances
+returns-in-Ok-DestroyIdle-Some-clause-advances g c = goes_then g.B.Room.settings _ _ _ c.in-Ok-DestroyIdle-Some.ensures.advances c.destroy_held.ensures.advances
+
+pub returns-in-Ok-Test-Some-clause-advances : goal.returns-in-Ok-Test-Some-clause-advances
+returns-in-Ok-Test-Some-clause-advances g c = goes_then g.B.Room.settings _ _ _ c.in-Ok-Test-Some.ensures.advances c.test.ensures.advances

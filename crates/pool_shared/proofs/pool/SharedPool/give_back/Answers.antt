@@ -1,3 +1,4 @@
+use Rattle.pool_shared.proofs.Sweeping.{goes_then}
 use Rattle.std.proofs.Common.{ap, rules, ◌≡◌}
 use Rattle.pool_shared.proofs.Backs.{checked, return_full, return_short}
 use Rattle.pool_shared.specs.Pools.{refusal}
@@ -21,3 +22,6 @@ pub returns-in-Ok-Check-clause-spec : goal.returns-in-Ok-Check-clause-spec
 returns-in-Ok-Check-clause-spec g c =
     let pool : c.args.lent.pool ≡ c.args.self.now.number = search rules in
     checked g.B.Room.settings c.args.self.now.number c.args.lent _ _ _ _ _ pool c.in-Ok-Check.field-0-is c.in-Ok-Check.ensures.appended c.check.ensures.trace c.check.ensures.ends
+
+pub returns-in-Ok-Check-clause-advances : goal.returns-in-Ok-Check-clause-advances
+returns-in-Ok-Check-clause-advances g c = goes_then g.B.Room.settings _ _ _ c.in-Ok-Check.ensures.advances c.check.ensures.advances

@@ -1,3 +1,4 @@
+use Rattle.pool_shared.proofs.Sweeping.{goes_then}
 use Rattle.std.proofs.Common.{ap, rules, ◌≡◌}
 use Rattle.pool_shared.proofs.Backs.{invalidate_full, invalidate_short}
 use Rattle.pool_shared.specs.Pools.{refusal}
@@ -16,3 +17,6 @@ returns-in-Err-OutOfMemory-clause-spec g c =
 
 pub returns-then-lent-self-clause-advances : goal.returns-then-lent-self-clause-advances
 returns-then-lent-self-clause-advances g c = untouched g.B.Room.table g.B.Room.settings _ c.me.inside.number _ c.args.me.now c.me.invariant c.me.view_is
+
+pub returns-in-Ok-Destroy-clause-advances : goal.returns-in-Ok-Destroy-clause-advances
+returns-in-Ok-Destroy-clause-advances g c = goes_then g.B.Room.settings _ _ _ c.in-Ok-Destroy.ensures.advances c.destroy_held.ensures.advances

@@ -1,3 +1,4 @@
+use Rattle.pool_shared.proofs.Sweeping.{goes_then}
 use Rattle.pool_shared.proofs.Upkeep.{evict_stops, reclaim_stops, fill_stops}
 use Rattle.pool_shared.proofs.pool.SharedPool.maintain.Goals as goal
 
@@ -22,3 +23,12 @@ returns-clause-spec g c = (
   record { taken = c.in_ok-reclaim.field-0; goes = c.in_ok-reclaim.ensures.advances; row = c.in_ok-reclaim.ensures.spec },
   c.in_ok-fill.ensures.spec,
 )
+
+pub returns-in_err-reclaim-clause-advances : goal.returns-in_err-reclaim-clause-advances
+returns-in_err-reclaim-clause-advances g c = goes_then g.B.Room.settings _ _ _ c.in_ok-evict.ensures.advances c.in_err-reclaim.ensures.advances
+
+pub returns-in_err-fill-clause-advances : goal.returns-in_err-fill-clause-advances
+returns-in_err-fill-clause-advances g c = goes_then g.B.Room.settings _ _ _ (goes_then g.B.Room.settings _ _ _ c.in_ok-evict.ensures.advances c.in_ok-reclaim.ensures.advances) c.in_err-fill.ensures.advances
+
+pub returns-clause-advances : goal.returns-clause-advances
+returns-clause-advances g c = goes_then g.B.Room.settings _ _ _ (goes_then g.B.Room.settings _ _ _ c.in_ok-evict.ensures.advances c.in_ok-reclaim.ensures.advances) c.in_ok-fill.ensures.advances

@@ -61,3 +61,9 @@ returns-in-Err-OutOfMemory-clause-spec g c time =
     let some : 0 < i.left = omega (arith, i.all, c.loop-taken-test.true) in
     let refused = c.in-Err-OutOfMemory.ensures.refused in
     stopped g.B.Room.settings time c.args.count i.left c.loop-taken.taken _ _ _ _ some (i.trace time) refused.same (stops_short g.B.Room.settings _ _ _ _ (ap refusal c.in-Err-OutOfMemory.field-0-is) refused)
+
+pub returns-in-Err-JournalFull-clause-advances : goal.returns-in-Err-JournalFull-clause-advances
+returns-in-Err-JournalFull-clause-advances g c = goes_then g.B.Room.settings _ _ _ c.loop-taken.invariant.goes c.in-Err-JournalFull.ensures.advances
+
+pub returns-in-Err-OutOfMemory-clause-advances : goal.returns-in-Err-OutOfMemory-clause-advances
+returns-in-Err-OutOfMemory-clause-advances g c = goes_then g.B.Room.settings _ _ _ c.loop-taken.invariant.goes c.in-Err-OutOfMemory.ensures.advances
