@@ -15,7 +15,7 @@ use Rattle.pool_shared.specs.Traces.{Trace, Ends}
 use Rattle.pool_shared.specs.Borrows.{Stage, removes, asks, after_asking, next, IsExpected, BorrowEnds, BorrowsFrom, first_stage, IsFound}
 use Rattle.pool_shared.specs.Reclaims as removal
 use Rattle.pool_shared.proofs.Traces.{trace_on, trace_more, ComesFrom, comes_on}
-use Rattle.pool_shared.proofs.TracesToResults.{row_on}
+use Rattle.pool_shared.proofs.TracesToResults.{row_at, row_on}
 
 module _ (s : Settings) (began : ℕ) where
   -- a borrow that asked once more
@@ -24,6 +24,11 @@ module _ (s : Settings) (began : ℕ) where
 
   pub to_there : (a b : Answer) (before after : CallerState) → a ≡ b → Trace (IsExpected s began) next asks before after (after_asking a) → Trace (IsExpected s began) next asks before after (after_asking b)
   to_there a b before after is w = subst (λ c. Trace (IsExpected s began) next asks before after (after_asking c)) is w
+
+  -- a borrow that asked and was refused
+  pub refuses : {T E : Type 0} (number : ℕ) (a b : Answer) (r : Result (Lent T) (BorrowFault E)) (before after : CallerState) → a ≡ b → Trace (IsExpected s began) next asks before after (after_asking a)
+      → BorrowEnds s number began (after_asking b) r after → BorrowsFrom s number began asks r before after
+  refuses number a b r before after is w ends = row_at (IsExpected s began) next (BorrowEnds s number began) asks (after_asking b) r before after (to_there a b before after is w) ends
 
   -- a borrow that asked and has to wait
   pub waited : (a : Answer) (first now after : CallerState) → a ≡ answers.Wait → ComesFrom first now → Trace (IsExpected s began) next asks first now asks

@@ -9,6 +9,7 @@ use Rattle.pool_journal.specs.declared.input.Input.TheVariants.{GiveBack, Invali
 use Rattle.pool_journal.specs.declared.input.Outcome.{Outcome}
 use Rattle.pool_journal.specs.declared.answer.Answer.{Answer}
 use Rattle.pool_journal.specs.declared.answer.Answer.TheVariants as answers
+use Rattle.pool_journal.specs.declared.answer.Cause.TheVariants as causes
 use Rattle.pool_settings.specs.declared.settings.Settings.{Settings}
 use Rattle.pool_core.specs.declared.step_fault.StepFault.{StepFault}
 use Rattle.pool_core.specs.declared.step_fault.StepFault.TheVariants.{JournalFull, OutOfMemory}
@@ -27,7 +28,7 @@ use Rattle.pool_shared.specs.Returns as returns
 use Rattle.pool_shared.specs.Returns.{gives, checks, destroys, done, IsPossibleOutcome, ReturnEnds, ReturnSpec}
 use Rattle.pool_shared.specs.Invalidates as invalidates
 use Rattle.pool_shared.specs.Invalidates.{begins, InvalidateEnds, InvalidateSpec}
-use Rattle.pool_shared.proofs.Traces.{trace_by, trace_on, trace_destroyed}
+use Rattle.pool_shared.proofs.Traces.{trace_by, trace_on, trace_destroyed, ends_of}
 use Rattle.pool_shared.proofs.TracesToResults.{row_at, row_none, full_for, short_for}
 
 -- a returned object is destroyed
@@ -80,3 +81,29 @@ module _ {T : Type 0} (s : Settings) (number : ℕ) (l : Lent T) (f : StepFault 
       let short = short_for s (Invalidate l.id) f out before after is refuses in
       let none = not_lent s short.0 l.id (Invalidate l.id) answers.Destroy after.observed (lent_whole s after.observed legal l.id answers.Destroy) refl short.1.unfinished in
       (pool, row_none (invalidates.IsExpected l.id) invalidates.next (InvalidateEnds s l.id) begins (Err (faults.OutOfMemory, l)) before after refuses.same (refl, short, none))
+
+-- an invalidation of an object of this pool that ended
+module _ {T : Type 0} (s : Settings) (number : ℕ) (l : Lent T) (x : Answer) (a b : CallerState) (pool : l.pool ≡ number) (goes : b.number ≡ a.number) (made : AppendsAnswer (Invalidate l.id) x a b) where
+  pub invalidated : (c : CallerState) → x ≡ answers.Destroy → c.number ≡ b.number → AppendsAnswer (Destroyed l.id) answers.Freed b c → InvalidateSpec s number l (Ok returned.Destroyed) a c
+  invalidated c is on freed = (
+    pool,
+    row_at (invalidates.IsExpected l.id) invalidates.next (InvalidateEnds s l.id) begins (invalidates.done returned.Destroyed) (Ok returned.Destroyed) a c
+        (trace_destroyed (invalidates.IsExpected l.id) invalidates.next begins invalidates.destroys (invalidates.done returned.Destroyed) l.id (Invalidate l.id) x answers.Destroy a b c is made freed (λ n at. refl) (λ n at. refl) (λ n at. refl) (λ n at. refl))
+        (refl, (_, _, ends_of _ _ b c on freed)),
+  )
+
+  found : (to : invalidates.Stage) (y : Answer) → x ≡ y → invalidates.after_beginning y ≡ to → Trace (invalidates.IsExpected l.id) invalidates.next begins a b to
+  found to y is comes = trace_by (invalidates.IsExpected l.id) invalidates.next begins to (Invalidate l.id) x y a b is made (λ n at. refl) (λ n at. comes)
+
+  pub found_gone : x ≡ answers.Gone → InvalidateSpec s number l (Ok returned.Gone) a b
+  found_gone is = (
+    pool,
+    row_at (invalidates.IsExpected l.id) invalidates.next (InvalidateEnds s l.id) begins (invalidates.done returned.Gone) (Ok returned.Gone) a b (found (invalidates.done returned.Gone) answers.Gone is refl) (refl, (_, _, ends_of _ _ a b goes made)),
+  )
+
+  pub found_unlent : x ≡ answers.Refused causes.NotLent → InvalidateSpec s number l (Err (faults.NotLent, l)) a b
+  found_unlent is = (
+    pool,
+    row_at (invalidates.IsExpected l.id) invalidates.next (InvalidateEnds s l.id) begins (invalidates.refused (answers.Refused causes.NotLent)) (Err (faults.NotLent, l)) a b
+        (found (invalidates.refused (answers.Refused causes.NotLent)) (answers.Refused causes.NotLent) is refl) (refl, (_, _, ends_of _ _ a b goes made)),
+  )

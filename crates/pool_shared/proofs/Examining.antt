@@ -1,9 +1,11 @@
 -- The trace of an eviction run.
-use Rattle.std.proofs.Common.{◌≡◌, false, true≢false, ℕ, suc, ◌+◌, ◌-◌, ◌<◌, ◌≤◌, Option, None, Some, Ok, Err, refl, sym, subst, arith}
-use Rattle.pool_journal.specs.declared.input.Input.TheVariants.{EvictNext, Tested, Destroyed}
+use Rattle.std.proofs.Common.{◌≡◌, false, true≢false, ℕ, suc, ◌+◌, ◌-◌, ◌<◌, ◌≤◌, Option, None, Some, Result, Ok, Err, refl, sym, subst, arith}
+use Rattle.pool_journal.specs.declared.input.Input.TheVariants.{Evict, EvictNext, Tested, Destroyed}
 use Rattle.pool_journal.specs.declared.input.Outcome.{Outcome}
+use Rattle.pool_journal.specs.declared.input.Outcome.TheVariants as outcomes
 use Rattle.pool_journal.specs.declared.answer.Answer.{Answer}
 use Rattle.pool_journal.specs.declared.answer.Answer.TheVariants as answers
+use Rattle.pool_journal.specs.declared.answer.Cause.TheVariants as causes
 use Rattle.pool_settings.specs.declared.settings.Settings.{Settings}
 use Rattle.pool_core.specs.declared.step_fault.StepFault.{StepFault}
 use Rattle.pool_core.specs.declared.step_fault.StepFault.TheVariants.{JournalFull, OutOfMemory}
@@ -18,15 +20,37 @@ use Rattle.pool_shared.specs.declared.evicting.Disposition.TheVariants as fates
 use Rattle.pool_shared.specs.declared.faults.PoolFault.{PoolFault}
 use Rattle.pool_shared.specs.declared.faults.PoolFault.TheVariants as faults
 use Rattle.pool_shared.specs.Traces.{Trace, EndsWithOwn}
-use Rattle.pool_shared.specs.Evicts.{examines, tests, destroys, through, none_yet, one_more, one_gone, next, IsExpected, fared, after_test, after_one, IsSpared, IsStopped, EvictEnds, EvictsFrom}
+use Rattle.pool_shared.specs.Evicts.{begins, closed, examines, tests, destroys, through, none_yet, one_more, one_gone, next, IsExpected, IsFailedTest, fared, after_test, after_one, IsSpared, IsStopped, EvictEnds, EvictsFrom, EvictSpec}
 use Rattle.pool_shared.proofs.Traces.{trace_by, trace_on, trace_destroyed}
-use Rattle.pool_shared.proofs.TracesToResults.{row_at, row_stopped, full_for, short_for}
+use Rattle.pool_shared.proofs.TracesToResults.{row_at, row_on, row_none, row_stopped, full_for, short_for}
 
 -- an object is destroyed after its test
 pub rejected : (i left : ℕ) (run : EvictRun) (o : Outcome) (x : Answer) (a b c : CallerState) → IsTestOutcome o → x ≡ answers.Destroy → AppendsAnswer (Tested i o) x a b → AppendsAnswer (Destroyed i) answers.Freed b c
     → Trace IsExpected next (tests i left run) a c (examines left (one_gone run))
 rejected i left run o x a b c can is made freed =
     trace_destroyed IsExpected next (tests i left run) (destroys i left run) (examines left (one_gone run)) i (Tested i o) x answers.Destroy a b c is made freed (λ n at. (refl, can)) (λ n at. refl) (λ n at. refl) (λ n at. refl)
+
+failing : (o : Outcome) → IsFailedTest o → IsTestOutcome o
+failing outcomes.Good is = absurd is
+failing _ is = is
+
+-- an object fails its test
+pub failed : (i left : ℕ) (run : EvictRun) (o : Outcome) (x : Answer) (a b c : CallerState) → IsFailedTest o → x ≡ answers.Destroy → AppendsAnswer (Tested i o) x a b → AppendsAnswer (Destroyed i) answers.Freed b c
+    → Trace IsExpected next (tests i left run) a c (after_test left run fates.Destroyed)
+failed i left run o x a b c fails is made freed = rejected i left run o x a b c (failing o fails) is made freed
+
+-- an object passes its test
+pub passed : (i left : ℕ) (run : EvictRun) (x : Answer) (a b : CallerState) → x ≡ answers.Kept → AppendsAnswer (Tested i outcomes.Good) x a b → Trace IsExpected next (tests i left run) a b (after_test left run fates.Kept)
+passed i left run x a b is made = trace_by IsExpected next (tests i left run) (examines left run) (Tested i outcomes.Good) x answers.Kept a b is made (λ n at. (refl, tt)) (λ n at. refl)
+
+-- an object stays idle
+pub kept_idle : (i left : ℕ) (run : EvictRun) (x : Answer) (a b : CallerState) → 0 < left → x ≡ answers.KeptIdle i → AppendsAnswer EvictNext x a b → Trace IsExpected next (examines left run) a b (after_one left run (Some fates.Kept))
+kept_idle i left run x a b some is made =
+    trace_by IsExpected next (examines left run) (examines (left - 1) (one_more run)) EvictNext x (answers.KeptIdle i) a b is made (λ n at. (some, refl)) (λ n at. refl)
+
+-- no object is idle
+pub none_idle : (left : ℕ) (run : EvictRun) (x : Answer) (a b : CallerState) → 0 < left → x ≡ answers.Nothing → AppendsAnswer EvictNext x a b → Trace IsExpected next (examines left run) a b (after_one left run None)
+none_idle left run x a b some is made = trace_by IsExpected next (examines left run) (through run) EvictNext x answers.Nothing a b is made (λ n at. (some, refl)) (λ n at. refl)
 
 -- an object is destroyed without a test
 pub destroyed_idle : (i left : ℕ) (run : EvictRun) (x : Answer) (a b c : CallerState) → 0 < left → x ≡ answers.DestroyIdle i → AppendsAnswer EvictNext x a b → AppendsAnswer (Destroyed i) answers.Freed b c
@@ -86,3 +110,22 @@ pub out_of_objects : (s : Settings) (count left : ℕ) (run : EvictRun) (o : Opt
 out_of_objects s count left run o a b c is w one ends =
     let none : Trace IsExpected next (examines left run) b c (through run) = subst (λ x. Trace IsExpected next (examines left run) b c (after_one left run x)) is one in
     row_at IsExpected next (EvictEnds s) (examines count none_yet) (through run) (Ok run) a c (trace_on IsExpected next (examines count none_yet) (examines left run) (through run) a b c w none) (refl, ends)
+
+-- a run that begins
+module _ (s : Settings) (x : Answer) (a b : CallerState) (made : AppendsAnswer Evict x a b) where
+  pub examines_then : (count : ℕ) (r : Result EvictRun PoolFault) (c : CallerState) → x ≡ answers.Count count → EvictsFrom s (examines count none_yet) r b c → EvictSpec s r a c
+  examines_then count r c is row =
+      let at = examines count none_yet in
+      row_on IsExpected next (EvictEnds s) begins at r a b c (trace_by IsExpected next begins at Evict x (answers.Count count) a b is made (λ n at. refl) (λ n at. refl)) row
+
+  pub finds_closed : x ≡ answers.Refused causes.Closed → EndsWithOwn b → EvictSpec s (Err faults.Closed) a b
+  finds_closed is ends =
+      row_at IsExpected next (EvictEnds s) begins closed (Err faults.Closed) a b (trace_by IsExpected next begins closed Evict x (answers.Refused causes.Closed) a b is made (λ n at. refl) (λ n at. refl)) ends
+
+-- a run that did not begin
+module _ {T : Type 0} (s : Settings) (f : StepFault T) (out : Option T) (b c : CallerState) where
+  pub evict_full : f ≡ JournalFull out → Refuses s Evict None f b c → EvictSpec s (Err faults.JournalFull) b c
+  evict_full is refuses = row_none IsExpected next (EvictEnds s) begins (Err faults.JournalFull) b c refuses.same (full_for s Evict f out b c is refuses)
+
+  pub evict_short : f ≡ OutOfMemory out → Refuses s Evict None f b c → EvictSpec s (Err faults.OutOfMemory) b c
+  evict_short is refuses = row_none IsExpected next (EvictEnds s) begins (Err faults.OutOfMemory) b c refuses.same (short_for s Evict f out b c is refuses)

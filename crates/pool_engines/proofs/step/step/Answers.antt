@@ -1,6 +1,8 @@
-use Rattle.std.proofs.Common.{[], ◌∷◌, ◌++◌, refl, ap, sym, subst}
+use Rattle.std.proofs.Common.{◌≡◌, Bool, true, false, [], ◌∷◌, ◌++◌, refl, ap, sym, subst}
 use Rattle.pool_journal.specs.Text.{request_of, IsRequest}
 use Rattle.pool_settings.specs.declared.settings.Settings.{Settings}
+use Rattle.pool_core.specs.Core.{Faulted}
+use Rattle.pool_core.specs.Stepper.{pool_of}
 use Rattle.pool_core.specs.Fits.{FitsLimitFrom}
 use Rattle.pool_core.specs.Legal.{IsLegalFrom}
 use Rattle.pool_engines.specs.Made.{IsProducedFrom}
@@ -26,3 +28,17 @@ returns-in-Ok-clause-stepped c =
         made = subst (λ (s : Settings). IsProducedFrom s b (J ++ e ∷ [])) (sym a.settings_stay) (made_more S b J e made asked legal fits);
       };
     }
+
+pub returns-in-Err-JournalFull-clause-stepped : goal.returns-in-Err-JournalFull-clause-stepped
+returns-in-Err-JournalFull-clause-stepped c = λ b J after made.
+    (refl, (subst (Faulted _ _ _ _ (pool_of c.args.stepper.now b J)) c.in-Err-JournalFull.field-0-is (c.in-Err-JournalFull.ensures.answered b J after)).0)
+
+not_completing : (x : Bool) → (x ≡ true → false ≡ true) → x ≡ false
+not_completing true is = sym (is refl)
+not_completing false is = refl
+
+pub returns-in-Err-OutOfMemory-clause-stepped : goal.returns-in-Err-OutOfMemory-clause-stepped
+returns-in-Err-OutOfMemory-clause-stepped c = λ b J after made. (
+  (subst (Faulted _ _ _ _ (pool_of c.args.stepper.now b J)) c.in-Err-OutOfMemory.field-0-is (c.in-Err-OutOfMemory.ensures.answered b J after)).0,
+  not_completing _ (c.in-Err-OutOfMemory.ensures.completing b J after),
+)

@@ -1,8 +1,12 @@
 use Rattle.pool_shared.proofs.Sweeping.{goes_then}
-use Rattle.std.proofs.Common.{sym, ap}
+use Rattle.std.proofs.Common.{None, refl, sym, ap, ◌∙◌, subst}
+use Rattle.pool_journal.specs.declared.input.Input.TheVariants.{Borrow}
+use Rattle.pool_journal.specs.declared.answer.Answer.TheVariants.{Refused, Exhausted, TimedOut}
+use Rattle.pool_journal.specs.declared.answer.Cause.TheVariants.{Closed}
+use Rattle.pool_lock.specs.Sections.{IsWhy}
 use Rattle.pool_shared.specs.Borrows as borrows
-use Rattle.pool_shared.specs.Borrows.{lent, BorrowEnds}
-use Rattle.pool_shared.proofs.Asking.{to_there}
+use Rattle.pool_shared.specs.Borrows.{asks, lent, BorrowEnds}
+use Rattle.pool_shared.proofs.Asking.{refuses, to_there}
 use Rattle.pool_shared.proofs.TracesToResults.{row_at, row_on}
 use Rattle.pool_shared.proofs.Traces.{trace_on}
 use Rattle.pool_shared.proofs.pool.SharedPool.borrow_once.Goals as goal
@@ -36,3 +40,35 @@ returns-in-Ok-Take-Some-clause-advances g c = goes_then g.B.Room.settings _ _ _ 
 
 pub returns-in-Ok-Make-default-clause-advances : goal.returns-in-Ok-Make-default-clause-advances
 returns-in-Ok-Make-default-clause-advances g c = goes_then g.B.Room.settings _ _ _ c.in-Ok-Make-default.ensures.advances c.lend_made.ensures.advances
+
+pub returns-in-Ok-Refused-Closed-default-clause-spec : goal.returns-in-Ok-Refused-Closed-default-clause-spec
+returns-in-Ok-Refused-Closed-default-clause-spec g c =
+    let s = g.B.Room.settings in
+    let of = c.in-Ok-Refused-Closed-default in
+    refuses s c.args.began c.args.self.now.number _ (Refused Closed) _ _ _ (of.field-0-0-is ∙ ap Refused of.field-0-0-0-is) of.ensures.trace (refl, (_, _, of.ensures.ends))
+
+pub returns-in-Ok-Exhausted-default-clause-spec : goal.returns-in-Ok-Exhausted-default-clause-spec
+returns-in-Ok-Exhausted-default-clause-spec g c =
+    let s = g.B.Room.settings in
+    let of = c.in-Ok-Exhausted-default in
+    refuses s c.args.began c.args.self.now.number _ (Exhausted) _ _ _ (of.field-0-0-is) of.ensures.trace (refl, (_, _, of.ensures.ends))
+
+pub returns-in-Ok-TimedOut-default-clause-spec : goal.returns-in-Ok-TimedOut-default-clause-spec
+returns-in-Ok-TimedOut-default-clause-spec g c =
+    let s = g.B.Room.settings in
+    let of = c.in-Ok-TimedOut-default in
+    refuses s c.args.began c.args.self.now.number _ (TimedOut) _ _ _ (of.field-0-0-is) of.ensures.trace (refl, (_, _, of.ensures.ends))
+
+pub returns-in-Err-JournalFull-clause-spec : goal.returns-in-Err-JournalFull-clause-spec
+returns-in-Err-JournalFull-clause-spec g c =
+    let s = g.B.Room.settings in
+    let of = c.in-Err-JournalFull in
+    row_at (borrows.IsExpected s c.args.began) borrows.next (BorrowEnds s c.args.self.now.number c.args.began) asks asks _ _ _ of.ensures.none
+    (subst (λ f. IsWhy s (Borrow c.args.began) None f c.acquire.new.me) of.field-0-is of.ensures.refused).0
+
+pub returns-clause-spec : goal.returns-clause-spec
+returns-clause-spec g c =
+    let s = g.B.Room.settings in
+    let of = c.in-Err-OutOfMemory in
+    row_at (borrows.IsExpected s c.args.began) borrows.next (BorrowEnds s c.args.self.now.number c.args.began) asks asks _ _ _ of.ensures.none
+    (subst (λ f. IsWhy s (Borrow c.args.began) None f c.acquire.new.me) of.field-0-is of.ensures.refused).0

@@ -1,5 +1,5 @@
 use Rattle.pool_shared.proofs.Sweeping.{goes_then}
-use Rattle.pool_shared.proofs.Examining.{rejected}
+use Rattle.pool_shared.proofs.Examining.{passed, rejected}
 use Rattle.pool_shared.proofs.pool.SharedPool.end_idle_test.Goals as goal
 
 pub returns-in-Ok-Destroy-Some-clause-trace : goal.returns-in-Ok-Destroy-Some-clause-trace
@@ -8,3 +8,6 @@ returns-in-Ok-Destroy-Some-clause-trace g c left run =
 
 pub returns-in-Ok-Destroy-Some-clause-advances : goal.returns-in-Ok-Destroy-Some-clause-advances
 returns-in-Ok-Destroy-Some-clause-advances g c = goes_then g.B.Room.settings _ _ _ c.in-Ok-Destroy-Some.ensures.advances c.destroy_held.ensures.advances
+
+pub returns-in-Ok-Kept-default-clause-trace : goal.returns-in-Ok-Kept-default-clause-trace
+returns-in-Ok-Kept-default-clause-trace g c left run = passed c.args.id left run _ _ _ c.in-Ok-Kept-default.field-0-0-is c.in-Ok-Kept-default.ensures.appended

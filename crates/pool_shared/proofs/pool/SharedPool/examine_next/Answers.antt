@@ -1,7 +1,7 @@
 use Rattle.pool_shared.proofs.Sweeping.{goes_then}
 use Rattle.std.proofs.Common.{◌-◌}
 use Rattle.pool_shared.specs.Evicts.{one_more}
-use Rattle.pool_shared.proofs.Examining.{destroyed_idle, tested_idle, stops_full, stops_short}
+use Rattle.pool_shared.proofs.Examining.{kept_idle, none_idle, destroyed_idle, tested_idle, stops_full, stops_short}
 use Rattle.pool_shared.proofs.pool.SharedPool.examine_next.Goals as goal
 
 pub returns-in-Ok-DestroyIdle-Some-clause-trace : goal.returns-in-Ok-DestroyIdle-Some-clause-trace
@@ -23,3 +23,9 @@ returns-in-Ok-DestroyIdle-Some-clause-advances g c = goes_then g.B.Room.settings
 
 pub returns-in-Ok-Test-Some-clause-advances : goal.returns-in-Ok-Test-Some-clause-advances
 returns-in-Ok-Test-Some-clause-advances g c = goes_then g.B.Room.settings _ _ _ c.in-Ok-Test-Some.ensures.advances c.test.ensures.advances
+
+pub returns-in-Ok-KeptIdle-default-clause-trace : goal.returns-in-Ok-KeptIdle-default-clause-trace
+returns-in-Ok-KeptIdle-default-clause-trace g c left run some = kept_idle _ left run _ _ _ some c.in-Ok-KeptIdle-default.field-0-0-is c.in-Ok-KeptIdle-default.ensures.appended
+
+pub returns-in-Ok-Nothing-default-clause-trace : goal.returns-in-Ok-Nothing-default-clause-trace
+returns-in-Ok-Nothing-default-clause-trace g c left run some = none_idle left run _ _ _ some c.in-Ok-Nothing-default.field-0-0-is c.in-Ok-Nothing-default.ensures.appended
