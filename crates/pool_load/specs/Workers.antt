@@ -1,7 +1,8 @@
 -- The entries of callers that worked in their own threads.
-use Rattle.std.specs.Prelude.{◌≡◌, ℕ, ◌≤◌, List, length, Some, slice_get, Result, Ok, Err, IfOk}
+use Rattle.std.specs.Prelude.{◌≡◌, ℕ, ◌≤◌, List, [], ◌∷◌, ◌++◌, length, map, sum, Some, slice_get, Result, Ok, Err, IfOk}
 use Rattle.pool_settings.specs.declared.settings.Settings.{Settings}
-use Rattle.pool_history.specs.CallerStates.{CallerState}
+use Rattle.pool_history.specs.CallerStates.{CallerState, Advances}
+use Rattle.pool_shared.specs.Clears.{CloseSpec}
 use Rattle.pool_engines.specs.declared.load_fault.LoadFault.{LoadFault}
 use Rattle.pool_engines.specs.declared.load_fault.LoadFault.TheVariants.{JournalFull, OutOfMemory, NoThread}
 use Rattle.pool_load.specs.Rounds.{MakesRounds, IsFull, Stops}
@@ -25,6 +26,18 @@ pub record AllWorked (s : Settings) (rounds : ℕ) (before after : List CallerSt
   pub results : length outcomes ≡ length before
   pub each : (i : ℕ) (b a : CallerState) (o : Result ℕ LoadFault) → slice_get before i ≡ Some b → slice_get after i ≡ Some a → slice_get outcomes i ≡ Some o
       → Works s rounds o b a
+
+-- each of these callers has worked, then the last one has closed the pool, and these are all callers and their refused borrows
+pub record WorksAndCloses (s : Settings) (rounds : ℕ) (before : List CallerState) (last : CallerState) (refused : ℕ) (callers : List CallerState) : Type 0 where
+  pub workers : List CallerState
+  pub closer : CallerState
+  pub refusals : List ℕ
+  pub taken : ℕ
+  pub worked : AllWorked s rounds before workers (map Ok refusals)
+  pub goes : Advances s last closer
+  pub row : CloseSpec s (Ok taken) last closer
+  pub all : callers ≡ workers ++ closer ∷ []
+  pub sums : refused ≡ sum refusals
 
 -- why the threads of a load were not started, or their results not collected
 abbrev pub IsWanting : LoadFault → Type 0

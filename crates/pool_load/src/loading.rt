@@ -1,13 +1,15 @@
 // Many workers at once, and the statistics of their history.
-ghost use Rattle.std.specs.Prelude.{◌≡◌, ◌+◌, ◌*◌, ℕ, Ok, IfOk, IfErr, OnOk};
+ghost use Rattle.std.specs.Prelude.{◌≡◌, ◌+◌, ◌*◌, ◌≤◌, ℕ, length, Ok, IfOk, IfErr, OnOk};
 ghost use Rattle.pool_history.specs.CallerStates.{Advances};
 ghost use Rattle.pool_shared.specs.Clears.{CloseSpec};
-ghost use Rattle.pool_load.specs.Workers.{StopsLoad};
+ghost use Rattle.pool_stats.specs.Statistics.{statistics_of};
+ghost use Rattle.pool_load.specs.Workers.{StopsLoad, WorksAndCloses};
 ghost use Rattle.pool_load.specs.Loads.{IsInRange, IsLoad, IsLoadFault};
 
 use crate::gate::Gate;
 use crate::ids::{IdPool, Ids, Ticks};
 use crate::workers::{collect_all, work_all};
+use pool_core::Core;
 use pool_engines::LoadFault;
 use pool_settings::Settings;
 use pool_shared::{Caller, OpenFault, PoolFault, Room, Site};
@@ -97,20 +99,39 @@ fn load_on<B: Room + Send + Sync, G: Gate, R: Threads + Wait + Sync>(
         Err(OpenFault::CallerCount) => unreachable!(),
         Err(OpenFault::OutOfMemory) => return Err(LoadFault::OutOfMemory),
     };
-    let Some(mut last) = callers.pop() else {
+    let Some(last) = callers.pop() else {
         unreachable!()
     };
-    let worked = work_all::<B, G, R>(rt, alloc, &pool, gate, callers, rounds)?;
-    let (refused, mut all) = collect_all::<B>(alloc, worked)?;
-    close::<B, R>(rt, &pool, &mut last)?;
-    let Ok(()) = all.push(last) else {
-        return Err(LoadFault::OutOfMemory);
-    };
+    let (refused, all) = work_and_close::<B, G, R>(rt, alloc, &pool, gate, callers, last, rounds)?;
     let Ok(core) = pool.finish(rt, all) else {
         unreachable!()
     };
-    match Statistics::of(alloc, core.journal()) {
-        Ok(stats) => Ok(LoadReport { refused, stats }),
+    report(alloc, core, refused)
+}
+
+/// Lets each caller work in its own thread, and then the last one close the pool. Returns the number of refused borrows
+/// and all callers.
+fn work_and_close<B: Room + Send + Sync, G: Gate, R: Threads + Wait + Sync>(
+    rt: &R,
+    alloc: Global,
+    pool: &IdPool<B>,
+    gate: &G,
+    callers: Vec<Caller<B>>,
+    last: Caller<B>,
+    rounds: u64,
+) -> Result<(u64, Vec<Caller<B>>), LoadFault>
+    requires bounded { length callers.items ≤ 1023 }
+    requires rounds { rounds ≤ 1000000 }
+    ensures closed { IfOk result (λ r. WorksAndCloses B.settings rounds callers.items last
+        r.0 r.1.items) }
+    ensures stops { IfErr result (StopsLoad B.settings) }
+{
+    let worked = work_all::<B, G, R>(rt, alloc, pool, gate, callers, rounds)?;
+    let (refused, mut all) = collect_all::<B>(alloc, worked)?;
+    let mut last = last;
+    close::<B, R>(rt, pool, &mut last)?;
+    match all.push(last) {
+        Ok(()) => Ok((refused, all)),
         Err(_) => Err(LoadFault::OutOfMemory),
     }
 }
@@ -127,5 +148,17 @@ fn close<B: Room, R: Wait>(rt: &R, pool: &IdPool<B>, last: &mut Caller<B>) -> Re
         Err(PoolFault::JournalFull) => Err(LoadFault::JournalFull),
         Err(PoolFault::OutOfMemory) => Err(LoadFault::OutOfMemory),
         Err(PoolFault::Closed) => unreachable!(),
+    }
+}
+
+/// Returns the statistics of a pool's journal, with the number of refused borrows.
+fn report(alloc: Global, core: Core<u64>, refused: u64) -> Result<LoadReport, LoadFault>
+    ensures report { IfOk result (λ r. (r.refused ≡ refused)
+        × (r.stats ≡ statistics_of core.journal)) }
+    ensures error { IfErr result (λ fault. fault ≡ LoadFault.OutOfMemory) }
+{
+    match Statistics::of(alloc, core.journal()) {
+        Ok(stats) => Ok(LoadReport { refused, stats }),
+        Err(_) => Err(LoadFault::OutOfMemory),
     }
 }
