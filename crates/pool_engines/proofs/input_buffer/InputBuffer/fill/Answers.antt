@@ -1,5 +1,6 @@
 use Rattle.std.proofs.Common.{◌≡◌, ◌-◌, ◌+◌, length, take, slice_range, ap, ◌∙◌, arith}
 use Rattle.std.proofs.lemmas.List.{with_items_is}
+use Rattle.std.proofs.lemmas.Result.{IfOk-from_err, err_from_is_err_and}
 use Rattle.pool_engines.proofs.Windows.{take-copy_within, slice_range-grown, length-slice_range}
 use Rattle.pool_engines.proofs.input_buffer.InputBuffer.fill.Goals as goal
 
@@ -20,3 +21,23 @@ returns-clause-more g c =
           ∙ slice_range-grown xs _ kept count (c.in_ok-count.ensures.front ∙ moved ∙ c.self.view_is),
       more.1,
     )
+
+pub returns-in_err-count-clause-more : goal.returns-in_err-count-clause-more
+returns-in_err-count-clause-more g c = IfOk-from_err _ _ c.from_residual.ensures.0
+
+pub returns-in_err-count-clause-fault : goal.returns-in_err-count-clause-fault
+returns-in_err-count-clause-fault g c =
+    let p = err_from_is_err_and c.from_residual.result c.from_residual.ensures.1 in rw (p.1, p.2) c.in_err-count.ensures.fault
+
+pub returns-in_err-count-clause-reported : goal.returns-in_err-count-clause-reported
+returns-in_err-count-clause-reported g c =
+    let p = err_from_is_err_and c.from_residual.result c.from_residual.ensures.1 in rw p.1 c.in_err-count.ensures.reported
+
+pub returns-clause-end : goal.returns-clause-end
+returns-clause-end g c = c.in_ok-count.ensures.end
+
+pub returns-clause-reported : goal.returns-clause-reported
+returns-clause-reported g c = c.in_ok-count.ensures.reported
+
+pub returns-clause-unchanged_on_error : goal.returns-clause-unchanged_on_error
+returns-clause-unchanged_on_error g c = tt
