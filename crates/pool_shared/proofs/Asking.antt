@@ -1,5 +1,5 @@
 -- The trace of a borrow.
-use Rattle.std.proofs.Common.{◌≡◌, ℕ, Bool, true, if◌then◌else◌, Result, refl, sym, ap, subst}
+use Rattle.std.proofs.Common.{◌≡◌, ℕ, Bool, true, false, if◌then◌else◌, Result, refl, sym, ap, subst}
 use Rattle.pool_journal.specs.declared.input.Input.TheVariants.{Borrow, Ready}
 use Rattle.pool_journal.specs.declared.input.Outcome.TheVariants as outcomes
 use Rattle.pool_journal.specs.declared.answer.Answer.{Answer}
@@ -12,7 +12,7 @@ use Rattle.pool_lock.specs.Sections.{AppendsAnswer}
 use Rattle.pool_shared.specs.declared.faults.BorrowFault.{BorrowFault}
 use Rattle.pool_shared.specs.declared.lent.Lent.{Lent}
 use Rattle.pool_shared.specs.Traces.{Trace, Ends}
-use Rattle.pool_shared.specs.Borrows.{Stage, removes, asks, after_asking, next, IsExpected, BorrowEnds, BorrowsFrom, first_stage, IsFound}
+use Rattle.pool_shared.specs.Borrows.{removes, asks, after_asking, next, IsExpected, BorrowEnds, BorrowsFrom, first_stage, IsFound}
 use Rattle.pool_shared.specs.Reclaims as removal
 use Rattle.pool_shared.proofs.Traces.{trace_on, trace_more, ComesFrom, comes_on}
 use Rattle.pool_shared.proofs.TracesToResults.{row_at, row_on}
@@ -57,6 +57,10 @@ lent_ends i j me is ends = subst (λ k. Ends (Ready k outcomes.Good) answers.Len
 -- the first stage of a borrow that begins with a removal
 removes_first : (s : Settings) → s.remove_abandoned_on_borrow ≡ true → first_stage s ≡ removes removal.begins
 removes_first s set = ap (λ (x : Bool). if x then removes removal.begins else asks) set
+
+-- a borrow that begins without a removal
+pub asks_at_once : {T E : Type 0} (s : Settings) (number began : ℕ) (r : Result (Lent T) (BorrowFault E)) (a b : CallerState) → s.remove_abandoned_on_borrow ≡ false → BorrowsFrom s number began asks r a b → BorrowsFrom s number began (first_stage s) r a b
+asks_at_once s number began r a b set row = subst (λ st. BorrowsFrom s number began st r a b) (sym (ap (λ (x : Bool). if x then removes removal.begins else asks) set)) row
 
 -- a borrow that is over with its removal
 pub removes_then : {T E : Type 0} (s : Settings) (number began : ℕ) (r : Result (Lent T) (BorrowFault E)) (a b : CallerState) → s.remove_abandoned_on_borrow ≡ true

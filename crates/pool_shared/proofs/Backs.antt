@@ -1,11 +1,11 @@
 -- The traces of a return and of an invalidation.
-use Rattle.std.proofs.Common.{◌≡◌, ℕ, true, false, true≢false, List, Option, None, Ok, Err, refl, sym, ap, ◌∙◌}
+use Rattle.std.proofs.Common.{◌≡◌, ℕ, true, false, true≢false, List, None, Ok, Err, refl, sym, ap, ◌∙◌}
 use Rattle.pool_journal.specs.Journal.{phase}
 use Rattle.pool_journal.specs.declared.entry.Entry.{Entry}
 use Rattle.pool_journal.specs.declared.record.Phase.{Phase}
 use Rattle.pool_journal.specs.declared.record.Phase.TheVariants as phases
 use Rattle.pool_journal.specs.declared.input.Input.{Input}
-use Rattle.pool_journal.specs.declared.input.Input.TheVariants.{GiveBack, Invalidate, Park, Destroyed}
+use Rattle.pool_journal.specs.declared.input.Input.TheVariants.{GiveBack, Invalidate, Use, Park, Destroyed}
 use Rattle.pool_journal.specs.declared.input.Outcome.{Outcome}
 use Rattle.pool_journal.specs.declared.answer.Answer.{Answer}
 use Rattle.pool_journal.specs.declared.answer.Answer.TheVariants as answers
@@ -24,12 +24,14 @@ use Rattle.pool_shared.specs.declared.faults.Returned.TheVariants as returned
 use Rattle.pool_shared.specs.declared.lent.Lent.{Lent}
 use Rattle.pool_lock.specs.Sections.{AppendsAnswer, Refuses}
 use Rattle.pool_shared.specs.Traces.{Trace, EndsWithOwn}
+use Rattle.pool_shared.specs.Faults.{return_fault}
+use Rattle.pool_shared.specs.Touches.{TouchSpec}
 use Rattle.pool_shared.specs.Returns as returns
 use Rattle.pool_shared.specs.Returns.{gives, checks, destroys, done, IsPossibleOutcome, ReturnEnds, ReturnSpec}
 use Rattle.pool_shared.specs.Invalidates as invalidates
 use Rattle.pool_shared.specs.Invalidates.{begins, InvalidateEnds, InvalidateSpec}
 use Rattle.pool_shared.proofs.Traces.{trace_by, trace_on, trace_destroyed, ends_of}
-use Rattle.pool_shared.proofs.TracesToResults.{row_at, row_none, full_for, short_for}
+use Rattle.pool_shared.proofs.TracesToResults.{row_at, row_none}
 
 -- a returned object is destroyed
 pub destroyed : (s : Settings) (i : ℕ) (o : Outcome) (a : Answer) (before mid after : CallerState) → IsPossibleOutcome s o → a ≡ answers.Destroy → AppendsAnswer (Park i o) a before mid → AppendsAnswer (Destroyed i) answers.Freed mid after
@@ -53,34 +55,33 @@ not_lent s at i input a observed whole finished unfinished lent =
     let due : reply s observed at input ≡ a = sym whole ∙ ap (λ (p : Phase). lent_reply s.abandoned p a) lent in
     true≢false (sym (ap (λ x. is_completing x input) due ∙ finished) ∙ unfinished)
 
-module _ {T : Type 0} (s : Settings) (number : ℕ) (l : Lent T) (f : StepFault T) (out : Option T) (before after : CallerState) where
-  -- a return that failed for lack of room
-  pub return_full : f ≡ JournalFull out → l.pool ≡ number → IsLegal s after.observed → Refuses s (GiveBack l.id) None f before after → ReturnSpec s number l (Err (faults.JournalFull, l)) before after
-  return_full is pool legal refuses =
-      let full = full_for s (GiveBack l.id) f out before after is refuses in
-      let none = not_lent s full.0 l.id (GiveBack l.id) answers.Check after.observed (lent_whole s after.observed legal l.id answers.Check) refl full.1.unfinished in
-      (pool, row_none (returns.IsExpected s l.id) returns.next (ReturnEnds s l.id) gives (Err (faults.JournalFull, l)) before after refuses.same (refl, full, none))
+module _ {T : Type 0} (s : Settings) (number : ℕ) (l : Lent T) (before after : CallerState) where
+  -- a return that failed
+  pub return_refused : (f : StepFault T) → l.pool ≡ number → IsLegal s after.observed → Refuses s (GiveBack l.id) None f before after → ReturnSpec s number l (Err (return_fault f, l)) before after
+  return_refused (JournalFull out) pool legal refuses =
+      let why = refuses.error.0 in
+      let none = not_lent s why.0 l.id (GiveBack l.id) answers.Check after.observed (lent_whole s after.observed legal l.id answers.Check) refl why.1.unfinished in
+      (pool, row_none (returns.IsExpected s l.id) returns.next (ReturnEnds s l.id) gives (Err (faults.JournalFull, l)) before after refuses.same (refl, why, none))
+  return_refused (OutOfMemory out) pool legal refuses =
+      let why = refuses.error.0 in
+      let none = not_lent s why.0 l.id (GiveBack l.id) answers.Check after.observed (lent_whole s after.observed legal l.id answers.Check) refl why.1.unfinished in
+      (pool, row_none (returns.IsExpected s l.id) returns.next (ReturnEnds s l.id) gives (Err (faults.OutOfMemory, l)) before after refuses.same (refl, why, none))
 
-  -- the same for lack of memory
-  pub return_short : f ≡ OutOfMemory out → l.pool ≡ number → IsLegal s after.observed → Refuses s (GiveBack l.id) None f before after → ReturnSpec s number l (Err (faults.OutOfMemory, l)) before after
-  return_short is pool legal refuses =
-      let short = short_for s (GiveBack l.id) f out before after is refuses in
-      let none = not_lent s short.0 l.id (GiveBack l.id) answers.Check after.observed (lent_whole s after.observed legal l.id answers.Check) refl short.1.unfinished in
-      (pool, row_none (returns.IsExpected s l.id) returns.next (ReturnEnds s l.id) gives (Err (faults.OutOfMemory, l)) before after refuses.same (refl, short, none))
+  -- an invalidation that failed
+  pub invalidate_refused : (f : StepFault T) → l.pool ≡ number → IsLegal s after.observed → Refuses s (Invalidate l.id) None f before after → InvalidateSpec s number l (Err (return_fault f, l)) before after
+  invalidate_refused (JournalFull out) pool legal refuses =
+      let why = refuses.error.0 in
+      let none = not_lent s why.0 l.id (Invalidate l.id) answers.Destroy after.observed (lent_whole s after.observed legal l.id answers.Destroy) refl why.1.unfinished in
+      (pool, row_none (invalidates.IsExpected l.id) invalidates.next (InvalidateEnds s l.id) begins (Err (faults.JournalFull, l)) before after refuses.same (refl, why, none))
+  invalidate_refused (OutOfMemory out) pool legal refuses =
+      let why = refuses.error.0 in
+      let none = not_lent s why.0 l.id (Invalidate l.id) answers.Destroy after.observed (lent_whole s after.observed legal l.id answers.Destroy) refl why.1.unfinished in
+      (pool, row_none (invalidates.IsExpected l.id) invalidates.next (InvalidateEnds s l.id) begins (Err (faults.OutOfMemory, l)) before after refuses.same (refl, why, none))
 
-  -- an invalidation that failed for lack of room
-  pub invalidate_full : f ≡ JournalFull out → l.pool ≡ number → IsLegal s after.observed → Refuses s (Invalidate l.id) None f before after → InvalidateSpec s number l (Err (faults.JournalFull, l)) before after
-  invalidate_full is pool legal refuses =
-      let full = full_for s (Invalidate l.id) f out before after is refuses in
-      let none = not_lent s full.0 l.id (Invalidate l.id) answers.Destroy after.observed (lent_whole s after.observed legal l.id answers.Destroy) refl full.1.unfinished in
-      (pool, row_none (invalidates.IsExpected l.id) invalidates.next (InvalidateEnds s l.id) begins (Err (faults.JournalFull, l)) before after refuses.same (refl, full, none))
-
-  -- the same for lack of memory
-  pub invalidate_short : f ≡ OutOfMemory out → l.pool ≡ number → IsLegal s after.observed → Refuses s (Invalidate l.id) None f before after → InvalidateSpec s number l (Err (faults.OutOfMemory, l)) before after
-  invalidate_short is pool legal refuses =
-      let short = short_for s (Invalidate l.id) f out before after is refuses in
-      let none = not_lent s short.0 l.id (Invalidate l.id) answers.Destroy after.observed (lent_whole s after.observed legal l.id answers.Destroy) refl short.1.unfinished in
-      (pool, row_none (invalidates.IsExpected l.id) invalidates.next (InvalidateEnds s l.id) begins (Err (faults.OutOfMemory, l)) before after refuses.same (refl, short, none))
+  -- a note of a use that failed
+  pub touch_refused : (f : StepFault T) → l.pool ≡ number → Refuses s (Use l.id) None f before after → TouchSpec s number l.pool l.id (Err (return_fault f)) before after
+  touch_refused (JournalFull out) pool refuses = (pool, refuses.same, refuses.error.0)
+  touch_refused (OutOfMemory out) pool refuses = (pool, refuses.same, refuses.error.0)
 
 -- an invalidation of an object of this pool that ended
 module _ {T : Type 0} (s : Settings) (number : ℕ) (l : Lent T) (x : Answer) (a b : CallerState) (pool : l.pool ≡ number) (goes : b.number ≡ a.number) (made : AppendsAnswer (Invalidate l.id) x a b) where

@@ -7,22 +7,21 @@ use Rattle.pool_journal.specs.declared.answer.Answer.{Answer}
 use Rattle.pool_journal.specs.declared.answer.Answer.TheVariants as answers
 use Rattle.pool_journal.specs.declared.answer.Cause.TheVariants as causes
 use Rattle.pool_settings.specs.declared.settings.Settings.{Settings}
-use Rattle.pool_core.specs.declared.step_fault.StepFault.{StepFault}
-use Rattle.pool_core.specs.declared.step_fault.StepFault.TheVariants.{JournalFull, OutOfMemory}
 use Rattle.pool_core.specs.Completion.{is_completing}
 use Rattle.pool_core.specs.Reply.{reply}
 use Rattle.pool_history.specs.CallerStates.{CallerState}
 use Rattle.pool_history.specs.Ownership.{IsTestOutcome}
-use Rattle.pool_lock.specs.Sections.{AppendsAnswer, Refuses}
+use Rattle.pool_lock.specs.Sections.{AppendsAnswer}
 use Rattle.pool_shared.specs.declared.evicting.EvictRun.{EvictRun}
 use Rattle.pool_shared.specs.declared.evicting.Disposition.{Disposition}
 use Rattle.pool_shared.specs.declared.evicting.Disposition.TheVariants as fates
 use Rattle.pool_shared.specs.declared.faults.PoolFault.{PoolFault}
 use Rattle.pool_shared.specs.declared.faults.PoolFault.TheVariants as faults
 use Rattle.pool_shared.specs.Traces.{Trace, EndsWithOwn}
+use Rattle.pool_shared.specs.TraceToResult.{IsRoomFault}
 use Rattle.pool_shared.specs.Evicts.{begins, closed, examines, tests, destroys, through, none_yet, one_more, one_gone, next, IsExpected, IsFailedTest, fared, after_test, after_one, IsSpared, IsStopped, EvictEnds, EvictsFrom, EvictSpec}
 use Rattle.pool_shared.proofs.Traces.{trace_by, trace_on, trace_destroyed}
-use Rattle.pool_shared.proofs.TracesToResults.{row_at, row_on, row_none, row_stopped, full_for, short_for}
+use Rattle.pool_shared.proofs.TracesToResults.{row_at, row_on, row_none, row_stopped, unfinished_at}
 
 -- an object is destroyed after its test
 pub rejected : (i left : ℕ) (run : EvictRun) (o : Outcome) (x : Answer) (a b c : CallerState) → IsTestOutcome o → x ≡ answers.Destroy → AppendsAnswer (Tested i o) x a b → AppendsAnswer (Destroyed i) answers.Freed b c
@@ -86,11 +85,8 @@ spared (answers.DestroyIdle i) is = absurd (true≢false is)
 spared _ is = tt
 
 -- an EvictNext failed
-pub stops_full : {T : Type 0} (s : Settings) (f : StepFault T) (out : Option T) (b c : CallerState) → f ≡ JournalFull out → Refuses s EvictNext None f b c → IsStopped s faults.JournalFull c
-stops_full s f out b c is refuses = let full = full_for s EvictNext f out b c is refuses in (full.0, full.1, spared (reply s c.observed full.0 EvictNext) full.1.unfinished)
-
-pub stops_short : {T : Type 0} (s : Settings) (f : StepFault T) (out : Option T) (b c : CallerState) → f ≡ OutOfMemory out → Refuses s EvictNext None f b c → IsStopped s faults.OutOfMemory c
-stops_short s f out b c is refuses = let short = short_for s EvictNext f out b c is refuses in (short.0, short.1, spared (reply s c.observed short.0 EvictNext) short.1.unfinished)
+pub stops : (s : Settings) (f : PoolFault) (me : CallerState) → IsRoomFault s EvictNext f me → IsStopped s f me
+stops s f me why = (why.0, why.1, spared (reply s me.observed why.0 EvictNext) (unfinished_at s EvictNext f me why.0 why.1))
 
 -- a run that stopped with an error
 pub stopped : (s : Settings) (count left : ℕ) (run : EvictRun) (f : PoolFault) (a b c : CallerState) → 0 < left → Trace IsExpected next (examines count none_yet) a b (examines left run) → c.appended ≡ b.appended → IsStopped s f c
@@ -123,9 +119,5 @@ module _ (s : Settings) (x : Answer) (a b : CallerState) (made : AppendsAnswer E
       row_at IsExpected next (EvictEnds s) begins closed (Err faults.Closed) a b (trace_by IsExpected next begins closed Evict x (answers.Refused causes.Closed) a b is made (λ n at. refl) (λ n at. refl)) ends
 
 -- a run that did not begin
-module _ {T : Type 0} (s : Settings) (f : StepFault T) (out : Option T) (b c : CallerState) where
-  pub evict_full : f ≡ JournalFull out → Refuses s Evict None f b c → EvictSpec s (Err faults.JournalFull) b c
-  evict_full is refuses = row_none IsExpected next (EvictEnds s) begins (Err faults.JournalFull) b c refuses.same (full_for s Evict f out b c is refuses)
-
-  pub evict_short : f ≡ OutOfMemory out → Refuses s Evict None f b c → EvictSpec s (Err faults.OutOfMemory) b c
-  evict_short is refuses = row_none IsExpected next (EvictEnds s) begins (Err faults.OutOfMemory) b c refuses.same (short_for s Evict f out b c is refuses)
+pub evict_refused : (s : Settings) (f : PoolFault) (b c : CallerState) → c.appended ≡ b.appended → IsRoomFault s Evict f c → EvictSpec s (Err f) b c
+evict_refused s f b c same why = row_none IsExpected next (EvictEnds s) begins (Err f) b c same why

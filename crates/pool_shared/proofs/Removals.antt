@@ -8,18 +8,16 @@ use Rattle.pool_journal.specs.Base.{empty_base, records_from}
 use Rattle.pool_journal.specs.Queue.{first_of}
 use Rattle.pool_journal.specs.declared.record.Record.{Record}
 use Rattle.pool_settings.specs.declared.settings.Settings.{Settings}
-use Rattle.pool_core.specs.declared.step_fault.StepFault.{StepFault}
-use Rattle.pool_core.specs.declared.step_fault.StepFault.TheVariants.{JournalFull, OutOfMemory}
 use Rattle.pool_core.specs.Completion.{is_completing}
 use Rattle.pool_core.specs.Reply.{reply, abandoned_objects, reclaim_next_reply}
 use Rattle.pool_history.specs.CallerStates.{CallerState}
-use Rattle.pool_lock.specs.Sections.{AppendsAnswer, Refuses}
+use Rattle.pool_lock.specs.Sections.{AppendsAnswer}
 use Rattle.pool_shared.specs.declared.faults.PoolFault.{PoolFault}
-use Rattle.pool_shared.specs.declared.faults.PoolFault.TheVariants as faults
 use Rattle.pool_shared.specs.Traces.{Trace, EndsWithOwn}
+use Rattle.pool_shared.specs.TraceToResult.{IsRoomFault}
 use Rattle.pool_shared.specs.Reclaims.{begins, reclaims, through, next, IsExpected, IsStopped, ReclaimEnds, ReclaimsFrom, ReclaimSpec}
 use Rattle.pool_shared.proofs.Traces.{trace_by, trace_more}
-use Rattle.pool_shared.proofs.TracesToResults.{row_at, row_on, row_stopped, full_for, short_for}
+use Rattle.pool_shared.proofs.TracesToResults.{row_at, row_on, row_none, row_stopped, unfinished_at}
 
 -- an object was reclaimed
 pub took_away : (time : When) (count left taken i : ℕ) (x : Answer) (a b c : CallerState) → 0 < left → Trace (IsExpected time) next (reclaims count 0) a b (reclaims left taken) → x ≡ answers.Reclaimed i → AppendsAnswer ReclaimNext x b c
@@ -48,11 +46,8 @@ takes_none false o is = refl
 none_there : (s : Settings) (at : ℕ) (me : CallerState) → is_completing (reply s me.observed at ReclaimNext) ReclaimNext ≡ false → reply s me.observed at ReclaimNext ≡ answers.Nothing
 none_there s at me unfinished = takes_none s.abandoned (first_of (abandoned_objects s at (records_from empty_base me.observed))) unfinished
 
-pub stops_full : {T : Type 0} (s : Settings) (f : StepFault T) (out : Option T) (b c : CallerState) → f ≡ JournalFull out → Refuses s ReclaimNext None f b c → IsStopped s faults.JournalFull c
-stops_full s f out b c is refuses = let full = full_for s ReclaimNext f out b c is refuses in (full.0, full.1, none_there s full.0 c full.1.unfinished)
-
-pub stops_short : {T : Type 0} (s : Settings) (f : StepFault T) (out : Option T) (b c : CallerState) → f ≡ OutOfMemory out → Refuses s ReclaimNext None f b c → IsStopped s faults.OutOfMemory c
-stops_short s f out b c is refuses = let short = short_for s ReclaimNext f out b c is refuses in (short.0, short.1, none_there s short.0 c short.1.unfinished)
+pub stops : (s : Settings) (f : PoolFault) (me : CallerState) → IsRoomFault s ReclaimNext f me → IsStopped s f me
+stops s f me why = (why.0, why.1, none_there s why.0 me (unfinished_at s ReclaimNext f me why.0 why.1))
 
 -- a removal that stopped with an error
 pub stopped : (s : Settings) (time : When) (count left taken : ℕ) (f : PoolFault) (a b c : CallerState) → 0 < left → Trace (IsExpected time) next (reclaims count 0) a b (reclaims left taken) → c.appended ≡ b.appended → IsStopped s f c
@@ -66,3 +61,7 @@ stopped s time count left taken f a b c some w same room =
 pub removal : (s : Settings) (time : When) (n : ℕ) (r : Result ℕ PoolFault) (x : Answer) (a b c : CallerState) → x ≡ answers.Count n → AppendsAnswer (Reclaim time) x a b → ReclaimsFrom s time (reclaims n 0) r b c → ReclaimSpec s time r a c
 removal s time n r x a b c is made row =
     row_on (IsExpected time) next (ReclaimEnds s time) begins (reclaims n 0) r a b c (trace_by (IsExpected time) next begins (reclaims n 0) (Reclaim time) x (answers.Count n) a b is made (λ m at. refl) (λ m at. refl)) row
+
+-- a removal whose first critical section failed
+pub removal_refused : (s : Settings) (time : When) (f : PoolFault) (b c : CallerState) → c.appended ≡ b.appended → IsRoomFault s (Reclaim time) f c → ReclaimSpec s time (Err f) b c
+removal_refused s time f b c same why = row_none (IsExpected time) next (ReclaimEnds s time) begins (Err f) b c same why

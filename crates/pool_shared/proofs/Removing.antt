@@ -4,12 +4,12 @@ use Rattle.pool_journal.specs.declared.entry.Entry.{Entry}
 use Rattle.pool_journal.specs.declared.input.When.TheVariants as times
 use Rattle.pool_settings.specs.declared.settings.Settings.{Settings}
 use Rattle.pool_history.specs.CallerStates.{CallerState}
-use Rattle.pool_shared.specs.declared.faults.BorrowFault.{BorrowFault}
 use Rattle.pool_shared.specs.declared.faults.PoolFault.{PoolFault}
-use Rattle.pool_shared.specs.declared.lent.Lent.{Lent}
+use Rattle.pool_shared.specs.declared.faults.PoolFault.TheVariants as faults
+use Rattle.pool_shared.specs.Faults.{borrow_fault}
 use Rattle.pool_shared.specs.Traces.{run_stages, Trace}
 use Rattle.pool_shared.specs.Borrows as borrows
-use Rattle.pool_shared.specs.Borrows.{removes, removing, asks, IsStopped, BorrowEnds, BorrowsFrom}
+use Rattle.pool_shared.specs.Borrows.{removes, removing, asks, IsStopped, BorrowEnds, BorrowsFrom, IsFaultFrom}
 use Rattle.pool_shared.specs.Reclaims as removal
 use Rattle.pool_shared.specs.Reclaims.{ReclaimEnds, ReclaimSpec}
 use Rattle.pool_shared.proofs.TracesToResults.{row_at, trace_of, trace_along}
@@ -50,10 +50,26 @@ module _ (s : Settings) (began : ℕ) where
   stops (removal.reclaims (suc left) taken) f me ends = ends
   stops _ f me ends = absurd ends
 
+  -- a borrow that failed at this stage
+  pub ends_stopped : (T E : Type 0) (number : ℕ) (st : borrows.Stage) (f : PoolFault) (me : CallerState) → IsStopped s began f st me → BorrowEnds {T = T} {E = E} s number began st (Err (borrow_fault f)) me
+  ends_stopped T E number st faults.JournalFull me why = why
+  ends_stopped T E number st faults.OutOfMemory me why = why
+  ends_stopped T E number (removes removal.begins) faults.Closed me why = absurd why.1
+  ends_stopped T E number (removes (removal.reclaims zero taken)) faults.Closed me why = absurd why
+  ends_stopped T E number (removes (removal.reclaims (suc left) taken)) faults.Closed me why = absurd why.1
+  ends_stopped T E number (removes _) faults.Closed me why = absurd why
+  ends_stopped T E number asks faults.Closed me why = absurd why.1
+  ends_stopped T E number _ faults.Closed me why = absurd why
+
   -- a removal that failed, and with it the borrow
-  pub removal_failed : {T E : Type 0} (number : ℕ) (f g : PoolFault) (r : Result (Lent T) (BorrowFault E)) (a b : CallerState) → f ≡ g → ReclaimSpec s times.Borrow (Err f) a b
-      → ((st : borrows.Stage) → IsStopped s began g st b → BorrowEnds s number began st r b) → BorrowsFrom s number began (removes removal.begins) r a b
-  removal_failed number f g r a b is row ending =
+  pub removal_failed : (T E : Type 0) (number : ℕ) (f : PoolFault) (a b : CallerState) → ReclaimSpec s times.Borrow (Err f) a b → BorrowsFrom {T = T} {E = E} s number began (removes removal.begins) (Err (borrow_fault f)) a b
+  removal_failed T E number f a b row =
       let to = run_stages removal.next removal.begins row.es in
-      row_at (borrows.IsExpected s began) borrows.next (BorrowEnds s number began) (removes removal.begins) (removing to) r a b (along (Err f) a b row)
-      (ending (removing to) (subst (λ x. IsStopped s began x (removing to) b) is (stops to f b row.ends)))
+      row_at (borrows.IsExpected s began) borrows.next (BorrowEnds {T = T} {E = E} s number began) (removes removal.begins) (removing to) (Err (borrow_fault f)) a b (along (Err f) a b row)
+      (ends_stopped T E number (removing to) f b (stops to f b row.ends))
+
+-- such a borrow has no error of the factory
+pub not_from_factory : {E : Type 0} (make activate : E → Type 0) (f : PoolFault) → IsFaultFrom make activate (borrow_fault f)
+not_from_factory make activate faults.Closed = tt
+not_from_factory make activate faults.JournalFull = tt
+not_from_factory make activate faults.OutOfMemory = tt

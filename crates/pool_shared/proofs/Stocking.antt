@@ -1,5 +1,5 @@
 -- The trace of additions, and of a fill.
-use Rattle.std.proofs.Common.{◌≡◌, ℕ, ◌+◌, ◌^◌, ◌<◌, ◌≤◌, ◌==◌, Bool, false, List, [], ◌∷◌, length, Option, None, Result, Ok, Err, length-append, refl, sym, ap, ◌∙◌, subst, arith}
+use Rattle.std.proofs.Common.{◌≡◌, ℕ, ◌+◌, ◌^◌, ◌<◌, ◌≤◌, ◌==◌, Bool, true, false, List, [], ◌∷◌, length, Some, Result, Ok, Err, length-append, refl, sym, ap, subst, arith}
 use Rattle.std.specs.Prelude.{not, OnOk}
 use Rattle.std.proofs.lemmas.List.Filters.{length-filter_both}
 use Rattle.pool_journal.specs.declared.entry.Entry.{Entry}
@@ -10,23 +10,26 @@ use Rattle.pool_journal.specs.declared.record.Phase.TheVariants as phases
 use Rattle.pool_journal.specs.declared.answer.Answer.{Answer}
 use Rattle.pool_journal.specs.declared.answer.Answer.TheVariants as answers
 use Rattle.pool_settings.specs.declared.settings.Settings.{Settings}
-use Rattle.pool_core.specs.declared.step_fault.StepFault.{StepFault}
-use Rattle.pool_core.specs.declared.step_fault.StepFault.TheVariants.{JournalFull, OutOfMemory}
 use Rattle.pool_core.specs.Legal.{entry_of}
+use Rattle.pool_journal.specs.Entries.{move_of_entry}
 use Rattle.pool_history.specs.CellInvariant.{entries_with_number}
 use Rattle.pool_history.specs.CallerStates.{CallerState, Advances}
 use Rattle.pool_shared.specs.declared.faults.Addition.{Addition}
 use Rattle.pool_shared.specs.declared.faults.Addition.TheVariants as additions
 use Rattle.pool_shared.specs.declared.faults.AddFault.{AddFault}
 use Rattle.pool_shared.specs.declared.faults.AddFault.TheVariants as faults
-use Rattle.pool_lock.specs.Sections.{OwnsObject, AppendsAnswer, Refuses}
+use Rattle.pool_shared.specs.declared.faults.PoolFault.{PoolFault}
+use Rattle.pool_shared.specs.declared.faults.PoolFault.TheVariants as pool_faults
+use Rattle.pool_lock.specs.Sections.{OwnsObject, AppendsAnswer}
 use Rattle.pool_shared.specs.Traces.{run_stages, Trace, EndsWithOwn}
+use Rattle.pool_shared.specs.TraceToResult.{IsRoomFault}
+use Rattle.pool_shared.specs.Faults.{add_fault}
 use Rattle.pool_shared.specs.Adds as addition
-use Rattle.pool_shared.specs.Adds.{makes, ending, FinalState, AddEnds, AddSpec, IsStocked}
+use Rattle.pool_shared.specs.Adds.{makes, ending, FinalState, AddEnds, AddSpec, IsAddFaultFrom, IsStocked}
 use Rattle.pool_shared.specs.Fills as fills
 use Rattle.pool_shared.specs.Fills.{Stage, asks, adds, adding, through, failed, lost, after_asking, next, IsExpected, FillEnds, FillsFrom, FillSpec, FillStep}
 use Rattle.pool_shared.proofs.Traces.{trace_by, trace_on, trace_destroyed}
-use Rattle.pool_shared.proofs.TracesToResults.{row_at, row_none, row_on, trace_along, full_for, short_for}
+use Rattle.pool_shared.proofs.TracesToResults.{row_at, row_none, row_on, trace_along}
 
 stocked_leaves : {E : Type 0} (s : Settings) (input : Input) (r : Result Addition (AddFault E)) (me : CallerState) → IsStocked r → EndsWithOwn me → FinalState s input r me
 stocked_leaves s input (Ok a) me is ends = ends
@@ -45,6 +48,18 @@ added s i x r a b c is made stocked w ends =
     (trace_on (addition.IsExpected s) addition.next addition.asks (makes i) (ending r) a b c (trace_by (addition.IsExpected s) addition.next addition.asks (makes i) Add x (answers.Make i) a b is made (λ n at. refl) (λ n at. refl)) w)
     (refl, stocked_leaves s Add r c stocked ends)
 
+-- an addition whose first critical section failed
+pub add_refused : {E : Type 0} (s : Settings) (f : PoolFault) (before after : CallerState) → after.appended ≡ before.appended → IsRoomFault s Add f after → AddSpec {E = E} s (Err (add_fault f)) before after
+add_refused {E} s pool_faults.JournalFull before after same why = row_none (addition.IsExpected s) addition.next (AddEnds {E = E} s) addition.asks (Err faults.JournalFull) before after same (refl, why)
+add_refused {E} s pool_faults.OutOfMemory before after same why = row_none (addition.IsExpected s) addition.next (AddEnds {E = E} s) addition.asks (Err faults.OutOfMemory) before after same (refl, why)
+add_refused s pool_faults.Closed before after same why = absurd why.1
+
+-- it has no error of the factory
+pub not_from_factory : {E : Type 0} (make passivate : E → Type 0) (f : PoolFault) → IsAddFaultFrom make passivate (add_fault f)
+not_from_factory make passivate pool_faults.Closed = tt
+not_from_factory make passivate pool_faults.JournalFull = tt
+not_from_factory make passivate pool_faults.OutOfMemory = tt
+
 -- the pool was closed before the new object could become idle
 pub shut_out : (s : Settings) (i : ℕ) (a : Answer) (before mid after : CallerState) → a ≡ answers.Destroy → AppendsAnswer (Added i outcomes.Good) a before mid → AppendsAnswer (Destroyed i) answers.Freed mid after
     → Trace (addition.IsExpected s) addition.next (makes i) before after (addition.gone outcomes.Good)
@@ -57,6 +72,13 @@ pub has_shut_out : (i : ℕ) (a : Answer) (before after : CallerState) → a ≡
 has_shut_out i a before after is made =
     let m : AppendsAnswer (Added i outcomes.Good) answers.Destroy before after = subst (λ b. AppendsAnswer (Added i outcomes.Good) b before after) is made in
     (false, record { appended = before.appended; e = entry_of before.number m.0 (Added i outcomes.Good) answers.Destroy; last = m.1.more; moved = refl; is_new = refl })
+
+-- the caller owns the object that it has to make
+pub owns_new : (input : Input) (i : ℕ) (x : Answer) (before after : CallerState) → x ≡ answers.Make i → AppendsAnswer input x before after → ((n at : ℕ) → move_of_entry (entry_of n at input (answers.Make i)) ≡ Some (i, phases.Adding))
+    → (new : Bool) × OwnsObject after i phases.Adding new
+owns_new input i x before after is made moved =
+    let m : AppendsAnswer input (answers.Make i) before after = subst (λ b. AppendsAnswer input b before after) is made in
+    (true, record { appended = before.appended; e = entry_of before.number m.0 input (answers.Make i); last = m.1.more; moved = moved before.number m.0; is_new = refl })
 
 -- an addition within a fill
 module _ (s : Settings) (n : ℕ) where
@@ -91,13 +113,11 @@ module _ (s : Settings) (n : ℕ) where
       (trace_on (IsExpected s) next (asks n) (adds n (makes i)) (adding n (ending r)) before mid after (trace_by (IsExpected s) next (asks n) (adds n (makes i)) Fill a (answers.Make i) before mid is made (λ m at. refl) (λ m at. refl))
       (trace_along (addition.IsExpected s) addition.next (IsExpected s) next (adding n) due_within goes_within (makes i) (ending r) mid after w)) ends
 
-  -- a turn that failed for lack of room
-  pub full_turn : {T E : Type 0} (f : StepFault T) (out : Option T) (before after : CallerState) → f ≡ JournalFull out → Refuses s Fill None f before after → FillStep {E = E} s n (Err faults.JournalFull) before after
-  full_turn {T} {E} f out before after is refuses = row_none (IsExpected s) next (FillEnds {E = E} s) (asks n) (Err faults.JournalFull) before after refuses.same ((n, refl), full_for s Fill f out before after is refuses)
-
-  -- the same for lack of memory
-  pub short_turn : {T E : Type 0} (f : StepFault T) (out : Option T) (before after : CallerState) → f ≡ OutOfMemory out → Refuses s Fill None f before after → FillStep {E = E} s n (Err faults.OutOfMemory) before after
-  short_turn {T} {E} f out before after is refuses = row_none (IsExpected s) next (FillEnds {E = E} s) (asks n) (Err faults.OutOfMemory) before after refuses.same ((n, refl), short_for s Fill f out before after is refuses)
+  -- a turn whose critical section failed
+  pub refused_turn : {E : Type 0} (f : PoolFault) (before after : CallerState) → after.appended ≡ before.appended → IsRoomFault s Fill f after → FillStep {E = E} s n (Err (add_fault f)) before after
+  refused_turn {E} pool_faults.JournalFull before after same why = row_none (IsExpected s) next (FillEnds {E = E} s) (asks n) (Err faults.JournalFull) before after same ((n, refl), why)
+  refused_turn {E} pool_faults.OutOfMemory before after same why = row_none (IsExpected s) next (FillEnds {E = E} s) (asks n) (Err faults.OutOfMemory) before after same ((n, refl), why)
+  refused_turn pool_faults.Closed before after same why = absurd why.1
 
 -- the number of objects parked at a stage
 reached : Stage → ℕ

@@ -1,5 +1,5 @@
 -- The trace of a sweep over idle objects.
-use Rattle.std.proofs.Common.{◌≡◌, ℕ, zero, suc, ◌+◌, ◌-◌, ◌<◌, Bool, true, false, true≢false, if◌then◌else◌, List, [], ◌∷◌, length, Option, None, Some, Result, Ok, Err, refl, ap, sym, ◌∙◌, subst, arith}
+use Rattle.std.proofs.Common.{◌≡◌, ℕ, zero, suc, ◌+◌, ◌-◌, ◌<◌, Bool, true, false, true≢false, if◌then◌else◌, List, [], ◌∷◌, length, Option, None, Some, Ok, Err, refl, ◌∙◌, subst, arith}
 use Rattle.pool_journal.specs.Journal.{records, closed}
 use Rattle.pool_journal.specs.Queue.{idle_queue, first_of}
 use Rattle.pool_journal.specs.declared.record.Record.{Record}
@@ -9,20 +9,19 @@ use Rattle.pool_journal.specs.declared.answer.Answer.{Answer}
 use Rattle.pool_journal.specs.declared.answer.Answer.TheVariants as answers
 use Rattle.pool_settings.specs.declared.settings.Settings.{Settings}
 use Rattle.pool_core.specs.declared.step_fault.StepFault.{StepFault}
-use Rattle.pool_core.specs.declared.step_fault.StepFault.TheVariants.{JournalFull, OutOfMemory}
 use Rattle.pool_core.specs.Completion.{is_completing}
 use Rattle.pool_core.specs.Reply.{reply, clear_next_reply}
 use Rattle.pool_history.specs.CallerStates.{CallerState, Advances, IsConsistent}
 use Rattle.pool_history.proofs.Answering.{none_misused}
 use Rattle.pool_history.proofs.Fragments.{prefix_trans, prefix_self}
 use Rattle.pool_shared.specs.declared.faults.PoolFault.{PoolFault}
-use Rattle.pool_shared.specs.declared.faults.PoolFault.TheVariants as faults
+use Rattle.pool_shared.specs.Faults.{room_fault}
 use Rattle.pool_lock.specs.Sections.{AppendsAnswer, Refuses}
 use Rattle.pool_shared.specs.Traces.{Trace, EndsWithOwn}
 use Rattle.pool_shared.specs.TraceToResult.{TraceToResult, IsRoomFault}
 use Rattle.pool_shared.specs.Clears.{Stage, begins, sweeps, destroys, through, next, IsExpected, NoneIdle, IsOver, Sweeps, ClearEnds, CloseEnds, ClearSpec, CloseSpec}
 use Rattle.pool_shared.proofs.Traces.{trace_none, trace_on, trace_by, trace_more, trace_destroyed}
-use Rattle.pool_shared.proofs.TracesToResults.{row_at, row_none, full_for, short_for}
+use Rattle.pool_shared.proofs.TracesToResults.{row_at, row_none, room_fault_for, unfinished_at}
 
 pub goes_then : (s : Settings) (a b c : CallerState) → Advances s a b → Advances s b c → Advances s a c
 goes_then s a b c p q =
@@ -85,17 +84,11 @@ stopped s first count left taken f a b c some w same room none =
       none,
     )
 
-pub refused_full : {T : Type 0} (s : Settings) (first : Input) (count left taken : ℕ) (f : StepFault T) (out : Option T) (a b c : CallerState) → f ≡ JournalFull out → 0 < left → Trace (IsExpected first) next (sweeps count 0) a b (sweeps left taken)
-    → Refuses s ClearNext None f b c → Sweeps s first count (Err (taken, faults.JournalFull)) a c
-refused_full s first count left taken f out a b c is some w refuses =
-    let full = full_for s ClearNext f out b c is refuses in
-    stopped s first count left taken faults.JournalFull a b c some w refuses.same full (none_idle s full.0 c full.1.unfinished)
-
-pub refused_memory : {T : Type 0} (s : Settings) (first : Input) (count left taken : ℕ) (f : StepFault T) (out : Option T) (a b c : CallerState) → f ≡ OutOfMemory out → 0 < left → Trace (IsExpected first) next (sweeps count 0) a b (sweeps left taken)
-    → Refuses s ClearNext None f b c → Sweeps s first count (Err (taken, faults.OutOfMemory)) a c
-refused_memory s first count left taken f out a b c is some w refuses =
-    let short = short_for s ClearNext f out b c is refuses in
-    stopped s first count left taken faults.OutOfMemory a b c some w refuses.same short (none_idle s short.0 c short.1.unfinished)
+pub refused : {T : Type 0} (s : Settings) (first : Input) (count left taken : ℕ) (f : StepFault T) (a b c : CallerState) → 0 < left → Trace (IsExpected first) next (sweeps count 0) a b (sweeps left taken)
+    → Refuses s ClearNext None f b c → Sweeps s first count (Err (taken, room_fault f)) a c
+refused s first count left taken f a b c some w refuses =
+    let why = room_fault_for s ClearNext f b c refuses in
+    stopped s first count left taken (room_fault f) a b c some w refuses.same why (none_idle s why.0 c (unfinished_at s ClearNext (room_fault f) c why.0 why.1))
 
 begun : (first : Input) (n : ℕ) (a : Answer) (b c : CallerState) → a ≡ answers.Count n → AppendsAnswer first a b c → Trace (IsExpected first) next begins b c (sweeps n 0)
 begun first n a b c is made = trace_by (IsExpected first) next begins (sweeps n 0) first a (answers.Count n) b c is made (λ m at. refl) (λ m at. refl)
@@ -130,19 +123,9 @@ module _ (s : Settings) (n taken : ℕ) (a : Answer) (b c d : CallerState) (is :
   shut_down_part f made swept = swept_part Close (CloseEnds s) n taken a (Ok taken) b c d is made s f swept (refl, (f, swept.2), swept.3)
 
 -- if the first critical section failed
-module _ {T : Type 0} (s : Settings) (f : StepFault T) (out : Option T) (b c : CallerState) where
-  pub clear_full : f ≡ JournalFull out → Refuses s Clear None f b c → ClearSpec s (Err faults.JournalFull) b c
-  clear_full is refuses = row_none (IsExpected Clear) next (ClearEnds s) begins (Err faults.JournalFull) b c refuses.same (full_for s Clear f out b c is refuses)
+module _ (s : Settings) (f : PoolFault) (b c : CallerState) (same : c.appended ≡ b.appended) where
+  pub clear_refused : IsRoomFault s Clear f c → ClearSpec s (Err f) b c
+  clear_refused why = row_none (IsExpected Clear) next (ClearEnds s) begins (Err f) b c same why
 
-  pub clear_short : f ≡ OutOfMemory out → Refuses s Clear None f b c → ClearSpec s (Err faults.OutOfMemory) b c
-  clear_short is refuses = row_none (IsExpected Clear) next (ClearEnds s) begins (Err faults.OutOfMemory) b c refuses.same (short_for s Clear f out b c is refuses)
-
-  pub close_full : f ≡ JournalFull out → Refuses s Close None f b c → CloseSpec s (Err faults.JournalFull) b c
-  close_full is refuses =
-      let full = full_for s Close f out b c is refuses in
-      row_none (IsExpected Close) next (CloseEnds s) begins (Err faults.JournalFull) b c refuses.same (full, was_closed s full.0 c full.1.unfinished)
-
-  pub close_short : f ≡ OutOfMemory out → Refuses s Close None f b c → CloseSpec s (Err faults.OutOfMemory) b c
-  close_short is refuses =
-      let short = short_for s Close f out b c is refuses in
-      row_none (IsExpected Close) next (CloseEnds s) begins (Err faults.OutOfMemory) b c refuses.same (short, was_closed s short.0 c short.1.unfinished)
+  pub close_refused : IsRoomFault s Close f c → CloseSpec s (Err f) b c
+  close_refused why = row_none (IsExpected Close) next (CloseEnds s) begins (Err f) b c same (why, was_closed s why.0 c (unfinished_at s Close f c why.0 why.1))

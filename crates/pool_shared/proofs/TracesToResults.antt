@@ -1,14 +1,19 @@
 -- Whole traces from their parts.
-use Rattle.std.proofs.Common.{◌≡◌, List, [], ◌∷◌, Option, None, refl, sym, ap, ◌∙◌, subst}
+use Rattle.std.proofs.Common.{◌≡◌, ℕ, false, List, [], ◌∷◌, None, refl, sym, ap, ◌∙◌, subst}
 use Rattle.pool_journal.specs.declared.entry.Entry.{Entry}
 use Rattle.pool_journal.specs.declared.input.Input.{Input}
 use Rattle.pool_settings.specs.declared.settings.Settings.{Settings}
 use Rattle.pool_core.specs.declared.step_fault.StepFault.{StepFault}
 use Rattle.pool_core.specs.declared.step_fault.StepFault.TheVariants.{JournalFull, OutOfMemory}
+use Rattle.pool_core.specs.Completion.{is_completing}
+use Rattle.pool_core.specs.Reply.{reply}
 use Rattle.pool_history.specs.CallerStates.{CallerState}
-use Rattle.pool_lock.specs.Sections.{Refuses, IsWhy, IsFullFor, IsShortFor}
+use Rattle.pool_lock.specs.Sections.{Refuses}
+use Rattle.pool_shared.specs.declared.faults.PoolFault.{PoolFault}
+use Rattle.pool_shared.specs.declared.faults.PoolFault.TheVariants as faults
+use Rattle.pool_shared.specs.Faults.{room_fault}
 use Rattle.pool_shared.specs.Traces.{run_stages, AllExpected, Trace}
-use Rattle.pool_shared.specs.TraceToResult.{TraceToResult}
+use Rattle.pool_shared.specs.TraceToResult.{TraceToResult, IsRoomFault, IsRoomFaultAt}
 use Rattle.pool_shared.proofs.Traces.{trace_on, trace_none}
 
 module _ {A R : Type 0} (Expects : A → Entry → Type 0) (next : A → Entry → A) (Ends : A → R → CallerState → Type 0) where
@@ -49,16 +54,13 @@ module _ {A B : Type 0} (Expects : A → Entry → Type 0) (next : A → Entry �
   trace_along from to a b w =
       record { es = w.es; made = w.made; due = due_along from w.es w.due; comes = traced_along from w.es w.due ∙ ap f w.comes }
 
--- the reason why a critical section failed
-pub full_for : {T : Type 0} (s : Settings) (input : Input) (f : StepFault T) (out : Option T) (b c : CallerState) → f ≡ JournalFull out → Refuses s input None f b c → IsFullFor s input c
-full_for {T} s input f out b c is refuses = (subst (λ (g : StepFault T). IsWhy s input None g c) is refuses.error).0
+-- the error of a critical section that failed
+pub room_fault_for : {T : Type 0} (s : Settings) (input : Input) (f : StepFault T) (b c : CallerState) → Refuses s input None f b c → IsRoomFault s input (room_fault f) c
+room_fault_for s input (JournalFull out) b c refuses = refuses.error.0
+room_fault_for s input (OutOfMemory out) b c refuses = refuses.error.0
 
-pub short_for : {T : Type 0} (s : Settings) (input : Input) (f : StepFault T) (out : Option T) (b c : CallerState) → f ≡ OutOfMemory out → Refuses s input None f b c → IsShortFor s input c
-short_for {T} s input f out b c is refuses = (subst (λ (g : StepFault T). IsWhy s input None g c) is refuses.error).0
-
--- a critical section to which no value was passed failed, with no value to return
-pub full_plainly : {T : Type 0} (s : Settings) (input : Input) (f : StepFault T) (out : Option T) (b c : CallerState) → f ≡ JournalFull out → Refuses s input None f b c → Refuses {T = T} s input None (JournalFull None) b c
-full_plainly s input f out b c is refuses = record { same = refuses.same; error = (full_for s input f out b c is refuses, refl) }
-
-pub short_plainly : {T : Type 0} (s : Settings) (input : Input) (f : StepFault T) (out : Option T) (b c : CallerState) → f ≡ OutOfMemory out → Refuses s input None f b c → Refuses {T = T} s input None (OutOfMemory None) b c
-short_plainly s input f out b c is refuses = record { same = refuses.same; error = (short_for s input f out b c is refuses, refl) }
+-- a critical section failed that would not have completed a step
+pub unfinished_at : (s : Settings) (input : Input) (f : PoolFault) (me : CallerState) (at : ℕ) → IsRoomFaultAt s input f me at → is_completing (reply s me.observed at input) input ≡ false
+unfinished_at s input faults.JournalFull me at why = why.unfinished
+unfinished_at s input faults.OutOfMemory me at why = why.unfinished
+unfinished_at s input faults.Closed me at why = absurd why

@@ -6,19 +6,20 @@ use Rattle.pool_history.specs.CallerStates.{CallerState, Advances}
 use Rattle.pool_shared.specs.declared.evicting.EvictRun.{EvictRun}
 use Rattle.pool_shared.specs.declared.faults.AddFault.{AddFault}
 use Rattle.pool_shared.specs.declared.faults.PoolFault.{PoolFault}
+use Rattle.pool_shared.specs.Faults.{add_fault}
 use Rattle.pool_shared.specs.Evicts.{EvictSpec}
 use Rattle.pool_shared.specs.Reclaims.{ReclaimSpec}
 use Rattle.pool_shared.specs.Fills.{FillSpec}
-use Rattle.pool_shared.specs.Maintains.{reported, in_evicting, in_reclaiming, in_filling, MaintainSpec}
+use Rattle.pool_shared.specs.Maintains.{in_evicting, in_reclaiming, in_filling, MaintainSpec}
 
 module _ {U E : Type 0} (s : Settings) where
   -- the eviction run failed
-  pub evict_stops : (r : Result U (AddFault E)) (g : PoolFault) (a b : CallerState) → IsErrAnd r (λ f. f ≡ reported g) → EvictSpec s (Err g) a b → MaintainSpec s r a b
+  pub evict_stops : (r : Result U (AddFault E)) (g : PoolFault) (a b : CallerState) → IsErrAnd r (λ f. f ≡ add_fault g) → EvictSpec s (Err g) a b → MaintainSpec s r a b
   evict_stops (Ok u) g a b is row = absurd is
   evict_stops (Err f) g a b is row = in_evicting g is row
 
   -- the removal failed
-  pub reclaim_stops : (r : Result U (AddFault E)) (run : EvictRun) (g : PoolFault) (a b c : CallerState) → IsErrAnd r (λ f. f ≡ reported g) → Advances s a b → EvictSpec s (Ok run) a b → ReclaimSpec s times.Maintain (Err g) b c → MaintainSpec s r a c
+  pub reclaim_stops : (r : Result U (AddFault E)) (run : EvictRun) (g : PoolFault) (a b c : CallerState) → IsErrAnd r (λ f. f ≡ add_fault g) → Advances s a b → EvictSpec s (Ok run) a b → ReclaimSpec s times.Maintain (Err g) b c → MaintainSpec s r a c
   reclaim_stops (Ok u) run g a b c is goes evicts row = absurd is
   reclaim_stops (Err f) run g a b c is goes evicts row = in_reclaiming g b is record { run = run; goes = goes; row = evicts } row
 

@@ -1,4 +1,5 @@
 pub mod Pools
+pub mod Faults
 pub mod Traces
 pub mod Touches
 pub mod Borrows

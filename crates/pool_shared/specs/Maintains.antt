@@ -5,18 +5,11 @@ use Rattle.pool_settings.specs.declared.settings.Settings.{Settings}
 use Rattle.pool_history.specs.CallerStates.{CallerState, Advances}
 use Rattle.pool_shared.specs.declared.evicting.EvictRun.{EvictRun}
 use Rattle.pool_shared.specs.declared.faults.AddFault.{AddFault}
-use Rattle.pool_shared.specs.declared.faults.AddFault.TheVariants as faults
 use Rattle.pool_shared.specs.declared.faults.PoolFault.{PoolFault}
-use Rattle.pool_shared.specs.declared.faults.PoolFault.TheVariants as pool_faults
+use Rattle.pool_shared.specs.Faults.{add_fault}
 use Rattle.pool_shared.specs.Evicts.{EvictSpec}
 use Rattle.pool_shared.specs.Reclaims.{ReclaimSpec}
 use Rattle.pool_shared.specs.Fills.{FillSpec}
-
--- an error of an eviction run or of a removal, as maintenance returns it
-abbrev pub reported : {E : Type 0} → PoolFault → AddFault E
-reported pool_faults.Closed = faults.Closed
-reported pool_faults.JournalFull = faults.JournalFull
-reported pool_faults.OutOfMemory = faults.OutOfMemory
 
 -- an eviction run succeeded
 pub record HasEvicted (s : Settings) (before after : CallerState) : Type 0 where
@@ -32,8 +25,8 @@ pub record HasReclaimed (s : Settings) (before after : CallerState) : Type 0 whe
 
 -- failed maintenance: the eviction run, the removal after it or the fill after both is the first that fails
 pub data Fails {E : Type 0} (s : Settings) (f : AddFault E) (before after : CallerState) : Type 0 where
-  in_evicting : (g : PoolFault) → f ≡ reported g → EvictSpec s (Err g) before after → Fails s f before after
-  in_reclaiming : (g : PoolFault) (mid : CallerState) → f ≡ reported g → HasEvicted s before mid → ReclaimSpec s times.Maintain (Err g) mid after → Fails s f before after
+  in_evicting : (g : PoolFault) → f ≡ add_fault g → EvictSpec s (Err g) before after → Fails s f before after
+  in_reclaiming : (g : PoolFault) (mid : CallerState) → f ≡ add_fault g → HasEvicted s before mid → ReclaimSpec s times.Maintain (Err g) mid after → Fails s f before after
   in_filling : (mid later : CallerState) → HasEvicted s before mid → HasReclaimed s mid later → FillSpec s (Err f) later after → Fails s f before after
 
 -- the trace of whole maintenance: an eviction run, a removal and a fill, or these up to the first error

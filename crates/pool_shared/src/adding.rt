@@ -7,7 +7,7 @@ ghost use Rattle.pool_lock.specs.Sections.{OwnsObject};
 ghost use Rattle.pool_shared.specs.Traces.{Trace, EndsWithOwn};
 ghost use Rattle.pool_shared.specs.Adds.{makes, gone, next, IsExpected, shelved, ending, AddSpec, IsAddFaultFrom, IsWhyUnfit, IsFailure, IsPlaced, IsStocked};
 
-use crate::faults::{AddFault, Addition, SectionError};
+use crate::faults::{AddFault, Addition};
 use crate::pool::SharedPool;
 use pool_history::{Caller, Room};
 use pool_journal::{Answer, Cause, Input, Outcome};
@@ -156,13 +156,11 @@ impl<T: Drop, E: Drop, F: Factory<T, E> + Drop, C: Clock + Drop, B: Room> Shared
         ensures spec { AddSpec B.settings result me.old me.new }
         ensures fault { IfErr result (IsAddFaultFrom F.from_make F.from_passivate) }
     {
-        match self.run_section_without_value(rt, me, Input::Add) {
-            Ok(Answer::Make(id)) => self.make_idle(rt, me, id),
-            Ok(Answer::NoPlace) => Ok(Addition::NoPlace),
-            Ok(Answer::Refused(Cause::Closed)) => Err(AddFault::Closed),
-            Ok(_) => unreachable!(),
-            Err(SectionError::JournalFull) => Err(AddFault::JournalFull),
-            Err(SectionError::OutOfMemory) => Err(AddFault::OutOfMemory),
+        match self.run_section_without_value(rt, me, Input::Add)? {
+            Answer::Make(id) => self.make_idle(rt, me, id),
+            Answer::NoPlace => Ok(Addition::NoPlace),
+            Answer::Refused(Cause::Closed) => Err(AddFault::Closed),
+            _ => unreachable!(),
         }
     }
 }

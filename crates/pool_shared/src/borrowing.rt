@@ -8,17 +8,16 @@ ghost use Rattle.pool_journal.specs.declared.input.Outcome.TheVariants as outcom
 ghost use Rattle.pool_core.specs.Laws.{AtMostMaxTotal};
 ghost use Rattle.pool_history.specs.CallerStates.{Advances};
 ghost use Rattle.pool_history.specs.Answers.{IsPossibleAnswer};
-ghost use Rattle.pool_lock.specs.Sections.{OwnsObject, IsPermitted, AppendsAnswer, ReturnsValue, IsWhy, continues_object};
+ghost use Rattle.pool_lock.specs.Sections.{OwnsObject, IsPermitted, AppendsAnswer, ReturnsValue, continues_object};
 ghost use Rattle.pool_shared.specs.Promises.{IsAlone};
 ghost use Rattle.pool_shared.specs.Traces.{Trace, Ends};
-ghost use Rattle.pool_shared.specs.Reclaims.{begins};
-ghost use Rattle.pool_shared.specs.Borrows.{removes, asks, readies, lent, after_asking, after_destroying, next, IsExpected, BorrowsFrom, BorrowSpec, IsLentWell, IsFaultFrom, IsWhyUnready, IsFound, taken_to, IsFailure};
+ghost use Rattle.pool_shared.specs.TraceToResult.{IsRoomFault};
+ghost use Rattle.pool_shared.specs.Borrows.{asks, readies, lent, after_asking, after_destroying, next, IsExpected, BorrowsFrom, BorrowSpec, IsLentWell, IsFaultFrom, IsWhyUnready, IsFound, taken_to, IsFailure};
 
 use crate::faults::{BorrowFault, PoolFault};
 use crate::lent::Lent;
 use crate::pool::SharedPool;
 use crate::spinning::{lock, wait};
-use pool_core::StepFault;
 use pool_history::{Caller, Room};
 use pool_journal::{Answer, Cause, Input, Outcome, When};
 use pool_lock::{Clock, Factory, LockedPool};
@@ -81,7 +80,7 @@ impl<T: Drop, E: Drop, F: Factory<T, E> + Drop, C: Clock + Drop, B: Room> Shared
         rt: &R,
         me: &mut Caller<B>,
         began: u64,
-    ) -> Result<(Answer, Option<T>), StepFault<T>>
+    ) -> Result<(Answer, Option<T>), PoolFault>
         ensures advances { Advances B.settings me.old me.new }
         ensures found { IfOk result (λ r. IsFound r.0) }
         ensures trace { IfOk result (λ r. Trace
@@ -91,17 +90,15 @@ impl<T: Drop, E: Drop, F: Factory<T, E> + Drop, C: Clock + Drop, B: Room> Shared
         ensures returned { IfOk result (λ r. ReturnsValue F.passive r.0 None r.1) }
         ensures none { IfErr result (λ f. Trace
             (IsExpected B.settings began) next asks me.old me.new asks) }
-        ensures refused { IfErr result (λ f. IsWhy B.settings (inputs.Borrow began) None f me.new) }
+        ensures refused { IfErr result (λ f. IsRoomFault B.settings (inputs.Borrow began) f me.new) }
     {
         let input = Input::Borrow { began };
         let mut locked_pool = lock(rt, &self.locked_pool);
         for _ in rt.forever() {
-            match locked_pool.step(rt, &self.cell, &self.clock, me, input, None) {
-                Ok((answer, out)) => match answer {
-                    Answer::Wait => locked_pool = self.wait(rt, locked_pool, began),
-                    found => return Ok((found, out)),
-                },
-                Err(fault) => return Err(fault),
+            let (answer, value) = locked_pool.step(rt, &self.cell, &self.clock, me, input, None)?;
+            match answer {
+                Answer::Wait => locked_pool = self.wait(rt, locked_pool, began),
+                found => return Ok((found, value)),
             }
         }
         unreachable!()
@@ -307,8 +304,7 @@ impl<T: Drop, E: Drop, F: Factory<T, E> + Drop, C: Clock + Drop, B: Room> Shared
             Ok((Answer::Exhausted, _)) => Some(Err(BorrowFault::Exhausted)),
             Ok((Answer::TimedOut, _)) => Some(Err(BorrowFault::TimedOut)),
             Ok(_) => unreachable!(),
-            Err(StepFault::JournalFull(_)) => Some(Err(BorrowFault::JournalFull)),
-            Err(StepFault::OutOfMemory(_)) => Some(Err(BorrowFault::OutOfMemory)),
+            Err(fault) => Some(Err(BorrowFault::from(fault))),
         }
     }
 
@@ -333,23 +329,6 @@ impl<T: Drop, E: Drop, F: Factory<T, E> + Drop, C: Clock + Drop, B: Room> Shared
         unreachable!()
     }
 
-    // Reclaims abandoned objects, if a borrow begins with that.
-    fn reclaim_first<R: Wait>(&self, rt: &R, me: &mut Caller<B>) -> Result<(), BorrowFault<E>>
-        ensures advances { Advances B.settings me.old me.new }
-        ensures trace { OnOk result ((began : ℕ)
-            → Trace (IsExpected B.settings began) next (removes begins) me.old me.new asks) }
-        ensures spec { IfErr result (λ f. (number began : ℕ)
-            → BorrowsFrom {T = T} B.settings number began (removes begins) (Err f) me.old me.new) }
-        ensures fault { IfErr result (IsFaultFrom F.from_make F.from_activate) }
-    {
-        match self.reclaim_on(rt, me, When::Borrow) {
-            Ok(_) => Ok(()),
-            Err(PoolFault::JournalFull) => Err(BorrowFault::JournalFull),
-            Err(PoolFault::OutOfMemory) => Err(BorrowFault::OutOfMemory),
-            Err(PoolFault::Closed) => unreachable!(),
-        }
-    }
-
     /// Lends an object: an idle one, or a new one if there is a free place. No other caller holds it, and at most
     /// `maxTotal` objects are present.
     ///
@@ -367,12 +346,8 @@ impl<T: Drop, E: Drop, F: Factory<T, E> + Drop, C: Clock + Drop, B: Room> Shared
     {
         let began = self.clock.now();
         if self.settings.remove_abandoned_on_borrow {
-            match self.reclaim_first(rt, me) {
-                Ok(()) => self.borrow_until_result(rt, me, began),
-                Err(fault) => Err(fault),
-            }
-        } else {
-            self.borrow_until_result(rt, me, began)
+            self.reclaim_on(rt, me, When::Borrow)?;
         }
+        self.borrow_until_result(rt, me, began)
     }
 }

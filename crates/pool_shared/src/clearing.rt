@@ -5,9 +5,8 @@ ghost use Rattle.pool_history.specs.CallerStates.{Advances, IsConsistent};
 ghost use Rattle.pool_shared.specs.Traces.{EndsWithOwn};
 ghost use Rattle.pool_shared.specs.Clears.{Sweeps, ClearSpec, CloseSpec};
 
-use crate::faults::{PoolFault, SectionError};
+use crate::faults::PoolFault;
 use crate::pool::SharedPool;
-use pool_core::StepFault;
 use pool_history::{Caller, Room};
 use pool_journal::{Answer, Input};
 use pool_lock::{Clock, Factory};
@@ -41,8 +40,7 @@ impl<T: Drop, E: Drop, F: Factory<T, E> + Drop, C: Clock + Drop, B: Room> Shared
                 }
                 Ok((Answer::Nothing, _)) => return Ok(taken),
                 Ok(_) => unreachable!(),
-                Err(StepFault::JournalFull(_)) => return Err((taken, PoolFault::JournalFull)),
-                Err(StepFault::OutOfMemory(_)) => return Err((taken, PoolFault::OutOfMemory)),
+                Err(fault) => return Err((taken, PoolFault::from(fault))),
             }
         }
         Ok(count)
@@ -57,14 +55,12 @@ impl<T: Drop, E: Drop, F: Factory<T, E> + Drop, C: Clock + Drop, B: Room> Shared
         ensures advances { Advances B.settings me.old me.new }
         ensures spec { ClearSpec B.settings result me.old me.new }
     {
-        match self.run_section_without_value(rt, me, Input::Clear) {
-            Ok(Answer::Count(count)) => match self.destroy_idle(rt, me, count) {
+        match self.run_section_without_value(rt, me, Input::Clear)? {
+            Answer::Count(count) => match self.destroy_idle(rt, me, count) {
                 Ok(taken) => Ok(taken),
                 Err((_, fault)) => Err(fault),
             },
-            Ok(_) => unreachable!(),
-            Err(SectionError::JournalFull) => Err(PoolFault::JournalFull),
-            Err(SectionError::OutOfMemory) => Err(PoolFault::OutOfMemory),
+            _ => unreachable!(),
         }
     }
 
@@ -77,18 +73,16 @@ impl<T: Drop, E: Drop, F: Factory<T, E> + Drop, C: Clock + Drop, B: Room> Shared
         ensures advances { Advances B.settings me.old me.new }
         ensures spec { CloseSpec B.settings result me.old me.new }
     {
-        match self.run_section_without_value(rt, me, Input::Close) {
-            Ok(Answer::Count(count)) => {
+        match self.run_section_without_value(rt, me, Input::Close)? {
+            Answer::Count(count) => {
                 self.changed.notify_all();
                 match self.destroy_idle(rt, me, count) {
                     Ok(taken) => Ok(taken),
                     Err((taken, _)) => Ok(taken),
                 }
             }
-            Ok(Answer::Nothing) => Ok(0),
-            Ok(_) => unreachable!(),
-            Err(SectionError::JournalFull) => Err(PoolFault::JournalFull),
-            Err(SectionError::OutOfMemory) => Err(PoolFault::OutOfMemory),
+            Answer::Nothing => Ok(0),
+            _ => unreachable!(),
         }
     }
 }

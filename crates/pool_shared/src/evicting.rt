@@ -8,9 +8,8 @@ ghost use Rattle.pool_shared.specs.declared.evicting.EvictRun.{EvictRun};
 ghost use Rattle.pool_shared.specs.declared.evicting.Disposition.TheVariants as fates;
 ghost use Rattle.pool_shared.specs.Evicts.{examines, tests, none_yet, one_more, next, IsExpected, fared, after_test, after_one, IsStopped, EvictsFrom, EvictSpec, IsFailedTest, IsUnfit};
 
-use crate::faults::{PoolFault, SectionError};
+use crate::faults::PoolFault;
 use crate::pool::SharedPool;
-use pool_core::StepFault;
 use pool_history::{Caller, Room};
 use pool_journal::{Answer, Cause, Input, Outcome};
 use pool_lock::{Clock, Factory};
@@ -157,17 +156,15 @@ impl<T: Drop, E: Drop, F: Factory<T, E> + Drop, C: Clock + Drop, B: Room> Shared
         ensures same { OnErr result (me.new.appended ≡ me.old.appended) }
         ensures refused { IfErr result (λ f. IsStopped B.settings f me.new) }
     {
-        match self.run_section(rt, me, Input::EvictNext, None) {
-            Ok((Answer::KeptIdle(_), _)) => Ok(Some(Disposition::Kept)),
-            Ok((Answer::DestroyIdle(id), Some(value))) => {
+        match self.run_section(rt, me, Input::EvictNext, None)? {
+            (Answer::KeptIdle(_), _) => Ok(Some(Disposition::Kept)),
+            (Answer::DestroyIdle(id), Some(value)) => {
                 self.destroy_held(rt, me, id, value);
                 Ok(Some(Disposition::Destroyed))
             }
-            Ok((Answer::Test(id), Some(value))) => Ok(Some(self.test(rt, me, id, value))),
-            Ok((Answer::Nothing, _)) => Ok(None),
-            Ok(_) => unreachable!(),
-            Err(StepFault::JournalFull(_)) => Err(PoolFault::JournalFull),
-            Err(StepFault::OutOfMemory(_)) => Err(PoolFault::OutOfMemory),
+            (Answer::Test(id), Some(value)) => Ok(Some(self.test(rt, me, id, value))),
+            (Answer::Nothing, _) => Ok(None),
+            _ => unreachable!(),
         }
     }
 
@@ -209,12 +206,10 @@ impl<T: Drop, E: Drop, F: Factory<T, E> + Drop, C: Clock + Drop, B: Room> Shared
         ensures advances { Advances B.settings me.old me.new }
         ensures spec { EvictSpec B.settings result me.old me.new }
     {
-        match self.run_section_without_value(rt, me, Input::Evict) {
-            Ok(Answer::Count(count)) => self.examine(rt, me, count),
-            Ok(Answer::Refused(Cause::Closed)) => Err(PoolFault::Closed),
-            Ok(_) => unreachable!(),
-            Err(SectionError::JournalFull) => Err(PoolFault::JournalFull),
-            Err(SectionError::OutOfMemory) => Err(PoolFault::OutOfMemory),
+        match self.run_section_without_value(rt, me, Input::Evict)? {
+            Answer::Count(count) => self.examine(rt, me, count),
+            Answer::Refused(Cause::Closed) => Err(PoolFault::Closed),
+            _ => unreachable!(),
         }
     }
 }

@@ -4,7 +4,7 @@ ghost use Rattle.pool_history.specs.CallerStates.{Advances};
 ghost use Rattle.pool_shared.specs.Adds.{IsAddFaultFrom};
 ghost use Rattle.pool_shared.specs.Fills.{FillStep, FillSpec};
 
-use crate::faults::{AddFault, Addition, SectionError};
+use crate::faults::{AddFault, Addition};
 use crate::pool::SharedPool;
 use pool_history::{Caller, Room};
 use pool_journal::{Answer, Input};
@@ -25,13 +25,11 @@ impl<T: Drop, E: Drop, F: Factory<T, E> + Drop, C: Clock + Drop, B: Room> Shared
         ensures bounded { OnOk result (length me.old.appended + 1 < 2 ^ 64) }
         ensures fault { IfErr result (IsAddFaultFrom F.from_make F.from_passivate) }
     {
-        match self.run_section_without_value(rt, me, Input::Fill) {
-            Ok(Answer::Make(id)) => self.make_idle(rt, me, id),
-            Ok(Answer::Enough) => Ok(Addition::NoPlace),
-            Ok(Answer::NoPlace) => Ok(Addition::NoPlace),
-            Ok(_) => unreachable!(),
-            Err(SectionError::JournalFull) => Err(AddFault::JournalFull),
-            Err(SectionError::OutOfMemory) => Err(AddFault::OutOfMemory),
+        match self.run_section_without_value(rt, me, Input::Fill)? {
+            Answer::Make(id) => self.make_idle(rt, me, id),
+            Answer::Enough => Ok(Addition::NoPlace),
+            Answer::NoPlace => Ok(Addition::NoPlace),
+            _ => unreachable!(),
         }
     }
 

@@ -3,7 +3,7 @@ ghost use Rattle.std.specs.Prelude.{◌≡◌, IfErr};
 ghost use Rattle.pool_history.specs.CallerStates.{Advances};
 ghost use Rattle.pool_shared.specs.Invalidates.{InvalidateSpec};
 
-use crate::faults::{ReturnFault, Returned, SectionError};
+use crate::faults::{ReturnFault, Returned};
 use crate::lent::Lent;
 use crate::pool::SharedPool;
 use pool_history::{Caller, Room};
@@ -39,13 +39,13 @@ impl<T: Drop, E: Drop, F: Factory<T, E> + Drop, C: Clock + Drop, B: Room> Shared
         if lent.pool != self.number {
             return Err((ReturnFault::ForeignObject, lent));
         }
-        match self.run_section_without_value(rt, me, Input::Invalidate { id: lent.id }) {
-            Ok(Answer::Destroy) => {
+        match self.run_section(rt, me, Input::Invalidate { id: lent.id }, None) {
+            Ok((Answer::Destroy, _)) => {
                 let Lent { pool: _, id, value } = lent;
                 self.destroy_held(rt, me, id, value);
                 Ok(Returned::Destroyed)
             }
-            Ok(Answer::Gone) => {
+            Ok((Answer::Gone, _)) => {
                 let Lent {
                     pool: _,
                     id: _,
@@ -54,10 +54,9 @@ impl<T: Drop, E: Drop, F: Factory<T, E> + Drop, C: Clock + Drop, B: Room> Shared
                 self.factory.destroy(value);
                 Ok(Returned::Gone)
             }
-            Ok(Answer::Refused(Cause::NotLent)) => Err((ReturnFault::NotLent, lent)),
+            Ok((Answer::Refused(Cause::NotLent), _)) => Err((ReturnFault::NotLent, lent)),
             Ok(_) => unreachable!(),
-            Err(SectionError::JournalFull) => Err((ReturnFault::JournalFull, lent)),
-            Err(SectionError::OutOfMemory) => Err((ReturnFault::OutOfMemory, lent)),
+            Err(fault) => Err((ReturnFault::from(fault), lent)),
         }
     }
 }

@@ -4,26 +4,11 @@ ghost use Rattle.pool_history.specs.CallerStates.{Advances};
 ghost use Rattle.pool_shared.specs.Adds.{IsAddFaultFrom};
 ghost use Rattle.pool_shared.specs.Maintains.{MaintainSpec};
 
-use crate::faults::{AddFault, PoolFault};
+use crate::faults::AddFault;
 use crate::pool::SharedPool;
 use pool_history::{Caller, Room};
 use pool_lock::{Clock, Factory};
 use std::sync::Wait;
-
-impl<E> From<PoolFault> for AddFault<E> {
-    ghost use Rattle.std.specs.Prelude.{◌≡◌};
-    ghost use Rattle.pool_shared.specs.Maintains.{reported};
-
-    ghost from_gives = { λ f e. e ≡ reported f };
-
-    fn from(fault: PoolFault) -> AddFault<E> {
-        match fault {
-            PoolFault::Closed => AddFault::Closed,
-            PoolFault::JournalFull => AddFault::JournalFull,
-            PoolFault::OutOfMemory => AddFault::OutOfMemory,
-        }
-    }
-}
 
 impl<T: Drop, E: Drop, F: Factory<T, E> + Drop, C: Clock + Drop, B: Room> SharedPool<
     T,

@@ -6,7 +6,7 @@ ghost use Rattle.pool_history.specs.CallerStates.{Advances, IsConsistent};
 ghost use Rattle.pool_shared.specs.Traces.{EndsWithOwn};
 ghost use Rattle.pool_shared.specs.Reclaims.{reclaims, ReclaimsFrom, ReclaimSpec};
 
-use crate::faults::{PoolFault, SectionError};
+use crate::faults::PoolFault;
 use crate::pool::SharedPool;
 use pool_history::{Caller, Room};
 use pool_journal::{Answer, Input, When};
@@ -34,12 +34,10 @@ impl<T: Drop, E: Drop, F: Factory<T, E> + Drop, C: Clock + Drop, B: Room> Shared
             (reclaims count 0) result me.old me.new }
     {
         for taken in 0..count {
-            match self.run_section_without_value(rt, me, Input::ReclaimNext) {
-                Ok(Answer::Reclaimed(_)) => self.changed.notify_all(),
-                Ok(Answer::Nothing) => return Ok(taken),
-                Ok(_) => unreachable!(),
-                Err(SectionError::JournalFull) => return Err(PoolFault::JournalFull),
-                Err(SectionError::OutOfMemory) => return Err(PoolFault::OutOfMemory),
+            match self.run_section_without_value(rt, me, Input::ReclaimNext)? {
+                Answer::Reclaimed(_) => self.changed.notify_all(),
+                Answer::Nothing => return Ok(taken),
+                _ => unreachable!(),
             }
         }
         Ok(count)
@@ -55,11 +53,9 @@ impl<T: Drop, E: Drop, F: Factory<T, E> + Drop, C: Clock + Drop, B: Room> Shared
         ensures advances { Advances B.settings me.old me.new }
         ensures spec { ReclaimSpec B.settings on result me.old me.new }
     {
-        match self.run_section_without_value(rt, me, Input::Reclaim { on }) {
-            Ok(Answer::Count(count)) => self.reclaim_some(rt, me, count),
-            Ok(_) => unreachable!(),
-            Err(SectionError::JournalFull) => Err(PoolFault::JournalFull),
-            Err(SectionError::OutOfMemory) => Err(PoolFault::OutOfMemory),
+        match self.run_section_without_value(rt, me, Input::Reclaim { on })? {
+            Answer::Count(count) => self.reclaim_some(rt, me, count),
+            _ => unreachable!(),
         }
     }
 

@@ -10,7 +10,7 @@ ghost use Rattle.pool_shared.specs.Traces.{Trace, EndsWithOwn};
 ghost use Rattle.pool_shared.specs.Returns.{checks, done, next, IsPossibleOutcome, IsExpected, ReturnSpec};
 ghost use Rattle.pool_shared.specs.declared.faults.Returned.TheVariants as returned;
 
-use crate::faults::{ReturnFault, Returned, SectionError};
+use crate::faults::{ReturnFault, Returned};
 use crate::lent::Lent;
 use crate::pool::SharedPool;
 use pool_history::{Caller, Room};
@@ -113,12 +113,12 @@ impl<T: Drop, E: Drop, F: Factory<T, E> + Drop, C: Clock + Drop, B: Room> Shared
         if lent.pool != self.number {
             return Err((ReturnFault::ForeignObject, lent));
         }
-        match self.run_section_without_value(rt, me, Input::GiveBack { id: lent.id }) {
-            Ok(Answer::Check) => {
+        match self.run_section(rt, me, Input::GiveBack { id: lent.id }, None) {
+            Ok((Answer::Check, _)) => {
                 let Lent { pool: _, id, value } = lent;
                 Ok(self.check(rt, me, id, value))
             }
-            Ok(Answer::Gone) => {
+            Ok((Answer::Gone, _)) => {
                 let Lent {
                     pool: _,
                     id: _,
@@ -127,10 +127,9 @@ impl<T: Drop, E: Drop, F: Factory<T, E> + Drop, C: Clock + Drop, B: Room> Shared
                 self.factory.destroy(value);
                 Ok(Returned::Gone)
             }
-            Ok(Answer::Refused(Cause::NotLent)) => Err((ReturnFault::NotLent, lent)),
+            Ok((Answer::Refused(Cause::NotLent), _)) => Err((ReturnFault::NotLent, lent)),
             Ok(_) => unreachable!(),
-            Err(SectionError::JournalFull) => Err((ReturnFault::JournalFull, lent)),
-            Err(SectionError::OutOfMemory) => Err((ReturnFault::OutOfMemory, lent)),
+            Err(fault) => Err((ReturnFault::from(fault), lent)),
         }
     }
 }

@@ -1,34 +1,42 @@
 use Rattle.pool_shared.proofs.Sweeping.{goes_then}
-use Rattle.std.proofs.Common.{ap}
-use Rattle.pool_shared.proofs.Stocking.{bounded_made, either_way, turned, full_turn, short_turn}
-use Rattle.pool_shared.specs.Pools.{refusal}
+use Rattle.std.proofs.lemmas.Result.{err_from_is_err_and}
+use Rattle.pool_shared.proofs.Stocking.{bounded_made, either_way, turned, refused_turn, not_from_factory, owns_new}
+use Rattle.std.proofs.Common.{refl}
+use Rattle.pool_journal.specs.declared.input.Input.TheVariants.{Fill}
 use Rattle.pool_shared.proofs.pool.SharedPool.add_missing.Goals as goal
 
-pub returns-in-Ok-Make-clause-turn : goal.returns-in-Ok-Make-clause-turn
-returns-in-Ok-Make-clause-turn g c n =
+pub returns-in-Make-clause-turn : goal.returns-in-Make-clause-turn
+returns-in-Make-clause-turn g c n =
     let of = c.make_idle.ensures in
-    turned g.B.Room.settings n c.in-Ok-Make.id _ c.make_idle.result _ _ _ c.in-Ok-Make.field-0-is c.in-Ok-Make.ensures.appended of.appended of.trace of.ends
+    turned g.B.Room.settings n c.in-Make.id _ c.make_idle.result _ _ _ c.in-Make.is c.in_ok-id.ensures.appended of.appended of.trace of.ends
 
-pub returns-in-Err-JournalFull-clause-turn : goal.returns-in-Err-JournalFull-clause-turn
-returns-in-Err-JournalFull-clause-turn g c n = full_turn g.B.Room.settings n _ _ _ _ (ap refusal c.in-Err-JournalFull.field-0-is) c.in-Err-JournalFull.ensures.refused
-
-pub returns-in-Err-OutOfMemory-clause-turn : goal.returns-in-Err-OutOfMemory-clause-turn
-returns-in-Err-OutOfMemory-clause-turn g c n = short_turn g.B.Room.settings n _ _ _ _ (ap refusal c.in-Err-OutOfMemory.field-0-is) c.in-Err-OutOfMemory.ensures.refused
-
-pub returns-in-Ok-Make-clause-bounded : goal.returns-in-Ok-Make-clause-bounded
-returns-in-Ok-Make-clause-bounded g c =
-    let e = c.in-Ok-Make.ensures in
+pub returns-in-Make-clause-bounded : goal.returns-in-Make-clause-bounded
+returns-in-Make-clause-bounded g c =
+    let e = c.in_ok-id.ensures in
     either_way c.make_idle.result _ (bounded_made g.B.Room.settings _ _ _ _ e.appended e.advances e.bounded)
 
-pub returns-in-Ok-Enough-clause-bounded : goal.returns-in-Ok-Enough-clause-bounded
-returns-in-Ok-Enough-clause-bounded g c =
-    let e = c.in-Ok-Enough.ensures in
+pub returns-in-Enough-clause-bounded : goal.returns-in-Enough-clause-bounded
+returns-in-Enough-clause-bounded g c =
+    let e = c.in_ok-id.ensures in
     bounded_made g.B.Room.settings _ _ _ _ e.appended e.advances e.bounded
 
-pub returns-in-Ok-NoPlace-clause-bounded : goal.returns-in-Ok-NoPlace-clause-bounded
-returns-in-Ok-NoPlace-clause-bounded g c =
-    let e = c.in-Ok-NoPlace.ensures in
+pub returns-in-NoPlace-clause-bounded : goal.returns-in-NoPlace-clause-bounded
+returns-in-NoPlace-clause-bounded g c =
+    let e = c.in_ok-id.ensures in
     bounded_made g.B.Room.settings _ _ _ _ e.appended e.advances e.bounded
 
-pub returns-in-Ok-Make-clause-advances : goal.returns-in-Ok-Make-clause-advances
-returns-in-Ok-Make-clause-advances g c = goes_then g.B.Room.settings _ _ _ c.in-Ok-Make.ensures.advances c.make_idle.ensures.advances
+pub returns-in-Make-clause-advances : goal.returns-in-Make-clause-advances
+returns-in-Make-clause-advances g c = goes_then g.B.Room.settings _ _ _ c.in_ok-id.ensures.advances c.make_idle.ensures.advances
+
+pub returns-in_err-id-clause-turn : goal.returns-in_err-id-clause-turn
+returns-in_err-id-clause-turn g c n =
+    let p = err_from_is_err_and c.from_residual.result c.from_residual.ensures.1 in
+    rw (p.1, p.2) (refused_turn g.B.Room.settings n c.in_err-id.field-0.0 _ _ c.in_err-id.ensures.same c.in_err-id.ensures.refused)
+
+pub returns-in_err-id-clause-fault : goal.returns-in_err-id-clause-fault
+returns-in_err-id-clause-fault g c =
+    let p = err_from_is_err_and c.from_residual.result c.from_residual.ensures.1 in
+    rw (p.1, p.2) (not_from_factory _ _ c.in_err-id.field-0.0)
+
+pub make_idle-requires-clause-owns : goal.make_idle-requires-clause-owns
+make_idle-requires-clause-owns g c κs within = owns_new Fill _ _ _ _ c.in-Make.is c.in_ok-id.ensures.appended (λ n at. refl)

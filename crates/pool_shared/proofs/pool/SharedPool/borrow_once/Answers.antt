@@ -1,12 +1,11 @@
 use Rattle.pool_shared.proofs.Sweeping.{goes_then}
-use Rattle.std.proofs.Common.{None, refl, sym, ap, ◌∙◌, subst}
-use Rattle.pool_journal.specs.declared.input.Input.TheVariants.{Borrow}
+use Rattle.std.proofs.Common.{refl, sym, ap, ◌∙◌}
 use Rattle.pool_journal.specs.declared.answer.Answer.TheVariants.{Refused, Exhausted, TimedOut}
 use Rattle.pool_journal.specs.declared.answer.Cause.TheVariants.{Closed}
-use Rattle.pool_lock.specs.Sections.{IsWhy}
 use Rattle.pool_shared.specs.Borrows as borrows
 use Rattle.pool_shared.specs.Borrows.{asks, lent, BorrowEnds}
 use Rattle.pool_shared.proofs.Asking.{refuses, to_there}
+use Rattle.pool_shared.proofs.Removing.{ends_stopped, not_from_factory}
 use Rattle.pool_shared.proofs.TracesToResults.{row_at, row_on}
 use Rattle.pool_shared.proofs.Traces.{trace_on}
 use Rattle.pool_shared.proofs.pool.SharedPool.borrow_once.Goals as goal
@@ -20,8 +19,8 @@ returns-in-Some-clause-spec g c =
     (trace_on (borrows.IsExpected s c.args.began) borrows.next _ _ _ _ _ _ w (c.in-Some.ensures.trace c.args.began))
     (ap lent (sym loan.1), loan.0, c.in-Some.ensures.ends)
 
-pub returns-in-Ok-Take-Some-clause-again : goal.returns-in-Ok-Take-Some-clause-again
-returns-in-Ok-Take-Some-clause-again g c =
+pub returns-in-None-clause-again : goal.returns-in-None-clause-again
+returns-in-None-clause-again g c =
     let s = g.B.Room.settings in
     let w = to_there s c.args.began _ _ _ _ c.in-Ok-Take-Some.field-0-0-is c.in-Ok-Take-Some.ensures.trace in
     trace_on (borrows.IsExpected s c.args.began) borrows.next _ _ _ _ _ _ w (c.in-None.ensures.trace c.args.began)
@@ -35,8 +34,8 @@ returns-in-Ok-Make-default-clause-spec g c =
 pub returns-in-Some-clause-advances : goal.returns-in-Some-clause-advances
 returns-in-Some-clause-advances g c = goes_then g.B.Room.settings _ _ _ c.in-Ok-Take-Some.ensures.advances c.in-Some.ensures.advances
 
-pub returns-in-Ok-Take-Some-clause-advances : goal.returns-in-Ok-Take-Some-clause-advances
-returns-in-Ok-Take-Some-clause-advances g c = goes_then g.B.Room.settings _ _ _ c.in-Ok-Take-Some.ensures.advances c.in-None.ensures.advances
+pub returns-in-None-clause-advances : goal.returns-in-None-clause-advances
+returns-in-None-clause-advances g c = goes_then g.B.Room.settings _ _ _ c.in-Ok-Take-Some.ensures.advances c.in-None.ensures.advances
 
 pub returns-in-Ok-Make-default-clause-advances : goal.returns-in-Ok-Make-default-clause-advances
 returns-in-Ok-Make-default-clause-advances g c = goes_then g.B.Room.settings _ _ _ c.in-Ok-Make-default.ensures.advances c.lend_made.ensures.advances
@@ -59,16 +58,11 @@ returns-in-Ok-TimedOut-default-clause-spec g c =
     let of = c.in-Ok-TimedOut-default in
     refuses s c.args.began c.args.self.now.number _ (TimedOut) _ _ _ (of.field-0-0-is) of.ensures.trace (refl, (_, _, of.ensures.ends))
 
-pub returns-in-Err-JournalFull-clause-spec : goal.returns-in-Err-JournalFull-clause-spec
-returns-in-Err-JournalFull-clause-spec g c =
+pub returns-in-Err-clause-spec : goal.returns-in-Err-clause-spec
+returns-in-Err-clause-spec g c =
     let s = g.B.Room.settings in
-    let of = c.in-Err-JournalFull in
-    row_at (borrows.IsExpected s c.args.began) borrows.next (BorrowEnds s c.args.self.now.number c.args.began) asks asks _ _ _ of.ensures.none
-    (subst (λ f. IsWhy s (Borrow c.args.began) None f c.acquire.new.me) of.field-0-is of.ensures.refused).0
+    let of = c.in-Err.ensures in
+    rw c.from.ensures (row_at (borrows.IsExpected s c.args.began) borrows.next (BorrowEnds s c.args.self.now.number c.args.began) asks asks _ _ _ of.none (ends_stopped s c.args.began g.row.T.Denot g.row.E.Denot c.args.self.now.number asks c.in-Err.fault _ of.refused))
 
-pub returns-clause-spec : goal.returns-clause-spec
-returns-clause-spec g c =
-    let s = g.B.Room.settings in
-    let of = c.in-Err-OutOfMemory in
-    row_at (borrows.IsExpected s c.args.began) borrows.next (BorrowEnds s c.args.self.now.number c.args.began) asks asks _ _ _ of.ensures.none
-    (subst (λ f. IsWhy s (Borrow c.args.began) None f c.acquire.new.me) of.field-0-is of.ensures.refused).0
+pub returns-in-Err-clause-fault : goal.returns-in-Err-clause-fault
+returns-in-Err-clause-fault g c = rw c.from.ensures (not_from_factory _ _ c.in-Err.fault)

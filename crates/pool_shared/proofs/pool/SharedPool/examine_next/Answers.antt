@@ -1,31 +1,32 @@
 use Rattle.pool_shared.proofs.Sweeping.{goes_then}
 use Rattle.std.proofs.Common.{◌-◌}
 use Rattle.pool_shared.specs.Evicts.{one_more}
-use Rattle.pool_shared.proofs.Examining.{kept_idle, none_idle, destroyed_idle, tested_idle, stops_full, stops_short}
+use Rattle.pool_shared.proofs.Examining.{kept_idle, none_idle, destroyed_idle, tested_idle, stops}
+use Rattle.pool_shared.proofs.TracesToResults.{room_fault_for}
+use Rattle.std.proofs.lemmas.Result.{err_from_is_err_and}
 use Rattle.pool_shared.proofs.pool.SharedPool.examine_next.Goals as goal
 
-pub returns-in-Ok-DestroyIdle-Some-clause-trace : goal.returns-in-Ok-DestroyIdle-Some-clause-trace
-returns-in-Ok-DestroyIdle-Some-clause-trace g c left run some =
-    destroyed_idle c.in-Ok-DestroyIdle-Some.id left run _ _ _ _ some c.in-Ok-DestroyIdle-Some.field-0-0-is c.in-Ok-DestroyIdle-Some.ensures.appended c.destroy_held.ensures.appended
+pub returns-in-DestroyIdle-Some-clause-trace : goal.returns-in-DestroyIdle-Some-clause-trace
+returns-in-DestroyIdle-Some-clause-trace g c left run some =
+    destroyed_idle c.in-DestroyIdle-Some.id left run _ _ _ _ some c.in-DestroyIdle-Some.is-0 c.in_ok-run_section.ensures.appended c.destroy_held.ensures.appended
 
-pub returns-in-Ok-Test-Some-clause-trace : goal.returns-in-Ok-Test-Some-clause-trace
-returns-in-Ok-Test-Some-clause-trace g c left run some =
-    tested_idle c.in-Ok-Test-Some.id left run _ _ _ _ _ some c.in-Ok-Test-Some.field-0-0-is c.in-Ok-Test-Some.ensures.appended (c.test.ensures.trace (left - 1) (one_more run))
+pub returns-in-Test-Some-clause-trace : goal.returns-in-Test-Some-clause-trace
+returns-in-Test-Some-clause-trace g c left run some =
+    tested_idle c.in-Test-Some.id left run _ _ _ _ _ some c.in-Test-Some.is-0 c.in_ok-run_section.ensures.appended (c.test.ensures.trace (left - 1) (one_more run))
 
-pub returns-in-Err-JournalFull-clause-refused : goal.returns-in-Err-JournalFull-clause-refused
-returns-in-Err-JournalFull-clause-refused g c = stops_full g.B.Room.settings _ _ _ _ c.in-Err-JournalFull.field-0-is c.in-Err-JournalFull.ensures.refused
+pub returns-in-DestroyIdle-Some-clause-advances : goal.returns-in-DestroyIdle-Some-clause-advances
+returns-in-DestroyIdle-Some-clause-advances g c = goes_then g.B.Room.settings _ _ _ c.in_ok-run_section.ensures.advances c.destroy_held.ensures.advances
 
-pub returns-clause-refused : goal.returns-clause-refused
-returns-clause-refused g c = stops_short g.B.Room.settings _ _ _ _ c.in-Err-OutOfMemory.field-0-is c.in-Err-OutOfMemory.ensures.refused
+pub returns-in-Test-Some-clause-advances : goal.returns-in-Test-Some-clause-advances
+returns-in-Test-Some-clause-advances g c = goes_then g.B.Room.settings _ _ _ c.in_ok-run_section.ensures.advances c.test.ensures.advances
 
-pub returns-in-Ok-DestroyIdle-Some-clause-advances : goal.returns-in-Ok-DestroyIdle-Some-clause-advances
-returns-in-Ok-DestroyIdle-Some-clause-advances g c = goes_then g.B.Room.settings _ _ _ c.in-Ok-DestroyIdle-Some.ensures.advances c.destroy_held.ensures.advances
+pub returns-in-KeptIdle-default-clause-trace : goal.returns-in-KeptIdle-default-clause-trace
+returns-in-KeptIdle-default-clause-trace g c left run some = kept_idle _ left run _ _ _ some c.in-KeptIdle-default.is-0 c.in_ok-run_section.ensures.appended
 
-pub returns-in-Ok-Test-Some-clause-advances : goal.returns-in-Ok-Test-Some-clause-advances
-returns-in-Ok-Test-Some-clause-advances g c = goes_then g.B.Room.settings _ _ _ c.in-Ok-Test-Some.ensures.advances c.test.ensures.advances
+pub returns-in-Nothing-default-clause-trace : goal.returns-in-Nothing-default-clause-trace
+returns-in-Nothing-default-clause-trace g c left run some = none_idle left run _ _ _ some c.in-Nothing-default.is-0 c.in_ok-run_section.ensures.appended
 
-pub returns-in-Ok-KeptIdle-default-clause-trace : goal.returns-in-Ok-KeptIdle-default-clause-trace
-returns-in-Ok-KeptIdle-default-clause-trace g c left run some = kept_idle _ left run _ _ _ some c.in-Ok-KeptIdle-default.field-0-0-is c.in-Ok-KeptIdle-default.ensures.appended
-
-pub returns-in-Ok-Nothing-default-clause-trace : goal.returns-in-Ok-Nothing-default-clause-trace
-returns-in-Ok-Nothing-default-clause-trace g c left run some = none_idle left run _ _ _ some c.in-Ok-Nothing-default.field-0-0-is c.in-Ok-Nothing-default.ensures.appended
+pub returns-in_err-run_section-clause-refused : goal.returns-in_err-run_section-clause-refused
+returns-in_err-run_section-clause-refused g c =
+    let p = err_from_is_err_and c.from_residual.result c.from_residual.ensures.1 in
+    rw (p.1, p.2) (stops g.B.Room.settings _ _ (room_fault_for g.B.Room.settings _ c.in_err-run_section.field-0.0 _ _ c.in_err-run_section.ensures.refused))

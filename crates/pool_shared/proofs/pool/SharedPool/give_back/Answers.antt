@@ -1,27 +1,21 @@
 use Rattle.pool_shared.proofs.Sweeping.{goes_then}
-use Rattle.std.proofs.Common.{ap, rules, ◌≡◌}
-use Rattle.pool_shared.proofs.Backs.{checked, return_full, return_short}
-use Rattle.pool_shared.specs.Pools.{refusal}
+use Rattle.std.proofs.Common.{rules, ◌≡◌}
+use Rattle.pool_shared.proofs.Backs.{checked, return_refused}
 use Rattle.pool_shared.proofs.Keeping.{untouched}
 use Rattle.pool_shared.proofs.pool.SharedPool.give_back.Goals as goal
-
-pub returns-in-Err-JournalFull-clause-spec : goal.returns-in-Err-JournalFull-clause-spec
-returns-in-Err-JournalFull-clause-spec g c =
-    let pool : c.args.lent.pool ≡ c.args.self.now.number = search rules in
-    return_full g.B.Room.settings c.args.self.now.number c.args.lent _ _ _ _ (ap refusal c.in-Err-JournalFull.field-0-is) pool c.in-Err-JournalFull.ensures.advances.legal c.in-Err-JournalFull.ensures.refused
-
-pub returns-in-Err-OutOfMemory-clause-spec : goal.returns-in-Err-OutOfMemory-clause-spec
-returns-in-Err-OutOfMemory-clause-spec g c =
-    let pool : c.args.lent.pool ≡ c.args.self.now.number = search rules in
-    return_short g.B.Room.settings c.args.self.now.number c.args.lent _ _ _ _ (ap refusal c.in-Err-OutOfMemory.field-0-is) pool c.in-Err-OutOfMemory.ensures.advances.legal c.in-Err-OutOfMemory.ensures.refused
 
 pub returns-then-lent-self-clause-advances : goal.returns-then-lent-self-clause-advances
 returns-then-lent-self-clause-advances g c = untouched g.B.Room.table g.B.Room.settings _ c.me.inside.number _ c.args.me.now c.me.invariant c.me.view_is
 
-pub returns-in-Ok-Check-clause-spec : goal.returns-in-Ok-Check-clause-spec
-returns-in-Ok-Check-clause-spec g c =
+pub returns-in-Ok-Check-default-clause-spec : goal.returns-in-Ok-Check-default-clause-spec
+returns-in-Ok-Check-default-clause-spec g c =
     let pool : c.args.lent.pool ≡ c.args.self.now.number = search rules in
-    checked g.B.Room.settings c.args.self.now.number c.args.lent _ _ _ _ _ pool c.in-Ok-Check.field-0-is c.in-Ok-Check.ensures.appended c.check.ensures.trace c.check.ensures.ends
+    checked g.B.Room.settings c.args.self.now.number c.args.lent _ _ _ _ _ pool c.in-Ok-Check-default.field-0-0-is c.in-Ok-Check-default.ensures.appended c.check.ensures.trace c.check.ensures.ends
 
-pub returns-in-Ok-Check-clause-advances : goal.returns-in-Ok-Check-clause-advances
-returns-in-Ok-Check-clause-advances g c = goes_then g.B.Room.settings _ _ _ c.in-Ok-Check.ensures.advances c.check.ensures.advances
+pub returns-in-Ok-Check-default-clause-advances : goal.returns-in-Ok-Check-default-clause-advances
+returns-in-Ok-Check-default-clause-advances g c = goes_then g.B.Room.settings _ _ _ c.in-Ok-Check-default.ensures.advances c.check.ensures.advances
+
+pub returns-clause-spec : goal.returns-clause-spec
+returns-clause-spec g c =
+    let pool : c.args.lent.pool ≡ c.args.self.now.number = search rules in
+    rw c.from.ensures (return_refused g.B.Room.settings c.args.self.now.number c.args.lent _ _ c.in-Err.fault pool c.in-Err.ensures.advances.legal c.in-Err.ensures.refused)

@@ -1,10 +1,10 @@
-use Rattle.std.proofs.Common.{ap, ◌≡◌, ◌<◌, ◌-◌, refl, arith}
+use Rattle.std.proofs.Common.{◌≡◌, ◌<◌, ◌-◌, refl, arith}
 use Rattle.pool_shared.specs.Reclaims as removals
 use Rattle.pool_shared.specs.Reclaims.{reclaims}
 use Rattle.pool_shared.proofs.Traces.{trace_none, ends_of}
 use Rattle.pool_shared.proofs.Sweeping.{goes_self, goes_then}
-use Rattle.pool_shared.proofs.Removals.{took_away, none_abandoned, all_taken, stops_full, stops_short, stopped}
-use Rattle.pool_shared.specs.Pools.{refusal}
+use Rattle.pool_shared.proofs.Removals.{took_away, none_abandoned, all_taken, stops, stopped}
+use Rattle.std.proofs.lemmas.Result.{err_from_is_err_and}
 use Rattle.pool_shared.proofs.pool.SharedPool.reclaim_some.Goals as goal
 
 pub loop-taken-init : goal.loop-taken-init
@@ -21,15 +21,15 @@ loop-taken-preserved g c =
     let i = c.loop-taken.invariant in
     let some : 0 < i.left = omega (arith, i.all, c.loop-taken-test.true) in
     record {
-      goes = goes_then g.B.Room.settings c.args.me.now c.loop-taken.me c.run_section_without_value.new.me i.goes c.in-Ok-Reclaimed.ensures.advances;
-      ends = (_, _, ends_of _ _ c.loop-taken.me c.run_section_without_value.new.me c.in-Ok-Reclaimed.ensures.advances.number c.in-Ok-Reclaimed.ensures.appended);
+      goes = goes_then g.B.Room.settings c.args.me.now c.loop-taken.me c.run_section_without_value.new.me i.goes c.in_ok-run_section_without_value.ensures.advances;
+      ends = (_, _, ends_of _ _ c.loop-taken.me c.run_section_without_value.new.me c.in_ok-run_section_without_value.ensures.advances.number c.in_ok-run_section_without_value.ensures.appended);
       left = i.left - 1;
       all = omega (arith, i.all, some);
-      trace = λ time. took_away time c.args.count i.left c.loop-taken.taken _ _ _ _ _ some (i.trace time) c.in-Ok-Reclaimed.field-0-is c.in-Ok-Reclaimed.ensures.appended;
+      trace = λ time. took_away time c.args.count i.left c.loop-taken.taken _ _ _ _ _ some (i.trace time) c.in-Reclaimed.is c.in_ok-run_section_without_value.ensures.appended;
     }
 
-pub returns-in-Ok-Nothing-clause-advances : goal.returns-in-Ok-Nothing-clause-advances
-returns-in-Ok-Nothing-clause-advances g c = goes_then g.B.Room.settings c.args.me.now c.loop-taken.me c.run_section_without_value.new.me c.loop-taken.invariant.goes c.in-Ok-Nothing.ensures.advances
+pub returns-in-Nothing-clause-advances : goal.returns-in-Nothing-clause-advances
+returns-in-Nothing-clause-advances g c = goes_then g.B.Room.settings c.args.me.now c.loop-taken.me c.run_section_without_value.new.me c.loop-taken.invariant.goes c.in_ok-run_section_without_value.ensures.advances
 
 pub returns-clause-advances : goal.returns-clause-advances
 returns-clause-advances g c = c.loop-taken.invariant.goes
@@ -41,29 +41,20 @@ returns-clause-spec g c time =
     let taken : c.loop-taken.taken ≡ c.args.count = omega (arith, i.all, none) in
     all_taken g.B.Room.settings time c.args.count i.left c.loop-taken.taken _ _ none taken (i.trace time) i.ends
 
-pub returns-in-Ok-Nothing-clause-spec : goal.returns-in-Ok-Nothing-clause-spec
-returns-in-Ok-Nothing-clause-spec g c time =
+pub returns-in-Nothing-clause-spec : goal.returns-in-Nothing-clause-spec
+returns-in-Nothing-clause-spec g c time =
     let i = c.loop-taken.invariant in
     let some : 0 < i.left = omega (arith, i.all, c.loop-taken-test.true) in
-    let ends = ends_of _ _ c.loop-taken.me c.run_section_without_value.new.me c.in-Ok-Nothing.ensures.advances.number c.in-Ok-Nothing.ensures.appended in
-    none_abandoned g.B.Room.settings time c.args.count i.left c.loop-taken.taken _ _ _ _ some (i.trace time) c.in-Ok-Nothing.field-0-is c.in-Ok-Nothing.ensures.appended (_, _, ends)
+    let ends = ends_of _ _ c.loop-taken.me c.run_section_without_value.new.me c.in_ok-run_section_without_value.ensures.advances.number c.in_ok-run_section_without_value.ensures.appended in
+    none_abandoned g.B.Room.settings time c.args.count i.left c.loop-taken.taken _ _ _ _ some (i.trace time) c.in-Nothing.is c.in_ok-run_section_without_value.ensures.appended (_, _, ends)
 
-pub returns-in-Err-JournalFull-clause-spec : goal.returns-in-Err-JournalFull-clause-spec
-returns-in-Err-JournalFull-clause-spec g c time =
+pub returns-in_err-run_section_without_value-clause-spec : goal.returns-in_err-run_section_without_value-clause-spec
+returns-in_err-run_section_without_value-clause-spec g c time =
     let i = c.loop-taken.invariant in
     let some : 0 < i.left = omega (arith, i.all, c.loop-taken-test.true) in
-    let refused = c.in-Err-JournalFull.ensures.refused in
-    stopped g.B.Room.settings time c.args.count i.left c.loop-taken.taken _ _ _ _ some (i.trace time) refused.same (stops_full g.B.Room.settings _ _ _ _ (ap refusal c.in-Err-JournalFull.field-0-is) refused)
+    let e = c.in_err-run_section_without_value.ensures in
+    let p = err_from_is_err_and c.from_residual.result c.from_residual.ensures.1 in
+    rw (p.1, p.2) (stopped g.B.Room.settings time c.args.count i.left c.loop-taken.taken _ _ _ _ some (i.trace time) e.same (stops g.B.Room.settings _ _ e.refused))
 
-pub returns-in-Err-OutOfMemory-clause-spec : goal.returns-in-Err-OutOfMemory-clause-spec
-returns-in-Err-OutOfMemory-clause-spec g c time =
-    let i = c.loop-taken.invariant in
-    let some : 0 < i.left = omega (arith, i.all, c.loop-taken-test.true) in
-    let refused = c.in-Err-OutOfMemory.ensures.refused in
-    stopped g.B.Room.settings time c.args.count i.left c.loop-taken.taken _ _ _ _ some (i.trace time) refused.same (stops_short g.B.Room.settings _ _ _ _ (ap refusal c.in-Err-OutOfMemory.field-0-is) refused)
-
-pub returns-in-Err-JournalFull-clause-advances : goal.returns-in-Err-JournalFull-clause-advances
-returns-in-Err-JournalFull-clause-advances g c = goes_then g.B.Room.settings _ _ _ c.loop-taken.invariant.goes c.in-Err-JournalFull.ensures.advances
-
-pub returns-in-Err-OutOfMemory-clause-advances : goal.returns-in-Err-OutOfMemory-clause-advances
-returns-in-Err-OutOfMemory-clause-advances g c = goes_then g.B.Room.settings _ _ _ c.loop-taken.invariant.goes c.in-Err-OutOfMemory.ensures.advances
+pub returns-in_err-run_section_without_value-clause-advances : goal.returns-in_err-run_section_without_value-clause-advances
+returns-in_err-run_section_without_value-clause-advances g c = goes_then g.B.Room.settings _ _ _ c.loop-taken.invariant.goes c.in_err-run_section_without_value.ensures.advances
