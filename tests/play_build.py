@@ -109,7 +109,7 @@ def touch_first(trial):
     """What is built at first, in which order, with how many jobs and how nice."""
     trial.expect_built("at first", ["low", "left", "right", "alone", "pool"])
     calls = [line.split() for line in trial.calls.read_text().splitlines()]
-    most, own = os.cpu_count(), os.nice(0)
+    most, own = len(os.sched_getaffinity(0)), os.nice(0)
     trial.expect("the last to be built", "program pool", " ".join(calls[-1][:2]))
     for _, name, *words in calls:
         if name in ("low", "alone"):

@@ -55,9 +55,15 @@ def unneeded(folder, names):
     return [name for name in names if pathlib.Path(folder).name == "out" and name != "statements"]
 
 
+def take_half():
+    """Leaves this process half of the processors: other parts run beside it, and a proof by fewer jobs takes less processor time."""
+    processors = sorted(os.sched_getaffinity(0))
+    os.sched_setaffinity(0, processors[: max(1, len(processors) // 2)])
+
+
 def unproved(room, name, command):
     """Why a copy is not built by the command, if it isn't, or why more is."""
-    done = subprocess.run(["bash", "-ec", command], cwd=room, capture_output=True, text=True)
+    done = subprocess.run(["bash", "-ec", command], cwd=room, capture_output=True, text=True, preexec_fn=take_half)
     if done.returncode or not (room / "crates" / name / "out" / name).is_file():
         return f"the copy is not proved:\n{done.stderr}"
     alone = f"{name}: proves and builds 1 of "

@@ -68,7 +68,7 @@ def longest_ways(crates):
 
 
 def processors():
-    return os.cpu_count() or 1
+    return len(os.sched_getaffinity(0))
 
 
 def minutes_for(crates):
