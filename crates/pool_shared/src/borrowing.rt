@@ -90,7 +90,8 @@ impl<T: Drop, E: Drop, F: Factory<T, E> + Drop, C: Clock + Drop, B: Room> Shared
         ensures returned { IfOk result (λ r. ReturnsValue F.passive r.0 None r.1) }
         ensures none { IfErr result (λ f. Trace
             (IsExpected B.settings began) next asks me.old me.new asks) }
-        ensures refused { IfErr result (λ f. IsRoomFault B.settings (inputs.Borrow began) f me.new) }
+        ensures refused { IfErr result (λ f.
+            IsRoomFault B.settings (inputs.Borrow began) f me.new) }
     {
         let input = Input::Borrow { began };
         let mut locked_pool = lock(rt, &self.locked_pool);
