@@ -118,6 +118,14 @@ def touch_first(trial):
             trial.expect(f"{name}: how nice", 0 if name == "low" else min(3, 19 - own), nice)
 
 
+def with_fewer_jobs(trial):
+    """A build that others run beside, with as many jobs as the environment says."""
+    add(trial.top / "crates/low/src/lib.rt")
+    trial.run(trial.top / "pool", "x", BUILD_JOBS="1")
+    calls = [line.split() for line in trial.calls.read_text().splitlines()]
+    trial.expect("with one job", dict.fromkeys(("low", "left", "right", "pool"), "1"), {name: jobs for _, name, _, jobs, *_ in calls})
+
+
 def unchanged(trial):
     """What costs nothing."""
     trial.expect_built("unchanged", [])
@@ -264,7 +272,7 @@ def main():
     with tempfile.TemporaryDirectory() as name:
         trial = Trial(pathlib.Path(name))
         trial.lay_out()
-        for part in touch_first, unchanged, changed, refused, edited_meanwhile, archive, gate:
+        for part in touch_first, with_fewer_jobs, unchanged, changed, refused, edited_meanwhile, archive, gate:
             part(trial)
     print(f"{trial.passed} passed, {trial.failed} failed")
     return 1 if trial.failed else 0

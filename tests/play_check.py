@@ -33,7 +33,7 @@ CRATES = {"low": "", "tool": "low", "wrong": "low", "archive staticlib": "low"}
 RT = """#!/bin/sh
 [ $1 != version ] || { echo rattle-kit-0 logic 0; exit; }
 [ $1 != doc ] || { echo "$(dirname "$0")/../GUIDE.md"; exit; }
-echo rt $1 $(basename $PWD) >>$CALLS
+echo rt $1 $(basename $PWD) $RT_JOBS >>$CALLS
 passed=0 failed=0
 for crate in $PWD/crates/*; do
   name=$(basename $crate)
@@ -110,6 +110,7 @@ class Trial:
         self.top, self.calls = folder / "repository", folder / "calls"
         path = f"{folder}/bin:{folder}/python:/usr/bin:/bin"
         self.environment = {**os.environ, "CALLS": str(self.calls), "MEANWHILE": MEANWHILE, "UNTIL": "", "PATH": path}
+        self.environment.pop("RT_JOBS", None)
         lay_kit(folder, RT)
         for name in COPIED:
             (self.top / name).parent.mkdir(parents=True, exist_ok=True)
@@ -226,6 +227,19 @@ def whole(trial):
     yield "no commit where parts are named", False, any("commit" in line for line in done.lines)
 
 
+def jobs(trial):
+    """How many proofs the gate may run at a time: one for each of a few processors, or as many as the caller says."""
+    before = os.sched_getaffinity(0)
+    os.sched_setaffinity(0, {min(before)})
+    trial.run("proofs")
+    yield "a job for the processor", "rt ci repository 1\n", trial.calls.read_text()
+    trial.environment["RT_JOBS"] = "3"
+    trial.run("proofs")
+    yield "as many as the caller says", "rt ci repository 3\n", trial.calls.read_text()
+    trial.environment.pop("RT_JOBS")
+    os.sched_setaffinity(0, before)
+
+
 def failing(trial):
     """Parts that fail, and those that can't run."""
     write(trial.top / "crates/wrong/src/broken", "")
@@ -324,7 +338,7 @@ def checks():
     yield from table()
     with tempfile.TemporaryDirectory() as folder:
         trial = Trial(pathlib.Path(folder).resolve())
-        for part in listing, alone, static, whole, failing, committed, without_kit, interrupted:
+        for part in listing, alone, static, whole, jobs, failing, committed, without_kit, interrupted:
             yield from part(trial)
 
 

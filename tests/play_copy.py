@@ -25,6 +25,8 @@ import sources
 
 CRATE = "example_server"
 RUN, BUILD = "(cd crates/{} && rt try)", "python3 tools/build.py {}"
+# Other parts run beside the proof of the copy.
+ONE_JOB = {"BUILD_JOBS": "1"}
 
 
 def commands():
@@ -55,15 +57,9 @@ def unneeded(folder, names):
     return [name for name in names if pathlib.Path(folder).name == "out" and name != "statements"]
 
 
-def take_half():
-    """Leaves this process half of the processors: other parts run beside it, and a proof by fewer jobs takes less processor time."""
-    processors = sorted(os.sched_getaffinity(0))
-    os.sched_setaffinity(0, processors[: max(1, len(processors) // 2)])
-
-
 def unproved(room, name, command):
     """Why a copy is not built by the command, if it isn't, or why more is."""
-    done = subprocess.run(["bash", "-ec", command], cwd=room, capture_output=True, text=True, preexec_fn=take_half)
+    done = subprocess.run(["bash", "-ec", command], cwd=room, capture_output=True, text=True, env=os.environ | ONE_JOB)
     if done.returncode or not (room / "crates" / name / "out" / name).is_file():
         return f"the copy is not proved:\n{done.stderr}"
     alone = f"{name}: proves and builds 1 of "

@@ -11,6 +11,9 @@ prints nothing if all are.
 A build on which a longer chain of crates waits comes first: the first two have a job for each processor, the others half as many, and each has less
 priority than those before it.
 tools/proof_seconds.txt has the times from which the length of a chain follows. tools/kit.py builds one crate.
+
+BUILD_JOBS in the environment is the number of processors to take, if it is smaller: other work runs beside the build, and with fewer jobs a build takes
+less processor time.
 """
 
 import fcntl
@@ -68,7 +71,9 @@ def longest_ways(crates):
 
 
 def processors():
-    return len(os.sched_getaffinity(0))
+    """How many processors a build takes: all, or as many as the environment says."""
+    most = os.environ.get("BUILD_JOBS", "")
+    return min(len(os.sched_getaffinity(0)), max(1, int(most)) if most.isdecimal() else sys.maxsize)
 
 
 def minutes_for(crates):

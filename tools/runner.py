@@ -61,13 +61,13 @@ def result_of(text, seconds, status):
 
 
 class Command:
-    """A command that runs, in a session of its own, so that all that it starts can be ended with it."""
+    """A command that runs, in a session of its own, so that all that it starts can be ended with it; in this environment, or else in this process's."""
 
-    def __init__(self, words):
+    def __init__(self, words, environment=None):
         self.log = tempfile.TemporaryFile()
         self.shown = 0
         self.began = time.monotonic()
-        options = {"cwd": TOP, "stdin": subprocess.DEVNULL, "stdout": self.log, "stderr": self.log, "start_new_session": True}
+        options = {"cwd": TOP, "stdin": subprocess.DEVNULL, "stdout": self.log, "stderr": self.log, "start_new_session": True, "env": environment}
         self.process = subprocess.Popen(words, **options)
 
     def has_ended(self):
@@ -175,12 +175,17 @@ class Work:
         """Whether a processor is free."""
         return len(self.running) + len(self.building) < len(os.sched_getaffinity(0))
 
+    def build_environment(self):
+        """The environment of a build. After the gate only parts' libraries are built, beside other parts, which take the other half of the processors."""
+        half = max(1, len(os.sched_getaffinity(0)) // 2)
+        return None if self.gate is None else {"BUILD_JOBS": str(half), **os.environ}
+
     def start(self):
         """Starts what can begin: one build at a time, which has processors enough for itself, and then parts in the order of the table."""
         if self.unbuilt and not self.building and self.has_room():
             crate = self.unbuilt.pop(0)
             self.progress.say(f"build of {crate}")
-            self.building[crate] = Command(["python3", "tools/build.py", crate])
+            self.building[crate] = Command(["python3", "tools/build.py", crate], self.build_environment())
         for part in [part for part in self.waiting if self.built.issuperset(part.needs)]:
             if not self.has_room():
                 break
