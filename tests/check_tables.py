@@ -148,7 +148,7 @@ def fault_of_row(path, functions):
     """Why the functions of an edit's row are wrong. They are those that it changes, after the public one that calls them if they are private."""
     public, *private = [function.split("::")[-1] for function in functions]
     changed = functions_of(path)
-    if set(private or [public]) != changed:
+    if changed not in ({*private}, {public, *private}):
         return f"{' '.join(functions)}, it changes {' '.join(sorted(changed))}"
     code = "\n".join(source.read_text() for source in path.parent.parent.glob("src/*.rt"))
     return None if re.search(rf"\bfn {public}\b", code) else f"{public} is no function of the crate"

@@ -27,6 +27,11 @@ PARTS = (
     Part("damaged", "damaged journals and segments", "python3 tests/play_damaged.py {pool}", ("pool",)),
     Part("try", "./try: words, streams, statuses, and a run of the program without proofs", "python3 tests/play_try.py"),
     Part(
+        "mutants",
+        "each getter of the settings that returns another value is refused",
+        "python3 tests/play_mutants.py pool_settings reports_other_settings",
+    ),
+    Part(
         "segments",
         "segments that are checked together, and the memory of that",
         f"python3 tests/play_segments.py {{pool}} tests/cases/7-cut {SCRIPTS}",
