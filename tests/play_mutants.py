@@ -1,9 +1,9 @@
 #!/usr/bin/env python3
-"""Tries an edit that makes a mistake in each of several functions, and looks whether the prover refuses every one of them.
+"""Tries an edit that makes a mistake in each of several functions, and looks whether the prover rejects every one of them.
 
     play_mutants.py CRATE EDIT
 
-`rt ci` tries each edit of crates/*/must-fail, but passes it as soon as one function is refused. This checks, in a copy of the crate, the functions
+`rt ci` tries each edit of crates/*/must-fail, but passes it as soon as one function is rejected. This checks, in a copy of the crate, the functions
 that the edit changes and those that they call. The libraries below the crate must be built.
 
 Prints what is wrong, and in the end the line 'N passed, M failed'.
@@ -75,7 +75,7 @@ def checks():
     functions, told = verdicts(crate, TOP / "crates" / crate / "must-fail" / f"{edit}.edit")
     yield "several functions, each once", (True, len(set(functions))), (len(functions) > 1, len(functions))
     for function in functions:
-        yield f"{function} is refused", True, told.get(function) in ("no proof", "not proved")
+        yield f"{function} is rejected", True, told.get(function) in ("no proof", "not proved")
 
 
 if __name__ == "__main__":

@@ -28,7 +28,7 @@ PARTS = (
     Part("try", "./try: words, streams, statuses, and a run of the program without proofs", "python3 tests/play_try.py"),
     Part(
         "mutants",
-        "each getter of the settings that returns another value is refused",
+        "each getter of the settings that returns another value is rejected",
         "python3 tests/play_mutants.py pool_settings reports_other_settings",
     ),
     Part(
