@@ -1,4 +1,4 @@
-use Rattle.std.proofs.Common.{refl, sym, subst}
+use Rattle.std.proofs.Common.{refl, sym, subst, rules}
 use Rattle.zuphinka.specs.Calls.{Held, BaseLines}
 use Rattle.zuphinka.specs.declared.status.Status.TheVariants.{NotOpen}
 use Rattle.zuphinka.proofs.zuphinka_base.Goals as goal
@@ -9,3 +9,6 @@ returns-in_default c = (
   c.code.ensures,
   subst (λ (h : Held). BaseLines c.args.position h c.take.new.self.core c.args.text.now c.args.text.now c.args.size.now c.args.size.now NotOpen) (sym c.in_default.ensures.taken) (refl, c.take.ensures.empty, refl, refl),
 )
+
+pub returns : goal.returns
+returns c = search rules

@@ -1,4 +1,4 @@
-use Rattle.std.proofs.Common.{◌∙◌, take, subst, sym}
+use Rattle.std.proofs.Common.{◌∙◌, take, subst, sym, rules}
 use Rattle.std.specs.Io.KnownBytes.{Consumes}
 use Rattle.std.proofs.KnownBytes.{Consumes-trans}
 use Rattle.pool_engines.proofs.Windows.{take-grown}
@@ -18,3 +18,9 @@ loop-count-preserved g c =
       came = subst (Consumes known left) (sym grown) (Consumes-trans known _ left _ _ c.loop-count.invariant.came more.1);
       reads = c.in-Ok.ensures.reported ∙ c.loop-count.invariant.reads;
     }
+
+pub returns-in-Err-clause-ok : goal.returns-in-Err-clause-ok
+returns-in-Err-clause-ok g c = search rules
+
+pub returns-in-Err-clause-reported : goal.returns-in-Err-clause-reported
+returns-in-Err-clause-reported g c = search rules
