@@ -29,6 +29,7 @@ check: proofs, 3016 s, alone by ./check proofs
 9 passed, 0 failed
 """
 SOME = "done in this run: 1 of the 9 proofs (of crates and of their tests); the others are kept from earlier runs of the same files on this machine\n"
+PACE = "a loop that took 8.0 ms before took 11.5 ms beside it, steal 2.5 %"
 PAGE = f"# A page\n\nBefore.\n\n{BEGIN}\nold\n{END}\n\nAfter.\n"
 
 
@@ -39,7 +40,7 @@ def run(*words):
 def table(crates):
     """A table as it is written, with other numbers in each row."""
     rows = [f"| {crate} | {number} | 0 | {2 * number} | 3 |" for number, crate in enumerate(crates)]
-    return "\n".join([HEAD, "|---|---|---|---|---|", *rows, "pool_core/an_edit: 50", ""])
+    return "\n".join([HEAD, "|---|---|---|---|---|", *rows, f"pace: {PACE}", "pool_core/an_edit: 50", ""])
 
 
 def watched():
@@ -48,6 +49,9 @@ def watched():
     yield "the command", ("said\n", 3), (done.stdout, done.returncode)
     # Provers that run beside it on the machine are counted too.
     rows = [re.sub(r"\d+", "0", line) for line in done.stderr.splitlines()[: 3 + len(CRATES)]]
+    pace = r"pace: a loop that took \d+\.\d ms before took \d+\.\d ms beside it, steal \d+\.\d %"
+    told = done.stderr.splitlines()[3 + len(CRATES)]
+    yield "its pace", True, bool(re.fullmatch(pace, told)) or told
     yield "its table", [HEAD, "|---|---|---|---|---|", *(f"| {crate} | 0 | 0 | 0 | 0 |" for crate in [*CRATES, "all"])], rows
 
 
@@ -61,7 +65,7 @@ def written(folder):
     yield "it is written", ("", "", 0), (done.stdout, done.stderr, done.returncode)
     lines = page.read_text().splitlines()
     yield "what stands around it", (["# A page", "", "Before.", "", BEGIN, ""], ["", END, "", "After."]), (lines[:6], lines[-4:])
-    told = r"\d{4}-\d\d-\d\d, \d+ processors.*, commit 0123abc; `./check` took 53:07 minutes; its part `proofs` took 50:16 minutes\."
+    told = r"\d{4}-\d\d-\d\d, \d+ processors.*, commit 0123abc; `./check` took 53:07 minutes; its part `proofs` took 50:16 minutes; " + re.escape(PACE) + r"\."
     yield "its heading", True, bool(re.fullmatch(told, lines[6])) or lines[6]
     rows = lines[8:-4]
     yield "its columns", ["| Crate | Proofs | Tests | Edits | Compiled |", "|---|---|---|---|---|"], rows[:2]
@@ -72,7 +76,7 @@ def written(folder):
     first = page.read_text()
     log.write_text(TOLD.replace("ok; ", SOME))
     run("--table", page, log, times)
-    yield "once more, with what was kept", first.replace("minutes.\n", f"minutes.\n{KEPT}\n"), page.read_text()
+    yield "once more, with what was kept", first.replace(f"{PACE}.\n", f"{PACE}.\n{KEPT}\n"), page.read_text()
     times.write_text(TOLD + table([*CRATES, "all"]))
     run("--table", page, times)
     yield "of a log that has all", first, page.read_text()

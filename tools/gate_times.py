@@ -6,7 +6,10 @@
 
 Looks at the system's processes each second, so that it sees all but the last second of each. What the command writes is handed on, and its
 status is the one here; in the end a table is written on standard error: for each crate the processor seconds of its proofs, of its tests' proofs,
-of its must-fail edits and of its compilation, then the edits one by one that took more than the MOST_TOLD seconds.
+of its must-fail edits and of its compilation; then the pace of the machine; then the edits one by one that took more than the MOST_TOLD seconds.
+
+Two times on a machine that others share compare by its pace: how long a fixed loop takes before the command and beside it, and which share of the
+processors' time the machine's host gave to others.
 
 --table PAGE LOG.. writes that table into a page, in place of what stands between its lines BEGIN and END. The logs have the table, and what ./check
 wrote: the commit, and the times of the whole and of the proofs, where they are there. Above the table stands this machine, and the day of the first
@@ -16,9 +19,11 @@ log. The status is 1, and the page stays as it is, if there are no such lines, n
 import collections
 import dataclasses
 import datetime
+import itertools
 import os
 import pathlib
 import re
+import statistics
 import subprocess
 import sys
 import time
@@ -28,6 +33,8 @@ KINDS = ("proofs", "tests", "edits", "compiled")
 TICK = os.sysconf("SC_CLK_TCK")
 # The processor seconds above which an edit is told by its name.
 MOST_TOLD = 45
+# The turns of the loop that shows the pace, how often it is timed before the command, and after how many seconds it is timed again beside it.
+TURNS, TIMES, EACH = 300_000, 9, 10
 HEAD = "| crate | " + " | ".join(KINDS) + " |"
 # The lines of a page between which its table stands.
 BEGIN = "<!-- tools/gate_times.py --table writes what follows. -->"
@@ -69,17 +76,39 @@ def run_of(process):
     return Run(crate, kind_of(words, folder), folder, int(fields[19]), (int(fields[11]) + int(fields[12])) / TICK)
 
 
+def loop_milliseconds():
+    """The processor time of a fixed loop."""
+    began = time.process_time()
+    for _ in range(TURNS):
+        pass
+    return 1000 * (time.process_time() - began)
+
+
+def processor_ticks():
+    """The time of all processors since the machine began, and the part that its host gave to others."""
+    ticks = [int(word) for word in pathlib.Path("/proc/stat").read_text().partition("\n")[0].split()[1:9]]
+    return sum(ticks), ticks[7]
+
+
 def watch(command):
-    """Runs the command, and gives its status and the runs of the prover that were seen."""
-    runs = {}
+    """Runs the command, and gives its status, the runs of the prover that were seen, and the pace of the machine."""
+    runs, beside = {}, []
+    alone = statistics.median(loop_milliseconds() for _ in range(TIMES))
+    every, stolen = processor_ticks()
     with subprocess.Popen(command) as started:
-        while started.poll() is None:
+        for second in itertools.count():
             for process in pathlib.Path("/proc").iterdir():
                 run = run_of(process) if process.name.isdigit() else None
                 if run:
                     runs[process.name, run.began] = run
+            if second % EACH == 0:
+                beside.append(loop_milliseconds())
+            if started.poll() is not None:
+                break
             time.sleep(1)
-    return started.returncode, runs.values()
+    every, stolen = (after - before for after, before in zip(processor_ticks(), (every, stolen)))
+    pace = f"pace: a loop that took {alone:.1f} ms before took {statistics.mean(beside):.1f} ms beside it, steal {100 * stolen / max(1, every):.1f} %"
+    return started.returncode, runs.values(), pace
 
 
 def dear_edits(crate, runs):
@@ -98,8 +127,8 @@ def dear_edits(crate, runs):
             yield f"{crate}/{name}: {seconds:.0f}"
 
 
-def tell(runs):
-    """The table, and the dear edits."""
+def tell(runs, pace):
+    """The table, the pace, and the dear edits."""
     sums = collections.defaultdict(float)
     for run in runs:
         sums[run.crate, run.kind] += run.seconds
@@ -109,6 +138,7 @@ def tell(runs):
     yield "|---|" + "---|" * len(KINDS)
     for crate in [*crates, "all"]:
         yield f"| {crate} | " + " | ".join(f"{sums[crate, kind]:.0f}" for kind in KINDS) + " |"
+    yield pace
     for crate in crates:
         yield from dear_edits(crate, [run for run in runs if (run.crate, run.kind) == (crate, "edits")])
 
@@ -154,15 +184,18 @@ def machine():
 
 
 def heading(text, day):
-    """What stands above the table: the day, the machine, the commit, and the minutes, as far as the log has them."""
+    """What stands above the table: the day, the machine, the commit, the minutes and the pace, as far as the log has them."""
     commit = re.search(r"^check: commit (\S+)$", text, re.M)
     whole = re.search(r"^check: all parts have ended, after (\d+:\d\d) min$", text, re.M)
     proofs = re.search(r"^check: proofs, (\d+) s, ", text, re.M)
+    pace = re.search(r"^pace: (.*)$", text, re.M)
     yield f"{day}, {machine()}" + (f", commit {commit[1]}" if commit else "")
     if whole:
         yield f"`./check` took {whole[1]} minutes"
     if proofs:
         yield "its part `proofs` took {}:{:02} minutes".format(*divmod(int(proofs[1]), 60))
+    if pace:
+        yield pace[1]
 
 
 def write_table(page, logs):
@@ -189,8 +222,8 @@ def main():
     if sys.argv[1] == "--table":
         page, *logs = map(pathlib.Path, sys.argv[2:]) if len(sys.argv) > 3 else sys.exit(__doc__)
         return write_table(page, logs)
-    status, runs = watch(sys.argv[1:])
-    for line in tell(runs):
+    status, runs, pace = watch(sys.argv[1:])
+    for line in tell(runs, pace):
         print(line, file=sys.stderr)
     return status
 
