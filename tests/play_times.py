@@ -29,7 +29,7 @@ check: proofs, 3016 s, alone by ./check proofs
 9 passed, 0 failed
 """
 SOME = "done in this run: 1 of the 9 proofs (of crates and of their tests); the others are kept from earlier runs of the same files on this machine\n"
-PACE = "a loop that took 8.0 ms before took 11.5 ms beside it, steal 2.5 %"
+PACE = "a fixed loop took 8.0 ms before it and 11.5 ms beside it, with 2.5 % steal"
 PAGE = f"# A page\n\nBefore.\n\n{BEGIN}\nold\n{END}\n\nAfter.\n"
 
 
@@ -49,7 +49,7 @@ def watched():
     yield "the command", ("said\n", 3), (done.stdout, done.returncode)
     # Provers that run beside it on the machine are counted too.
     rows = [re.sub(r"\d+", "0", line) for line in done.stderr.splitlines()[: 3 + len(CRATES)]]
-    pace = r"pace: a loop that took \d+\.\d ms before took \d+\.\d ms beside it, steal \d+\.\d %"
+    pace = r"pace: a fixed loop took \d+\.\d ms before it and \d+\.\d ms beside it, with \d+\.\d % steal"
     told = done.stderr.splitlines()[3 + len(CRATES)]
     yield "its pace", True, bool(re.fullmatch(pace, told)) or told
     yield "its table", [HEAD, "|---|---|---|---|---|", *(f"| {crate} | 0 | 0 | 0 | 0 |" for crate in [*CRATES, "all"])], rows
@@ -77,9 +77,9 @@ def written(folder):
     log.write_text(TOLD.replace("ok; ", SOME))
     run("--table", page, log, times)
     yield "once more, with what was kept", first.replace(f"{PACE}.\n", f"{PACE}.\n{KEPT}\n"), page.read_text()
-    times.write_text(TOLD + table([*CRATES, "all"]))
+    times.write_text("pace: of another table\n" + TOLD + table([*CRATES, "all"]))
     run("--table", page, times)
-    yield "of a log that has all", first, page.read_text()
+    yield "of a log that has all, after another", first, page.read_text()
 
 
 def refused(folder):

@@ -8,8 +8,8 @@ Looks at the system's processes each second, so that it sees all but the last se
 status is the one here; in the end a table is written on standard error: for each crate the processor seconds of its proofs, of its tests' proofs,
 of its must-fail edits and of its compilation; then the pace of the machine; then the edits one by one that took more than the MOST_TOLD seconds.
 
-Two times on a machine that others share compare by its pace: how long a fixed loop takes before the command and beside it, and which share of the
-processors' time the machine's host gave to others.
+Times on a machine that shares its host compare by its pace: how long a fixed loop takes before the command and beside it, and the steal, the share
+of the processors' time that the host gives to others.
 
 --table PAGE LOG.. writes that table into a page, in place of what stands between its lines BEGIN and END. The logs have the table, and what ./check
 wrote: the commit, and the times of the whole and of the proofs, where they are there. Above the table stands this machine, and the day of the first
@@ -90,11 +90,17 @@ def processor_ticks():
     return sum(ticks), ticks[7]
 
 
+def pace_of(alone, beside, began):
+    """The line about the pace of the machine: of the loop before the command and beside it, and of the processors' time since it began."""
+    every, stolen = (now - then for now, then in zip(processor_ticks(), began))
+    loop = f"a fixed loop took {alone:.1f} ms before it and {statistics.mean(beside):.1f} ms beside it"
+    return f"pace: {loop}, with {100 * stolen / max(1, every):.1f} % steal"
+
+
 def watch(command):
     """Runs the command, and gives its status, the runs of the prover that were seen, and the pace of the machine."""
     runs, beside = {}, []
-    alone = statistics.median(loop_milliseconds() for _ in range(TIMES))
-    every, stolen = processor_ticks()
+    alone, began = statistics.median(loop_milliseconds() for _ in range(TIMES)), processor_ticks()
     with subprocess.Popen(command) as started:
         for second in itertools.count():
             for process in pathlib.Path("/proc").iterdir():
@@ -106,9 +112,7 @@ def watch(command):
             if started.poll() is not None:
                 break
             time.sleep(1)
-    every, stolen = (after - before for after, before in zip(processor_ticks(), (every, stolen)))
-    pace = f"pace: a loop that took {alone:.1f} ms before took {statistics.mean(beside):.1f} ms beside it, steal {100 * stolen / max(1, every):.1f} %"
-    return started.returncode, runs.values(), pace
+    return started.returncode, runs.values(), pace_of(alone, beside, began)
 
 
 def dear_edits(crate, runs):
@@ -188,7 +192,7 @@ def heading(text, day):
     commit = re.search(r"^check: commit (\S+)$", text, re.M)
     whole = re.search(r"^check: all parts have ended, after (\d+:\d\d) min$", text, re.M)
     proofs = re.search(r"^check: proofs, (\d+) s, ", text, re.M)
-    pace = re.search(r"^pace: (.*)$", text, re.M)
+    pace = re.search(r"^pace: (.*)$", text.rpartition(HEAD)[2], re.M)
     yield f"{day}, {machine()}" + (f", commit {commit[1]}" if commit else "")
     if whole:
         yield f"`./check` took {whole[1]} minutes"
