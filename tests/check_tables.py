@@ -22,6 +22,8 @@ import draw_crates  # noqa: E402
 
 DEFINITIONS = TOP / "docs/proof/definitions.md"
 EDITS = TOP / "docs/proof/edits.md"
+# The edit of a crate that has a row for each mistake.
+EACH = "one_mistake_in_each"
 COMMONS_POOL_TESTS = TOP / "docs/guide/commons-pool-tests.md"
 
 
@@ -139,31 +141,35 @@ def listed_edits():
 
 def functions_of(path):
     """The functions whose lines an edit replaces."""
-    text = path.read_text()
-    source = (path.parent.parent / re.search(r"^file: (.*)$", text, re.MULTILINE)[1]).read_text()
-    return {re.findall(r"\bfn (\w+)", source.partition(old)[0])[-1] for old in re.findall(r"^old: (.*)$", text, re.MULTILINE)}
+    functions = set()
+    for part in re.split(r"^file: ", path.read_text(), flags=re.MULTILINE)[1:]:
+        file, _, pairs = part.partition("\n")
+        source = (path.parent.parent / file).read_text()
+        functions |= {re.findall(r"\bfn (\w+)", source.partition(old)[0])[-1] for old in re.findall(r"^old: (.*)$", pairs, re.MULTILINE)}
+    return functions
 
 
-def fault_of_row(path, functions):
-    """Why the functions of an edit's row are wrong. They are those that it changes, after the public one that calls them if they are private."""
-    public, *private = [function.split("::")[-1] for function in functions]
-    changed = functions_of(path)
-    if changed not in ({*private}, {public, *private}):
-        return f"{' '.join(functions)}, it changes {' '.join(sorted(changed))}"
+def fault_of_rows(path, rows):
+    """Why the functions of an edit's rows are wrong. Those of a row are the ones that it changes, after the public one that calls them if they are private."""
+    lists = [[function.split("::")[-1] for function in functions] for functions in rows]
+    changed, named = functions_of(path), {function for functions in lists for function in functions}
+    if not {function for functions in lists for function in functions[1:] or functions} <= changed <= named:
+        return f"{' '.join(sorted(named))}, it changes {' '.join(sorted(changed))}"
     code = "\n".join(source.read_text() for source in path.parent.parent.glob("src/*.rt"))
-    return None if re.search(rf"\bfn {public}\b", code) else f"{public} is no function of the crate"
+    return next((f"{public} is no function of the crate" for public, *_ in lists if not re.search(rf"\bfn {public}\b", code)), None)
 
 
 def check_edits():
     edits, rows = edits_in_order(), list(listed_edits())
     for edit in sorted({*edits, *(edit for edit, _ in rows)}):
         functions = [named for listed, named in rows if listed == edit]
-        if edit not in edits or len(functions) != 1:
+        if edit not in edits or not functions or (len(functions) > 1 and edit[1] != EACH):
             fault = f"{len(functions)} rows" if edit in edits else "no such edit"
         else:
-            fault = fault_of_row(edits[edit], functions[0])
+            fault = fault_of_rows(edits[edit], functions)
         yield f"docs/proof/edits.md: {': '.join(edit)}: {fault}" if fault else None
-    yield None if [edit for edit, _ in rows] == list(edits) else "docs/proof/edits.md: not in the order of crates.txt and of names"
+    in_order = [*dict.fromkeys(edit for edit, _ in rows)] == list(edits)
+    yield None if in_order else "docs/proof/edits.md: not in the order of crates.txt and of names"
 
 
 def check_crates():

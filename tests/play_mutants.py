@@ -1,14 +1,19 @@
 #!/usr/bin/env python3
-"""Tries an edit that makes a mistake in each of several functions, and looks whether the prover rejects every one of them.
+"""Tries the edits that make a mistake in each of several functions, and looks whether the prover rejects every one of them, and no other function.
 
-    play_mutants.py CRATE EDIT
+    play_mutants.py [CRATE..]
 
-`rt ci` tries each edit of crates/*/must-fail, but passes it as soon as one function is rejected. This checks, in a copy of the crate, the functions
-that the edit changes and those that they call. The libraries below the crate must be built.
+`rt ci` tries each edit of crates/*/must-fail, but passes it as soon as one function is rejected. This checks, in a copy of each crate that has an edit
+one_mistake_in_each, the functions that the edit changes and those that they call. The libraries below the crates must be built. What passed is kept in
+the user's folder for caches, by the checksums of all that it stands on, and not tried again.
 
 Prints what is wrong, and in the end the line 'N passed, M failed'.
 """
 
+import concurrent.futures
+import contextlib
+import hashlib
+import os
 import pathlib
 import re
 import shutil
@@ -19,10 +24,20 @@ import tempfile
 from playing import play_checks
 
 TOP = pathlib.Path(__file__).resolve().parent.parent
+EDIT = "one_mistake_in_each.edit"
+# How the prover says that it rejects the body of a function. One that merely calls such a function has "no proof: it calls ..".
+REJECTED = "not proved|no proof: expected answers"
+# Half of the processors, since other parts of ./check run beside.
+LANES = max(1, (os.cpu_count() or 1) // 2)
 sys.path.append(str(TOP / "tools"))
 
 import kit
-from sources import PARTS
+import sources
+
+
+def edit_of(crate):
+    """The file of the edit of a crate that has several mistakes."""
+    return TOP / "crates" / crate / "must-fail" / EDIT
 
 
 def replacements(edit):
@@ -38,11 +53,25 @@ def replacements(edit):
             yield path, old, rest
 
 
+def without_parameters(header):
+    """The words of an impl block after its own type parameters."""
+    depth = 0
+    for at, sign in enumerate(header):
+        depth += (sign == "<") - (sign == ">")
+        if not depth:
+            return header[at + (sign == ">") :]
+    return header
+
+
 def function_at(path, before):
-    """The path below the crate of the function that these lines of a file end in: of a method, with its type."""
-    modules = [name for name in pathlib.Path(path).with_suffix("").parts[1:] if name != "lib"]
-    types = re.findall(r"^impl\b.*?(\w+)(?:<[^{]*>)? \{$", before, re.MULTILINE)
-    return "::".join([*modules, *types[-1:], re.findall(r"\bfn (\w+)", before)[-1]])
+    """The end of the prover's name of the function that these lines of a file end in: its module, or its type and trait, and its own name."""
+    name = re.findall(r"\bfn (\w+)", before)[-1]
+    found = re.search(r"^impl\b([^{]*)\{(?!.*^impl\b)(?!.*^\})", before, re.MULTILINE | re.DOTALL)
+    if not found:
+        return "::".join([*(module for module in pathlib.Path(path).with_suffix("").parts[1:] if module != "lib"), name])
+    trait, _, of = without_parameters(found[1].strip()).rpartition(" for ")
+    words = [*re.findall(r"\w+", of)[:1], *re.findall(r"\w\w+(?!\w*::)", trait)]
+    return f"{''.join(words)}::{name}"
 
 
 def mistaken(room, edit):
@@ -55,30 +84,57 @@ def mistaken(room, edit):
     return functions
 
 
-def verdicts(crate, edit):
-    """The functions that an edit changes, and what the prover says of each of its functions."""
+def verdicts(crate):
+    """The functions that the edit of a crate changes, and those that the prover rejects, of these and of those that they call."""
     folder = TOP / "crates" / crate
     with tempfile.TemporaryDirectory() as name:
         room = pathlib.Path(name)
-        for part in PARTS:
+        for part in sources.PARTS:
             if (folder / part).is_dir():
                 shutil.copytree(folder / part, room / part)
-        functions = mistaken(room, edit)
+        functions = [*dict.fromkeys(mistaken(room, edit_of(crate)))]
         only = [word for function in functions for word in ("--only", function)]
         words = [kit.rtlib().RATTLE, "check", *kit.crate_of(crate).words(["--jobs", "1"], False, keeps=False), *only]
         done = subprocess.run(words, cwd=room, stdin=subprocess.DEVNULL, stdout=subprocess.PIPE, stderr=subprocess.STDOUT, text=True)
-    return functions, dict(re.findall(rf"^fn {crate}::(\S+): (no proof|not proved|proved)\b", done.stdout, re.MULTILINE))
+    return functions, re.findall(rf"^fn {crate}::(\S+): (?:{REJECTED})", done.stdout, re.MULTILINE)
+
+
+def checks_of(crate):
+    functions, rejected = verdicts(crate)
+    yield f"{crate}: the edit changes several functions", True, len(functions) > 1
+    for function in functions:
+        yield f"{crate}: {function} is rejected", 1, sum(f"::{name}".endswith(f"::{function}") for name in rejected)
+    yield f"{crate}: so many functions are rejected, and no other", len(functions), len(rejected)
+
+
+def record_of(crate):
+    """The file that has the names of the checks of a crate once all of them have passed."""
+    texts = [str(sources.kit()), sources.sum_of_sources(crate), edit_of(crate).read_text(), pathlib.Path(__file__).read_text()]
+    caches = pathlib.Path(os.environ.get("XDG_CACHE_HOME") or pathlib.Path.home() / ".cache")
+    return caches / "zuphinka" / "mutants" / hashlib.sha256("\n".join(texts).encode()).hexdigest()
+
+
+def checks_once(crate):
+    """The checks of a crate, as they came out earlier or come out now."""
+    record = record_of(crate)
+    if record.is_file():
+        return [(name, True, True) for name in record.read_text().splitlines()]
+    told = [*checks_of(crate)]
+    if all(wanted == got for _, wanted, got in told):
+        with contextlib.suppress(OSError):
+            record.parent.mkdir(parents=True, exist_ok=True)
+            written = record.with_suffix(f".{os.getpid()}")
+            written.write_text("".join(f"{name}\n" for name, _, _ in told))
+            written.rename(record)
+    return told
 
 
 def checks():
-    crate, edit = sys.argv[1:]
-    functions, told = verdicts(crate, TOP / "crates" / crate / "must-fail" / f"{edit}.edit")
-    yield "several functions, each once", (True, len(set(functions))), (len(functions) > 1, len(functions))
-    for function in functions:
-        yield f"{function} is rejected", True, told.get(function) in ("no proof", "not proved")
+    crates = [path.parent.parent.name for path in sorted(TOP.glob(f"crates/*/must-fail/{EDIT}"))]
+    with concurrent.futures.ThreadPoolExecutor(LANES) as lanes:
+        for told in lanes.map(checks_once, sys.argv[1:] or crates):
+            yield from told
 
 
 if __name__ == "__main__":
-    if len(sys.argv) != 3:
-        sys.exit(__doc__)
     sys.exit(play_checks(checks()))

@@ -31,6 +31,8 @@ import time
 TOP = pathlib.Path(__file__).resolve().parent.parent
 KINDS = ("proofs", "tests", "edits", "compiled")
 TICK = os.sysconf("SC_CLK_TCK")
+# The edit of a crate that has several mistakes.
+EACH = "one_mistake_in_each"
 # The processor seconds above which an edit is told by its name.
 MOST_TOLD = 45
 # The turns of the loop that shows the pace, how often it is timed before the command, and after how many seconds it is timed again beside it.
@@ -55,7 +57,7 @@ class Run:
 
 def kind_of(words, folder):
     """What a run of the prover is for, by its arguments and its folder."""
-    if "/rt-edit-" in folder:
+    if "/rt-edit-" in folder or "--only" in words:
         return "edits"
     if "--test" in words:
         return "tests"
@@ -116,9 +118,12 @@ def watch(command):
 
 
 def dear_edits(crate, runs):
-    """The edits of a crate that took long: each is tried in a folder of its own, in the order of their names, after the crate as it stands.
-    Where some were kept from an earlier run, or tried twice, which is which isn't known, and they are told by their order alone."""
-    names = ["as it stands", *sorted(edit.stem for edit in (TOP / "crates" / crate / "must-fail").glob("*.edit"))]
+    """The edits of a crate that took long: each is tried in a folder of its own, in the order of their names, and if there are several, between two
+    checks of the crate as it stands. One with several mistakes is tried once more, function by function (tests/play_mutants.py). Where some were kept
+    from an earlier run, or tried twice, which is which isn't known, and they are told by their order alone."""
+    edits = sorted(edit.stem for edit in (TOP / "crates" / crate / "must-fail").glob("*.edit"))
+    around = ["as it stands"] if len(edits) > 1 else []
+    names = [*around, *edits, *around, *(f"{edit} by function" for edit in edits if edit == EACH)]
     folders = collections.defaultdict(list)
     for run in runs:
         folders[run.folder].append(run)

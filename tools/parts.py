@@ -15,9 +15,21 @@ def libraries_of(crate):
     return tuple(sorted(sources.below(crate) - {crate}, key=lambda name: (-len(sources.below(name)), name)))
 
 
+def libraries_of_mutants():
+    """The libraries that the crates depend on which have an edit with several mistakes."""
+    crates = (path.parent.parent.name for path in sources.TOP.glob("crates/*/must-fail/one_mistake_in_each.edit"))
+    return tuple(sorted({library for crate in crates for library in libraries_of(crate)}, key=lambda name: (-len(sources.below(name)), name)))
+
+
 PROOFS = Part("proofs", "every proof, every test in Rattle, and that each mutant is rejected", "rt ci")
 
 PARTS = (
+    Part(
+        "mutants",
+        "each function is rejected in which an edit makes one of several mistakes",
+        "python3 tests/play_mutants.py",
+        libraries_of_mutants(),
+    ),
     Part(
         "copy",
         "a copy of the example server, made by the commands of its README, is proved",
@@ -26,11 +38,6 @@ PARTS = (
     ),
     Part("damaged", "damaged journals and segments", "python3 tests/play_damaged.py {pool}", ("pool",)),
     Part("try", "./try: words, streams, statuses, and a run of the program without proofs", "python3 tests/play_try.py"),
-    Part(
-        "mutants",
-        "each getter of the settings that returns another value is rejected",
-        "python3 tests/play_mutants.py pool_settings reports_other_settings",
-    ),
     Part(
         "segments",
         "segments that are checked together, and the memory of that",
