@@ -130,9 +130,12 @@ def checks_once(crate):
 
 
 def checks():
-    crates = [path.parent.parent.name for path in sorted(TOP.glob(f"crates/*/must-fail/{EDIT}"))]
+    crates = sys.argv[1:] or [path.parent.parent.name for path in sorted(TOP.glob(f"crates/*/must-fail/{EDIT}"))]
+    kept = sum(record_of(crate).is_file() for crate in crates)
+    if kept:
+        print(f"{kept} of {len(crates)} crates passed on this machine earlier, and nothing that they stand on has changed")
     with concurrent.futures.ThreadPoolExecutor(LANES) as lanes:
-        for told in lanes.map(checks_once, sys.argv[1:] or crates):
+        for told in lanes.map(checks_once, crates):
             yield from told
 
 

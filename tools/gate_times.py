@@ -42,6 +42,8 @@ HEAD = "| crate | " + " | ".join(KINDS) + " |"
 BEGIN = "<!-- tools/gate_times.py --table writes what follows. -->"
 END = "<!-- The end of what tools/gate_times.py writes. -->"
 KEPT = "Of the proofs some were kept from earlier runs, and took no time in this one."
+# What a check says of them.
+SAYS_KEPT = re.compile("the others are kept from earlier runs|passed on this machine earlier")
 
 
 @dataclasses.dataclass
@@ -219,7 +221,7 @@ def write_table(page, logs):
     if fault:
         sys.exit(f"{', '.join(map(str, logs))}: {fault}")
     day = datetime.date.fromtimestamp(logs[0].stat().st_mtime)
-    lines = ["; ".join(heading(text, day)) + ".", *([KEPT] if "the others are kept from earlier runs" in text else []), ""]
+    lines = ["; ".join(heading(text, day)) + ".", *([KEPT] if SAYS_KEPT.search(text) else []), ""]
     lines += ["| Crate | " + " | ".join(kind.capitalize() for kind in KINDS) + " |", "|---|" + "---|" * len(KINDS)]
     lines += ["| " + " | ".join(cells_of(crate, numbers)) + " |" for crate, numbers in rows.items()]
     page.write_text(before + begin + "\n" + "".join(f"{line}\n" for line in lines) + "\n" + end + after)
