@@ -6,9 +6,10 @@ check_tables.py  The last line is 'N passed, M failed'.
 Each setting has the default that the definitions say, in docs/guide/settings.md and in examples/settings.toml; the answers to each input are the
 same in docs/guide/program.md and docs/proof/definitions.md; each of them is given in the case that docs/proof/definitions.md names; docs/dev/trials.md
 has a row for each file of tests of the shared pool; the outstanding entries and the room of docs/guide/operations.md follow from the definitions; and
-docs/proof/edits.md has a row for each edit of crates/*/must-fail, in the section of its crate, which names the function that it changes. The name of
-each crate begins as its section of crates.txt requires, docs/dev/architecture.md has a paragraph on it, and docs/pictures/crates.svg is as its script
-draws it. docs/guide/differences.md and docs/guide/commons-pool-tests.md name the same tests, for the same differences.
+docs/proof/edits.md has a row for each edit of crates/*/must-fail, in the section of its crate, which names the function that it changes, and several
+rows for one that makes a mistake in each of several functions. The name of each crate begins as its section of crates.txt requires,
+docs/dev/architecture.md has a paragraph on it, and docs/pictures/crates.svg is as its script draws it. docs/guide/differences.md and
+docs/guide/commons-pool-tests.md name the same tests, for the same differences.
 """
 
 import re
@@ -16,14 +17,14 @@ import sys
 import tomllib
 
 from check_names import TOP, backquoted, rows_in, tables
+from play_mutants import function_at, replacements
 
-sys.path.append(str(TOP / "docs/pictures"))
+sys.path += [str(TOP / "docs/pictures"), str(TOP / "tools")]
 import draw_crates  # noqa: E402
+from sources import MISTAKES  # noqa: E402
 
 DEFINITIONS = TOP / "docs/proof/definitions.md"
 EDITS = TOP / "docs/proof/edits.md"
-# The edit of a crate that has a row for each mistake.
-EACH = "one_mistake_in_each"
 COMMONS_POOL_TESTS = TOP / "docs/guide/commons-pool-tests.md"
 
 
@@ -141,12 +142,8 @@ def listed_edits():
 
 def functions_of(path):
     """The functions whose lines an edit replaces."""
-    functions = set()
-    for part in re.split(r"^file: ", path.read_text(), flags=re.MULTILINE)[1:]:
-        file, _, pairs = part.partition("\n")
-        source = (path.parent.parent / file).read_text()
-        functions |= {re.findall(r"\bfn (\w+)", source.partition(old)[0])[-1] for old in re.findall(r"^old: (.*)$", pairs, re.MULTILINE)}
-    return functions
+    crate = path.parent.parent
+    return {function_at(file, (crate / file).read_text().partition(old)[0]).rpartition("::")[2] for file, old, _ in replacements(path)}
 
 
 def fault_of_rows(path, rows):
@@ -163,7 +160,7 @@ def check_edits():
     edits, rows = edits_in_order(), list(listed_edits())
     for edit in sorted({*edits, *(edit for edit, _ in rows)}):
         functions = [named for listed, named in rows if listed == edit]
-        if edit not in edits or not functions or (len(functions) > 1 and edit[1] != EACH):
+        if edit not in edits or not functions or (len(functions) > 1 and edit[1] != MISTAKES):
             fault = f"{len(functions)} rows" if edit in edits else "no such edit"
         else:
             fault = fault_of_rows(edits[edit], functions)

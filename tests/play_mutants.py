@@ -24,20 +24,14 @@ import tempfile
 from playing import play_checks
 
 TOP = pathlib.Path(__file__).resolve().parent.parent
-EDIT = "one_mistake_in_each.edit"
 # How the prover says that it rejects the body of a function. One that merely calls such a function has "no proof: it calls ..".
-REJECTED = "not proved|no proof: expected answers"
+REJECTED = r"not proved\b|no proof: expected answers in \S+; `search` did not prove"
 # Half of the processors, since other parts of ./check run beside.
 LANES = max(1, (os.cpu_count() or 1) // 2)
 sys.path.append(str(TOP / "tools"))
 
 import kit
 import sources
-
-
-def edit_of(crate):
-    """The file of the edit of a crate that has several mistakes."""
-    return TOP / "crates" / crate / "must-fail" / EDIT
 
 
 def replacements(edit):
@@ -92,7 +86,7 @@ def verdicts(crate):
         for part in sources.PARTS:
             if (folder / part).is_dir():
                 shutil.copytree(folder / part, room / part)
-        functions = [*dict.fromkeys(mistaken(room, edit_of(crate)))]
+        functions = [*dict.fromkeys(mistaken(room, sources.edit_with_mistakes(crate)))]
         only = [word for function in functions for word in ("--only", function)]
         words = [kit.rtlib().RATTLE, "check", *kit.crate_of(crate).words(["--jobs", "1"], False, keeps=False), *only]
         done = subprocess.run(words, cwd=room, stdin=subprocess.DEVNULL, stdout=subprocess.PIPE, stderr=subprocess.STDOUT, text=True)
@@ -109,7 +103,7 @@ def checks_of(crate):
 
 def record_of(crate):
     """The file that has the names of the checks of a crate once all of them have passed."""
-    texts = [str(sources.kit()), sources.sum_of_sources(crate), edit_of(crate).read_text(), pathlib.Path(__file__).read_text()]
+    texts = [str(sources.kit()), sources.sum_of_sources(crate), sources.edit_with_mistakes(crate).read_text(), pathlib.Path(__file__).read_text()]
     caches = pathlib.Path(os.environ.get("XDG_CACHE_HOME") or pathlib.Path.home() / ".cache")
     return caches / "zuphinka" / "mutants" / hashlib.sha256("\n".join(texts).encode()).hexdigest()
 
@@ -120,7 +114,8 @@ def checks_once(crate):
     if record.is_file():
         return [(name, True, True) for name in record.read_text().splitlines()]
     told = [*checks_of(crate)]
-    if all(wanted == got for _, wanted, got in told):
+    is_over_sources = all(sources.is_current(library) for library in sources.below(crate) - {crate})
+    if is_over_sources and all(wanted == got for _, wanted, got in told):
         with contextlib.suppress(OSError):
             record.parent.mkdir(parents=True, exist_ok=True)
             written = record.with_suffix(f".{os.getpid()}")
@@ -130,7 +125,7 @@ def checks_once(crate):
 
 
 def checks():
-    crates = sys.argv[1:] or [path.parent.parent.name for path in sorted(TOP.glob(f"crates/*/must-fail/{EDIT}"))]
+    crates = sys.argv[1:] or sources.with_mistakes()
     kept = sum(record_of(crate).is_file() for crate in crates)
     if kept:
         print(f"{kept} of {len(crates)} crates passed on this machine earlier, and nothing that they stand on has changed")

@@ -17,7 +17,7 @@ from playing import play_checks
 TOP = pathlib.Path(__file__).resolve().parent.parent
 sys.path.append(str(TOP / "tools"))
 
-from gate_times import BEGIN, END, HEAD, KEPT
+from gate_times import BEGIN, END, HEAD, KEPT, Run, dear_edits, kind_of
 
 CRATES = re.findall(r"^(\w+)", (TOP / "crates.txt").read_text(), re.M)
 TOLD = """check: commit 0123abc
@@ -99,8 +99,19 @@ def refused(folder):
         yield name, (1, True, text), (done.returncode, told in done.stderr or done.stderr, page.read_text())
 
 
+def named():
+    """The edits that took long, by their names: one with several mistakes is tried once more, and several are tried between two checks without them."""
+    yield "a check of some functions", "edits", kind_of(["rattle", "check", "--only", "step"], "/tmp/room")
+    whole, each = "as it stands: 50", "one_mistake_in_each: 50"
+    for crate, wanted in {"pool_slots": [each], "pool_settings": [whole, each, "reports_no_toml_for_want_of_memory: 50", whole]}.items():
+        wanted = [f"{crate}/{name}" for name in (*wanted, "one_mistake_in_each by function: 50")]
+        runs = [Run(crate, "edits", f"/tmp/{began}", began, 50.0) for began, _ in enumerate(wanted)]
+        yield f"the edits of {crate}", wanted, [*dear_edits(crate, runs)]
+
+
 def checks():
     yield from watched()
+    yield from named()
     for part in written, refused:
         with tempfile.TemporaryDirectory() as folder:
             yield from part(pathlib.Path(folder))

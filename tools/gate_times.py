@@ -28,11 +28,11 @@ import subprocess
 import sys
 import time
 
+from sources import MISTAKES
+
 TOP = pathlib.Path(__file__).resolve().parent.parent
 KINDS = ("proofs", "tests", "edits", "compiled")
 TICK = os.sysconf("SC_CLK_TCK")
-# The edit of a crate that has several mistakes.
-EACH = "one_mistake_in_each"
 # The processor seconds above which an edit is told by its name.
 MOST_TOLD = 45
 # The turns of the loop that shows the pace, how often it is timed before the command, and after how many seconds it is timed again beside it.
@@ -125,7 +125,7 @@ def dear_edits(crate, runs):
     from an earlier run, or tried twice, which is which isn't known, and they are told by their order alone."""
     edits = sorted(edit.stem for edit in (TOP / "crates" / crate / "must-fail").glob("*.edit"))
     around = ["as it stands"] if len(edits) > 1 else []
-    names = [*around, *edits, *around, *(f"{edit} by function" for edit in edits if edit == EACH)]
+    names = [*around, *edits, *around, *(f"{edit} by function" for edit in edits if edit == MISTAKES)]
     folders = collections.defaultdict(list)
     for run in runs:
         folders[run.folder].append(run)

@@ -10,15 +10,10 @@ SCRIPTS = " ".join(f"tests/cases/{name}" for name in ("1-life", "3-settings", "4
 ROW = "tests/cases/rows/two_objects_fifo"
 
 
-def libraries_of(crate):
-    """The libraries that a crate depends on. Those come first whose builds build others of them too."""
-    return tuple(sorted(sources.below(crate) - {crate}, key=lambda name: (-len(sources.below(name)), name)))
-
-
-def libraries_of_mutants():
-    """The libraries that the crates depend on which have an edit with several mistakes."""
-    crates = (path.parent.parent.name for path in sources.TOP.glob("crates/*/must-fail/one_mistake_in_each.edit"))
-    return tuple(sorted({library for crate in crates for library in libraries_of(crate)}, key=lambda name: (-len(sources.below(name)), name)))
+def libraries_of(*crates):
+    """The libraries that the crates depend on. Those come first whose builds build others of them too."""
+    libraries = {library for crate in crates for library in sources.below(crate) - {crate}}
+    return tuple(sorted(libraries, key=lambda name: (-len(sources.below(name)), name)))
 
 
 PROOFS = Part("proofs", "every proof, every test in Rattle, and that each mutant is rejected", "rt ci")
@@ -28,7 +23,7 @@ PARTS = (
         "mutants",
         "each function is rejected in which an edit makes one of several mistakes",
         "python3 tests/play_mutants.py",
-        libraries_of_mutants(),
+        libraries_of(*sources.with_mistakes()),
     ),
     Part(
         "copy",

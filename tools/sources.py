@@ -21,6 +21,8 @@ TOP = pathlib.Path(__file__).resolve().parent.parent
 NOTES = TOP / "out" / "built"
 # The folders of a crate that `rt` reads to prove and to build it.
 PARTS = ("src", "specs", "proofs")
+# The edit of a crate that makes a mistake in each of several functions.
+MISTAKES = "one_mistake_in_each"
 
 
 @functools.cache
@@ -44,6 +46,16 @@ def libraries():
 def below(crate):
     """All that a crate stands on, itself included."""
     return {crate}.union(*(below(name) for name in libraries()[crate]))
+
+
+def edit_with_mistakes(crate):
+    """The file of the edit of a crate that makes several mistakes."""
+    return TOP / "crates" / crate / "must-fail" / f"{MISTAKES}.edit"
+
+
+def with_mistakes():
+    """The crates that have such an edit."""
+    return [crate for crate in sorted(declared()) if edit_with_mistakes(crate).is_file()]
 
 
 def is_static(crate):
