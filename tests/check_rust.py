@@ -6,7 +6,8 @@
 POOL is the program. The crate's tests are cargo's: those in its files, in tests/ and in its pages. The segments that the example `servers` stores are
 judged by the program; what the example `settings` writes of a file must be what Python reads there; the example `pairs` must make as many
 entries as its rounds are, whatever becomes of its journal, and the segments that it stores are judged too; and the codes, the fields and the functions
-of `src/sys.rs` must be those of `bindings/c/zuphinka.h`. Where no cargo runs, all of it is left out.
+of `src/sys.rs` must be those of `bindings/c/zuphinka.h`. The tests under tokio run where Debian has its source; everywhere the files that they name
+must be there. Where no cargo runs, all of it is left out.
 
 Prints what fails, and in the end the line 'N passed, M failed'.
 """
@@ -26,6 +27,8 @@ TRIAL, REGISTRY = TOP / "tests/tokio_trial", pathlib.Path("/usr/share/cargo/regi
 RESULT = re.compile(r"^test result: \w+\. (\d+) passed; (\d+) failed;", flags=re.MULTILINE)
 # The types of C that the binding has; a token is a pointer in C.
 TYPES = {"u64": "uint64_t", "u32": "uint32_t", "i64": "int64_t", "i32": "int32_t", "usize": "void", "*mut u8": "void"}
+# The structs that the header names otherwise, after the prefix; and the functions that the binding does without.
+STRUCTS, UNUSED = {"Handle": "", "Settings": "_setup", "Counts": "_tally"}, {"zuphinka_version"}
 # A run that takes longer hangs.
 LONGEST = 1200
 WORKERS, ROUNDS = 4, 20_000
@@ -62,6 +65,16 @@ def run_trial(environment):
         return 0, 0
     source = ["--config", 'source.crates-io.replace-with="debian"', "--config", f'source.debian.directory="{REGISTRY}"']
     return run_tests(environment, *source, package=TRIAL)
+
+
+def check_trial():
+    """The files that the tests under tokio name are there. This is seen where they are left out, too."""
+    files = re.findall(r'^#\[path = "(.*)"\]$', (TRIAL / "tokio_trial.rs").read_text(), flags=re.MULTILINE)
+    manifest = tomllib.loads((TRIAL / "Cargo.toml").read_text())
+    crates = [crate["path"] + "/Cargo.toml" for crate in manifest["dependencies"].values() if "path" in crate]
+    yield None if files and crates else f"tests/tokio_trial names {files} and {crates}"
+    for name in files + crates:
+        yield None if (TRIAL / name).is_file() else f"tests/tokio_trial: {name}: no such file"
 
 
 def built_examples(environment):
@@ -125,13 +138,13 @@ def check_binding():
     fields = {name: re.findall(r"(\w+) (\*?\w+);", body) for name, body in re.findall(r"struct zuphinka(\w*) \{(.*?)\};", header, flags=re.DOTALL)}
     for name, body in re.findall(r"^pub struct (\w+) \{\n(.*?)^\}", binding, flags=re.MULTILINE | re.DOTALL):
         found = [(TYPES.get(kind, kind), "*" * (kind in ("usize", "*mut u8")) + field) for field, kind in re.findall(r"(\w+): ([\w* ]+),", body)]
-        wanted = fields.get("" if name == "Handle" else f"_{name.lower()}")
+        wanted = fields.get(STRUCTS.get(name, f"_{name.lower()}"))
         yield None if found == wanted else f"{name} has {found}, in the header {wanted}"
     counts = [
         {name: words.rstrip(" ,\n").count(",") for name, words in re.findall(r"\b(zuphinka_\w+)\((.*?)\)(?: -> u32)?;", text, flags=re.DOTALL)}
         for text in (header, binding)
     ]
-    for name in counts[0] | counts[1]:
+    for name in (counts[0] | counts[1]).keys() - UNUSED:
         yield None if counts[0].get(name) == counts[1].get(name) else f"{name} has other parameters than in the header, or is missing"
 
 
@@ -169,7 +182,7 @@ def main(pool):
     passed, failed = (sum(column) for column in zip(run_tests(environment), run_trial(environment)))
     examples = built_examples(environment)
     checks = [check_servers(examples / "servers", pool), check_settings(examples / "settings"), check_pairs(examples / "pairs", pool)]
-    checks += [check_binding(), check_version()]
+    checks += [check_trial(), check_binding(), check_version()]
     for check in checks:
         for fault in check:
             if fault is None:

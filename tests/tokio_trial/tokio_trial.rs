@@ -1,6 +1,6 @@
 //! Borrows under the runtime tokio: its timeouts, its aborted tasks, its timers in a manager, and its threads.
 
-#[path = "../zuphinka/tests/common/mod.rs"]
+#[path = "../../bindings/rust/tests/common/mod.rs"]
 mod common;
 
 use common::assert_legal;

@@ -49,7 +49,7 @@ pub trait AsyncManager: Send + Sync {
     /// The objects that are lent.
     type Object: Send;
 
-    /// Why an object could not be made, activated or passivated.
+    /// Why an object could not be made, activated or passivated, or did not pass a test.
     type Error;
 
     /// Whether [`activate`](AsyncManager::activate) does anything, as in [`Manager::ACTIVATES`].
@@ -82,6 +82,18 @@ pub trait AsyncManager: Send + Sync {
     fn validate(&self, object: &mut Self::Object) -> impl Future<Output = bool> + Send {
         let _ = object;
         async { true }
+    }
+
+    /// Returns whether the object can be used, or why it cannot, as [`Manager::try_validate`] does.
+    ///
+    /// # Errors
+    ///
+    /// Those of [`Manager::try_validate`].
+    fn try_validate(
+        &self,
+        object: &mut Self::Object,
+    ) -> impl Future<Output = Result<bool, Self::Error>> + Send {
+        async { Ok(self.validate(object).await) }
     }
 
     /// Makes an object ready to be idle, as [`Manager::passivate`] does.
@@ -131,6 +143,10 @@ impl<A: AsyncManager> Manager for Async<A> {
         block_on(self.0.validate(object))
     }
 
+    fn try_validate(&self, object: &mut A::Object) -> Result<bool, A::Error> {
+        block_on(self.0.try_validate(object))
+    }
+
     fn passivate(&self, object: &mut A::Object) -> Result<(), A::Error> {
         self.0.passivate(object)
     }
@@ -150,8 +166,11 @@ impl<A: AsyncManager> Manager for Async<A> {
         self.0.activate(object)
     }
 
-    fn validate_async(&self, object: &mut A::Object) -> impl Future<Output = bool> + Send {
-        self.0.validate(object)
+    fn try_validate_async(
+        &self,
+        object: &mut A::Object,
+    ) -> impl Future<Output = Result<bool, A::Error>> + Send {
+        self.0.try_validate(object)
     }
 }
 

@@ -2,15 +2,18 @@ use crate::clock::{Clock, GivenClock};
 use crate::contradictions::Chosen;
 use crate::error::{OpenError, SettingsError};
 use crate::failure::Failure;
+use crate::handle::Handle;
 use crate::journal::Journal;
 use crate::locked_pool::LockedPool;
 use crate::maintenance::{Maintainer, Start};
 use crate::manager::Manager;
 use crate::pool::Pool;
 use crate::proved_core::{Core, OpenFault};
+use crate::reports::{OnError, Reports};
 use crate::settings::{millis, Abandoned, Settings};
-use crate::shared::{OnError, Policy, Shared};
+use crate::shared::{Policy, Shared};
 use crate::stored_journal::Mode;
+use crate::waiters::Waiters;
 use crate::writing::Outlet;
 use std::fmt;
 use std::sync::Arc;
@@ -28,6 +31,7 @@ pub struct Builder<M: Manager> {
     clock: Option<GivenClock>,
     max_lifetime: Option<Duration>,
     on_error: Option<OnError<M>>,
+    max_overtakes: u32,
     maintenance: Option<(Start<M>, Duration)>,
 }
 
@@ -53,6 +57,7 @@ impl<M: Manager> Builder<M> {
             clock: None,
             max_lifetime: None,
             on_error: None,
+            max_overtakes: DEFAULT_OVERTAKES,
             maintenance: None,
         }
     }
@@ -171,6 +176,19 @@ impl<M: Manager> Builder<M> {
         self
     }
 
+    /// Sets how often a waiting borrow is overtaken at most, from 0 to 2^32 - 1 (16; in Commons Pool 2 there is no limit unless `fairness` is set).
+    /// With 0 the pool is fair.
+    ///
+    /// A later borrow overtakes the oldest waiter if it takes an object or a place, and leaves too few for those who wait. Once the oldest was
+    /// overtaken so often, or was woken and found nothing, later borrows queue behind it until it has its object or leaves. A borrow that
+    /// does not wait then fails as if nothing were there.
+    ///
+    /// Overtaking costs no sleep, so a high number lends more objects per second where many wait. A low one makes the longest wait shorter.
+    pub fn max_overtakes(mut self, times: u32) -> Builder<M> {
+        self.max_overtakes = times;
+        self
+    }
+
     /// Sets what becomes of the journal. The default is [`Journal::Off`].
     pub fn journal(mut self, journal: Journal) -> Builder<M> {
         self.journal = journal;
@@ -195,8 +213,8 @@ impl<M: Manager> Builder<M> {
     /// Sets a clock that returns times in milliseconds, instead of the time since the pool was opened. It may be read under the pool's
     /// lock, and must not call the pool.
     ///
-    /// Times in the journal never decrease: a time before that of the last entry counts as that one. If the clock panics, the time of the last
-    /// entry is taken.
+    /// Times in the journal never decrease: a time before that of the last entry counts as that one, also the time at which a borrow begins. If
+    /// the clock panics, the time of the last entry is taken. What it panicked with is dropped then, and must not call the pool either.
     ///
     /// ```
     /// # use std::sync::{Arc, atomic::{AtomicU64, Ordering}};
@@ -234,6 +252,9 @@ impl<M: Manager> Builder<M> {
     /// do not pass a test, of sinks, and of the maintenance thread. It is called without the pool's lock, by the thread in whose call
     /// it happened. A panic of it is ignored. Without it these failures are ignored.
     ///
+    /// It may call the pool. Failures that happen in its own calls of the pool are not passed to it. The crate itself writes to no log: call
+    /// your logger here.
+    ///
     /// ```
     /// # use zuphinka::{Manager, Pool};
     /// # struct Numbers;
@@ -263,14 +284,15 @@ impl<M: Manager> Builder<M> {
         let policy = Policy {
             max_lifetime: self.max_lifetime.map(|time| millis(time).unsigned_abs()),
             tests_idle: self.settings.test_while_idle,
-            on_error: self.on_error.take(),
+            reports: Reports::new(self.on_error.take()),
         };
         self.settings.test_while_idle |= self.max_lifetime.is_some();
         let (mode, outlet) = self.take_journal();
-        if let Some(found) = self.chosen.contradiction(&self.settings, mode != Mode::Off) {
+        if let Some(found) = self.chosen.contradiction(&self.settings, mode)? {
             return Err(OpenError::Contradiction(found));
         }
-        let state = LockedPool::new(open_core(&self.settings)?, mode);
+        let waiters = Waiters::new(self.max_overtakes);
+        let state = LockedPool::new(open_core(&self.settings)?, mode, waiters);
         let clock = match self.clock {
             Some(clock) => Clock::Given(clock),
             None => Clock::Since(Instant::now()),
@@ -283,11 +305,12 @@ impl<M: Manager> Builder<M> {
             self.settings,
             policy,
         ));
+        let is_maintained = self.maintenance.is_some();
         if let Some((start, time)) = self.maintenance {
             let started = start(&pool, time).map_err(|error| OpenError::Thread(error.kind()))?;
             *pool.maintainer() = Some(started);
         }
-        Ok(Pool::of(pool))
+        Ok(Pool::of(Handle::new(pool, is_maintained)))
     }
 
     /// Returns what becomes of the journal, whose limit is set then.
@@ -307,7 +330,7 @@ impl<M: Manager> Builder<M> {
     }
 }
 
-fn open_core(settings: &Settings) -> Result<Core, OpenError> {
+pub(crate) fn open_core(settings: &Settings) -> Result<Core, OpenError> {
     let text = settings.to_string();
     Settings::from_toml(&text)?;
     Core::open(&text).map_err(|fault| match fault {
@@ -321,7 +344,7 @@ fn open_core(settings: &Settings) -> Result<Core, OpenError> {
 impl<M: Manager + 'static> Builder<M> {
     /// Starts a thread of the pool's own that calls [`maintain`](Pool::maintain): at once, and then this long after each round, at least one
     /// millisecond. Its errors go to [`on_error`](Builder::on_error). The thread ends when the pool is closed, once it has done its round, or when
-    /// the last handle and the last lent object are gone.
+    /// the last handle and the last lent object are gone. Their drop waits for the round, unless it is a drop in that thread.
     pub fn maintain_every(mut self, time: Duration) -> Builder<M> {
         self.maintenance = Some((Maintainer::start, time));
         self
@@ -330,6 +353,9 @@ impl<M: Manager + 'static> Builder<M> {
 
 /// The limit of a wait if nothing else is set: that of r2d2.
 const DEFAULT_WAIT_MILLIS: i64 = 30_000;
+
+/// How often a waiter is overtaken at most, if nothing else is set.
+const DEFAULT_OVERTAKES: u32 = 16;
 
 /// The greatest `journalLimit`.
 const GREATEST_LIMIT: u64 = 1 << 32;

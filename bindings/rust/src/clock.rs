@@ -27,6 +27,32 @@ impl Clock {
     }
 }
 
+/// When a borrow began, in milliseconds.
+#[derive(Clone, Copy, Debug)]
+pub(crate) struct Began {
+    time: u64,
+    is_fixed: bool,
+}
+
+impl Began {
+    /// A borrow begins at this time by the clock.
+    pub fn at(time: u64) -> Began {
+        Began {
+            time,
+            is_fixed: false,
+        }
+    }
+
+    /// Returns when the borrow began, where the last entry before its first one has this time. A time before that counts as that one.
+    pub fn fix(&mut self, last_time: u64) -> u64 {
+        if !self.is_fixed {
+            self.time = self.time.max(last_time);
+            self.is_fixed = true;
+        }
+        self.time
+    }
+}
+
 /// An object, and when it was made.
 #[derive(Debug)]
 pub(crate) struct Aged<T> {

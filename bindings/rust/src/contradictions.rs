@@ -1,7 +1,11 @@
 //! Settings of a builder that contradict each other.
 
-use crate::error::Contradiction;
+use crate::builder::open_core;
+use crate::error::{Contradiction, OpenError};
+use crate::proved_core::Core;
 use crate::settings::Settings;
+use crate::step::{Input, Outcome, StepFault, When};
+use crate::stored_journal::Mode;
 
 /// Which settings were set by the builder's own methods. Only these are held against others.
 #[derive(Clone, Copy, Debug, Default)]
@@ -21,8 +25,26 @@ fn is_above(number: i64, limit: i64) -> bool {
 }
 
 impl Chosen {
-    /// Returns the first contradiction of the settings, of a pool that keeps its journal or drops it.
-    pub fn contradiction(self, settings: &Settings, keeps_journal: bool) -> Option<Contradiction> {
+    /// Returns the first contradiction of the settings, of a pool with a journal of a kind.
+    ///
+    /// # Errors
+    ///
+    /// The settings are invalid, or there is no memory.
+    pub fn contradiction(
+        self,
+        settings: &Settings,
+        mode: Mode,
+    ) -> Result<Option<Contradiction>, OpenError> {
+        if let Some(found) = self.contradiction_of_numbers(settings) {
+            return Ok(Some(found));
+        }
+        let is_chosen = self.journal_limit || self.max_total;
+        let is_too_small = is_chosen && lends_too_few(settings, mode)?;
+        Ok(is_too_small.then_some(Contradiction::JournalTooSmall))
+    }
+
+    /// Returns the first contradiction that the settings show.
+    fn contradiction_of_numbers(self, settings: &Settings) -> Option<Contradiction> {
         let waits_for_ever = settings.block_when_exhausted && settings.max_wait_millis < 0;
         let reclaims = settings.abandoned.map_or(true, |abandoned| {
             abandoned.on_borrow || abandoned.on_maintenance
@@ -48,15 +70,44 @@ impl Chosen {
                 Contradiction::WaitWithoutBlocking,
             ),
             (self.abandoned && !reclaims, Contradiction::NeverReclaimed),
-            (
-                self.journal_limit
-                    && keeps_journal
-                    && settings.journal_limit.unsigned_abs() < settings.least_limit(),
-                Contradiction::JournalTooSmall,
-            ),
         ];
         found
             .into_iter()
             .find_map(|(is_so, contradiction)| is_so.then_some(contradiction))
     }
+}
+
+/// Returns whether a journal that is kept is full before all objects are lent at a time, or before one is if there may be any number.
+fn lends_too_few(settings: &Settings, mode: Mode) -> Result<bool, OpenError> {
+    let wanted = u64::try_from(settings.max_total).unwrap_or(1);
+    Ok(mode != Mode::Off && wanted > 0 && most_lent(settings, mode)? < wanted)
+}
+
+/// Returns how many objects of any number can be lent at a time before the journal is full, by the room of a core that lends one.
+fn most_lent(settings: &Settings, mode: Mode) -> Result<u64, OpenError> {
+    let mut core = open_core(settings)?;
+    let room = core.room();
+    match lend(&mut core, settings) {
+        Ok(()) => {}
+        Err(StepFault::JournalFull) => return Ok(0),
+        Err(StepFault::OutOfMemory) => return Err(OpenError::OutOfMemory),
+    }
+    let used = room - core.room();
+    if mode == Mode::Segments {
+        // The entries of one loan are handed to the sink before the next.
+        core.cut().map_err(|_| OpenError::OutOfMemory)?;
+    }
+    let still_used = room - core.room();
+    Ok(1 + (room - used) / still_used)
+}
+
+/// Lends an object as a borrow does that makes one.
+fn lend(core: &mut Core, settings: &Settings) -> Result<(), StepFault> {
+    let (on, outcome) = (When::Borrow, Outcome::Good);
+    if settings.removes_on_borrow() {
+        core.step(0, 0, Input::Reclaim { on }, None)?;
+    }
+    core.step(0, 0, Input::Borrow { began: 0 }, None)?;
+    core.step(0, 0, Input::Ready { id: 0, outcome }, None)?;
+    Ok(())
 }

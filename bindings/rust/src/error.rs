@@ -111,7 +111,7 @@ pub enum Contradiction {
     WaitWithoutBlocking,
     /// `abandoned` is set, and neither `on_borrow` nor `on_maintenance` is: no object is ever reclaimed.
     NeverReclaimed,
-    /// The journal's limit is less than one borrow and the close of the pool need: no object would ever be lent.
+    /// The journal is full before `max_total` objects are lent at a time, or before one is if that is no limit.
     JournalTooSmall,
 }
 
@@ -129,7 +129,9 @@ impl fmt::Display for Contradiction {
             Contradiction::NeverReclaimed => {
                 "abandoned is set with neither on_borrow nor on_maintenance"
             }
-            Contradiction::JournalTooSmall => "the journal has too little room for one loan",
+            Contradiction::JournalTooSmall => {
+                "the journal has too little room to lend max_total objects"
+            }
         })
     }
 }

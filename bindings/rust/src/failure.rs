@@ -24,6 +24,8 @@ pub enum Failure<E> {
     Test {
         /// The object's id.
         id: u64,
+        /// Why, if [`Manager::try_validate`](crate::Manager::try_validate) said so.
+        reason: Option<E>,
     },
     /// The sink did not store a segment. [`SinkFailure`](crate::SinkFailure) says what became of it.
     Sink(
@@ -44,7 +46,7 @@ impl<E> fmt::Display for Failure<E> {
         match self {
             Failure::Activate { id, .. } => write!(f, "idle object {id} could not be activated"),
             Failure::Passivate { id, .. } => write!(f, "object {id} could not be passivated"),
-            Failure::Test { id } => write!(f, "object {id} did not pass its test"),
+            Failure::Test { id, .. } => write!(f, "object {id} did not pass its test"),
             Failure::Sink(_) => f.write_str("a segment of the journal could not be stored"),
             Failure::Maintenance(_) => f.write_str("the maintenance of the pool ended early"),
             Failure::MaintenancePanicked => f.write_str("the maintenance of the pool panicked"),
@@ -56,9 +58,10 @@ impl<E: error::Error + 'static> error::Error for Failure<E> {
     fn source(&self) -> Option<&(dyn error::Error + 'static)> {
         match self {
             Failure::Activate { error, .. } | Failure::Passivate { error, .. } => Some(error),
+            Failure::Test { reason, .. } => reason.as_ref().map(|reason| reason as _),
             Failure::Sink(error) => Some(error),
             Failure::Maintenance(error) => Some(error),
-            Failure::Test { .. } | Failure::MaintenancePanicked => None,
+            Failure::MaintenancePanicked => None,
         }
     }
 }

@@ -1,18 +1,19 @@
 //! A borrow by a task.
 
 use crate::callers::caller_number;
+use crate::clock::Began;
 use crate::error::Error;
+use crate::handle::Handle;
 use crate::in_progress::{InProgress, Work};
-use crate::lending::Prepared;
+use crate::lending::{Prepared, Unready};
 use crate::manager::Manager;
 use crate::pooled::Pooled;
-use crate::shared::{Acquired, Acquisition, Item, Shared};
+use crate::shared::{Acquired, Acquisition, Item, Shared, WaitLimit};
 use crate::step::{Outcome, When};
 use crate::waiters::Ticket;
 use std::fmt;
 use std::future::Future;
 use std::pin::Pin;
-use std::sync::Arc;
 use std::task::{ready, Context, Poll};
 
 /// A borrow by a task: the future that [`Pool::get_async`](crate::Pool::get_async) returns.
@@ -24,10 +25,12 @@ use std::task::{ready, Context, Poll};
 /// that one. If the manager is making, activating or validating an object, that is cancelled: the object is destroyed, and then its place is
 /// freed.
 ///
-/// **Once it was polled, poll it when it wakes its task, or drop it.** If you do neither, the object that it was woken for stays idle.
+/// **Once it was polled, poll it when it wakes its task, or drop it.** If you do neither, the object that it was woken for stays idle, and later
+/// borrows queue behind it. So a task that has such a future must not wait for another borrow meanwhile, nor its thread block in
+/// [`Pool::get`](crate::Pool::get).
 #[must_use = "a future does nothing until it is polled"]
 pub struct Get<M: Manager> {
-    pool: Arc<Shared<M>>,
+    pool: Handle<M>,
     call: Option<Call>,
     /// Its place among the waiters, if it waits or was woken.
     ticket: Option<Ticket>,
@@ -40,13 +43,13 @@ pub struct Get<M: Manager> {
 #[derive(Clone, Copy)]
 struct Call {
     caller: u32,
-    began: u64,
+    began: Began,
 }
 
 type Preparation<M> = Pin<Box<dyn Future<Output = Prepared<M>> + Send>>;
 
 impl<M: Manager> Get<M> {
-    pub(crate) fn new(pool: Arc<Shared<M>>) -> Get<M> {
+    pub(crate) fn new(pool: Handle<M>) -> Get<M> {
         Get {
             pool,
             call: None,
@@ -63,34 +66,38 @@ impl<M: Manager> Get<M> {
         }
         let call = Call {
             caller: caller_number(),
-            began: self.pool.now(),
+            began: Began::at(self.pool.now()),
         };
         self.call = Some(call);
         if self.pool.settings.removes_on_borrow() {
-            self.pool.reclaim(call.caller, When::Borrow)?;
+            let limit = WaitLimit::AsSet;
+            self.pool.reclaim(call.caller, When::Borrow, limit)?;
         }
         Ok(call)
     }
 
     /// Looks for an object, and waits if there is none.
-    fn look(&mut self, call: Call, context: &Context<'_>) -> Poll<Acquisition<M>> {
-        let Call { caller, began } = call;
-        self.pool
-            .poll_acquire(caller, began, &mut self.ticket, context.waker())
+    fn look(&mut self, mut call: Call, context: &Context<'_>) -> Poll<Acquisition<M>> {
+        let (caller, began, ticket) = (call.caller, &mut call.began, &mut self.ticket);
+        let looked = self
+            .pool
+            .poll_acquire(caller, began, ticket, context.waker());
+        self.call = Some(call);
+        looked
     }
 }
 
 impl<M: Manager + 'static> Get<M> {
     fn advance(&mut self, context: &mut Context<'_>) -> Poll<Result<Pooled<M>, Error<M::Error>>> {
-        let call = self.call()?;
         loop {
+            let call = self.call()?;
             let prepared = match &mut self.preparation {
                 Some(preparation) => ready!(preparation.as_mut().poll(context)),
                 None => match ready!(self.look(call, context))? {
                     Acquired::Lent(id, object) => Ok(Some((id, object))),
                     acquired if M::AWAITS => {
                         // It owns the object once it is polled, which is at once.
-                        let pool = Arc::clone(&self.pool);
+                        let pool = self.pool.clone();
                         self.preparation = Some(Box::pin(prepare(pool, call.caller, acquired)));
                         continue;
                     }
@@ -99,7 +106,7 @@ impl<M: Manager + 'static> Get<M> {
             };
             self.preparation = None;
             if let Some((id, object)) = prepared? {
-                return Poll::Ready(Ok(Pooled::new(Arc::clone(&self.pool), id, object)));
+                return Poll::Ready(Ok(Pooled::new(self.pool.clone(), id, object)));
             }
         }
     }
@@ -140,7 +147,7 @@ impl<M: Manager> fmt::Debug for Get<M> {
 
 /// Makes an object ready for its holder, and awaits the manager. If this is dropped or panics, it destroys the object and frees its place.
 async fn prepare<M: Manager>(
-    pool: Arc<Shared<M>>,
+    pool: Handle<M>,
     caller: u32,
     acquired: Acquired<Item<M>>,
 ) -> Prepared<M> {
@@ -150,9 +157,9 @@ async fn prepare<M: Manager>(
             let mut object = InProgress::of(&pool, caller, id, Work::Lend, object);
             match ready_async(&pool, &mut object).await {
                 Ok(()) => Ok(Some((id, object.lend()))),
-                Err(error) => {
+                Err(unready) => {
                     object.give_up();
-                    pool.report_unready(id, error);
+                    pool.report_unready(id, unready);
                     Ok(None)
                 }
             }
@@ -160,10 +167,9 @@ async fn prepare<M: Manager>(
         Acquired::New(id) => {
             let mut object = InProgress::new(&pool, caller, id, Work::Lend);
             object.make_async().await.map_err(Error::Make)?;
-            if pool.settings.test_on_create
-                && !object.validate_async(Outcome::CreateTestFailed).await
-            {
-                return Err(Error::CreateTest);
+            if pool.settings.test_on_create {
+                let tested = object.validate_async(Outcome::CreateTestFailed).await;
+                tested.map_err(|_| Error::CreateTest)?;
             }
             ready_async(&pool, &mut object).await?;
             Ok(Some((id, object.lend())))
@@ -174,10 +180,11 @@ async fn prepare<M: Manager>(
 async fn ready_async<M: Manager>(
     pool: &Shared<M>,
     object: &mut InProgress<'_, M>,
-) -> Result<(), Error<M::Error>> {
-    object.activate_async().await.map_err(Error::Activate)?;
-    if pool.settings.test_on_borrow && !object.validate_async(Outcome::TestFailed).await {
-        return Err(Error::BorrowTest);
+) -> Result<(), Unready<M::Error>> {
+    object.activate_async().await.map_err(Unready::Activate)?;
+    if pool.settings.test_on_borrow {
+        let tested = object.validate_async(Outcome::TestFailed).await;
+        tested.map_err(Unready::Test)?;
     }
     Ok(())
 }

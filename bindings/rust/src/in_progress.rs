@@ -49,6 +49,17 @@ pub(crate) struct InProgress<'a, M: Manager> {
     stage: Stage,
 }
 
+/// Whether an object passed its test, or why it did not, if that is known.
+pub(crate) type Tested<M> = Result<(), Option<<M as Manager>::Error>>;
+
+fn passed<E>(validated: Result<bool, E>) -> Result<(), Option<E>> {
+    match validated {
+        Ok(true) => Ok(()),
+        Ok(false) => Err(None),
+        Err(reason) => Err(Some(reason)),
+    }
+}
+
 const MADE: &str = "an object is made before anything is done with it";
 
 impl<'a, M: Manager> InProgress<'a, M> {
@@ -127,8 +138,8 @@ impl<'a, M: Manager> InProgress<'a, M> {
     }
 
     /// Tests the object. If it fails, `failed` is the outcome of the work.
-    pub fn validate(&mut self, failed: Outcome) -> bool {
-        self.call(failed, M::validate)
+    pub fn validate(&mut self, failed: Outcome) -> Tested<M> {
+        passed(self.call(failed, M::try_validate))
     }
 
     /// Makes the object, and awaits it.
@@ -147,9 +158,9 @@ impl<'a, M: Manager> InProgress<'a, M> {
     }
 
     /// Tests the object, and awaits it. If it fails, `failed` is the outcome of the work.
-    pub async fn validate_async(&mut self, failed: Outcome) -> bool {
+    pub async fn validate_async(&mut self, failed: Outcome) -> Tested<M> {
         let (manager, object) = self.begin(failed);
-        manager.validate_async(object).await
+        passed(manager.try_validate_async(object).await)
     }
 
     /// Calls the manager. If this fails or panics, `failed` is the outcome of the work.

@@ -20,9 +20,10 @@ pub enum Journal {
     /// is the default.
     #[default]
     Off,
-    /// The entries are kept in memory, at most this many, from 7 to 2^32; with `None`, as many as the setting `journalLimit` says. With
-    /// [`Abandoned::on_borrow`](crate::Abandoned::on_borrow) the least number is 8. A pool whose journal has too little
-    /// [room](crate::Pool::room) lends nothing more ([`Error::JournalFull`](crate::Error::JournalFull)), until it is [cut](crate::Pool::cut).
+    /// The entries are kept in memory, at most this many, up to 2^32; with `None`, as many as the setting `journalLimit` says. The least
+    /// number is 6 for each of the `maxTotal` objects, or 7 with [`Abandoned::on_borrow`](crate::Abandoned::on_borrow), and one more. A pool whose
+    /// journal has too little [room](crate::Pool::room) lends nothing more ([`Error::JournalFull`](crate::Error::JournalFull)), until it is
+    /// [cut](crate::Pool::cut).
     Memory(Option<u64>),
     /// The entries are handed to a sink as segments, each when about half of the room in memory is used up, and the rest by
     /// [`Pool::flush_journal`](crate::Pool::flush_journal) and when the last handle and the last lent object are gone.

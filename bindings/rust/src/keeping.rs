@@ -6,7 +6,7 @@ use crate::failure::Failure;
 use crate::in_progress::{InProgress, Work};
 use crate::manager::Manager;
 use crate::panics::{caught, Panic};
-use crate::shared::{unexpected, Shared};
+use crate::shared::{unexpected, Shared, WaitLimit};
 use crate::step::{Answer, Cause, Input, Outcome, When};
 use std::thread;
 
@@ -96,41 +96,41 @@ impl<M: Manager> Shared<M> {
 
     /// Examines idle objects, as many as the settings say.
     pub fn evict(&self) -> Result<Eviction, Error<M::Error>> {
-        self.run_eviction(self.policy.tests_idle)
-    }
-
-    /// Examines idle objects, as many as the settings say, and looks at their age. `validates` says whether they are validated too.
-    fn run_eviction(&self, validates: bool) -> Result<Eviction, Error<M::Error>> {
         let caller = caller_number();
         let count = match self.run_section(caller, Input::Evict, None)? {
             (Answer::Count(count), _) => count,
             (Answer::Refused(Cause::Closed), _) => return Err(Error::Closed),
             (answer, _) => unexpected(Input::Evict, answer),
         };
-        let mut run = Eviction::default();
+        self.examine_some(count, self.policy.tests_idle)
+    }
+
+    /// Examines the next idle objects, as many as there are up to `count`, and looks at their age. `validates` says whether they are
+    /// validated too.
+    fn examine_some(&self, count: u64, validates: bool) -> Result<Eviction, Error<M::Error>> {
+        let caller = caller_number();
+        let mut done = Eviction::default();
         for _ in 0..count {
             match self.examine(caller, validates)? {
                 Some(disposition) => {
-                    run.examined += 1;
-                    run.destroyed += u64::from(matches!(disposition, Disposition::Destroyed));
+                    done.examined += 1;
+                    done.destroyed += u64::from(matches!(disposition, Disposition::Destroyed));
                 }
                 None => break,
             }
         }
-        Ok(run)
+        Ok(done)
     }
 
-    /// Runs an eviction, and then more runs if objects have a lifetime, until each object that was idle is examined. Only the first one
-    /// validates.
+    /// Runs an eviction. If objects have a lifetime, it then looks at the age of those that were idle and that the run left out.
     fn evict_for_maintenance(&self) -> Result<Eviction, Error<M::Error>> {
         let idle = self.lock().idle();
         let mut eviction = self.evict()?;
-        let mut has_more = self.policy.max_lifetime.is_some() && eviction.examined > 0;
-        while has_more && eviction.examined < idle {
-            let run = self.run_eviction(false)?;
-            has_more = run.examined > 0;
-            eviction.examined += run.examined;
-            eviction.destroyed += run.destroyed;
+        if self.policy.max_lifetime.is_some() {
+            let left_out = idle.saturating_sub(eviction.examined);
+            let rest = self.examine_some(left_out, false)?;
+            eviction.examined += rest.examined;
+            eviction.destroyed += rest.destroyed;
         }
         Ok(eviction)
     }
@@ -175,17 +175,18 @@ impl<M: Manager> Shared<M> {
         }
     }
 
-    /// Reclaims abandoned objects. Returns their number.
-    pub fn reclaim(&self, caller: u32, on: When) -> Result<u64, Error<M::Error>> {
-        let count = match self.run_section(caller, Input::Reclaim { on }, None)? {
+    /// Reclaims abandoned objects. Returns their number. It waits for a thread that writes a segment as far as the limit allows.
+    pub fn reclaim(&self, caller: u32, on: When, limit: WaitLimit) -> Result<u64, Error<M::Error>> {
+        let run = |input| self.run_section_within(caller, input, None, limit);
+        let count = match run(Input::Reclaim { on })? {
             (Answer::Count(count), _) => count,
             (answer, _) => unexpected(Input::Reclaim { on }, answer),
         };
         for taken in 0..count {
-            match self.run_section(caller, Input::ReclaimNext, None)? {
+            match run(Input::ReclaimNext { on })? {
                 (Answer::Reclaimed(_), _) => {}
                 (Answer::Nothing, _) => return Ok(taken),
-                (answer, _) => unexpected(Input::ReclaimNext, answer),
+                (answer, _) => unexpected(Input::ReclaimNext { on }, answer),
             }
         }
         Ok(count)
@@ -195,7 +196,7 @@ impl<M: Manager> Shared<M> {
     pub fn maintain(&self) -> Result<Maintenance, Error<M::Error>> {
         Ok(Maintenance {
             eviction: self.evict_for_maintenance()?,
-            reclaimed: self.reclaim(caller_number(), When::Maintain)?,
+            reclaimed: self.reclaim(caller_number(), When::Maintain, WaitLimit::AsSet)?,
             filled: self.fill()?,
         })
     }
@@ -260,9 +261,8 @@ impl<M: Manager> Shared<M> {
 fn try_out<M: Manager>(id: u64, object: &mut InProgress<'_, M>) -> Result<(), Failure<M::Error>> {
     let activated = object.activate();
     activated.map_err(|error| Failure::Activate { id, error })?;
-    if !object.validate(Outcome::TestFailed) {
-        return Err(Failure::Test { id });
-    }
+    let tested = object.validate(Outcome::TestFailed);
+    tested.map_err(|reason| Failure::Test { id, reason })?;
     let passivated = object.passivate();
     passivated.map_err(|error| Failure::Passivate { id, error })
 }
@@ -295,10 +295,10 @@ impl<E> Swept<E> {
     }
 }
 
-/// The last handle and the last lent object are gone: the pool is closed, so that the manager destroys the idle objects, and the rest of
-/// the journal is handed to its sink.
-impl<M: Manager> Drop for Shared<M> {
-    fn drop(&mut self) {
+impl<M: Manager> Shared<M> {
+    /// Ends the pool once its last handle and its last lent object are gone: closes it, so that the manager destroys the idle objects, waits for
+    /// its thread, and hands the rest of the journal to its sink. What is done already is not done again.
+    pub fn end(&self) {
         let state = self.lock();
         let is_done = state.is_closed && state.idle() == 0;
         drop(state);
@@ -306,15 +306,27 @@ impl<M: Manager> Drop for Shared<M> {
             true => Ok(0),
             false => caught(|| self.close()),
         };
-        self.write_rest();
         let maintainer = self.maintainer().take();
         if let Some(maintainer) = maintainer {
             maintainer.join();
         }
+        self.write_rest();
         match closed {
             Err(panic) if !thread::panicking() => panic.resume(),
             Err(panic) => panic.ignore(),
             Ok(_) => {}
+        }
+    }
+}
+
+/// Nobody has the pool any more. If its thread had it longer than its users, what came since they ended it is done and written now.
+///
+/// A forked child does nothing with its copy: the objects, the sink and the thread are its parent's.
+impl<M: Manager> Drop for Shared<M> {
+    fn drop(&mut self) {
+        match self.is_of_parent() {
+            true => self.leak(),
+            false => self.end(),
         }
     }
 }

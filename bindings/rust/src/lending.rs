@@ -1,15 +1,16 @@
 //! Borrows, returns, invalidations and uses, in their critical sections.
 
 use crate::callers::caller_number;
+use crate::clock::Began;
 use crate::error::Error;
 use crate::failure::Failure;
+use crate::handle::Handle;
 use crate::in_progress::{InProgress, Work};
 use crate::locked_pool::TakenBack;
 use crate::manager::Manager;
 use crate::pooled::Pooled;
 use crate::shared::{unexpected, Acquired, Item, Shared, WaitLimit};
 use crate::step::{Answer, Input, Outcome, When};
-use std::sync::Arc;
 
 /// What became of an object that was returned or invalidated.
 #[derive(Clone, Copy, Debug, PartialEq, Eq, Hash)]
@@ -33,27 +34,47 @@ pub enum Touched {
     Gone,
 }
 
+/// Why an object is not ready for its holder.
+pub(crate) enum Unready<E> {
+    /// It was not activated.
+    Activate(E),
+    /// It did not pass its test, for a reason if that is known.
+    Test(Option<E>),
+}
+
+/// The error of a borrow whose object is new.
+impl<E> From<Unready<E>> for Error<E> {
+    fn from(unready: Unready<E>) -> Error<E> {
+        match unready {
+            Unready::Activate(error) => Error::Activate(error),
+            Unready::Test(_) => Error::BorrowTest,
+        }
+    }
+}
+
 /// An object that is ready for its holder, or none if an idle object failed and was destroyed.
 pub(crate) type Prepared<M> = Result<Option<(u64, Item<M>)>, Error<<M as Manager>::Error>>;
 
-impl<M: Manager> Shared<M> {
+impl<M: Manager> Handle<M> {
     /// Lends an object: an idle one, or a new one if a place is free.
-    pub fn borrow(self: &Arc<Self>, limit: WaitLimit) -> Result<Pooled<M>, Error<M::Error>> {
+    pub fn borrow(&self, limit: WaitLimit) -> Result<Pooled<M>, Error<M::Error>> {
         let caller = caller_number();
-        let began = self.now();
+        let mut time = self.now();
+        let mut began = Began::at(time);
         if self.settings.removes_on_borrow() {
-            self.reclaim(caller, When::Borrow)?;
+            self.reclaim(caller, When::Borrow, limit)?;
         }
-        let mut time = began;
         loop {
-            let acquired = self.acquire(caller, began, time, limit)?;
+            let acquired = self.acquire(caller, &mut began, time, limit)?;
             if let Some((id, object)) = self.prepare(caller, acquired)? {
-                return Ok(Pooled::new(Arc::clone(self), id, object));
+                return Ok(Pooled::new(self.clone(), id, object));
             }
             time = self.now();
         }
     }
+}
 
+impl<M: Manager> Shared<M> {
     /// Makes an object ready for its holder, if it is not. Returns none if it was idle and failed: then it was destroyed.
     #[inline]
     pub fn prepare(&self, caller: u32, acquired: Acquired<Item<M>>) -> Prepared<M> {
@@ -70,19 +91,19 @@ impl<M: Manager> Shared<M> {
         let mut object = InProgress::of(self, caller, id, Work::Lend, object);
         match self.ready(&mut object) {
             Ok(()) => Some(object.lend()),
-            Err(error) => {
+            Err(unready) => {
                 object.give_up();
-                self.report_unready(id, error);
+                self.report_unready(id, unready);
                 None
             }
         }
     }
 
     /// Reports that an idle object was not made ready, and was destroyed.
-    pub fn report_unready(&self, id: u64, error: Error<M::Error>) {
-        self.report(match error {
-            Error::Activate(error) => Failure::Activate { id, error },
-            _ => Failure::Test { id },
+    pub fn report_unready(&self, id: u64, unready: Unready<M::Error>) {
+        self.report(match unready {
+            Unready::Activate(error) => Failure::Activate { id, error },
+            Unready::Test(reason) => Failure::Test { id, reason },
         });
     }
 
@@ -97,16 +118,19 @@ impl<M: Manager> Shared<M> {
 
     /// Tests a new object, if that is set.
     pub fn test_new(&self, object: &mut InProgress<'_, M>) -> Result<(), Error<M::Error>> {
-        if self.settings.test_on_create && !object.validate(Outcome::CreateTestFailed) {
-            return Err(Error::CreateTest);
+        if self.settings.test_on_create {
+            let tested = object.validate(Outcome::CreateTestFailed);
+            tested.map_err(|_| Error::CreateTest)?;
         }
         Ok(())
     }
 
-    fn ready(&self, object: &mut InProgress<'_, M>) -> Result<(), Error<M::Error>> {
-        object.activate().map_err(Error::Activate)?;
-        if self.settings.test_on_borrow && !object.validate(Outcome::TestFailed) {
-            return Err(Error::BorrowTest);
+    fn ready(&self, object: &mut InProgress<'_, M>) -> Result<(), Unready<M::Error>> {
+        object.activate().map_err(Unready::Activate)?;
+        if self.settings.test_on_borrow {
+            object
+                .validate(Outcome::TestFailed)
+                .map_err(Unready::Test)?;
         }
         Ok(())
     }
@@ -132,20 +156,25 @@ impl<M: Manager> Shared<M> {
             object.give_up();
             return Returned::Destroyed;
         }
-        if self.settings.test_on_return && !object.validate(Outcome::TestFailed) {
+        if let Err(failure) = self.put_away(id, &mut object) {
             object.give_up();
-            self.report(Failure::Test { id });
-            return Returned::Destroyed;
-        }
-        if let Err(error) = object.passivate() {
-            object.give_up();
-            self.report(Failure::Passivate { id, error });
+            self.report(failure);
             return Returned::Destroyed;
         }
         match object.park() {
             true => Returned::Parked,
             false => Returned::Destroyed,
         }
+    }
+
+    /// Tests a returned object, if that is set, and passivates it.
+    fn put_away(&self, id: u64, object: &mut InProgress<'_, M>) -> Result<(), Failure<M::Error>> {
+        if self.settings.test_on_return {
+            let tested = object.validate(Outcome::TestFailed);
+            tested.map_err(|reason| Failure::Test { id, reason })?;
+        }
+        let passivated = object.passivate();
+        passivated.map_err(|error| Failure::Passivate { id, error })
     }
 
     /// Takes an object back that cannot be used any more.

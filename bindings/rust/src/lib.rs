@@ -41,11 +41,15 @@
 //!
 //! A borrow that finds nothing waits. Threads and tasks wait in one order, that of arrival, and are woken in it, one for each object or place.
 //! But a borrow that finds an idle object takes it at once, even if others wait: this costs no sleep. One that finds its object taken keeps
-//! its turn and waits again.
+//! its turn and waits again. The oldest waiter is overtaken 16 times at most ([`Builder::max_overtakes`]); then later borrows queue behind it.
 //!
 //! A pool lends for ever: by default it drops the entries of its journal, a thousand or more at a time. [`Builder::journal`] keeps them in memory
 //! ([`Journal::Memory`]), or stores them in segments ([`Journal::Segments`]), which `pool check` checks as one journal. The call that finds
 //! a segment due stores it, also a borrow, a poll or a return; if the journal is full, calls wait for the thread that stores one.
+//!
+//! **A forked child** that does not `exec` has copies of its parent's pools. It may drop their handles, and nothing else: a thread of the parent may
+//! have held a lock. Such a drop calls neither the manager nor the sink, and leaks the idle objects, which are the parent's. Forget guards there
+//! ([`std::mem::forget`]), since their drop is a call. [`std::process::Command`] does `exec`, so it needs no care.
 //!
 //! Build the C library first, by `python3 tools/build.py zuphinka`; `build.rs` says where else it may be.
 #![warn(missing_docs)]
@@ -62,6 +66,8 @@ mod error;
 mod escaped;
 mod failure;
 mod get;
+mod getters;
+mod handle;
 mod idle_values;
 mod in_progress;
 mod journal;
@@ -75,6 +81,7 @@ mod panics;
 mod pool;
 mod pooled;
 mod proved_core;
+mod reports;
 mod segments;
 mod settings;
 mod shared;
@@ -104,6 +111,27 @@ pub use step::Counts;
 // The tests in `src` share what those in `tests` do, which name this crate.
 #[cfg(test)]
 extern crate self as zuphinka;
+
+/// The compiler rejects a loan that nobody keeps:
+///
+/// ```compile_fail
+/// #![deny(unused_must_use)]
+/// fn lend<M: zuphinka::Manager>(pool: &zuphinka::Pool<M>) -> Option<zuphinka::Pooled<M>> {
+///     pool.get().ok()
+/// }
+///
+/// fn lose<M: zuphinka::Manager>(pool: &zuphinka::Pool<M>) {
+///     lend(pool).unwrap();
+/// }
+/// ```
+///
+/// And a literal of a struct that may get more fields:
+///
+/// ```compile_fail
+/// zuphinka::Abandoned { on_borrow: true, ..zuphinka::Abandoned::new() };
+/// ```
+#[cfg(doctest)]
+struct Rejected;
 
 /// The code that the README shows.
 #[cfg(doctest)]

@@ -14,7 +14,7 @@ const FIRST_PAUSE: u32 = 4;
 const LONGEST_PAUSE: u32 = 256;
 
 /// How long a thread spins at most. A turn takes 4 ns on one processor and 50 ns on another.
-const LONGEST_SPIN: Duration = Duration::from_micros(10);
+pub(crate) const LONGEST_SPIN: Duration = Duration::from_micros(10);
 
 /// The rounds that take so little time that the clock is not read.
 const ROUNDS_BEFORE_CLOCK: u32 = 4;
@@ -62,6 +62,12 @@ impl<T> Locked<T> {
             is_held: Hint(AtomicBool::new(false)),
             value: Mutex::new(value),
         }
+    }
+
+    /// Returns the value, which no other thread can have.
+    pub fn get_mut(&mut self) -> &mut T {
+        let value = self.value.get_mut();
+        value.unwrap_or_else(PoisonError::into_inner)
     }
 
     #[inline]
@@ -144,7 +150,8 @@ impl<T> Locked<T> {
     }
 }
 
-fn pause_for(turns: u32) {
+/// Does nothing for some turns of a loop.
+pub(crate) fn pause_for(turns: u32) {
     for _ in 0..turns {
         spin_loop();
     }

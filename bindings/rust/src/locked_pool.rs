@@ -5,8 +5,9 @@ use crate::idle_values::IdleValues;
 use crate::proved_core::Core;
 use crate::step::{Answer, Input, Outcome, StepFault};
 use crate::stored_journal::{Care, Mode, StoredJournal};
-use crate::waiters::{Waiters, Wake};
+use crate::waiters::{Ticket, Waiters, Wake};
 use std::collections::TryReserveError;
+use std::mem;
 
 /// The core with the values of its idle objects.
 pub(crate) struct LockedPool<T> {
@@ -48,7 +49,7 @@ pub(crate) enum TakenBack<T> {
 }
 
 impl<T> LockedPool<T> {
-    pub fn new(mut core: Core, mode: Mode) -> LockedPool<T> {
+    pub fn new(mut core: Core, mode: Mode, waiters: Waiters) -> LockedPool<T> {
         LockedPool {
             journal: StoredJournal::new(mode, core.room()),
             core,
@@ -56,7 +57,7 @@ impl<T> LockedPool<T> {
             present: 0,
             is_closed: false,
             last_time: 0,
-            waiters: Waiters::default(),
+            waiters,
         }
     }
 
@@ -226,6 +227,11 @@ impl<T> LockedPool<T> {
         self.last_time
     }
 
+    /// Takes the values of the idle objects out. No step may follow.
+    pub fn take_idle(&mut self) -> IdleValues<T> {
+        mem::replace(&mut self.idle, IdleValues::new())
+    }
+
     /// Returns the number of idle objects, those under an idle test left out.
     pub fn idle(&self) -> u64 {
         self.idle.len() as u64
@@ -235,6 +241,25 @@ impl<T> LockedPool<T> {
     /// sleeper an entry; the core is asked if it returns false.
     pub fn has_nothing(&self, max_total: i64) -> bool {
         !self.is_closed && self.available(max_total) == 0
+    }
+
+    /// Returns whether a borrow, with its ticket if it waits, has to leave what there is to older waiters.
+    #[inline]
+    pub fn is_behind(&self, ticket: Option<Ticket>, max_total: i64) -> bool {
+        let may_be = self.waiters.len() > 0 && !self.is_closed;
+        may_be && self.is_behind_waiters(ticket, max_total)
+    }
+
+    #[cold]
+    fn is_behind_waiters(&self, ticket: Option<Ticket>, max_total: i64) -> bool {
+        let available = self.available(max_total);
+        available > 0 && self.waiters.are_served_before(ticket, available)
+    }
+
+    /// A borrow, with its ticket if it waited, got an object or a place.
+    pub fn note_taken(&mut self, ticket: Option<Ticket>, max_total: i64) {
+        let left = self.available(max_total);
+        self.waiters.note_taken(ticket, left);
     }
 
     /// Returns the number of borrows that would find an object or a place, of at most `max_total` objects (negative: without limit).
@@ -247,7 +272,7 @@ impl<T> LockedPool<T> {
     /// Returns the waiter to wake, if there is one for an object or a place, of at most `max_total` (negative: without limit).
     #[inline]
     pub fn wake_one(&mut self, max_total: i64) -> Option<Wake> {
-        if self.waiters.is_empty() {
+        if !self.waiters.has_sleeper() {
             return None;
         }
         let available = self.available(max_total);
@@ -260,12 +285,14 @@ mod tests {
     use super::{LockedPool, Mode, Stamp};
     use crate::proved_core::Core;
     use crate::step::{Input, Outcome};
-    use crate::waiters::Ticket;
+    use crate::waiters::{Alarm, Ticket, Waiters};
+    use std::thread;
 
     const MOST: i64 = 2;
 
     fn pool() -> LockedPool<()> {
-        LockedPool::new(Core::open("maxTotal = 2\n").unwrap(), Mode::Memory)
+        let core = Core::open("maxTotal = 2\n").unwrap();
+        LockedPool::new(core, Mode::Memory, Waiters::new(0))
     }
 
     /// Takes steps that each need one object or none.
@@ -292,11 +319,10 @@ mod tests {
         ]
     }
 
-    /// A thread falls asleep.
-    fn fall_asleep(pool: &mut LockedPool<()>) -> Ticket {
-        let ticket = pool.waiters.draw_ticket();
-        pool.waiters.fall_asleep(ticket).unwrap();
-        ticket
+    /// A thread falls asleep, or sleeps on.
+    fn fall_asleep(pool: &mut LockedPool<()>, ticket: Ticket) {
+        let alarm = Alarm::Thread(thread::current());
+        pool.waiters.sleep(ticket, alarm).unwrap();
     }
 
     fn wakes_one(pool: &mut LockedPool<()>) -> bool {
@@ -310,7 +336,11 @@ mod tests {
             take(&mut pool, &lend(id));
         }
         assert!(pool.has_nothing(MOST));
-        let tickets = [(); 3].map(|()| fall_asleep(&mut pool));
+        let tickets = [(); 3].map(|()| {
+            let ticket = pool.waiters.draw_ticket();
+            fall_asleep(&mut pool, ticket);
+            ticket
+        });
         assert!(!wakes_one(&mut pool));
         (pool, tickets)
     }
@@ -335,7 +365,7 @@ mod tests {
         }
         assert!(!wakes_one(&mut pool));
         // One looks and takes nothing, so that the third is to look for it.
-        pool.waiters.wake_up(tickets[0]);
+        pool.waiters.leave(tickets[0]);
         assert!(wakes_one(&mut pool));
         assert!(!wakes_one(&mut pool));
         assert_eq!(pool.waiters.asleep_and_woken(), (0, 2));

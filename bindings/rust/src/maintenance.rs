@@ -71,7 +71,7 @@ impl Maintainer {
         self.stop.tell();
     }
 
-    /// Ends the thread. It has no handle of the pool any more, so it is not in a round; unless it is this one, which had the last handle.
+    /// Ends the thread, and waits until it has done its round; unless it is this one, which had the last handle.
     pub fn join(self) {
         self.stop();
         if self.thread.thread().id() != thread::current().id() {
@@ -97,7 +97,7 @@ fn maintain<M: Manager>(pool: &Weak<Shared<M>>) -> bool {
             true
         }
     };
-    // This may be the last handle, and then the manager's panic is not for this thread.
+    // The users may be gone, and then a panic of the manager is not for this thread.
     drop_quietly(pool);
     is_open
 }

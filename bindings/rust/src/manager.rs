@@ -5,29 +5,41 @@ use std::future::Future;
 /// The pool calls it without its lock, in the thread whose call needs it, so calls may take long and run in parallel. If one panics, its object
 /// is destroyed, its place is freed, and the panic continues.
 ///
+/// This one connects to a server. Its test finds out whether the server has closed a connection, which `take_error` does not notice.
+///
 /// ```
+/// use std::io;
 /// use std::net::{SocketAddr, TcpStream};
+/// use zuphinka::Manager;
 ///
-/// struct Connector(SocketAddr);
+/// pub struct Connector(pub SocketAddr);
 ///
-/// impl zuphinka::Manager for Connector {
+/// impl Manager for Connector {
 ///     type Object = TcpStream;
-///     type Error = std::io::Error;
+///     type Error = io::Error;
 ///
-///     fn make(&self, _id: u64) -> std::io::Result<TcpStream> {
+///     fn make(&self, _id: u64) -> io::Result<TcpStream> {
 ///         TcpStream::connect(self.0)
 ///     }
 ///
-///     fn validate(&self, stream: &mut TcpStream) -> bool {
-///         matches!(stream.take_error(), Ok(None))
+///     fn validate(&self, connection: &mut TcpStream) -> bool {
+///         is_usable(connection).unwrap_or(false)
 ///     }
+/// }
+///
+/// /// Returns whether a connection is open, and no byte waits that nobody asked for.
+/// fn is_usable(connection: &TcpStream) -> io::Result<bool> {
+///     connection.set_nonblocking(true)?;
+///     let peeked = connection.peek(&mut [0]);
+///     connection.set_nonblocking(false)?;
+///     Ok(matches!(peeked, Err(error) if error.kind() == io::ErrorKind::WouldBlock))
 /// }
 /// ```
 pub trait Manager: Send + Sync {
     /// The objects that are lent.
     type Object: Send;
 
-    /// Why an object could not be made, activated or passivated.
+    /// Why an object could not be made, activated or passivated, or did not pass a test.
     type Error;
 
     /// Whether [`activate`](Manager::activate) does anything. If this is false, it is never called: then a borrow of an idle object
@@ -68,6 +80,17 @@ pub trait Manager: Send + Sync {
         true
     }
 
+    /// Returns whether the object can be used, as [`validate`](Manager::validate) does, or why it cannot. The pool calls this function, which
+    /// calls `validate` unless you implement it.
+    ///
+    /// # Errors
+    ///
+    /// The object cannot be used, for this reason. [`Failure::Test`](crate::Failure::Test) has the reason. If the object is new, the call fails
+    /// with [`Error::CreateTest`](crate::Error::CreateTest) or [`Error::BorrowTest`](crate::Error::BorrowTest), which have none.
+    fn try_validate(&self, object: &mut Self::Object) -> Result<bool, Self::Error> {
+        Ok(self.validate(object))
+    }
+
     /// Makes an object ready to be idle: one that was returned, one that was added, or one that an eviction run validated.
     ///
     /// # Errors
@@ -101,7 +124,10 @@ pub trait Manager: Send + Sync {
     }
 
     #[doc(hidden)]
-    fn validate_async(&self, object: &mut Self::Object) -> impl Future<Output = bool> + Send {
-        async move { self.validate(object) }
+    fn try_validate_async(
+        &self,
+        object: &mut Self::Object,
+    ) -> impl Future<Output = Result<bool, Self::Error>> + Send {
+        async move { self.try_validate(object) }
     }
 }

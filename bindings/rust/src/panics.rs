@@ -28,8 +28,79 @@ impl Panic {
         std::panic::resume_unwind(self.0)
     }
 
-    /// Ends the panic, and leaks what it was with.
+    /// Ends the panic, and drops what it was with. If that panics, what this second panic is with is leaked: such drops may panic without end.
+    /// So an ignored panic leaks one value at most, and only if a drop panicked.
     pub fn ignore(self) {
-        mem::forget(self);
+        if let Err(second) = caught(|| drop(self.0)) {
+            mem::forget(second);
+        }
+    }
+}
+
+#[cfg(test)]
+mod tests {
+    use super::unless_it_panics;
+    use std::panic;
+    use std::sync::atomic::{AtomicU64, Ordering};
+    use std::sync::Arc;
+
+    /// Counts its drops, and panics in each with one more of its kind, until none is left.
+    struct Payload {
+        drops: Arc<AtomicU64>,
+        left: u64,
+    }
+
+    impl Drop for Payload {
+        fn drop(&mut self) {
+            self.drops.fetch_add(1, Ordering::SeqCst);
+            if self.left > 0 {
+                panic_with(&self.drops, self.left - 1);
+            }
+        }
+    }
+
+    fn panic_with(drops: &Arc<AtomicU64>, left: u64) {
+        let drops = Arc::clone(drops);
+        panic::resume_unwind(Box::new(Payload { drops, left }));
+    }
+
+    /// How many payloads are dropped by a panic that is ignored, and how many are left.
+    fn dropped_and_left(payloads: u64) -> (u64, u64) {
+        let drops = Arc::new(AtomicU64::new(0));
+        assert!(unless_it_panics(|| panic_with(&drops, payloads - 1)).is_none());
+        let left = Arc::strong_count(&drops) as u64 - 1;
+        (drops.load(Ordering::SeqCst), left)
+    }
+
+    #[test]
+    fn what_an_ignored_panic_was_with_is_dropped() {
+        assert_eq!(dropped_and_left(1), (1, 0));
+    }
+
+    #[test]
+    fn a_payload_is_leaked_only_if_the_drop_of_another_panicked_with_it() {
+        for payloads in 2..5 {
+            assert_eq!(dropped_and_left(payloads), (1, 1));
+        }
+    }
+
+    /// Ignores a panic when it is dropped.
+    struct Ignores<'a>(&'a Arc<AtomicU64>);
+
+    impl Drop for Ignores<'_> {
+        fn drop(&mut self) {
+            assert!(unless_it_panics(|| panic_with(self.0, 1)).is_none());
+        }
+    }
+
+    #[test]
+    fn a_panic_may_be_ignored_while_the_thread_panics() {
+        let drops = Arc::new(AtomicU64::new(0));
+        let caught = panic::catch_unwind(|| {
+            let _ignores = Ignores(&drops);
+            panic::resume_unwind(Box::new(()));
+        });
+        assert!(caught.is_err());
+        assert_eq!(drops.load(Ordering::SeqCst), 1);
     }
 }

@@ -2,14 +2,14 @@ use crate::builder::Builder;
 use crate::callers::caller_number;
 use crate::error::{Error, OpenError};
 use crate::get::Get;
+use crate::handle::{Handle, WeakHandle};
 use crate::keeping::{Addition, Eviction, Maintenance};
 use crate::manager::Manager;
 use crate::pooled::Pooled;
-use crate::shared::{Shared, WaitLimit};
+use crate::shared::WaitLimit;
 use crate::step::{Counts, When};
 use std::fmt;
 use std::io::{self, Write};
-use std::sync::{Arc, Weak};
 use std::time::{Duration, Instant};
 
 /// A pool that threads share. A clone is a handle of the same pool.
@@ -18,10 +18,10 @@ use std::time::{Duration, Instant};
 /// entry of the journal, or two if nothing lies between them; the manager is called without the lock. An entry has the number of the calling
 /// thread ([`caller_number`](crate::caller_number)), and the time in milliseconds since the pool was opened.
 ///
-/// When the last handle and the last lent object are gone, the pool is closed. A thread that is to end with the pool, as one that maintains
-/// it, has a [`WeakPool`] instead of a handle.
+/// When the last handle and the last lent object are gone, the pool is closed, and the rest of its journal is stored. A thread that is to end with
+/// the pool, as one that maintains it, has a [`WeakPool`] instead of a handle.
 pub struct Pool<M: Manager> {
-    shared: Arc<Shared<M>>,
+    shared: Handle<M>,
 }
 
 impl<M: Manager> Pool<M> {
@@ -39,12 +39,11 @@ impl<M: Manager> Pool<M> {
         Builder::new().build(manager)
     }
 
-    pub(crate) fn of(shared: Arc<Shared<M>>) -> Pool<M> {
+    pub(crate) fn of(shared: Handle<M>) -> Pool<M> {
         Pool { shared }
     }
 
-    #[cfg(test)]
-    pub(crate) fn shared(&self) -> &Shared<M> {
+    pub(crate) fn shared(&self) -> &crate::shared::Shared<M> {
         &self.shared
     }
 
@@ -52,7 +51,8 @@ impl<M: Manager> Pool<M> {
     /// (`blockWhenExhausted`, `maxWaitMillis`).
     ///
     /// A borrow that finds an idle object or a free place takes it, even if others wait. Those that wait are woken in the order of arrival, one
-    /// for each object or place. One that finds it taken keeps its turn and waits again.
+    /// for each object or place. One that finds it taken keeps its turn and waits again. Once the oldest waiter was overtaken as often as
+    /// [`Builder::max_overtakes`] allows, a borrow queues behind it, and makes no entry meanwhile.
     ///
     /// With [`Journal::Segments`](crate::Journal::Segments) this call may store a segment. If the journal is full, it waits for the
     /// thread that stores one, up to `maxWaitMillis` more.
@@ -91,7 +91,8 @@ impl<M: Manager> Pool<M> {
     ///
     /// # Errors
     ///
-    /// [`Error::Exhausted`] if there is neither. The other errors are those of [`get`](Pool::get), except [`Error::TimedOut`].
+    /// [`Error::Exhausted`] if there is neither, or if older waiters come first ([`Builder::max_overtakes`]). The other errors are those of
+    /// [`get`](Pool::get), except [`Error::TimedOut`].
     pub fn try_get(&self) -> Result<Pooled<M>, Error<M::Error>> {
         match self.shared.borrow(WaitLimit::None) {
             // So the core answers where `maxWaitMillis` is 0.
@@ -132,7 +133,7 @@ impl<M: Manager> Pool<M> {
     where
         M: 'static,
     {
-        Get::new(Arc::clone(&self.shared))
+        Get::new(self.shared.clone())
     }
 
     /// Makes an object and adds it to the idle ones, if a place is free.
@@ -171,12 +172,13 @@ impl<M: Manager> Pool<M> {
     ///
     /// [`Error::JournalFull`] and [`Error::OutOfMemory`], also in the middle: what was done before stays.
     pub fn reclaim(&self) -> Result<u64, Error<M::Error>> {
-        self.shared.reclaim(caller_number(), When::Maintain)
+        self.shared
+            .reclaim(caller_number(), When::Maintain, WaitLimit::AsSet)
     }
 
     /// Maintains the pool: calls [`evict`](Pool::evict), [`reclaim`](Pool::reclaim) and [`fill`](Pool::fill), in this order. Call it now
     /// and then, or have the pool's own thread call it ([`Builder::maintain_every`]). If objects have a lifetime
-    /// ([`Builder::max_lifetime`]), it examines all idle objects.
+    /// ([`Builder::max_lifetime`]), it examines all idle objects, whatever [`Builder::tests_per_eviction_run`] says.
     ///
     /// # Errors
     ///
@@ -217,6 +219,11 @@ impl<M: Manager> Pool<M> {
     /// Returns the number of entries since the pool was opened, and the numbers of objects, all of one time. It takes the lock.
     pub fn counts(&self) -> Counts {
         self.shared.lock().core.counts()
+    }
+
+    /// Returns how many borrows, of threads and of tasks, wait for an object. It takes the lock.
+    pub fn waiting(&self) -> u64 {
+        self.shared.lock().waiters.len() as u64
     }
 
     /// Returns how many entries the journal can still take in memory, besides those that are set aside for completing steps and for the close
@@ -342,7 +349,7 @@ impl<M: Manager> Pool<M> {
     /// Returns a handle that does not keep the pool open.
     pub fn downgrade(&self) -> WeakPool<M> {
         WeakPool {
-            shared: Arc::downgrade(&self.shared),
+            shared: self.shared.downgrade(),
         }
     }
 
@@ -355,7 +362,7 @@ impl<M: Manager> Pool<M> {
 impl<M: Manager> Clone for Pool<M> {
     fn clone(&self) -> Pool<M> {
         Pool {
-            shared: Arc::clone(&self.shared),
+            shared: self.shared.clone(),
         }
     }
 }
@@ -397,7 +404,7 @@ impl<M: Manager> fmt::Debug for Pool<M> {
 /// # Ok::<(), zuphinka::OpenError>(())
 /// ```
 pub struct WeakPool<M: Manager> {
-    shared: Weak<Shared<M>>,
+    shared: WeakHandle<M>,
 }
 
 impl<M: Manager> WeakPool<M> {
@@ -411,7 +418,7 @@ impl<M: Manager> WeakPool<M> {
 impl<M: Manager> Clone for WeakPool<M> {
     fn clone(&self) -> WeakPool<M> {
         WeakPool {
-            shared: Weak::clone(&self.shared),
+            shared: self.shared.clone(),
         }
     }
 }

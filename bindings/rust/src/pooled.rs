@@ -1,11 +1,11 @@
 use crate::error::Error;
+use crate::handle::Handle;
 use crate::lending::{Returned, Touched};
 use crate::manager::Manager;
 use crate::panics::unless_it_panics;
-use crate::shared::{Item, Shared};
+use crate::shared::Item;
 use std::fmt;
 use std::ops::{Deref, DerefMut};
-use std::sync::Arc;
 use std::thread;
 
 /// A lent object. It is used through this guard, which returns it when it is dropped, in any thread.
@@ -14,8 +14,9 @@ use std::thread;
 /// already, in a destructor, returns it.
 ///
 /// It keeps the pool open. Its own functions are called as `Pooled::id(&guard)`, so that they hide no method of the object.
+#[must_use = "an object that is not kept goes back at once"]
 pub struct Pooled<M: Manager> {
-    pool: Arc<Shared<M>>,
+    pool: Handle<M>,
     id: u64,
     object: Option<Item<M>>,
     /// Whether the thread that got it was panicking.
@@ -25,7 +26,7 @@ pub struct Pooled<M: Manager> {
 const LENT: &str = "a guard has its object until it is dropped";
 
 impl<M: Manager> Pooled<M> {
-    pub(crate) fn new(pool: Arc<Shared<M>>, id: u64, object: Item<M>) -> Pooled<M> {
+    pub(crate) fn new(pool: Handle<M>, id: u64, object: Item<M>) -> Pooled<M> {
         Pooled {
             pool,
             id,

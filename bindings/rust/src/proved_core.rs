@@ -215,7 +215,7 @@ fn request_of(input: Input) -> sys::Request {
         Input::Tested { id, outcome } => told(sys::INPUT_TESTED, id, outcome),
         Input::Reclaim { on: When::Borrow } => plain(sys::INPUT_RECLAIM_ON_BORROW, 0),
         Input::Reclaim { on: When::Maintain } => plain(sys::INPUT_RECLAIM_FOR_MAINTENANCE, 0),
-        Input::ReclaimNext => plain(sys::INPUT_RECLAIM_NEXT, 0),
+        Input::ReclaimNext { .. } => plain(sys::INPUT_RECLAIM_NEXT, 0),
         Input::Clear => plain(sys::INPUT_CLEAR, 0),
         Input::ClearNext => plain(sys::INPUT_CLEAR_NEXT, 0),
         Input::Destroyed { id } => plain(sys::INPUT_DESTROYED, id),

@@ -1,6 +1,9 @@
 //! Where the segments of a journal are stored.
 
+use std::collections::hash_map::RandomState;
+use std::env;
 use std::fs::{self, File};
+use std::hash::{BuildHasher, Hasher};
 use std::io::{self, Write};
 use std::path::{Path, PathBuf};
 
@@ -85,9 +88,9 @@ impl Segments {
         Ok(Segments::new(SegmentFolder::create(path)?))
     }
 
-    /// Sets how many entries may be stored in memory, from 7 to 2^32 (from 8 with
-    /// [`Abandoned::on_borrow`](crate::Abandoned::on_borrow)). A segment is cut when about half of them are. Without it the limit is
-    /// the setting `journalLimit`.
+    /// Sets how many entries may be stored in memory, up to 2^32. The least number is 4 for each of the `maxTotal` objects, and 3 more, or 4
+    /// with [`Abandoned::on_borrow`](crate::Abandoned::on_borrow). A segment is cut when about half of them are. Without it the limit is the
+    /// setting `journalLimit`.
     pub fn limit(mut self, entries: u64) -> Segments {
         self.limit = Some(entries);
         self
@@ -109,9 +112,6 @@ impl std::fmt::Debug for Segments {
     }
 }
 
-/// The file in which a file is written before it gets its name.
-const UNFINISHED: &str = ".unfinished";
-
 /// The file of the settings.
 const SETTINGS: &str = "settings.toml";
 
@@ -119,48 +119,89 @@ const SETTINGS: &str = "settings.toml";
 /// `settings.toml`. After a crash a file is complete or absent: it is written under another name, synced, and renamed, and the folder is
 /// synced.
 ///
+/// The settings come first, as a hard link, which fails if another pool has stored its settings there. So no two pools store segments in
+/// one folder. The file system must have hard links. A crash may leave a file `.unfinished-NUMBER`, which nobody reads.
+///
 /// `pool check FOLDER/settings.toml FOLDER/segment-*` checks them.
 #[derive(Debug)]
 pub struct SegmentFolder {
+    /// From the root.
     path: PathBuf,
-    /// Whether it is known that the folder has no other pool's segments.
+    /// Where a file is written before it gets its name. No other pool has this name.
+    unfinished: PathBuf,
+    /// Whether the folder has the settings of this pool.
     is_own: bool,
-    has_settings: bool,
 }
 
 impl SegmentFolder {
-    /// Takes a folder for the segments of one pool, and creates it if it does not exist.
+    /// Takes a folder for the segments of one pool, and creates it if it does not exist. A relative path stays the same folder if the current
+    /// folder changes later.
     ///
     /// # Errors
     ///
     /// An error of the file system. [`io::ErrorKind::AlreadyExists`] if the folder has segments or settings: they are another pool's. If another
-    /// pool stores its first segment there later, this sink's first `store` fails with the same.
+    /// pool stores its first segment there before this one, each `store` of this sink fails with the same.
     pub fn create(path: impl AsRef<Path>) -> io::Result<SegmentFolder> {
-        let path = path.as_ref().to_owned();
+        let path = absolute(path.as_ref())?;
         create_folder(&path)?;
         check_is_free(&path)?;
+        let number = RandomState::new().build_hasher().finish();
         Ok(SegmentFolder {
+            unfinished: path.join(format!(".unfinished-{number:016x}")),
             path,
             is_own: false,
-            has_settings: false,
         })
+    }
+
+    /// Makes the folder this pool's: stores the settings, unless another pool did.
+    fn claim(&mut self, settings: &str) -> io::Result<()> {
+        check_is_free(&self.path)?;
+        self.write_unfinished(settings.as_bytes())?;
+        let linked = fs::hard_link(&self.unfinished, self.path.join(SETTINGS));
+        self.is_own = linked.is_ok();
+        let removed = fs::remove_file(&self.unfinished);
+        linked.map_err(|error| match error.kind() {
+            io::ErrorKind::AlreadyExists => is_taken(&self.path),
+            _ => error,
+        })?;
+        removed?;
+        sync_folder(&self.path)
     }
 
     /// Writes a file that is complete once it has its name.
     fn write(&self, name: &str, contents: &[u8]) -> io::Result<()> {
-        let unfinished = self.path.join(UNFINISHED);
-        let mut file = File::create(&unfinished)?;
-        file.write_all(contents)?;
-        file.sync_all()?;
-        fs::rename(&unfinished, self.path.join(name))?;
+        self.write_unfinished(contents)?;
+        fs::rename(&self.unfinished, self.path.join(name))?;
         sync_folder(&self.path)
+    }
+
+    /// Writes a new file that has no name of its own yet. One that an earlier try left is removed, since it may be `settings.toml` too.
+    fn write_unfinished(&self, contents: &[u8]) -> io::Result<()> {
+        match fs::remove_file(&self.unfinished) {
+            Err(error) if error.kind() != io::ErrorKind::NotFound => return Err(error),
+            _ => {}
+        }
+        let mut new = File::options();
+        new.write(true).create_new(true);
+        let mut file = new.open(&self.unfinished)?;
+        file.write_all(contents)?;
+        file.sync_all()
+    }
+}
+
+/// Returns the path from the root. An empty one names no folder.
+fn absolute(path: &Path) -> io::Result<PathBuf> {
+    match path {
+        _ if path.is_absolute() => Ok(path.to_owned()),
+        _ if path.as_os_str().is_empty() => Err(io::ErrorKind::NotFound.into()),
+        _ => Ok(env::current_dir()?.join(path)),
     }
 }
 
 /// Creates a folder, and those above it, if they do not exist. Waits until their names are stored.
 fn create_folder(path: &Path) -> io::Result<()> {
     let above = path.parent().unwrap_or(path);
-    if !above.as_os_str().is_empty() && !above.is_dir() {
+    if !above.is_dir() {
         create_folder(above)?;
     }
     match fs::create_dir(path) {
@@ -175,31 +216,26 @@ fn check_is_free(path: &Path) -> io::Result<()> {
         let name = entry?.file_name();
         let name = name.to_string_lossy();
         if name.starts_with("segment-") || name == SETTINGS {
-            let message = format!("{} has a journal already", path.display());
-            return Err(io::Error::new(io::ErrorKind::AlreadyExists, message));
+            return Err(is_taken(path));
         }
     }
     Ok(())
 }
 
-/// Waits until the names in a folder are stored. No name is that of the current folder.
+fn is_taken(path: &Path) -> io::Error {
+    let message = format!("{} has a journal already", path.display());
+    io::Error::new(io::ErrorKind::AlreadyExists, message)
+}
+
+/// Waits until the names in a folder are stored.
 fn sync_folder(path: &Path) -> io::Result<()> {
-    let path = match path.as_os_str().is_empty() {
-        true => Path::new("."),
-        false => path,
-    };
     File::open(path)?.sync_all()
 }
 
 impl SegmentSink for SegmentFolder {
     fn store(&mut self, segment: &Segment<'_>) -> io::Result<()> {
         if !self.is_own {
-            check_is_free(&self.path)?;
-            self.is_own = true;
-        }
-        if !self.has_settings {
-            self.write(SETTINGS, segment.settings.as_bytes())?;
-            self.has_settings = true;
+            self.claim(segment.settings)?;
         }
         self.write(&format!("segment-{:020}", segment.position), segment.text)
     }

@@ -38,10 +38,11 @@ pub(crate) struct Settings {
 /// ```
 /// # use std::time::Duration;
 /// # use zuphinka::Abandoned;
-/// let abandoned = Abandoned { on_maintenance: true, ..Abandoned::default() };
+/// let abandoned = Abandoned::new().on_maintenance(true);
 /// assert_eq!(abandoned.timeout, Duration::from_secs(300));
 /// ```
 #[derive(Clone, Copy, Debug, PartialEq, Eq)]
+#[non_exhaustive]
 pub struct Abandoned {
     /// Whether each borrow first reclaims abandoned objects, if few objects and places are left (`removeAbandonedOnBorrow`, false).
     pub on_borrow: bool,
@@ -52,13 +53,38 @@ pub struct Abandoned {
     pub timeout: Duration,
 }
 
-impl Default for Abandoned {
-    fn default() -> Abandoned {
+impl Abandoned {
+    /// Returns the defaults, with which no object is reclaimed.
+    pub const fn new() -> Abandoned {
         Abandoned {
             on_borrow: false,
             on_maintenance: false,
             timeout: Duration::from_secs(300),
         }
+    }
+
+    /// Sets whether each borrow first reclaims abandoned objects.
+    pub const fn on_borrow(mut self, is_set: bool) -> Abandoned {
+        self.on_borrow = is_set;
+        self
+    }
+
+    /// Sets whether maintenance reclaims abandoned objects.
+    pub const fn on_maintenance(mut self, is_set: bool) -> Abandoned {
+        self.on_maintenance = is_set;
+        self
+    }
+
+    /// Sets how long an object is lent and not used before it counts as abandoned.
+    pub const fn timeout(mut self, time: Duration) -> Abandoned {
+        self.timeout = time;
+        self
+    }
+}
+
+impl Default for Abandoned {
+    fn default() -> Abandoned {
+        Abandoned::new()
     }
 }
 
@@ -170,11 +196,6 @@ impl Settings {
     /// and one more if the borrow first reclaims.
     pub fn least_room(&self) -> u64 {
         6 + u64::from(self.removes_on_borrow())
-    }
-
-    /// Returns the least limit of a journal in which one object can be lent and the pool closed.
-    pub fn least_limit(&self) -> u64 {
-        self.least_room() + 1
     }
 }
 

@@ -1,20 +1,25 @@
 //! What all handles of a pool share, and its critical sections: each is one step of the core under the lock, or two if nothing lies
 //! between them.
 
-use crate::clock::{Aged, Clock, Stamp};
+use crate::clock::{Aged, Began, Clock, Stamp};
 use crate::error::Error;
 use crate::failure::Failure;
-use crate::locked::{Guard, Locked};
+use crate::locked::{pause_for, Guard, Locked, LONGEST_SPIN};
 use crate::locked_pool::{Borrowed, LockedPool, TakenBack};
 use crate::maintenance::Maintainer;
 use crate::manager::Manager;
 use crate::panics::unless_it_panics;
+use crate::reports::Reports;
 use crate::settings::Settings;
-use crate::step::{Answer, Cause, Input, StepFault};
+use crate::step::{Answer, Cause, Input, StepFault, When};
+use crate::waiters::{Alarm, Ticket};
 use crate::writing::Outlet;
 use std::sync::{Condvar, Mutex, MutexGuard, PoisonError};
-use std::thread;
 use std::time::{Duration, Instant};
+use std::{mem, process, thread};
+
+/// The pause between two looks of a thread that slept and found nothing, in turns of a loop.
+const PAUSE: u32 = 16;
 
 /// For how long a borrow waits.
 #[derive(Clone, Copy)]
@@ -31,17 +36,12 @@ pub(crate) struct Policy<M: Manager> {
     pub max_lifetime: Option<u64>,
     /// Whether eviction runs validate idle objects, and do not only look at their age.
     pub tests_idle: bool,
-    pub on_error: Option<OnError<M>>,
+    pub reports: Reports<M>,
 }
-
-/// Receives the failures that no call returns.
-pub(crate) type OnError<M> = Box<dyn Fn(Failure<<M as Manager>::Error>) + Send + Sync>;
 
 /// A pool. The manager is called without the lock.
 pub(crate) struct Shared<M: Manager> {
     state: Locked<LockedPool<Item<M>>>,
-    /// There may be something for a thread that sleeps.
-    pub changed: Condvar,
     clock: Clock,
     /// A thread that cut the journal is done.
     pub written: Condvar,
@@ -56,6 +56,8 @@ pub(crate) struct Shared<M: Manager> {
     pub settings_text: String,
     pub policy: Policy<M>,
     maintainer: Mutex<Option<Maintainer>>,
+    /// The process that opened the pool.
+    process: u32,
 }
 
 /// An object of a manager, with its age.
@@ -109,7 +111,6 @@ impl<M: Manager> Shared<M> {
     ) -> Shared<M> {
         Shared {
             state: Locked::new(state),
-            changed: Condvar::new(),
             clock,
             written: Condvar::new(),
             draining: Mutex::new(()),
@@ -119,6 +120,7 @@ impl<M: Manager> Shared<M> {
             settings,
             policy,
             maintainer: Mutex::new(None),
+            process: process::id(),
         }
     }
 
@@ -127,11 +129,22 @@ impl<M: Manager> Shared<M> {
         maintainer.unwrap_or_else(PoisonError::into_inner)
     }
 
-    /// Reports a failure that no call returns. A panic of the receiver is ignored.
+    /// Returns whether this is a forked child, which has a copy of its parent's pool.
+    pub fn is_of_parent(&self) -> bool {
+        process::id() != self.process
+    }
+
+    /// Leaks what code of others would be called for at its drop, without a lock, which a thread of the parent may have held.
+    pub fn leak(&mut self) {
+        mem::forget(self.state.get_mut().take_idle());
+        mem::forget(self.outlet.take());
+        let maintainer = self.maintainer.get_mut();
+        mem::forget(maintainer.unwrap_or_else(PoisonError::into_inner).take());
+    }
+
+    /// Reports a failure that no call returns.
     pub fn report(&self, failure: Failure<M::Error>) {
-        if let Some(on_error) = &self.policy.on_error {
-            unless_it_panics(|| on_error(failure));
-        }
+        self.policy.reports.report(failure);
     }
 
     /// Returns whether an object has reached the age at which it is destroyed.
@@ -184,11 +197,22 @@ impl<M: Manager> Shared<M> {
         &self,
         caller: u32,
         input: Input,
+        value: Option<Item<M>>,
+    ) -> Result<Stepped<M>, Error<M::Error>> {
+        self.run_section_within(caller, input, value, WaitLimit::AsSet)
+    }
+
+    /// Does the same, and waits for a thread that writes a segment only as far as the limit allows.
+    pub fn run_section_within(
+        &self,
+        caller: u32,
+        input: Input,
         mut value: Option<Item<M>>,
+        limit: WaitLimit,
     ) -> Result<Stepped<M>, Error<M::Error>> {
         loop {
             match self.try_section(caller, input, value.take()) {
-                Err(Error::JournalFull) if self.make_room(WaitLimit::AsSet) => {}
+                Err(Error::JournalFull) if self.make_room(limit) => {}
                 stepped => return stepped,
             }
         }
@@ -269,83 +293,140 @@ impl<M: Manager> Shared<M> {
         !M::ACTIVATES && !self.settings.test_on_borrow
     }
 
-    /// Borrows an object, and waits while there is none, as far as the limit and the settings allow.
+    /// Borrows an object, and waits while there is none, as far as the limit and the settings allow. If the journal is full, it looks again
+    /// after a segment was written.
+    #[inline]
     pub fn acquire(
         &self,
         caller: u32,
-        began: u64,
+        began: &mut Began,
         mut time: u64,
         limit: WaitLimit,
     ) -> Acquisition<M> {
+        let mut ticket = None;
         loop {
-            match self.try_to_acquire(caller, began, time, limit) {
+            match self.try_to_acquire(caller, began, time, limit, &mut ticket) {
                 Err(Error::JournalFull) if self.make_room(limit) => time = self.now(),
                 acquired => return acquired,
             }
         }
     }
 
+    #[inline]
     fn try_to_acquire(
         &self,
         caller: u32,
-        began: u64,
+        began: &mut Began,
         mut time: u64,
         limit: WaitLimit,
+        ticket: &mut Option<Ticket>,
     ) -> Acquisition<M> {
         let lends_at_once = self.lends_at_once();
-        let input = Input::Borrow { began };
-        let mut has_slept = false;
         let mut state = self.lock();
+        let began = began.fix(state.last_time());
+        let input = Input::Borrow { began };
         loop {
-            match state.borrow(Stamp { caller, time }, began, lends_at_once) {
-                Ok(Borrowed::Without(Answer::Wait)) => state = self.sleep(state, began, limit)?,
-                Ok(borrowed) => {
-                    self.leave(state, Wakes::None);
-                    return acquired(input, borrowed);
+            if !state.is_behind(*ticket, self.settings.max_total) {
+                match state.borrow(Stamp { caller, time }, began, lends_at_once) {
+                    Ok(Borrowed::Without(Answer::Wait)) => {}
+                    Ok(borrowed) => {
+                        let acquired = acquired(input, borrowed);
+                        self.end_wait(state, *ticket, acquired.is_ok());
+                        return acquired;
+                    }
+                    Err(StepFault::OutOfMemory) if state.free_memory() => continue,
+                    Err(fault) => {
+                        let error = error_of(&state, input, fault);
+                        self.end_wait(state, *ticket, false);
+                        return Err(error);
+                    }
                 }
-                Err(StepFault::OutOfMemory) if state.free_memory() => continue,
-                Err(fault) => {
-                    let error = error_of(&state, input, fault);
-                    // Another may be able to take what this thread was woken for.
-                    let wakes = if has_slept { Wakes::One } else { Wakes::None };
-                    self.leave(state, wakes);
-                    return Err(error);
-                }
+            } else if self.time_left(&state, began) == Some(Duration::ZERO) {
+                self.end_wait(state, *ticket, false);
+                return Err(Error::TimedOut);
             }
-            has_slept = true;
+            state = self.sleep(state, began, limit, ticket)?;
             time = self.now_under_lock(&state);
         }
     }
 
+    /// Returns how long a borrow sleeps at most, by the limit and the settings, or why it does not sleep.
+    fn longest_sleep(
+        &self,
+        state: &LockedPool<Item<M>>,
+        began: u64,
+        limit: WaitLimit,
+    ) -> Result<Option<Duration>, Error<M::Error>> {
+        let asked = match limit {
+            WaitLimit::None => return Err(Error::Exhausted),
+            WaitLimit::Until(end) => match end.saturating_duration_since(Instant::now()) {
+                Duration::ZERO => return Err(Error::TimedOut),
+                left => Some(left),
+            },
+            WaitLimit::AsSet => None,
+        };
+        Ok(asked.into_iter().chain(self.time_left(state, began)).min())
+    }
+
     /// Sleeps until there may be an object, the pool was closed, or the wait is over by the settings; and no longer than the limit. A
     /// thread that is woken for nothing continues to sleep, and makes no entry.
+    #[cold]
     fn sleep<'a>(
         &'a self,
         mut state: Held<'a, M>,
         began: u64,
         limit: WaitLimit,
+        ticket: &mut Option<Ticket>,
     ) -> Result<Held<'a, M>, Error<M::Error>> {
-        let ticket = state.waiters.draw_ticket();
+        let mut has_slept = false;
         loop {
-            let asked = match limit {
-                WaitLimit::None => return Err(Error::Exhausted),
-                WaitLimit::Until(end) => match end.saturating_duration_since(Instant::now()) {
-                    Duration::ZERO => return Err(Error::TimedOut),
-                    left => Some(left),
-                },
-                WaitLimit::AsSet => None,
+            let longest = match self.longest_sleep(&state, began, limit) {
+                Ok(longest) => longest,
+                Err(error) => {
+                    self.end_wait(state, *ticket, false);
+                    return Err(error);
+                }
             };
-            let longest = asked.into_iter().chain(self.time_left(&state, began)).min();
-            let waiting = state.waiters.fall_asleep(ticket);
-            waiting.map_err(|_| Error::OutOfMemory)?;
-            state = self.state.wait(state, &self.changed, longest);
-            state.waiters.wake_up(ticket);
-            if !state.has_nothing(self.settings.max_total)
-                || self.time_left(&state, began) == Some(Duration::ZERO)
-            {
+            self.wait(state, ticket, Alarm::Thread(thread::current()))
+                .map_err(|_| Error::OutOfMemory)?;
+            state = match has_slept {
+                true => self.spin_and_sleep(*ticket, longest),
+                false => self.sleep_until_woken(longest),
+            };
+            has_slept = true;
+            let is_over = self.time_left(&state, began) == Some(Duration::ZERO);
+            if is_over || !self.has_nothing_for(&state, *ticket) {
                 return Ok(state);
             }
         }
+    }
+
+    /// Sleeps until this thread is woken or the time is over.
+    fn sleep_until_woken(&self, longest: Option<Duration>) -> Held<'_, M> {
+        match longest {
+            Some(time) => thread::park_timeout(time),
+            None => thread::park(),
+        }
+        self.lock()
+    }
+
+    /// Looks again and again for a short time, and then sleeps. A short loan ends meanwhile, so that the thread need not be woken again.
+    fn spin_and_sleep(&self, ticket: Option<Ticket>, longest: Option<Duration>) -> Held<'_, M> {
+        let start = Instant::now();
+        while start.elapsed() < LONGEST_SPIN {
+            pause_for(PAUSE);
+            let state = self.lock();
+            if !self.has_nothing_for(&state, ticket) {
+                return state;
+            }
+        }
+        self.sleep_until_woken(longest)
+    }
+
+    /// Returns whether a borrow finds nothing that it may take now.
+    fn has_nothing_for(&self, state: &LockedPool<Item<M>>, ticket: Option<Ticket>) -> bool {
+        let max_total = self.settings.max_total;
+        state.has_nothing(max_total) || state.is_behind(ticket, max_total)
     }
 
     /// Sleeps until a thread that cut the journal is done, and no longer than a time.
@@ -360,7 +441,8 @@ impl<M: Manager> Shared<M> {
     /// Returns how long a borrow that began at a time may still wait, by the settings.
     fn time_left(&self, state: &LockedPool<Item<M>>, began: u64) -> Option<Duration> {
         let most = u64::try_from(self.settings.max_wait_millis).ok()?;
-        let waited = self.now_under_lock(state).saturating_sub(began);
+        let time = self.now_under_lock(state).max(state.last_time());
+        let waited = time.saturating_sub(began);
         Some(Duration::from_millis(most.saturating_sub(waited)))
     }
 }
@@ -383,7 +465,15 @@ pub(crate) fn acquired<T, E>(input: Input, borrowed: Borrowed<T>) -> Result<Acqu
 #[cold]
 pub(crate) fn error_of<T, E>(state: &LockedPool<T>, input: Input, fault: StepFault) -> Error<E> {
     match input {
-        Input::Borrow { .. } | Input::Add | Input::Evict if state.is_closed => Error::Closed,
+        Input::Borrow { .. }
+        | Input::Add
+        | Input::Evict
+        | Input::Reclaim { on: When::Borrow }
+        | Input::ReclaimNext { on: When::Borrow }
+            if state.is_closed =>
+        {
+            Error::Closed
+        }
         _ => fault.into(),
     }
 }

@@ -16,7 +16,7 @@ pub(crate) enum Input {
     EvictNext,
     Tested { id: u64, outcome: Outcome },
     Reclaim { on: When },
-    ReclaimNext,
+    ReclaimNext { on: When },
     Clear,
     ClearNext,
     Destroyed { id: u64 },

@@ -3,192 +3,203 @@
 use std::collections::{TryReserveError, VecDeque};
 use std::mem;
 use std::task::Waker;
+use std::thread::Thread;
 
 /// The place of a waiter in the order of arrival. A waiter that finds nothing keeps it.
 #[derive(Clone, Copy, Debug, PartialEq, Eq, PartialOrd, Ord)]
 pub(crate) struct Ticket(u64);
 
+/// What wakes a waiter.
 #[derive(Debug)]
-enum Waiter {
-    /// One of the threads that sleep until the pool changes. A condition variable does not say which of them it wakes.
-    Thread,
+pub(crate) enum Alarm {
+    Thread(Thread),
     Task(Waker),
 }
 
 /// A waiter that is to be woken, without the lock.
 #[derive(Debug)]
-pub(crate) enum Wake {
-    /// One of the threads that sleep.
-    Thread,
-    Task(Ticket, Waker),
+pub(crate) struct Wake {
+    pub ticket: Ticket,
+    pub alarm: Alarm,
 }
 
 /// The waiters that are to be woken when the pool closes, without the lock.
 #[derive(Debug)]
-pub(crate) struct WakeAll(VecDeque<(Ticket, Waiter)>);
+pub(crate) struct WakeAll(VecDeque<(Ticket, Alarm)>);
 
 impl WakeAll {
-    pub fn has_threads(&self) -> bool {
-        self.0.iter().any(is_thread)
-    }
-
-    pub fn into_tasks(self) -> impl Iterator<Item = Waker> {
-        self.0
-            .into_iter()
-            .filter_map(|(_, waiter)| waker_of(waiter))
+    pub fn into_alarms(self) -> impl Iterator<Item = Alarm> {
+        self.0.into_iter().map(|(_, alarm)| alarm)
     }
 }
 
-/// The waiters of a pool.
-#[derive(Debug, Default)]
+/// The waiters of a pool, and how often the oldest may still be overtaken. One that was woken waits until it has an object or leaves.
+#[derive(Debug)]
 pub(crate) struct Waiters {
-    /// Those that were not woken, in ascending order of their tickets.
-    queue: VecDeque<(Ticket, Waiter)>,
+    /// Those that sleep, in ascending order of their tickets.
+    asleep: VecDeque<(Ticket, Alarm)>,
+    /// Those that were woken and have not looked yet, in ascending order.
+    woken: VecDeque<Ticket>,
     next_ticket: u64,
-    /// The number of threads at least that were woken and have not looked yet.
-    woken_threads: usize,
-    /// The tasks that were woken and have not looked yet.
-    woken_tasks: Vec<Ticket>,
+    max_overtakes: u32,
+    /// How often the oldest waiter may still be overtaken.
+    overtakes_left: u32,
 }
 
 impl Waiters {
+    pub fn new(max_overtakes: u32) -> Waiters {
+        Waiters {
+            asleep: VecDeque::new(),
+            woken: VecDeque::new(),
+            next_ticket: 0,
+            max_overtakes,
+            overtakes_left: max_overtakes,
+        }
+    }
+
     pub fn draw_ticket(&mut self) -> Ticket {
         self.next_ticket += 1;
         Ticket(self.next_ticket)
     }
 
-    /// Sets memory aside for one more waiter, also for when it is woken.
+    /// Returns the number of waiters.
+    #[inline]
+    pub fn len(&self) -> usize {
+        self.asleep.len() + self.woken.len()
+    }
+
+    /// Returns whether a waiter sleeps.
+    #[inline]
+    pub fn has_sleeper(&self) -> bool {
+        !self.asleep.is_empty()
+    }
+
+    /// Returns the number of waiters that came before the holder of a ticket, or of all before one that has none.
+    fn older(&self, ticket: Option<Ticket>) -> usize {
+        let Some(ticket) = ticket else {
+            return self.len();
+        };
+        let asleep = self.asleep.partition_point(|waiter| waiter.0 < ticket);
+        asleep + self.woken.partition_point(|&woken| woken < ticket)
+    }
+
+    /// Returns whether a borrow has to leave the `available` objects and places to older waiters: there is none beyond theirs, and the oldest
+    /// of them may not be overtaken again.
+    pub fn are_served_before(&self, ticket: Option<Ticket>, available: usize) -> bool {
+        self.overtakes_left == 0 && self.len() > 0 && available <= self.older(ticket)
+    }
+
+    /// A borrow took an object or a place, and this many are left. It overtook the oldest waiter if they are too few for those before it.
+    pub fn note_taken(&mut self, ticket: Option<Ticket>, left: usize) {
+        if self.len() > 0 && left < self.older(ticket) {
+            self.overtakes_left = self.overtakes_left.saturating_sub(1);
+        }
+    }
+
+    /// Sets memory aside for one more waiter, asleep and woken.
     fn reserve(&mut self) -> Result<(), TryReserveError> {
-        self.queue.try_reserve(1)?;
-        self.woken_tasks.try_reserve(self.queue.len() + 1)
+        let waiters = self.len() + 1;
+        self.asleep.try_reserve(waiters - self.asleep.len())?;
+        self.woken.try_reserve(waiters - self.woken.len())
     }
 
-    /// Returns the position of a ticket in the queue, or the one where it belongs.
+    /// Returns the position of a ticket among the sleepers, or the one where it belongs.
     fn position(&self, ticket: Ticket) -> Result<usize, usize> {
-        self.queue.binary_search_by_key(&ticket, |waiter| waiter.0)
+        self.asleep.binary_search_by_key(&ticket, |waiter| waiter.0)
     }
 
-    /// A thread falls asleep.
+    /// A borrow that found nothing sleeps with its ticket, or sleeps on. Returns the alarm that it had; drop it without the lock.
+    ///
+    /// One that was woken as the oldest waiter, for an object that others took, is not overtaken again.
     ///
     /// # Errors
     ///
-    /// There is no memory. The waiters are unchanged.
-    pub fn fall_asleep(&mut self, ticket: Ticket) -> Result<(), TryReserveError> {
-        self.reserve()?;
-        let position = self.position(ticket).unwrap_or_else(|position| position);
-        self.queue.insert(position, (ticket, Waiter::Thread));
-        Ok(())
-    }
-
-    /// A thread that slept looks again, whatever the cause. If one was woken, it counts as that one.
-    pub fn wake_up(&mut self, ticket: Ticket) {
-        if self.woken_threads > 0 {
-            self.woken_threads -= 1;
-            return;
-        }
-        // The entry of this thread may have been taken for another that was woken in its place.
-        let own = self.position(ticket).ok();
-        let position = own.or_else(|| self.queue.iter().position(is_thread));
-        if let Some(position) = position {
-            self.queue.remove(position);
-        }
-    }
-
-    /// A task that looked waits, or waits again, with this waker. Returns the waker that it had; drop it without the lock.
-    ///
-    /// # Errors
-    ///
-    /// There is no memory. The task does not wait, and its waker is returned.
-    pub fn wait(&mut self, ticket: Ticket, waker: Waker) -> Result<Option<Waker>, Waker> {
+    /// There is no memory. It does not wait, and its alarm is returned.
+    pub fn sleep(&mut self, ticket: Ticket, alarm: Alarm) -> Result<Option<Alarm>, Alarm> {
         if let Ok(position) = self.position(ticket) {
-            let before = mem::replace(&mut self.queue[position].1, Waiter::Task(waker));
-            return Ok(waker_of(before));
+            let before = mem::replace(&mut self.asleep[position].1, alarm);
+            return Ok(Some(before));
         }
-        self.forget(ticket);
-        if self.reserve().is_err() {
-            return Err(waker);
+        if self.take_woken(ticket) {
+            if self.older(Some(ticket)) == 0 {
+                self.overtakes_left = 0;
+            }
+        } else if self.reserve().is_err() {
+            return Err(alarm);
         }
         let position = self.position(ticket).unwrap_or_else(|position| position);
-        self.queue.insert(position, (ticket, Waiter::Task(waker)));
+        self.asleep.insert(position, (ticket, alarm));
         Ok(None)
     }
 
-    /// A task waits no longer. Returns whether it was woken, and the waker that it had; drop it without the lock.
-    pub fn leave(&mut self, ticket: Ticket) -> (bool, Option<Waker>) {
-        match self.position(ticket) {
-            Ok(position) => {
-                let waiter = self.queue.remove(position);
-                (false, waiter.and_then(|waiter| waker_of(waiter.1)))
-            }
-            Err(_) => (self.forget(ticket), None),
+    /// A borrow waits no longer: it has its object, or gives up. Returns whether it was woken, and the alarm that it had; drop it without the
+    /// lock.
+    pub fn leave(&mut self, ticket: Ticket) -> (bool, Option<Alarm>) {
+        let Ok(position) = self.position(ticket) else {
+            return (self.forget(ticket), None);
+        };
+        self.begin_count_if_oldest(ticket);
+        let left = self.asleep.remove(position);
+        (false, left.map(|waiter| waiter.1))
+    }
+
+    /// A waiter that was woken, if it was, waits no longer. Returns whether it was.
+    pub fn forget(&mut self, ticket: Ticket) -> bool {
+        if self.woken.binary_search(&ticket).is_err() {
+            return false;
+        }
+        self.begin_count_if_oldest(ticket);
+        self.take_woken(ticket)
+    }
+
+    /// If this is the oldest waiter, which leaves, the next one counts its own overtakes.
+    fn begin_count_if_oldest(&mut self, ticket: Ticket) {
+        if self.older(Some(ticket)) == 0 {
+            self.overtakes_left = self.max_overtakes;
         }
     }
 
-    /// No wake is on its way to a task any more. Returns whether one was.
-    pub fn forget(&mut self, ticket: Ticket) -> bool {
-        let woken = self.woken_tasks.iter().position(|&woken| woken == ticket);
-        woken
-            .map(|position| self.woken_tasks.swap_remove(position))
-            .is_some()
+    /// Takes a ticket out of those that were woken. Returns whether it was there.
+    fn take_woken(&mut self, ticket: Ticket) -> bool {
+        let position = self.woken.binary_search(&ticket);
+        position.is_ok_and(|position| self.woken.remove(position).is_some())
     }
 
-    /// Returns the number of waiters that were not woken, and of those at least that were woken and have not looked yet.
+    /// Returns the numbers of waiters that sleep, and that were woken.
     #[cfg(test)]
     pub fn asleep_and_woken(&self) -> (usize, usize) {
-        let woken = self.woken_threads + self.woken_tasks.len();
-        (self.queue.len(), woken)
-    }
-
-    /// Returns whether each waiter was woken.
-    #[inline]
-    pub fn is_empty(&self) -> bool {
-        self.queue.is_empty()
+        (self.asleep.len(), self.woken.len())
     }
 
     /// Returns the waiter to wake, if there is one for one of the `available` objects and places that none is on its way to. It is the one
     /// that came first. It counts as woken then. One that is on its way is enough for one object, however often that object comes and goes
     /// before it looks.
     pub fn wake_one(&mut self, available: usize) -> Option<Wake> {
-        if self.woken_threads + self.woken_tasks.len() >= available {
+        if self.woken.len() >= available {
             return None;
         }
-        self.queue.pop_front().map(|(ticket, waiter)| match waiter {
-            Waiter::Thread => {
-                self.woken_threads += 1;
-                Wake::Thread
-            }
-            Waiter::Task(waker) => {
-                self.woken_tasks.push(ticket);
-                Wake::Task(ticket, waker)
-            }
-        })
+        let (ticket, alarm) = self.asleep.pop_front()?;
+        let position = self.woken.partition_point(|&woken| woken < ticket);
+        self.woken.insert(position, ticket);
+        Some(Wake { ticket, alarm })
     }
 
     /// Returns the waiters to wake when the pool closes: all. None of them waits again.
     pub fn wake_all(&mut self) -> WakeAll {
-        let queue = mem::take(&mut self.queue);
-        self.woken_threads += queue.iter().filter(|waiter| is_thread(waiter)).count();
-        WakeAll(queue)
-    }
-}
-
-fn is_thread(waiter: &(Ticket, Waiter)) -> bool {
-    matches!(waiter.1, Waiter::Thread)
-}
-
-fn waker_of(waiter: Waiter) -> Option<Waker> {
-    match waiter {
-        Waiter::Thread => None,
-        Waiter::Task(waker) => Some(waker),
+        self.woken.clear();
+        WakeAll(mem::take(&mut self.asleep))
     }
 }
 
 #[cfg(test)]
 mod tests {
-    use super::{Ticket, Waiters, Wake};
+    use super::{Alarm, Ticket, Waiters, Wake};
     use std::sync::atomic::{AtomicU32, Ordering};
     use std::sync::Arc;
     use std::task::{self, Waker};
+    use std::thread;
+
+    const MOST: u32 = 3;
 
     /// Counts its wakes.
     #[derive(Default)]
@@ -200,99 +211,92 @@ mod tests {
         }
     }
 
-    fn waker() -> Waker {
-        Waker::from(Arc::new(Counter::default()))
+    fn alarm() -> Alarm {
+        Alarm::Task(Waker::from(Arc::new(Counter::default())))
     }
 
-    fn sleep(waiters: &mut Waiters) -> Ticket {
-        let ticket = waiters.draw_ticket();
-        waiters.fall_asleep(ticket).unwrap();
-        ticket
+    /// Waiters of whom one after the other came.
+    fn waiting<const COUNT: usize>() -> (Waiters, [Ticket; COUNT]) {
+        let mut waiters = Waiters::new(MOST);
+        let tickets = [(); COUNT].map(|()| {
+            let ticket = waiters.draw_ticket();
+            assert!(waiters.sleep(ticket, alarm()).unwrap().is_none());
+            ticket
+        });
+        (waiters, tickets)
     }
 
-    fn wait(waiters: &mut Waiters) -> Ticket {
-        let ticket = waiters.draw_ticket();
-        assert!(waiters.wait(ticket, waker()).unwrap().is_none());
-        ticket
-    }
-
-    /// Returns the task that is woken for one of some objects, or that a thread is.
+    /// Returns the waiter that is woken for one of some objects.
     fn woken(waiters: &mut Waiters, available: usize) -> Option<Ticket> {
-        match waiters.wake_one(available) {
-            Some(Wake::Task(ticket, _)) => Some(ticket),
-            Some(Wake::Thread) => None,
-            None => panic!("nobody is woken"),
-        }
+        waiters.wake_one(available).map(|wake| wake.ticket)
+    }
+
+    /// A borrow that does not wait takes the only object.
+    fn overtake(waiters: &mut Waiters) {
+        assert!(!waiters.are_served_before(None, 1));
+        waiters.note_taken(None, 0);
     }
 
     #[test]
     fn threads_and_tasks_are_woken_in_the_order_in_which_they_came() {
-        let mut waiters = Waiters::default();
-        let first = wait(&mut waiters);
-        sleep(&mut waiters);
-        let third = wait(&mut waiters);
-        sleep(&mut waiters);
-        for (number, wanted) in [Some(first), None, Some(third), None]
-            .into_iter()
-            .enumerate()
-        {
-            assert_eq!(woken(&mut waiters, number + 1), wanted);
-        }
-        assert_eq!(waiters.asleep_and_woken(), (0, 4));
-        assert!(waiters.wake_one(5).is_none());
+        let (mut waiters, [first]) = waiting();
+        let second = waiters.draw_ticket();
+        let thread = Alarm::Thread(thread::current());
+        assert!(waiters.sleep(second, thread).unwrap().is_none());
+        assert_eq!(woken(&mut waiters, 1), Some(first));
+        let wake = waiters.wake_one(2).unwrap();
+        assert!(matches!(wake, Wake { ticket, alarm: Alarm::Thread(_) } if ticket == second));
+        assert_eq!(waiters.asleep_and_woken(), (0, 2));
+        assert_eq!(woken(&mut waiters, 3), None);
     }
 
     #[test]
     fn one_waiter_is_woken_for_one_object() {
-        let mut waiters = Waiters::default();
-        let tickets = [(); 3].map(|()| wait(&mut waiters));
-        assert!(waiters.wake_one(0).is_none());
+        let (mut waiters, tickets) = waiting::<3>();
+        assert_eq!(woken(&mut waiters, 0), None);
         assert_eq!(woken(&mut waiters, 1), Some(tickets[0]));
-        assert!(waiters.wake_one(1).is_none());
+        assert_eq!(woken(&mut waiters, 1), None);
         assert_eq!(woken(&mut waiters, 2), Some(tickets[1]));
         assert_eq!(waiters.asleep_and_woken(), (1, 2));
     }
 
     #[test]
     fn who_finds_nothing_keeps_its_turn() {
-        let mut waiters = Waiters::default();
-        let (task, thread) = (wait(&mut waiters), sleep(&mut waiters));
-        let last = wait(&mut waiters);
-        assert_eq!(woken(&mut waiters, 1), Some(task));
-        assert!(waiters.wait(task, waker()).unwrap().is_none());
+        let (mut waiters, tickets) = waiting::<3>();
+        assert_eq!(woken(&mut waiters, 1), Some(tickets[0]));
+        assert!(waiters.sleep(tickets[0], alarm()).unwrap().is_none());
         assert_eq!(waiters.asleep_and_woken(), (3, 0));
-        assert_eq!(woken(&mut waiters, 1), Some(task));
-        assert_eq!(woken(&mut waiters, 2), None);
-        waiters.wake_up(thread);
-        waiters.fall_asleep(thread).unwrap();
-        assert_eq!(woken(&mut waiters, 2), None);
-        assert_eq!(woken(&mut waiters, 3), Some(last));
+        for (number, ticket) in tickets.into_iter().enumerate() {
+            assert_eq!(woken(&mut waiters, number + 1), Some(ticket));
+        }
     }
 
     #[test]
-    fn a_task_that_looks_unasked_changes_its_waker_only() {
-        let mut waiters = Waiters::default();
-        let (first, _) = (wait(&mut waiters), wait(&mut waiters));
+    fn a_waiter_that_looks_unasked_changes_its_alarm_only() {
+        let (mut waiters, [first, _]) = waiting();
         let counter = Arc::new(Counter::default());
-        let waker = Waker::from(Arc::clone(&counter));
-        assert!(waiters.wait(first, waker).unwrap().is_some());
+        let alarm = Alarm::Task(Waker::from(Arc::clone(&counter)));
+        assert!(waiters.sleep(first, alarm).unwrap().is_some());
         assert_eq!(waiters.asleep_and_woken(), (2, 0));
+        overtake(&mut waiters);
         match waiters.wake_one(1) {
-            Some(Wake::Task(ticket, waker)) if ticket == first => waker.wake(),
+            Some(Wake {
+                ticket,
+                alarm: Alarm::Task(waker),
+            }) if ticket == first => waker.wake(),
             other => panic!("{other:?}"),
         }
         assert_eq!(counter.0.load(Ordering::Relaxed), 1);
     }
 
     #[test]
-    fn a_task_that_leaves_says_whether_it_was_woken() {
-        let mut waiters = Waiters::default();
-        let tickets = [(); 3].map(|()| wait(&mut waiters));
+    fn a_waiter_that_leaves_says_whether_it_was_woken() {
+        let (mut waiters, tickets) = waiting::<3>();
         assert_eq!(woken(&mut waiters, 1), Some(tickets[0]));
-        let (was_woken, waker) = waiters.leave(tickets[1]);
-        assert!(!was_woken && waker.is_some());
-        let (was_woken, waker) = waiters.leave(tickets[0]);
-        assert!(was_woken && waker.is_none());
+        let (was_woken, alarm) = waiters.leave(tickets[1]);
+        assert!(!was_woken && alarm.is_some());
+        let (was_woken, alarm) = waiters.leave(tickets[0]);
+        assert!(was_woken && alarm.is_none());
         assert_eq!(woken(&mut waiters, 1), Some(tickets[2]));
         assert!(!waiters.leave(tickets[0]).0);
         assert_eq!(waiters.asleep_and_woken(), (0, 1));
@@ -300,48 +304,82 @@ mod tests {
 
     #[test]
     fn a_wake_that_is_lost_is_forgotten() {
-        let mut waiters = Waiters::default();
-        let (first, second) = (wait(&mut waiters), wait(&mut waiters));
+        let (mut waiters, [first, second]) = waiting();
         assert_eq!(woken(&mut waiters, 1), Some(first));
         assert!(waiters.forget(first));
         assert!(!waiters.forget(first));
         assert_eq!(woken(&mut waiters, 1), Some(second));
-    }
-
-    #[test]
-    fn a_thread_that_wakes_for_another_counts_as_that_one() {
-        let mut waiters = Waiters::default();
-        let (first, second) = (sleep(&mut waiters), sleep(&mut waiters));
-        assert_eq!(woken(&mut waiters, 1), None);
-        waiters.wake_up(second);
-        assert_eq!(waiters.asleep_and_woken(), (1, 0));
-        // The first one's time is over: the entry that is left is its own.
-        waiters.wake_up(first);
-        assert_eq!(waiters.asleep_and_woken(), (0, 0));
-    }
-
-    #[test]
-    fn a_thread_whose_time_is_over_leaves_the_others_to_be_woken() {
-        let mut waiters = Waiters::default();
-        let (thread, task) = (sleep(&mut waiters), wait(&mut waiters));
-        waiters.wake_up(thread);
-        assert_eq!(waiters.asleep_and_woken(), (1, 0));
-        assert_eq!(woken(&mut waiters, 1), Some(task));
+        assert!(!waiters.forget(first));
     }
 
     #[test]
     fn all_are_woken_at_once() {
-        let mut waiters = Waiters::default();
-        let threads = [(); 2].map(|()| sleep(&mut waiters));
-        let task = wait(&mut waiters);
-        let woken = waiters.wake_all();
-        assert!(woken.has_threads());
-        assert_eq!(woken.into_tasks().count(), 1);
-        for thread in threads {
-            waiters.wake_up(thread);
+        let (mut waiters, tickets) = waiting::<3>();
+        assert_eq!(woken(&mut waiters, 1), Some(tickets[0]));
+        assert_eq!(waiters.wake_all().into_alarms().count(), 2);
+        assert_eq!(waiters.len(), 0);
+        assert!(!waiters.leave(tickets[2]).0);
+        assert_eq!(waiters.wake_all().into_alarms().count(), 0);
+    }
+
+    #[test]
+    fn the_oldest_is_overtaken_so_often_at_most() {
+        let (mut waiters, [first, second]) = waiting();
+        for woken_at in 0..MOST {
+            assert!(woken(&mut waiters, 1).is_none() || woken_at == 0);
+            overtake(&mut waiters);
         }
-        assert!(!waiters.leave(task).0);
-        assert_eq!(waiters.asleep_and_woken(), (0, 0));
-        assert!(!waiters.wake_all().has_threads());
+        assert!(waiters.are_served_before(None, 1));
+        assert!(waiters.are_served_before(Some(second), 1));
+        assert!(!waiters.are_served_before(Some(first), 1));
+        waiters.note_taken(Some(first), 0);
+        waiters.leave(first);
+        (0..MOST).for_each(|_| overtake(&mut waiters));
+        assert!(waiters.are_served_before(None, 1));
+        waiters.leave(second);
+        assert!(!waiters.are_served_before(None, 1));
+    }
+
+    #[test]
+    fn a_waiter_that_leaves_from_the_middle_changes_no_count() {
+        let (mut waiters, [_, second, third]) = waiting();
+        (0..MOST).for_each(|_| overtake(&mut waiters));
+        assert_eq!(woken(&mut waiters, 1).map(|_| ()), Some(()));
+        waiters.leave(second);
+        assert!(waiters.are_served_before(Some(third), 1));
+    }
+
+    #[test]
+    fn what_is_beyond_the_waiters_is_anyones() {
+        let (mut waiters, [first, second]) = waiting();
+        waiters.note_taken(None, 2);
+        (0..MOST).for_each(|_| overtake(&mut waiters));
+        assert!(waiters.are_served_before(None, 2));
+        assert!(!waiters.are_served_before(None, 3));
+        assert!(waiters.are_served_before(Some(second), 1));
+        assert!(!waiters.are_served_before(Some(second), 2));
+        assert!(!waiters.are_served_before(Some(first), 1));
+    }
+
+    #[test]
+    fn a_later_waiter_may_overtake_too() {
+        let (mut waiters, [_, second]) = waiting();
+        for _ in 0..MOST {
+            assert!(!waiters.are_served_before(Some(second), 1));
+            waiters.note_taken(Some(second), 0);
+        }
+        assert!(waiters.are_served_before(Some(second), 1));
+    }
+
+    #[test]
+    fn who_was_woken_for_nothing_is_not_overtaken_again() {
+        let (mut waiters, [first, second]) = waiting();
+        assert_eq!(woken(&mut waiters, 1), Some(first));
+        assert_eq!(woken(&mut waiters, 2), Some(second));
+        overtake(&mut waiters);
+        waiters.sleep(second, alarm()).unwrap();
+        assert!(!waiters.are_served_before(None, 1));
+        waiters.sleep(first, alarm()).unwrap();
+        assert!(waiters.are_served_before(None, 1));
     }
 }

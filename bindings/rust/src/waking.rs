@@ -1,27 +1,39 @@
 //! Waits of tasks, and wakes of threads and tasks.
 
-use crate::clock::Stamp;
+use crate::clock::{Began, Stamp};
 use crate::error::Error;
 use crate::locked_pool::Borrowed;
 use crate::manager::Manager;
 use crate::panics::{drop_quietly, unless_it_panics};
 use crate::shared::{acquired, error_of, Acquisition, Held, Shared, WaitLimit, Wakes};
 use crate::step::{Answer, Input, StepFault};
-use crate::waiters::{Ticket, Wake, WakeAll};
+use crate::waiters::{Alarm, Ticket, Wake, WakeAll};
 use std::task::{Poll, Waker};
 
-/// Wakes a task. Returns whether its waker did not panic.
-fn wake_task(waker: Waker) -> bool {
-    unless_it_panics(|| waker.wake()).is_some()
+/// A waiter finds no place in the queue.
+#[derive(Debug)]
+pub(crate) struct NoMemory;
+
+impl Alarm {
+    /// Wakes a waiter. Returns whether its waker did not panic.
+    fn ring(self) -> bool {
+        match self {
+            Alarm::Thread(thread) => {
+                thread.unpark();
+                true
+            }
+            Alarm::Task(waker) => unless_it_panics(|| waker.wake()).is_some(),
+        }
+    }
 }
 
 impl<M: Manager> Shared<M> {
     /// Looks for an object. If there is none, the task waits with its ticket and this waker. If the journal is full, it looks again after a
-    /// segment was written.
+    /// segment was written. The ticket is taken if the task waits no longer.
     pub fn poll_acquire(
         &self,
         caller: u32,
-        began: u64,
+        began: &mut Began,
         ticket: &mut Option<Ticket>,
         waker: &Waker,
     ) -> Poll<Acquisition<M>> {
@@ -29,40 +41,63 @@ impl<M: Manager> Shared<M> {
             let time = self.now();
             match self.look(Stamp { caller, time }, began, ticket, waker.clone()) {
                 Poll::Ready(Err(Error::JournalFull)) if self.make_room(WaitLimit::AsSet) => {}
-                looked => return looked,
+                Poll::Ready(acquired) => {
+                    *ticket = None;
+                    return Poll::Ready(acquired);
+                }
+                Poll::Pending => return Poll::Pending,
             }
         }
     }
 
     /// Looks for an object, in one critical section.
     ///
-    /// A task that waits already, and would find nothing, makes no entry. The ticket is taken if the task waits no longer.
+    /// A task that waits already, and would find nothing, makes no entry; nor does one that older waiters come before.
     fn look(
         &self,
         stamp: Stamp,
-        began: u64,
+        began: &mut Began,
         ticket: &mut Option<Ticket>,
         waker: Waker,
     ) -> Poll<Acquisition<M>> {
-        let is_over = self.is_over(began, stamp.time);
         let mut state = self.lock();
-        if ticket.is_some() && !is_over && state.has_nothing(self.settings.max_total) {
-            return self.wait(state, ticket, waker);
+        let began = began.fix(state.last_time());
+        let is_over = self.is_over(began, stamp.time.max(state.last_time()));
+        let is_behind = state.is_behind(*ticket, self.settings.max_total);
+        let has_nothing = ticket.is_some() && state.has_nothing(self.settings.max_total);
+        if !is_over && (is_behind || has_nothing) {
+            return self.wait_for_wake(state, ticket, waker);
         }
+        let acquired = match is_behind {
+            true => Err(Error::TimedOut),
+            false => match self.borrow_for_task(&mut state, stamp, began) {
+                Some(acquired) => acquired,
+                None => return self.wait_for_wake(state, ticket, waker),
+            },
+        };
+        self.end_wait(state, *ticket, acquired.is_ok());
+        // The object has no guard yet.
+        drop_quietly(waker);
+        Poll::Ready(acquired)
+    }
+
+    /// Borrows an object. Returns none if the task is to wait.
+    fn borrow_for_task(
+        &self,
+        state: &mut Held<'_, M>,
+        stamp: Stamp,
+        began: u64,
+    ) -> Option<Acquisition<M>> {
         let input = Input::Borrow { began };
         let mut borrowed = state.borrow(stamp, began, self.lends_at_once());
         if matches!(borrowed, Err(StepFault::OutOfMemory)) && state.free_memory() {
             borrowed = state.borrow(stamp, began, self.lends_at_once());
         }
-        let acquired = match borrowed {
-            Ok(Borrowed::Without(Answer::Wait)) => return self.wait(state, ticket, waker),
-            Ok(borrowed) => acquired(input, borrowed),
-            Err(fault) => Err(error_of(&state, input, fault)),
-        };
-        self.end_wait(state, ticket.take(), acquired.is_ok());
-        // The object has no guard yet.
-        drop_quietly(waker);
-        Poll::Ready(acquired)
+        match borrowed {
+            Ok(Borrowed::Without(Answer::Wait)) => None,
+            Ok(borrowed) => Some(acquired(input, borrowed)),
+            Err(fault) => Some(Err(error_of(state, input, fault))),
+        }
     }
 
     /// Returns whether a borrow that began at a time may wait no longer, by the settings.
@@ -71,39 +106,71 @@ impl<M: Manager> Shared<M> {
         most.is_ok_and(|most| time.saturating_sub(began) >= most)
     }
 
-    /// A task waits with its ticket, or draws one.
-    fn wait<R>(
+    fn wait_for_wake<R>(
         &self,
-        mut state: Held<'_, M>,
+        state: Held<'_, M>,
         ticket: &mut Option<Ticket>,
         waker: Waker,
     ) -> Poll<Result<R, Error<M::Error>>> {
+        match self.wait(state, ticket, Alarm::Task(waker)) {
+            Ok(()) => Poll::Pending,
+            Err(_) => Poll::Ready(Err(Error::OutOfMemory)),
+        }
+    }
+
+    /// A borrow waits with its ticket, or draws one. If it was woken for what older waiters come before it for, the oldest sleeper is woken.
+    ///
+    /// # Errors
+    ///
+    /// There is no memory. The borrow does not wait.
+    pub fn wait(
+        &self,
+        mut state: Held<'_, M>,
+        ticket: &mut Option<Ticket>,
+        alarm: Alarm,
+    ) -> Result<(), NoMemory> {
         let own = *ticket.get_or_insert_with(|| state.waiters.draw_ticket());
-        let before = state.waiters.wait(own, waker);
-        self.leave(state, Wakes::None);
+        let before = state.waiters.sleep(own, alarm);
+        let wakes = match state.is_behind(*ticket, self.settings.max_total) {
+            true => Wakes::One,
+            false => Wakes::None,
+        };
+        self.leave(state, wakes);
         match before {
             Ok(before) => {
                 drop_quietly(before);
-                Poll::Pending
+                Ok(())
             }
-            Err(waker) => {
+            Err(alarm) => {
                 *ticket = None;
-                drop_quietly(waker);
-                Poll::Ready(Err(Error::OutOfMemory))
+                drop_quietly(alarm);
+                Err(NoMemory)
             }
         }
     }
 
-    /// A task that may have waited waits no longer. If it was woken and has nothing, another may be able to take what it was woken for.
-    fn end_wait(&self, mut state: Held<'_, M>, ticket: Option<Ticket>, has_object: bool) {
+    /// A borrow that may have waited waits no longer. If it was woken and has nothing, another may be able to take what it was woken for.
+    #[inline(always)]
+    pub fn end_wait(&self, state: Held<'_, M>, ticket: Option<Ticket>, has_object: bool) {
+        match state.waiters.len() {
+            0 => self.leave(state, Wakes::None),
+            _ => self.end_wait_among(state, ticket, has_object),
+        }
+    }
+
+    #[cold]
+    fn end_wait_among(&self, mut state: Held<'_, M>, ticket: Option<Ticket>, has_object: bool) {
+        if has_object {
+            state.note_taken(ticket, self.settings.max_total);
+        }
         let left = ticket.map(|ticket| state.waiters.leave(ticket));
-        let (was_woken, waker) = left.unwrap_or_default();
+        let (was_woken, alarm) = left.unwrap_or_default();
         let wakes = match was_woken && !has_object {
             true => Wakes::One,
             false => Wakes::None,
         };
         self.leave(state, wakes);
-        drop_quietly(waker);
+        drop_quietly(alarm);
     }
 
     /// A task that waits, or was woken, is gone. A wake that was on its way to it is handed on.
@@ -113,16 +180,9 @@ impl<M: Manager> Shared<M> {
 
     /// Wakes a waiter, without the lock. If a waker panics, the next waiter is woken in place of its task.
     pub fn wake(&self, mut wake: Wake) {
-        loop {
-            let (ticket, waker) = match wake {
-                Wake::Thread => return self.changed.notify_one(),
-                Wake::Task(ticket, waker) => (ticket, waker),
-            };
-            if wake_task(waker) {
-                return;
-            }
+        while !wake.alarm.ring() {
             let mut state = self.lock();
-            state.waiters.forget(ticket);
+            state.waiters.forget(wake.ticket);
             match state.wake_one(self.settings.max_total) {
                 Some(next) => wake = next,
                 None => return,
@@ -133,11 +193,8 @@ impl<M: Manager> Shared<M> {
     /// Wakes all waiters, without the lock.
     #[cold]
     pub fn wake_all(&self, all: WakeAll) {
-        if all.has_threads() {
-            self.changed.notify_all();
-        }
-        for waker in all.into_tasks() {
-            wake_task(waker);
+        for alarm in all.into_alarms() {
+            alarm.ring();
         }
     }
 }

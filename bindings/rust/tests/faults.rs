@@ -6,7 +6,8 @@ mod common;
 mod hooks;
 
 use common::managers::{kept, take_out};
-use common::{assert_legal, panic_quietly, panics, times_of, wait_for_waits};
+use common::tasks::block_on;
+use common::{assert_legal, panic_quietly, panics, times_of, wait_for_waits, MemorySink, Stored};
 use std::convert::Infallible;
 use std::panic;
 use std::sync::atomic::{AtomicBool, AtomicU64, Ordering};
@@ -15,7 +16,7 @@ use std::thread;
 use std::time::Duration;
 use zuphinka::{
     Abandoned, Addition, Builder, Contradiction, Error, Journal, Manager, OpenError, Pool, Pooled,
-    Returned, WeakPool,
+    Returned, Segments, WeakPool,
 };
 
 with_and_without_hooks! {
@@ -26,6 +27,8 @@ with_and_without_hooks! {
     a_clock_that_panics_stands_still
     a_wake_is_not_lost_by_a_clock_that_panics
     a_closed_pool_with_a_full_journal_is_closed
+    a_closed_pool_with_a_full_journal_is_closed_though_borrows_reclaim
+    a_closed_pool_whose_sink_fails_is_closed_though_borrows_reclaim
     a_destruction_may_panic_while_its_holder_panics
     a_destruction_may_panic_after_a_test_panicked
     what_a_cleanup_borrows_is_returned
@@ -269,7 +272,10 @@ fn a_wake_is_not_lost_by_a_clock_that_panics<const HOOKS: bool>() {
 }
 
 fn a_closed_pool_with_a_full_journal_is_closed<const HOOKS: bool>() {
-    let limited = |builder: Builder<Troubled<HOOKS>>| builder.journal(Journal::Memory(Some(20)));
+    let limited = |builder: Builder<Troubled<HOOKS>>| {
+        let builder = builder.journal(Journal::Memory(Some(20)));
+        builder.max_total(3)
+    };
     let (pool, _) = pool_with::<HOOKS>(limited);
     fill(&pool, 1);
     pool.close();
@@ -284,6 +290,50 @@ fn a_closed_pool_with_a_full_journal_is_closed<const HOOKS: bool>() {
     assert!(matches!(pool.fill(), Ok(0)));
     assert_eq!(pool.close(), 0);
     assert_legal(&pool);
+}
+
+fn a_closed_pool_with_a_full_journal_is_closed_though_borrows_reclaim<const HOOKS: bool>() {
+    let limited = |builder: Builder<Troubled<HOOKS>>| {
+        let builder = builder.journal(Journal::Memory(Some(20))).max_total(1);
+        builder.abandoned(ON_BORROW)
+    };
+    let (pool, _) = pool_with::<HOOKS>(limited);
+    fill(&pool, 1);
+    pool.close();
+    while pool.room() > 0 {
+        assert_eq!(pool.reclaim().unwrap(), 0);
+    }
+    assert!(matches!(pool.get(), Err(Error::Closed)));
+    assert!(matches!(pool.try_get(), Err(Error::Closed)));
+    assert!(matches!(block_on(pool.get_async()), Err(Error::Closed)));
+    assert!(matches!(pool.reclaim(), Err(Error::JournalFull)));
+    assert_legal(&pool);
+}
+
+fn a_closed_pool_whose_sink_fails_is_closed_though_borrows_reclaim<const HOOKS: bool>() {
+    let stores = Arc::new(AtomicU64::new(0));
+    let counted = Arc::clone(&stores);
+    let sink = MemorySink {
+        stored: Stored::default(),
+        fails: move || {
+            counted.fetch_add(1, Ordering::SeqCst);
+            true
+        },
+    };
+    let limited = |builder: Builder<Troubled<HOOKS>>| {
+        let segments = Segments::new(sink).limit(20);
+        let builder = builder.journal(Journal::Segments(segments)).max_total(1);
+        builder.abandoned(ON_BORROW)
+    };
+    let (pool, _) = pool_with::<HOOKS>(limited);
+    pool.close();
+    while pool.reclaim().is_ok() {}
+    assert_eq!(pool.room(), 0);
+    let before = stores.load(Ordering::SeqCst);
+    assert!(matches!(pool.get(), Err(Error::Closed)));
+    assert!(matches!(block_on(pool.get_async()), Err(Error::Closed)));
+    // A borrow that cannot be made asks for no room.
+    assert_eq!(stores.load(Ordering::SeqCst), before);
 }
 
 fn a_destruction_may_panic_while_its_holder_panics<const HOOKS: bool>() {
@@ -388,11 +438,7 @@ fn a_weak_handle_does_not_keep_a_pool_open<const HOOKS: bool>() {
     assert!(weak.upgrade().is_none());
 }
 
-const ON_BORROW: Abandoned = Abandoned {
-    on_borrow: true,
-    on_maintenance: false,
-    timeout: Duration::from_secs(300),
-};
+const ON_BORROW: Abandoned = Abandoned::new().on_borrow(true);
 
 #[test]
 fn contradictions_open_nothing() {
@@ -405,7 +451,7 @@ fn contradictions_open_nothing() {
             Err(error) => panic!("{error}"),
         }
     };
-    let cases: [(Change, Contradiction); 8] = [
+    let cases: [(Change, Contradiction); 11] = [
         (
             |it| it.max_total(0).max_wait(None),
             Contradiction::NothingToWaitFor,
@@ -431,25 +477,49 @@ fn contradictions_open_nothing() {
             Contradiction::NeverReclaimed,
         ),
         (
-            |it| it.journal(Journal::Memory(Some(6))),
+            |it| it.journal(Journal::Memory(Some(48))),
             Contradiction::JournalTooSmall,
         ),
         (
-            |it| it.journal(Journal::Memory(Some(7))).abandoned(ON_BORROW),
+            |it| it.max_total(1).journal(Journal::Memory(Some(6))),
+            Contradiction::JournalTooSmall,
+        ),
+        (
+            |it| it.max_total(None).journal(Journal::Memory(Some(6))),
+            Contradiction::JournalTooSmall,
+        ),
+        (
+            |it| it.max_total(166_667).journal(Journal::Memory(None)),
+            Contradiction::JournalTooSmall,
+        ),
+        (
+            |it| {
+                let it = it.max_total(1).journal(Journal::Memory(Some(7)));
+                it.abandoned(ON_BORROW)
+            },
             Contradiction::JournalTooSmall,
         ),
     ];
     for (change, contradiction) in cases {
         assert_eq!(found(change), Some(contradiction));
     }
-    let lawful: [Change; 7] = [
+    let lawful: [Change; 10] = [
         |it| it.max_total(0).max_wait(Duration::from_secs(1)),
         |it| it.max_total(0).block_when_exhausted(false),
         |it| it.max_total(None).max_idle(None).min_idle(100),
         |it| it.block_when_exhausted(false),
         |it| it.journal_limit(6),
-        |it| it.journal(Journal::Memory(Some(7))),
-        |it| it.journal(Journal::Memory(Some(8))).abandoned(ON_BORROW),
+        |it| it.journal(Journal::Memory(Some(49))),
+        |it| it.max_total(166_666).journal(Journal::Memory(None)),
+        |it| it.max_total(None).journal(Journal::Memory(Some(7))),
+        |it| {
+            let it = it.max_total(0).block_when_exhausted(false);
+            it.journal(Journal::Memory(Some(1)))
+        },
+        |it| {
+            let it = it.max_total(1).journal(Journal::Memory(Some(8)));
+            it.abandoned(ON_BORROW)
+        },
     ];
     for change in lawful {
         assert_eq!(found(change), None);
@@ -467,7 +537,7 @@ fn one_loan_fits_into_the_smallest_journal<const HOOKS: bool>() {
     for (limit, abandoned) in [(7, None), (8, Some(ON_BORROW))] {
         let small = |builder: Builder<Troubled<HOOKS>>| {
             let builder = builder.journal(Journal::Memory(Some(limit)));
-            builder.abandoned(abandoned)
+            builder.max_total(1).abandoned(abandoned)
         };
         let (pool, _) = pool_with::<HOOKS>(small);
         assert_eq!(Pooled::give_back(pool.get().unwrap()), Returned::Parked);

@@ -6,6 +6,7 @@ mod common;
 mod hooks;
 
 use common::managers::{kept, pair, Numbers};
+use common::tasks::LONGEST;
 use common::{
     assert_segments_legal, cut_off, entries_of, journal_of, judge_segments, new_folder,
     panic_quietly, panics, texts_of, MemorySink, Stored,
@@ -17,8 +18,8 @@ use std::sync::{mpsc, Arc, Mutex};
 use std::time::{Duration, Instant};
 use std::{fs, mem, thread};
 use zuphinka::{
-    Builder, Error, Journal, OpenError, Pool, Pooled, Segment, SegmentFolder, SegmentSink,
-    Segments, SettingsError, SinkFailure,
+    Abandoned, Builder, Error, Journal, OpenError, Pool, Pooled, Segment, SegmentFolder,
+    SegmentSink, Segments, SettingsError, SinkFailure, WeakPool,
 };
 
 with_and_without_hooks! {
@@ -30,6 +31,7 @@ with_and_without_hooks! {
     a_writer_that_drains_what_is_drained_is_refused
     two_pools_in_one_folder_overwrite_nothing
     a_receiver_of_failures_may_wait_for_a_borrow
+    a_receiver_of_failures_may_borrow
     a_cut_whose_writer_panics_loses_nothing
     a_cut_that_fails_at_its_end_keeps_the_segment
     the_limit_of_a_text_matters_where_entries_are_kept
@@ -41,6 +43,7 @@ with_and_without_hooks! {
     a_sink_that_fails_stops_the_pool_and_loses_nothing
     a_sink_that_fails_leaves_a_gap_if_that_is_set
     others_continue_while_a_segment_is_written
+    a_reclaim_waits_for_a_segment_as_long_as_its_borrow_may
     others_continue_while_a_cut_is_written
 }
 
@@ -257,6 +260,36 @@ fn others_continue_while_a_segment_is_written<const HOOKS: bool>() {
     });
 }
 
+fn a_reclaim_waits_for_a_segment_as_long_as_its_borrow_may<const HOOKS: bool>() {
+    let (slow, is_called, go_on) = Slow::new();
+    let abandoned = Abandoned::new().on_borrow(true);
+    let builder = Pool::builder()
+        .journal(Journal::Segments(Segments::new(slow).limit(200)))
+        .abandoned(abandoned)
+        .max_wait(LONGEST);
+    let pool = builder.build(Numbers::<HOOKS>).unwrap();
+    let (refused, are_refused) = mpsc::channel();
+    thread::scope(|scope| {
+        scope.spawn(|| (0..30).for_each(|_| pair(&pool)));
+        is_called.recv().unwrap();
+        // The segment is written in the end, so that a borrow that waits for it ends too.
+        let writing = scope.spawn(move || {
+            let answers = are_refused.recv_timeout(LONGEST / 4);
+            drop(go_on);
+            answers
+        });
+        // In the end there is no room for the entry of a reclaim either.
+        let hasty = (0..200).filter_map(|_| pool.try_get().map(drop).err());
+        let hasty: Vec<_> = hasty.collect();
+        let short = Duration::from_millis(10);
+        let patient = pool.get_timeout(short).map(drop).err();
+        let _ = refused.send((hasty.last().copied(), patient));
+        let answers = writing.join().unwrap();
+        let full = Some(Error::JournalFull);
+        assert_eq!(answers, Ok((full, full)), "they waited for it");
+    });
+}
+
 fn others_continue_while_a_cut_is_written<const HOOKS: bool>() {
     let builder = Pool::builder().journal(Journal::Memory(Some(1_000)));
     let pool = builder.build(Numbers::<HOOKS>).unwrap();
@@ -369,19 +402,18 @@ fn a_folder_that_fails_is_written_later<const HOOKS: bool>() {
     let segments = Segments::in_folder(&path).unwrap().limit(200);
     let pool = Pool::builder().journal(Journal::Segments(segments));
     let pool = pool.build(Numbers::<HOOKS>).unwrap();
-    // What a crash left is in the way of nothing.
-    fs::write(path.join(".unfinished"), "a part").unwrap();
+    // What a crash left is in the way of nothing, and stays.
+    let left = ".unfinished-0";
+    fs::write(path.join(left), "a part").unwrap();
     fs::rename(&path, folder.join("elsewhere")).unwrap();
     (0..30).for_each(|_| pair(&pool));
     assert!(pool.flush_journal().is_err());
     fs::rename(folder.join("elsewhere"), &path).unwrap();
     while pool.flush_journal().unwrap() > 0 {}
     let names = files_in(&path);
-    let segments: Vec<_> = names
-        .iter()
-        .filter(|name| name.starts_with("segment-"))
-        .collect();
-    assert_eq!(names.len(), segments.len() + 1);
+    let (segments, others): (Vec<_>, Vec<_>) =
+        names.iter().partition(|name| name.starts_with("segment-"));
+    assert_eq!(others, [left, "settings.toml"]);
     let texts: Vec<_> = segments
         .iter()
         .map(|name| fs::read_to_string(path.join(name)).unwrap())
@@ -506,6 +538,59 @@ fn a_receiver_of_failures_may_wait_for_a_borrow<const HOOKS: bool>() {
         assert!(start.elapsed() < long / 2);
         drop(answer);
     });
+}
+
+/// A pool whose sink fails, and what receives that: how many calls of it there were, and how many at most at a time.
+struct Reported<const HOOKS: bool> {
+    pool: Pool<Numbers<HOOKS>>,
+    calls: Arc<AtomicU64>,
+    most: Arc<AtomicU64>,
+}
+
+/// A pool whose sink fails. Its receiver of failures borrows from it, and from another one.
+fn pool_whose_receiver_borrows<const HOOKS: bool>(
+    other: Option<Pool<Numbers<HOOKS>>>,
+) -> Reported<HOOKS> {
+    const MANY: u64 = 50;
+    let own = Arc::new(Mutex::new(None::<WeakPool<Numbers<HOOKS>>>));
+    let (calls, most) = (Arc::new(AtomicU64::new(0)), Arc::new(AtomicU64::new(0)));
+    let (to_own, counted, noted) = (Arc::clone(&own), Arc::clone(&calls), Arc::clone(&most));
+    let running = AtomicU64::new(0);
+    let on_error = move |_| {
+        counted.fetch_add(1, Ordering::SeqCst);
+        let now = running.fetch_add(1, Ordering::SeqCst) + 1;
+        noted.fetch_max(now, Ordering::SeqCst);
+        let own = to_own.lock().unwrap().clone().unwrap();
+        if let (Some(own), true) = (own.upgrade(), now < MANY) {
+            let _ = own.try_get();
+        }
+        let _ = other.as_ref().map(Pool::try_get);
+        running.fetch_sub(1, Ordering::SeqCst);
+    };
+    let sink = MemorySink {
+        stored: Stored::default(),
+        fails: || true,
+    };
+    let builder = Pool::builder().journal(Journal::Segments(Segments::new(sink).limit(40)));
+    let pool = builder.max_total(2).on_error(on_error);
+    let pool = pool.build(Numbers::<HOOKS>).unwrap();
+    *own.lock().unwrap() = Some(pool.downgrade());
+    Reported { pool, calls, most }
+}
+
+fn a_receiver_of_failures_may_borrow<const HOOKS: bool>() {
+    let other = pool_whose_receiver_borrows::<HOOKS>(None);
+    while other.pool.get().is_ok() {}
+    let before = other.calls.load(Ordering::SeqCst);
+    let first = pool_whose_receiver_borrows::<HOOKS>(Some(other.pool.clone()));
+    while first.pool.get().is_ok() {}
+    for reported in [&first, &other] {
+        assert_eq!(reported.most.load(Ordering::SeqCst), 1);
+    }
+    // A report of one pool within a report of the other is made.
+    let calls = first.calls.load(Ordering::SeqCst);
+    assert!(calls > 1, "{calls} reports");
+    assert_eq!(other.calls.load(Ordering::SeqCst), before + calls);
 }
 
 fn a_cut_whose_writer_panics_loses_nothing<const HOOKS: bool>() {

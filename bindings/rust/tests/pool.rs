@@ -24,6 +24,7 @@ with_and_without_hooks! {
     moments_are_milliseconds_since_the_pool_was_opened
     the_clock_is_read_where_time_may_pass
     times_never_fall
+    a_clock_that_goes_back_ends_no_wait
     each_thread_stands_under_its_own_number
     the_last_or_the_first_parked_is_lent
     tests_come_where_they_are_set
@@ -145,6 +146,20 @@ fn times_never_fall<const HOOKS: bool>() {
     clock.set(12);
     pool.add().unwrap();
     assert_eq!(times_of(&pool), [10, 10, 10, 10, 12, 12]);
+    assert_legal(&pool);
+}
+
+fn a_clock_that_goes_back_ends_no_wait<const HOOKS: bool>() {
+    let limit = Duration::from_millis(400);
+    let (pool, _, clock) = pool_with::<HOOKS>(|builder| builder.max_total(1).max_wait(limit));
+    clock.set(1_000);
+    let widget = pool.get().unwrap();
+    clock.set(500);
+    // The clock stands still, so only the limit of the call ends its wait.
+    let short = Duration::from_millis(5);
+    assert!(matches!(pool.get_timeout(short), Err(Error::TimedOut)));
+    assert_eq!(steps_of(&pool)[2..], ["borrow 1000 = wait"]);
+    drop(widget);
     assert_legal(&pool);
 }
 
@@ -291,11 +306,9 @@ fn a_waiter_is_woken_by_what_it_waits_for<const HOOKS: bool>() {
 }
 
 fn a_waiter_is_woken_by_a_removal<const HOOKS: bool>() {
-    let abandoned = Abandoned {
-        on_maintenance: true,
-        timeout: Duration::from_millis(100),
-        ..Abandoned::default()
-    };
+    let abandoned = Abandoned::new()
+        .on_maintenance(true)
+        .timeout(Duration::from_millis(100));
     let (pool, maker, clock) =
         pool_with::<HOOKS>(|builder| builder.max_total(1).abandoned(abandoned));
     let held = pool.get().unwrap();
@@ -316,11 +329,9 @@ fn a_waiter_is_woken_by_a_removal<const HOOKS: bool>() {
 }
 
 fn a_use_puts_a_removal_off<const HOOKS: bool>() {
-    let abandoned = Abandoned {
-        on_borrow: true,
-        timeout: Duration::from_millis(100),
-        ..Abandoned::default()
-    };
+    let abandoned = Abandoned::new()
+        .on_borrow(true)
+        .timeout(Duration::from_millis(100));
     let (pool, _, clock) = pool_with::<HOOKS>(|builder| builder.max_total(2).abandoned(abandoned));
     let (used, unused) = (pool.get().unwrap(), pool.get().unwrap());
     clock.set(60);
@@ -583,11 +594,9 @@ fn an_eviction_destroys_what_a_hook_fails_for() {
 }
 
 fn maintenance_evicts_and_reclaims_and_fills<const HOOKS: bool>() {
-    let abandoned = Abandoned {
-        on_maintenance: true,
-        timeout: Duration::from_millis(100),
-        ..Abandoned::default()
-    };
+    let abandoned = Abandoned::new()
+        .on_maintenance(true)
+        .timeout(Duration::from_millis(100));
     let settings = |builder: Builder<Maker<HOOKS>>| {
         builder
             .min_idle(2)
@@ -738,7 +747,7 @@ fn a_manager_that_panics_costs_its_object_only<const HOOKS: bool>() {
 }
 
 fn a_full_journal_takes_back_and_closes<const HOOKS: bool>() {
-    let (pool, maker, _) = pool_with::<HOOKS>(|builder| builder.journal_limit(12));
+    let (pool, maker, _) = pool_with::<HOOKS>(|builder| builder.max_total(1).journal_limit(12));
     let held = pool.get().unwrap();
     fill_journal(&pool);
     assert_eq!(pool.get().unwrap_err(), Error::JournalFull);
@@ -855,7 +864,7 @@ fn a_drain_that_fails_loses_nothing<const HOOKS: bool>() {
 }
 
 fn a_pool_whose_journal_is_cut_lends_on<const HOOKS: bool>() {
-    let (pool, maker, _) = pool_with::<HOOKS>(|builder| builder.journal_limit(12));
+    let (pool, maker, _) = pool_with::<HOOKS>(|builder| builder.max_total(1).journal_limit(12));
     drop(pool.get().unwrap());
     let mut segments = vec![cut_off(&pool)];
     let room = pool.room();
@@ -1072,10 +1081,7 @@ fn settings_out_of_range_open_nothing<const HOOKS: bool>() {
         opened(Pool::builder().min_evictable_idle(Duration::MAX)),
         refused("minEvictableIdleMillis")
     );
-    let abandoned = Abandoned {
-        timeout: long,
-        ..Abandoned::default()
-    };
+    let abandoned = Abandoned::new().timeout(long);
     assert_eq!(
         opened(Pool::builder().abandoned(abandoned)),
         refused("abandoned.removeAbandonedTimeoutMillis")

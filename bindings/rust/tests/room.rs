@@ -5,15 +5,18 @@
 mod hooks;
 mod common;
 
-use common::assert_legal;
 use common::managers::{Broken, Maker};
+use common::{assert_legal, MemorySink, Stored};
 use std::sync::atomic::{AtomicU64, Ordering};
 use std::time::Duration;
-use zuphinka::{Abandoned, Builder, Error, Journal, Pool, Pooled, Returned};
+use zuphinka::{
+    Abandoned, Builder, Contradiction, Error, Journal, OpenError, Pool, Pooled, Returned, Segments,
+};
 
 with_and_without_hooks! {
     each_call_needs_its_room
     a_journal_is_low_if_it_has_too_little_room_for_a_borrow
+    the_smallest_journal_that_opens_lends_all_objects_at_a_time
 }
 
 type Change<const HOOKS: bool> = fn(Builder<Maker<HOOKS>>) -> Builder<Maker<HOOKS>>;
@@ -29,9 +32,9 @@ struct Case<const HOOKS: bool> {
     needs: u64,
 }
 
-/// A pool whose journal has a limit, which may be too small for a loan.
+/// A pool of one object whose journal has a limit, which may be too small for a loan.
 fn open<const HOOKS: bool>(limit: u64, change: Change<HOOKS>) -> Pool<Maker<HOOKS>> {
-    let text = format!("journalLimit = {limit}\n");
+    let text = format!("journalLimit = {limit}\nmaxTotal = 1\n");
     let builder = Pool::builder().settings(&text).unwrap();
     let builder = change(builder.journal(Journal::Memory(None)).clock(|| 0));
     builder.build(Maker::default()).unwrap()
@@ -123,17 +126,14 @@ fn same<const HOOKS: bool>(builder: Builder<Maker<HOOKS>>) -> Builder<Maker<HOOK
     builder
 }
 
-/// A pool of one object, in which no borrow waits.
-fn of_one<const HOOKS: bool>(builder: Builder<Maker<HOOKS>>) -> Builder<Maker<HOOKS>> {
-    builder.max_total(1).block_when_exhausted(false)
+/// A pool in which no borrow waits.
+fn hasty<const HOOKS: bool>(builder: Builder<Maker<HOOKS>>) -> Builder<Maker<HOOKS>> {
+    builder.block_when_exhausted(false)
 }
 
 /// A pool whose borrows first reclaim abandoned objects.
 fn reclaiming<const HOOKS: bool>(builder: Builder<Maker<HOOKS>>) -> Builder<Maker<HOOKS>> {
-    builder.abandoned(Abandoned {
-        on_borrow: true,
-        ..Abandoned::default()
-    })
+    builder.abandoned(Abandoned::new().on_borrow(true))
 }
 
 /// A pool in which each idle object is idle for too long.
@@ -154,11 +154,11 @@ fn each_call_needs_its_room<const HOOKS: bool>() {
     let cases = [
         case(same, nothing, borrow, 6),
         case(same, one_idle, borrow, 4),
-        case(of_one, one_lent, borrow, 1),
+        case(hasty, one_lent, borrow, 1),
         case(reclaiming, nothing, borrow, 7),
         case(reclaiming, one_idle, borrow, 5),
         case(same, nothing, add, 4),
-        case(of_one, one_idle, add, 1),
+        case(hasty, one_idle, add, 1),
         case(|it| it.min_idle(1), nothing, |it, _| it.fill().map(drop), 5),
         case(same, nothing, |it, _| it.fill().map(drop), 1),
         case(same, one_idle, evict, 2),
@@ -199,5 +199,57 @@ fn a_journal_is_low_if_it_has_too_little_room_for_a_borrow<const HOOKS: bool>() 
     while pool.room() > 50 {
         assert_eq!(pool.is_low(), pool.room() < 100, "{}", pool.room());
         pool.reclaim().unwrap();
+    }
+}
+
+/// A journal that is kept, and one that is handed to a sink.
+const KINDS: [fn() -> Journal; 2] = [
+    || Journal::Memory(None),
+    || {
+        let (stored, fails) = (Stored::default(), || false);
+        Journal::Segments(Segments::new(MemorySink { stored, fails }))
+    },
+];
+
+/// The number of objects that a pool lends at a time before its journal is full.
+fn most_lent<const HOOKS: bool>(pool: &Pool<Maker<HOOKS>>) -> usize {
+    let borrowed = std::iter::repeat_with(|| pool.try_get());
+    let lent: Vec<_> = borrowed.map_while(Result::ok).collect();
+    lent.len()
+}
+
+fn the_smallest_journal_that_opens_lends_all_objects_at_a_time<const HOOKS: bool>() {
+    // For each kind, without and with a reclaim in each borrow: what each loan takes, and what remains.
+    let needs: [(Change<HOOKS>, [(u64, u64); 2]); 2] =
+        [(same, [(6, 1), (4, 3)]), (reclaiming, [(7, 1), (4, 4)])];
+    for (change, of_kinds) in needs {
+        for (journal, (each, rest)) in KINDS.into_iter().zip(of_kinds) {
+            for objects in [1, 2, 3, 8, 50] {
+                let least = each * objects + rest;
+                let with = |limit| {
+                    let builder = change(Pool::builder()).journal(journal());
+                    let builder = builder.max_total(objects as u32).journal_limit(limit);
+                    builder.build(Maker::<HOOKS>::default())
+                };
+                let refused = with(least - 1).map(drop);
+                let too_small = OpenError::Contradiction(Contradiction::JournalTooSmall);
+                assert_eq!(refused, Err(too_small), "{objects} objects in {least}");
+                assert_eq!(most_lent(&with(least).unwrap()), objects as usize);
+            }
+        }
+    }
+}
+
+#[test]
+fn a_smaller_journal_lends_fewer_objects() {
+    for (journal, (each, rest)) in KINDS.into_iter().zip([(6, 1), (4, 3)]) {
+        for objects in [1, 2, 8, 50] {
+            let limit = each * objects + rest - 1;
+            // What a text says is not held against itself.
+            let text = format!("journalLimit = {limit}\nmaxTotal = {objects}\n");
+            let builder = Pool::builder().settings(&text).unwrap();
+            let pool = builder.journal(journal()).build(Maker::<true>::default());
+            assert_eq!(most_lent(&pool.unwrap()), objects as usize - 1);
+        }
     }
 }

@@ -4,7 +4,8 @@ mod common;
 
 use common::top;
 use std::fs;
-use zuphinka::{Journal, Manager, OpenError, Pool, SettingsError};
+use std::time::Duration;
+use zuphinka::{Abandoned, Builder, Journal, Manager, OpenError, Pool, SettingsError};
 
 /// Makes numbers.
 struct Numbers;
@@ -180,4 +181,82 @@ fn a_text_that_is_too_long_is_refused() {
     let comment = "#".repeat((1 << 20) - 1) + "\n";
     assert!(settings_of(&comment).is_ok());
     assert_eq!(settings_of(&(comment + "\n")), Err(SettingsError::TooLong));
+}
+
+const MINUTE: Duration = Duration::from_secs(60);
+
+/// What a builder sets, and whether a pool shows that.
+type Setting = (
+    fn(Builder<Numbers>) -> Builder<Numbers>,
+    fn(&Pool<Numbers>) -> bool,
+);
+
+const ABANDONED: Abandoned = Abandoned::new().on_borrow(true).timeout(MINUTE);
+
+/// Each setting, with a value that is not its default.
+const SETTINGS: [Setting; 19] = [
+    (|it| it.max_total(5), |it| it.max_total() == Some(5)),
+    (|it| it.max_total(None), |it| it.max_total().is_none()),
+    (|it| it.max_idle(3), |it| it.max_idle() == Some(3)),
+    (|it| it.max_idle(None), |it| it.max_idle().is_none()),
+    (|it| it.min_idle(2), |it| it.min_idle() == 2),
+    (|it| it.lifo(false), |it| !it.lifo()),
+    (
+        |it| it.block_when_exhausted(false),
+        |it| !it.block_when_exhausted(),
+    ),
+    (|it| it.max_wait(MINUTE), |it| it.max_wait() == Some(MINUTE)),
+    (|it| it.max_wait(None), |it| it.max_wait().is_none()),
+    (|it| it.test_on_create(true), |it| it.test_on_create()),
+    (|it| it.test_on_borrow(true), |it| it.test_on_borrow()),
+    (|it| it.test_on_return(true), |it| it.test_on_return()),
+    (|it| it.test_while_idle(true), |it| it.test_while_idle()),
+    (
+        |it| it.min_evictable_idle(None),
+        |it| it.min_evictable_idle().is_none(),
+    ),
+    (
+        |it| it.soft_min_evictable_idle(MINUTE),
+        |it| it.soft_min_evictable_idle() == Some(MINUTE),
+    ),
+    (
+        |it| it.tests_per_eviction_run(-2),
+        |it| it.tests_per_eviction_run() == -2,
+    ),
+    (
+        |it| it.journal(Journal::Memory(Some(300))),
+        |it| it.journal_limit() == 300,
+    ),
+    (
+        |it| it.abandoned(ABANDONED),
+        |it| it.abandoned() == Some(ABANDONED),
+    ),
+    // The text of the settings says `testWhileIdle` then, for the core.
+    (
+        |it| it.max_lifetime(MINUTE),
+        |it| it.max_lifetime() == Some(MINUTE) && !it.test_while_idle(),
+    ),
+];
+
+#[test]
+fn a_pool_shows_each_setting() {
+    for (number, (set, _)) in SETTINGS.into_iter().enumerate() {
+        let pool = set(Pool::builder()).build(Numbers).unwrap();
+        for (other, (_, is_shown)) in SETTINGS.into_iter().enumerate() {
+            assert_eq!(is_shown(&pool), number == other, "{number}, {other}");
+        }
+    }
+}
+
+#[test]
+fn a_pool_shows_the_defaults() {
+    let pool = Pool::new(Numbers).unwrap();
+    assert_eq!((pool.max_total(), pool.max_idle()), (Some(8), Some(8)));
+    assert_eq!(pool.min_idle(), 0);
+    assert!(pool.lifo() && pool.block_when_exhausted());
+    assert_eq!(pool.max_wait(), Some(MINUTE / 2));
+    assert_eq!(pool.min_evictable_idle(), Some(30 * MINUTE));
+    assert_eq!(pool.tests_per_eviction_run(), 3);
+    assert_eq!(pool.journal_limit(), 1 << 32);
+    assert_eq!((pool.abandoned(), pool.max_lifetime()), (None, None));
 }

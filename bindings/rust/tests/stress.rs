@@ -150,10 +150,11 @@ impl Manner {
         manager: Fickle<HOOKS>,
         journal: Journal,
     ) -> Pool<Fickle<HOOKS>> {
-        let abandoned = |timeout| Abandoned {
-            on_borrow: true,
-            on_maintenance: true,
-            timeout: Duration::from_millis(timeout),
+        let abandoned = |timeout| {
+            Abandoned::new()
+                .on_borrow(true)
+                .on_maintenance(true)
+                .timeout(Duration::from_millis(timeout))
         };
         let moment = AtomicU64::new(0);
         let ticking = move || moment.fetch_add(1, Ordering::Relaxed);
@@ -315,12 +316,10 @@ impl<'a, const HOOKS: bool> Player<'a, HOOKS> {
                 self.marks.push(Mark::Lent(Pooled::id(&object)));
                 self.held.push(object);
             }
-            Some(Err(Error::Exhausted | Error::TimedOut)) if how > 0 => {
-                self.marks.push(Mark::GivesUp)
-            }
-            Some(Err(Error::Closed | Error::Exhausted | Error::TimedOut)) => {
-                self.marks.push(Mark::Denied)
-            }
+            Some(Err(Error::Exhausted)) if how > 0 => self.marks.push(Mark::GivesUp),
+            // It makes no entry if it waited behind others.
+            Some(Err(Error::TimedOut)) => self.marks.push(Mark::GivesUp),
+            Some(Err(Error::Closed | Error::Exhausted)) => self.marks.push(Mark::Denied),
             Some(Err(Error::JournalFull | Error::OutOfMemory)) => {
                 panic!("there is room and memory")
             }

@@ -257,11 +257,10 @@ fn open<const HOOKS: bool>(
         1 => Journal::Segments(Segments::new(sink).limit(100_000)),
         _ => Journal::Off,
     };
-    let abandoned = Abandoned {
-        on_borrow: true,
-        on_maintenance: true,
-        timeout: Duration::from_millis(300),
-    };
+    let abandoned = Abandoned::new()
+        .on_borrow(true)
+        .on_maintenance(true)
+        .timeout(Duration::from_millis(300));
     let moment = AtomicU64::new(0);
     let builder = Pool::builder()
         .journal(journal)

@@ -2,9 +2,9 @@
 
 mod common;
 
-use common::managers::{kept, Broken};
+use common::managers::{kept, Broken, Clock};
 use common::tasks::{block_on, poll, poll_with, ready, run_all, yield_now, Bell, LONGEST};
-use common::{assert_legal, journal_of, panics, steps_of, while_waiting};
+use common::{assert_legal, journal_of, panics, steps_of, wait_for_waits, while_waiting};
 use std::future::{poll_fn, Future};
 use std::pin::Pin;
 use std::sync::atomic::{AtomicBool, AtomicU64, Ordering};
@@ -330,6 +330,29 @@ fn settings_end_a_wait_at_the_first_poll_after_its_time() {
 }
 
 #[test]
+fn a_clock_that_goes_back_ends_no_wait() {
+    let clock = Clock::default();
+    let builder = kept().max_total(1).clock(clock.told());
+    let builder = builder.max_wait(Duration::from_millis(20));
+    let pool = builder.build(Plain::<true>(Maker::default())).unwrap();
+    let bell = Bell::new();
+    clock.set(1_000);
+    let held = pool.get().unwrap();
+    clock.set(500);
+    let mut get = waiting(&pool, &bell);
+    clock.set(1_019);
+    assert!(poll(&mut get, &bell).is_pending());
+    clock.set(1_020);
+    assert_eq!(error(poll(&mut get, &bell)), Error::TimedOut);
+    assert_eq!(
+        steps_of(&pool)[2..],
+        ["borrow 1000 = wait", "borrow 1000 = timeout"]
+    );
+    drop(held);
+    assert_legal(&pool);
+}
+
+#[test]
 fn a_task_is_refused_where_nobody_waits() {
     let (pool, _) = awaited(|builder| builder.block_when_exhausted(false));
     let held = pool.get().unwrap();
@@ -341,11 +364,7 @@ fn a_task_is_refused_where_nobody_waits() {
 
 #[test]
 fn a_borrow_begins_with_a_removal_where_that_is_set() {
-    let abandoned = Abandoned {
-        on_borrow: true,
-        timeout: Duration::ZERO,
-        ..Abandoned::default()
-    };
+    let abandoned = Abandoned::new().on_borrow(true).timeout(Duration::ZERO);
     let now = AtomicU64::new(0);
     let (pool, _) = awaited(|builder| {
         let ticking = move || now.fetch_add(1, Ordering::SeqCst);
@@ -570,6 +589,28 @@ fn a_waker_may_call_the_pool() {
     assert_eq!(bell.rings(), 1);
     assert_eq!(lent(&mut last, &bell).id, 0);
     assert_legal(&pool);
+}
+
+#[test]
+fn a_pool_counts_the_threads_and_the_tasks_that_wait() {
+    let pool = kept().max_total(1).build(Plain::<false>(Maker::default()));
+    let pool = pool.unwrap();
+    let held = pool.get().unwrap();
+    assert_eq!(pool.waiting(), 0);
+    thread::scope(|scope| {
+        for _ in 0..2 {
+            scope.spawn(|| drop(pool.get().unwrap()));
+        }
+        wait_for_waits(&pool, 2);
+        assert_eq!(pool.waiting(), 2);
+        let bell = Bell::new();
+        let task = waiting(&pool, &bell);
+        assert_eq!(pool.waiting(), 3);
+        drop(task);
+        assert_eq!(pool.waiting(), 2);
+        drop(held);
+    });
+    assert_eq!(pool.waiting(), 0);
 }
 
 #[test]
@@ -810,7 +851,7 @@ fn an_idle_object_that_fails_is_reported() {
     });
     let wanted = [
         "Activate { id: 0, error: Broken(\"activate\") }",
-        "Test { id: 1 }",
+        "Test { id: 1, reason: None }",
     ];
     for (name, _) in OF_IDLE {
         drop(pool.get().unwrap());

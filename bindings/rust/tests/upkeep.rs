@@ -6,14 +6,17 @@ mod common;
 mod hooks;
 
 use common::managers::{pool_with, Broken, Maker};
-use common::{assert_legal, panic_quietly, steps_of};
+use common::tasks::block_on;
+use common::{assert_legal, panic_quietly, steps_of, texts_of, MemorySink, Stored};
+use std::error::Error as _;
 use std::io;
+use std::sync::atomic::{AtomicU64, Ordering};
 use std::sync::{mpsc, Arc, Mutex};
 use std::thread;
 use std::time::{Duration, Instant};
 use zuphinka::{
-    Builder, Error, Failure, Journal, Pool, Pooled, Returned, Segment, SegmentSink, Segments,
-    Touched,
+    Async, AsyncManager, Builder, Error, Failure, Journal, Manager, Pool, Pooled, Returned,
+    Segment, SegmentSink, Segments, Touched,
 };
 
 with_and_without_hooks! {
@@ -23,9 +26,12 @@ with_and_without_hooks! {
     a_detached_object_is_its_holders
     an_object_that_is_too_old_ends_at_its_return
     an_object_that_is_too_old_ends_while_it_is_idle
+    maintenance_looks_at_the_age_of_each_idle_object
     an_object_of_a_lifetime_is_validated_only_if_that_is_set
     a_pool_is_maintained_until_it_is_closed
     the_last_handle_ends_the_maintenance
+    the_last_handle_waits_for_the_round_and_hands_over_the_rest
+    the_last_handle_may_be_dropped_in_the_round
     a_pool_says_whether_it_is_closed
     debug_waits_for_no_lock
 }
@@ -53,7 +59,7 @@ fn reports() -> (Reports, impl Fn(Failure<Broken>) + Send + Sync) {
 }
 
 /// Has something of the manager fail in a call of a pool with one idle object.
-type Failing<const HOOKS: bool> = fn(&Pool<Maker<HOOKS>>, &dyn Fn());
+type Failing<M> = fn(&Pool<M>, &dyn Fn());
 
 fn borrow_idle<const HOOKS: bool>(pool: &Pool<Maker<HOOKS>>, fail: &dyn Fn()) {
     fail();
@@ -77,7 +83,7 @@ fn failures_that_no_call_returns_are_reported<const HOOKS: bool>() {
         "object 0 did not pass its test",
         "object 0 could not be passivated: passivate is broken",
     );
-    let cases: [(Failing<HOOKS>, &'static str, &str); 7] = [
+    let cases: [(Failing<Maker<HOOKS>>, &'static str, &str); 7] = [
         (borrow_idle, "activate", activation),
         (borrow_idle, "validate", test),
         (return_broken, "validate", test),
@@ -98,6 +104,126 @@ fn failures_that_no_call_returns_are_reported<const HOOKS: bool>() {
         assert_eq!(*reports.lock().unwrap(), [wanted]);
         assert_legal(&pool);
     }
+}
+
+/// What the next test comes to, if it does not pass.
+#[derive(Clone, Default)]
+struct Verdict(Arc<Mutex<Option<Result<bool, Broken>>>>);
+
+impl Verdict {
+    fn set(&self, verdict: Result<bool, Broken>) {
+        *self.0.lock().unwrap() = Some(verdict);
+    }
+
+    fn take(&self) -> Result<bool, Broken> {
+        self.0.lock().unwrap().take().unwrap_or(Ok(true))
+    }
+}
+
+/// Makes numbers, of which some do not pass their test.
+struct Tested(Verdict);
+
+impl Manager for Tested {
+    type Object = u64;
+    type Error = Broken;
+
+    fn make(&self, id: u64) -> Result<u64, Broken> {
+        Ok(id)
+    }
+
+    fn try_validate(&self, _: &mut u64) -> Result<bool, Broken> {
+        self.0.take()
+    }
+}
+
+impl AsyncManager for Tested {
+    type Object = u64;
+    type Error = Broken;
+
+    async fn make(&self, id: u64) -> Result<u64, Broken> {
+        Ok(id)
+    }
+
+    async fn try_validate(&self, _: &mut u64) -> Result<bool, Broken> {
+        self.0.take()
+    }
+}
+
+/// Calls of a pool with one idle object, in each of which its test fails.
+fn failing_calls<M>() -> [Failing<M>; 4]
+where
+    M: Manager<Object = u64, Error = Broken> + 'static,
+{
+    [
+        |pool, fail| {
+            fail();
+            assert_eq!(*pool.get().unwrap(), 1);
+        },
+        |pool, fail| {
+            fail();
+            assert_eq!(*block_on(pool.get_async()).unwrap(), 1);
+        },
+        |pool, fail| {
+            let held = pool.get().unwrap();
+            fail();
+            assert_eq!(Pooled::give_back(held), Returned::Destroyed);
+        },
+        |pool, fail| {
+            fail();
+            assert_eq!(pool.evict().unwrap().destroyed, 1);
+        },
+    ]
+}
+
+/// Sees that each of these calls reports a failed test, with its reason if there is one.
+fn reports_have_reasons<M>(manager_of: impl Fn(Verdict) -> M)
+where
+    M: Manager<Object = u64, Error = Broken> + 'static,
+{
+    let told = Broken("its cable");
+    for call in failing_calls() {
+        for (verdict, wanted) in [(Ok(false), None), (Err(told), Some(told))] {
+            let (sender, receiver) = mpsc::channel();
+            let on_error = move |failure: Failure<Broken>| {
+                let source = failure.source().map(ToString::to_string);
+                assert_eq!(failure.to_string(), "object 0 did not pass its test");
+                sender.send((failure, source)).unwrap();
+            };
+            let next = Verdict::default();
+            let builder = Pool::builder().test_on_borrow(true).test_on_return(true);
+            let builder = builder.test_while_idle(true).on_error(on_error);
+            let pool = builder.build(manager_of(next.clone())).unwrap();
+            pool.add().unwrap();
+            call(&pool, &|| next.set(verdict));
+            let (failure, source) = receiver.try_recv().unwrap();
+            assert!(matches!(failure, Failure::Test { id: 0, reason } if reason == wanted));
+            assert_eq!(source, wanted.map(|reason| reason.to_string()));
+            assert!(receiver.try_recv().is_err());
+        }
+    }
+}
+
+#[test]
+fn a_failed_test_is_reported_with_its_reason() {
+    reports_have_reasons(Tested);
+    reports_have_reasons(|verdict| Async(Tested(verdict)));
+}
+
+#[test]
+fn a_new_object_with_a_reason_fails_its_test() {
+    let next = Verdict::default();
+    let builder = Pool::builder().test_on_create(true).test_on_borrow(true);
+    let pool = builder.build(Async(Tested(next.clone()))).unwrap();
+    for verdict in [Ok(false), Err(Broken("its cable"))] {
+        let fail = || next.set(verdict);
+        fail();
+        assert!(matches!(pool.get(), Err(Error::CreateTest)));
+        fail();
+        assert!(matches!(pool.add(), Err(Error::CreateTest)));
+        fail();
+        assert!(matches!(block_on(pool.get_async()), Err(Error::CreateTest)));
+    }
+    assert_eq!(pool.counts().destroyed, 6);
 }
 
 fn failures_that_a_call_returns_are_not_reported<const HOOKS: bool>() {
@@ -201,6 +327,36 @@ fn an_object_that_is_too_old_ends_while_it_is_idle<const HOOKS: bool>() {
     assert_legal(&pool);
 }
 
+fn maintenance_looks_at_the_age_of_each_idle_object<const HOOKS: bool>() {
+    let lifetime = Duration::from_millis(100);
+    for tests in [0, 1, 2, 4, 9, -1, -3, i32::MIN] {
+        let (pool, maker, clock) = pool_with::<HOOKS>(|builder| {
+            let builder = builder.max_lifetime(lifetime).test_while_idle(true);
+            builder.tests_per_eviction_run(tests)
+        });
+        for id in 0..5 {
+            clock.set(10 * id);
+            pool.add().unwrap();
+        }
+        clock.set(99);
+        let done = pool.maintain().unwrap().eviction;
+        assert_eq!((done.examined, done.destroyed), (5, 0), "{tests} tests");
+        // As many are validated as the settings say.
+        let calls = maker.calls();
+        let validated = calls.iter().filter(|call| call.starts_with("validate"));
+        let wanted = match tests {
+            0.. => tests.min(5) as usize,
+            _ => 5_usize.div_ceil(tests.unsigned_abs() as usize),
+        };
+        assert_eq!(validated.count(), wanted, "{tests} tests");
+        clock.set(130);
+        let done = pool.maintain().unwrap().eviction;
+        assert_eq!((done.examined, done.destroyed), (5, 4), "{tests} tests");
+        assert_eq!(pool.get().unwrap().id, 4);
+        assert_legal(&pool);
+    }
+}
+
 fn an_object_of_a_lifetime_is_validated_only_if_that_is_set<const HOOKS: bool>() {
     let lifetime = Duration::from_millis(100);
     for is_set in [false, true] {
@@ -276,6 +432,98 @@ fn the_last_handle_ends_the_maintenance<const HOOKS: bool>() {
     drop(pool);
     is_dropped.recv_timeout(Duration::from_secs(30)).unwrap();
     assert!(start.elapsed() < Duration::from_secs(30));
+}
+
+/// Makes numbers. The thread that validates one calls something.
+struct Validating<const HOOKS: bool> {
+    on_validate: Box<dyn Fn() + Send + Sync>,
+    alive: Arc<AtomicU64>,
+}
+
+impl<const HOOKS: bool> Manager for Validating<HOOKS> {
+    type Object = u64;
+    type Error = ();
+    const ACTIVATES: bool = HOOKS;
+    const PASSIVATES: bool = HOOKS;
+
+    fn make(&self, id: u64) -> Result<u64, ()> {
+        self.alive.fetch_add(1, Ordering::SeqCst);
+        Ok(id)
+    }
+
+    fn validate(&self, _: &mut u64) -> bool {
+        (self.on_validate)();
+        true
+    }
+
+    fn destroy(&self, _: u64) {
+        self.alive.fetch_sub(1, Ordering::SeqCst);
+    }
+}
+
+/// A pool that is maintained and stores its journal, what it stores, and the number of objects that exist. It has two idle objects.
+fn validating<const HOOKS: bool>(
+    on_validate: impl Fn() + Send + Sync + 'static,
+) -> (Pool<Validating<HOOKS>>, Stored, Arc<AtomicU64>) {
+    let (stored, alive) = (Stored::default(), Arc::new(AtomicU64::new(0)));
+    let sink = MemorySink {
+        stored: Arc::clone(&stored),
+        fails: || false,
+    };
+    let builder = Pool::builder().min_idle(2).test_while_idle(true);
+    let builder = builder.journal(Journal::Segments(Segments::new(sink)));
+    let pool = builder
+        .maintain_every(Duration::from_millis(1))
+        .build(Validating {
+            on_validate: Box::new(on_validate),
+            alive: Arc::clone(&alive),
+        });
+    let pool = pool.unwrap();
+    wait_until(|| pool.counts().idle == 2);
+    (pool, stored, alive)
+}
+
+/// Whether what was stored has the close of a pool, and the end of each object.
+fn is_whole(stored: &Stored) -> bool {
+    let journal = texts_of(stored).concat();
+    let times = |text| journal.matches(text).count();
+    times(" close = ") == 1 && times(" = make ") == times(" = freed")
+}
+
+fn the_last_handle_waits_for_the_round_and_hands_over_the_rest<const HOOKS: bool>() {
+    for is_guard in [false, true] {
+        let (began, has_begun) = mpsc::channel();
+        let (let_go, is_let_go) = mpsc::channel::<()>();
+        let (began, is_let_go) = (Mutex::new(began), Mutex::new(is_let_go));
+        let (pool, stored, alive) = validating::<HOOKS>(move || {
+            let _ = began.lock().unwrap().send(());
+            let _ = is_let_go.lock().unwrap().recv();
+        });
+        // What is dropped last while the thread is in its round.
+        let held = is_guard.then(|| pool.get().unwrap());
+        has_begun.recv().unwrap();
+        thread::scope(|scope| {
+            scope.spawn(|| {
+                thread::sleep(Duration::from_millis(20));
+                drop(let_go);
+            });
+            drop(pool);
+            drop(held);
+            assert_eq!(alive.load(Ordering::SeqCst), 0);
+            assert!(is_whole(&stored), "{:?}", texts_of(&stored));
+        });
+    }
+}
+
+fn the_last_handle_may_be_dropped_in_the_round<const HOOKS: bool>() {
+    let handle = Arc::new(Mutex::new(None::<Pool<Validating<HOOKS>>>));
+    let last = Arc::clone(&handle);
+    let (pool, stored, alive) = validating::<HOOKS>(move || drop(last.lock().unwrap().take()));
+    let weak = pool.downgrade();
+    *handle.lock().unwrap() = Some(pool);
+    wait_until(|| is_whole(&stored));
+    assert_eq!(alive.load(Ordering::SeqCst), 0);
+    assert!(weak.upgrade().is_none());
 }
 
 fn a_pool_says_whether_it_is_closed<const HOOKS: bool>() {

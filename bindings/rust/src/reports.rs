@@ -1,0 +1,45 @@
+//! Reports of the failures that no call returns.
+
+use crate::failure::Failure;
+use crate::manager::Manager;
+use crate::panics::unless_it_panics;
+use std::sync::{Mutex, MutexGuard, PoisonError};
+use std::thread::{self, ThreadId};
+
+/// Receives the failures that no call returns.
+pub(crate) type OnError<M> = Box<dyn Fn(Failure<<M as Manager>::Error>) + Send + Sync>;
+
+/// The receiver of the failures of a pool.
+pub(crate) struct Reports<M: Manager> {
+    on_error: Option<OnError<M>>,
+    /// The threads that are in the receiver.
+    reporting: Mutex<Vec<ThreadId>>,
+}
+
+impl<M: Manager> Reports<M> {
+    pub fn new(on_error: Option<OnError<M>>) -> Reports<M> {
+        Reports {
+            on_error,
+            reporting: Mutex::new(Vec::new()),
+        }
+    }
+
+    fn reporting(&self) -> MutexGuard<'_, Vec<ThreadId>> {
+        let reporting = self.reporting.lock();
+        reporting.unwrap_or_else(PoisonError::into_inner)
+    }
+
+    /// Passes a failure to the receiver, unless this thread is in it. A panic of the receiver is ignored.
+    pub fn report(&self, failure: Failure<M::Error>) {
+        let Some(on_error) = &self.on_error else {
+            return;
+        };
+        let this = thread::current().id();
+        if self.reporting().contains(&this) {
+            return;
+        }
+        self.reporting().push(this);
+        unless_it_panics(|| on_error(failure));
+        self.reporting().retain(|thread| *thread != this);
+    }
+}

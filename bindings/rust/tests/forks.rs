@@ -1,0 +1,127 @@
+//! What a forked child may do with its parent's pool: drop it.
+#![cfg(unix)]
+
+mod common;
+
+use common::{entries_of, new_folder};
+use std::convert::Infallible;
+use std::ffi::c_int;
+use std::fs;
+use std::panic::{catch_unwind, AssertUnwindSafe};
+use std::path::{Path, PathBuf};
+use std::thread;
+use std::time::{Duration, Instant};
+use zuphinka::{Builder, Journal, Manager, Pool, Segments};
+
+extern "C" {
+    fn fork() -> c_int;
+    fn waitpid(process: c_int, status: *mut c_int, options: c_int) -> c_int;
+    fn kill(process: c_int, signal: c_int) -> c_int;
+    fn _exit(status: c_int) -> !;
+}
+
+const WITHOUT_WAITING: c_int = 1;
+const KILL: c_int = 9;
+
+/// A child that takes longer hangs.
+const LONGEST: Duration = Duration::from_secs(20);
+
+/// Runs something in a forked child. Returns the status of its end, which is 0 if it did not panic.
+fn status_in_child(call: impl FnOnce()) -> c_int {
+    // SAFETY: the child runs what the test gives, and ends without a return.
+    let child = unsafe { fork() };
+    assert!(child >= 0, "no child can be forked");
+    if child == 0 {
+        let panicked = catch_unwind(AssertUnwindSafe(call)).is_err();
+        // SAFETY: it ends this process.
+        unsafe { _exit(c_int::from(panicked)) }
+    }
+    let (mut status, end) = (0, Instant::now() + LONGEST);
+    // SAFETY: the child is this process's own, and nobody else waits for it.
+    while unsafe { waitpid(child, &mut status, WITHOUT_WAITING) } == 0 {
+        if Instant::now() > end {
+            // SAFETY: the child has not been waited for, so its number is still its own.
+            unsafe { kill(child, KILL) };
+        }
+        thread::sleep(Duration::from_millis(1));
+    }
+    status
+}
+
+/// Makes numbers, and notes in a folder which ones were destroyed.
+struct Noting(PathBuf);
+
+impl Manager for Noting {
+    type Object = u64;
+    type Error = Infallible;
+
+    fn make(&self, id: u64) -> Result<u64, Infallible> {
+        Ok(id)
+    }
+
+    fn destroy(&self, id: u64) {
+        fs::write(self.0.join(format!("destroyed {id}")), "").unwrap();
+    }
+}
+
+/// A pool with an idle object, which stores its journal and notes its destructions below a folder.
+fn pool_in(folder: &Path, change: impl FnOnce(Builder<Noting>) -> Builder<Noting>) -> Pool<Noting> {
+    let segments = Segments::in_folder(folder.join("journal")).unwrap();
+    let builder = change(Pool::builder().journal(Journal::Segments(segments)));
+    let pool = builder.build(Noting(folder.to_owned())).unwrap();
+    drop(pool.get().unwrap());
+    pool
+}
+
+/// The names in a folder and in that of its journal.
+fn names_in(folder: &Path) -> Vec<String> {
+    let folders = [folder.to_owned(), folder.join("journal")];
+    let files = folders
+        .iter()
+        .flat_map(|folder| fs::read_dir(folder).unwrap());
+    let mut names: Vec<_> = files
+        .map(|file| file.unwrap().file_name().into_string().unwrap())
+        .collect();
+    names.sort();
+    names
+}
+
+/// Drops a pool in a child, and then in this process.
+fn drop_in_both(change: impl FnOnce(Builder<Noting>) -> Builder<Noting>) {
+    let folder = new_folder();
+    let pool = pool_in(&folder, change);
+    let before = names_in(&folder);
+    let mut handle = Some(pool.clone());
+    let copy = pool.downgrade();
+    let mut pool = Some(pool);
+    let status = status_in_child(|| {
+        drop(handle.take());
+        drop(pool.take());
+        assert!(copy.upgrade().is_none());
+    });
+    assert_eq!(status, 0);
+    // The child has neither destroyed the object nor stored an entry.
+    assert_eq!(names_in(&folder), before);
+    drop(handle);
+    let pool = pool.unwrap();
+    drop(pool.get().unwrap());
+    let settings = pool.settings();
+    drop(pool);
+    assert!(folder.join("destroyed 0").exists());
+    let first = format!("journal/segment-{:020}", 0);
+    let journal = fs::read_to_string(folder.join(first)).unwrap();
+    let verdict = common::judge(&settings, journal.as_bytes());
+    assert_eq!(verdict, format!("legal {}\n", entries_of(&journal).count()));
+    assert!(journal.contains(" close = "));
+    fs::remove_dir_all(folder).unwrap();
+}
+
+#[test]
+fn a_child_drops_a_pool_and_does_nothing_to_it() {
+    drop_in_both(|builder| builder);
+}
+
+#[test]
+fn a_child_drops_a_pool_whose_thread_it_does_not_have() {
+    drop_in_both(|builder| builder.maintain_every(Duration::from_secs(3_600)));
+}

@@ -1,0 +1,267 @@
+//! How often borrows overtake those that wait: at most as often as the pool allows.
+
+mod common;
+#[path = "common/hooks.rs"]
+#[macro_use]
+mod hooks;
+
+use common::managers::{kept, Numbers};
+use common::tasks::{poll, ready, Bell, LONGEST};
+use common::{assert_legal, entries_of, journal_of, steps_of, while_waiting};
+use std::sync::atomic::{AtomicBool, Ordering};
+use std::sync::Arc;
+use std::task::Poll;
+use std::thread;
+use std::time::Duration;
+use zuphinka::{caller_number, Builder, Error, Get, Pool, Pooled};
+
+with_and_without_hooks! {
+    a_waiter_is_overtaken_16_times_at_most
+    a_pool_may_be_fair
+    a_waiter_that_was_woken_for_nothing_is_not_overtaken_again
+    each_waiter_is_overtaken_as_often_as_the_first
+    a_waiter_that_is_gone_holds_nobody_up
+    a_borrow_takes_what_is_left_beyond_the_waiters
+    a_borrow_times_out_behind_a_waiter
+    a_close_ends_waits_behind_a_waiter
+    a_thread_that_borrows_again_at_once_starves_nobody
+    threads_are_served_in_turns
+}
+
+type Numbered<const HOOKS: bool> = Pool<Numbers<HOOKS>>;
+
+/// A pool of some objects, with a clock that stands still.
+fn pool<const HOOKS: bool>(
+    objects: u32,
+    change: impl FnOnce(Builder<Numbers<HOOKS>>) -> Builder<Numbers<HOOKS>>,
+) -> Numbered<HOOKS> {
+    let builder = kept().max_total(objects).max_wait(LONGEST).clock(|| 0);
+    change(builder).build(Numbers).unwrap()
+}
+
+/// A task that waits.
+fn waiting<const HOOKS: bool>(pool: &Numbered<HOOKS>, bell: &Arc<Bell>) -> Get<Numbers<HOOKS>> {
+    let mut get = pool.get_async();
+    assert!(poll(&mut get, bell).is_pending());
+    get
+}
+
+/// The object of a task that was woken.
+fn lent<const HOOKS: bool>(
+    get: &mut Get<Numbers<HOOKS>>,
+    bell: &Arc<Bell>,
+) -> Pooled<Numbers<HOOKS>> {
+    assert_eq!(bell.rings(), 1);
+    ready(poll(get, bell)).unwrap()
+}
+
+/// How often an object is returned and borrowed again, before such a borrow finds nothing.
+fn overtakes<const HOOKS: bool>(pool: &Numbered<HOOKS>, mut held: Pooled<Numbers<HOOKS>>) -> usize {
+    for times in 0.. {
+        drop(held);
+        held = match pool.try_get() {
+            Ok(object) => object,
+            Err(error) => {
+                assert_eq!(error, Error::Exhausted);
+                return times;
+            }
+        };
+    }
+    unreachable!("it ends")
+}
+
+fn a_waiter_is_overtaken_16_times_at_most<const HOOKS: bool>() {
+    let (pool, bell) = (pool::<HOOKS>(1, |builder| builder), Bell::new());
+    let held = pool.get().unwrap();
+    let mut get = waiting(&pool, &bell);
+    assert_eq!(overtakes(&pool, held), 16);
+    let (steps, counts) = (steps_of(&pool).len(), pool.counts());
+    assert!(matches!(pool.try_get(), Err(Error::Exhausted)));
+    let soon = Duration::from_millis(1);
+    assert!(matches!(pool.get_timeout(soon), Err(Error::TimedOut)));
+    // Who may not overtake makes no entry.
+    assert_eq!((steps_of(&pool).len(), pool.counts()), (steps, counts));
+    drop(lent(&mut get, &bell));
+    assert!(pool.try_get().is_ok());
+    assert_legal(&pool);
+}
+
+fn a_pool_may_be_fair<const HOOKS: bool>() {
+    let pool = pool::<HOOKS>(1, |builder| builder.max_overtakes(0));
+    let bells = [(); 2].map(|()| Bell::new());
+    let held = pool.get().unwrap();
+    let mut first = waiting(&pool, &bells[0]);
+    assert_eq!(overtakes(&pool, held), 0);
+    let mut second = waiting(&pool, &bells[1]);
+    drop(lent(&mut first, &bells[0]));
+    assert!(matches!(pool.try_get(), Err(Error::Exhausted)));
+    drop(lent(&mut second, &bells[1]));
+    assert!(pool.try_get().is_ok());
+    assert_legal(&pool);
+}
+
+fn a_waiter_that_was_woken_for_nothing_is_not_overtaken_again<const HOOKS: bool>() {
+    let (pool, bell) = (pool::<HOOKS>(1, |builder| builder), Bell::new());
+    let held = pool.get().unwrap();
+    let mut get = waiting(&pool, &bell);
+    // It looks before it is woken, which changes nothing.
+    assert!(poll(&mut get, &bell).is_pending());
+    drop(held);
+    let held = pool.try_get().unwrap();
+    assert_eq!(bell.rings(), 1);
+    assert!(poll(&mut get, &bell).is_pending());
+    assert_eq!(overtakes(&pool, held), 0);
+    drop(lent(&mut get, &bell));
+    assert_legal(&pool);
+}
+
+fn each_waiter_is_overtaken_as_often_as_the_first<const HOOKS: bool>() {
+    let pool = pool::<HOOKS>(1, |builder| builder.max_overtakes(3));
+    let bells = [(); 2].map(|()| Bell::new());
+    let held = pool.get().unwrap();
+    let mut first = waiting(&pool, &bells[0]);
+    let mut second = waiting(&pool, &bells[1]);
+    assert_eq!(overtakes(&pool, held), 3);
+    // Not even the second may come before the first.
+    assert!(poll(&mut second, &bells[1]).is_pending());
+    let held = lent(&mut first, &bells[0]);
+    assert_eq!(overtakes(&pool, held), 3);
+    drop(lent(&mut second, &bells[1]));
+    assert_legal(&pool);
+}
+
+fn a_waiter_that_is_gone_holds_nobody_up<const HOOKS: bool>() {
+    let pool = pool::<HOOKS>(1, |builder| builder.max_overtakes(0));
+    let bells = [(); 2].map(|()| Bell::new());
+    let held = pool.get().unwrap();
+    let first = waiting(&pool, &bells[0]);
+    assert_eq!(overtakes(&pool, held), 0);
+    // It queues though the object is idle: the first one is on its way.
+    let mut second = waiting(&pool, &bells[1]);
+    assert_eq!((bells[0].rings(), bells[1].rings()), (1, 0));
+    drop(first);
+    drop(lent(&mut second, &bells[1]));
+    assert!(pool.try_get().is_ok());
+    assert_legal(&pool);
+}
+
+fn a_borrow_takes_what_is_left_beyond_the_waiters<const HOOKS: bool>() {
+    let pool = pool::<HOOKS>(2, |builder| builder.max_overtakes(0));
+    let bell = Bell::new();
+    let held = [(); 2].map(|()| pool.get().unwrap());
+    let mut get = waiting(&pool, &bell);
+    drop(held);
+    let held = pool.try_get().unwrap();
+    assert!(matches!(pool.try_get(), Err(Error::Exhausted)));
+    drop(lent(&mut get, &bell));
+    drop(held);
+    assert_legal(&pool);
+}
+
+fn a_borrow_times_out_behind_a_waiter<const HOOKS: bool>() {
+    let clock = common::managers::Clock::default();
+    let pool = pool::<HOOKS>(1, |builder| {
+        let builder = builder.max_overtakes(0).clock(clock.told());
+        builder.max_wait(Duration::from_millis(20))
+    });
+    let bells = [(); 2].map(|()| Bell::new());
+    let held = pool.get().unwrap();
+    let mut first = waiting(&pool, &bells[0]);
+    drop(held);
+    let mut second = waiting(&pool, &bells[1]);
+    let steps = steps_of(&pool).len();
+    clock.set(20);
+    assert!(matches!(
+        poll(&mut second, &bells[1]),
+        Poll::Ready(Err(Error::TimedOut))
+    ));
+    assert_eq!(steps_of(&pool).len(), steps);
+    drop(lent(&mut first, &bells[0]));
+    assert!(pool.try_get().is_ok());
+    assert_legal(&pool);
+}
+
+fn a_close_ends_waits_behind_a_waiter<const HOOKS: bool>() {
+    let pool = pool::<HOOKS>(1, |builder| builder.max_overtakes(0));
+    let bells = [(); 2].map(|()| Bell::new());
+    let held = pool.get().unwrap();
+    let mut first = waiting(&pool, &bells[0]);
+    drop(held);
+    let mut second = waiting(&pool, &bells[1]);
+    pool.close();
+    for (get, bell) in [(&mut first, &bells[0]), (&mut second, &bells[1])] {
+        assert_eq!(bell.rings(), 1);
+        assert_eq!(ready(poll(get, bell)).err(), Some(Error::Closed));
+    }
+    assert_eq!(pool.try_get().err(), Some(Error::Closed));
+    assert_legal(&pool);
+}
+
+fn a_thread_that_borrows_again_at_once_starves_nobody<const HOOKS: bool>() {
+    let pool = pool::<HOOKS>(1, |builder| builder.clock(|| 0));
+    let (is_over, held) = (AtomicBool::new(false), pool.get().unwrap());
+    let own = caller_number();
+    let mut held = Some(held);
+    while_waiting(
+        &pool,
+        || {
+            let object = pool.get().unwrap();
+            is_over.store(true, Ordering::SeqCst);
+            drop(object);
+        },
+        || {
+            while !is_over.load(Ordering::SeqCst) {
+                held.take();
+                held = Some(pool.get().unwrap());
+            }
+        },
+    );
+    drop(held);
+    assert!(most_overtakes(&journal_of(&pool), own) <= 16);
+    assert_legal(&pool);
+}
+
+/// How often at most a caller got an object between the wait and the loan of another one.
+fn most_overtakes(journal: &str, caller: u32) -> usize {
+    let caller = caller.to_string();
+    let (mut overtakes, mut most, mut waits) = (0, 0, false);
+    for entry in entries_of(journal) {
+        let words: Vec<_> = entry.split(' ').collect();
+        let is_borrow = words[2] == "borrow";
+        let gets = is_borrow && words.contains(&"take");
+        match (words[0] == caller, gets) {
+            (true, true) if waits => overtakes += 1,
+            (true, _) => {}
+            (false, _) if is_borrow => {
+                waits = !gets;
+                most = most.max(overtakes);
+                overtakes = 0;
+            }
+            (false, _) => {}
+        }
+    }
+    most
+}
+
+/// Threads that borrow again and again wait in turns: each of them ends, and none is woken in vain for ever.
+fn threads_are_served_in_turns<const HOOKS: bool>() {
+    for (objects, overtakes) in [(1, 0), (1, 1), (2, 0), (2, 3), (3, 16)] {
+        let pool = pool::<HOOKS>(objects, |builder| builder.max_overtakes(overtakes));
+        thread::scope(|scope| {
+            for number in 0..6_u32 {
+                let pool = &pool;
+                scope.spawn(move || {
+                    for round in 0..200_u32 {
+                        let object = pool.get().unwrap();
+                        if (round + number) % 50 == 0 {
+                            thread::sleep(Duration::from_micros(100));
+                        }
+                        drop(object);
+                    }
+                });
+            }
+        });
+        assert_eq!(pool.counts().lent, 0);
+        assert_legal(&pool);
+    }
+}
