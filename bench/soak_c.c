@@ -179,7 +179,7 @@ int main(int count, char **words) {
   uint64_t early, late;
   run(pool, &early, &late);
   zuphinka_pool_close(pool);
-  struct zuphinka_counts counts;
+  struct zuphinka_tally counts;
   zuphinka_pool_counts(pool, &counts);
   expect(zuphinka_pool_end(pool));
   report("memory_early", early);

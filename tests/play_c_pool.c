@@ -19,6 +19,7 @@
 #include <stdio.h>
 #include <stdlib.h>
 #include <string.h>
+#include <sys/wait.h>
 #include <time.h>
 #include <unistd.h>
 
@@ -28,6 +29,7 @@ enum {
   WRONG = 4,
   LONG = 60000, /* milliseconds, after which a wait has failed */
   LONGEST_TEXT = 1 << 16,
+  LAST_ERROR = ZUPHINKA_POOL_ERROR_FOREIGN,
   SLACK = 1 << 20,
 };
 
@@ -92,10 +94,13 @@ struct maker {
   atomic_uint failing;             /* a bit for each kind of call whose next one fails */
   atomic_uint_fast64_t now, ticks; /* the time, and by how much a look at the clock moves it on */
   atomic_int looks;                /* looks at the clock */
+  atomic_uint held;                /* a caller whose look at the clock waits until it is let go, and 1; 0: none */
   pthread_mutex_t lock;            /* of the next two */
   char calls[1 << 12];             /* a letter for each call */
   size_t called;
   bool has_chance, is_plain, has_no_clock; /* calls fail at random; some callbacks are null; the clock is null */
+  bool is_fair;                            /* as in the host */
+  uint32_t max_overtakes;                  /* the same */
   uint64_t seed;
   atomic_uint_fast64_t chances;
 };
@@ -117,7 +122,7 @@ static bool fails_at_random(struct maker *maker) {
 }
 
 static void note_call(struct maker *maker, enum call call) {
-  struct zuphinka_counts counts;
+  struct zuphinka_tally counts;
   if (maker->pool) zuphinka_pool_counts(maker->pool, &counts); /* which hangs if the pool holds its lock */
   pthread_mutex_lock(&maker->lock);
   if (maker->called + 1 < sizeof maker->calls) maker->calls[maker->called++] = "mavpd"[call];
@@ -168,7 +173,7 @@ static void destroy_thing(void *context, void *object) {
   check(atomic_load(&((struct thing *)object)->holders) == 0);
   note_call(maker, DESTROY);
   if (maker->pool && !maker->has_chance) { /* its place is taken until it is destroyed, unless it was reclaimed */
-    struct zuphinka_counts counts;
+    struct zuphinka_tally counts;
     zuphinka_pool_counts(maker->pool, &counts);
     check((uint64_t)atomic_load(&maker->alive) <= counts.idle + counts.lent + counts.reserved + counts.reclaimed);
   }
@@ -178,9 +183,10 @@ static void destroy_thing(void *context, void *object) {
 
 static uint64_t tell_time(void *context) {
   struct maker *maker = context;
-  struct zuphinka_counts counts;
+  struct zuphinka_tally counts;
   if (maker->pool) zuphinka_pool_counts(maker->pool, &counts); /* which hangs if the pool holds its lock */
   atomic_fetch_add(&maker->looks, 1);
+  while (atomic_load(&maker->held) == zuphinka_pool_caller() + 1) sleep_for(1);
   return atomic_fetch_add(&maker->now, atomic_load(&maker->ticks));
 }
 
@@ -191,7 +197,9 @@ static struct zuphinka_pool_host host_of(struct maker *maker) {
                                      .validate = validate_thing,
                                      .passivate = passivate_thing,
                                      .destroy = destroy_thing,
-                                     .now = tell_time};
+                                     .now = tell_time,
+                                     .max_overtakes = maker->max_overtakes,
+                                     .is_fair = maker->is_fair};
 }
 
 static struct maker maker = {.most = 8, .lock = PTHREAD_MUTEX_INITIALIZER};
@@ -241,8 +249,8 @@ static const char *entries(struct zuphinka_pool *pool) {
   return line;
 }
 
-static struct zuphinka_counts counts_of(struct zuphinka_pool *pool) {
-  struct zuphinka_counts counts;
+static struct zuphinka_tally counts_of(struct zuphinka_pool *pool) {
+  struct zuphinka_tally counts;
   zuphinka_pool_counts(pool, &counts);
   return counts;
 }
@@ -250,7 +258,7 @@ static struct zuphinka_counts counts_of(struct zuphinka_pool *pool) {
 /* Closes and ends a pool, after which nothing exists. */
 static void end_pool(struct zuphinka_pool *pool) {
   zuphinka_pool_close(pool);
-  struct zuphinka_counts counts = counts_of(pool);
+  struct zuphinka_tally counts = counts_of(pool);
   check(counts.created == counts.destroyed + counts.reclaimed);
   maker.pool = NULL;
   check_error(zuphinka_pool_end(pool), ZUPHINKA_POOL_ERROR_NONE);
@@ -549,6 +557,75 @@ static void test_ended_loans(void) {
   end_pool(pool);
 }
 
+/* A loan that no call takes, which changes nothing. */
+static void check_no_loan(struct zuphinka_pool *pool, const struct zuphinka_pool_loan *loan, enum zuphinka_pool_error wanted) {
+  struct zuphinka_pool_loan copy = *loan;
+  check_error(zuphinka_pool_give_back(pool, &copy), wanted);
+  check_error(zuphinka_pool_invalidate(pool, &copy), wanted);
+  check_error(zuphinka_pool_touch(pool, &copy), wanted);
+  check(memcmp(&copy, loan, sizeof copy) == 0);
+}
+
+/* A copy of a loan that has ended takes nothing from the object's next holder. */
+static void test_stale_loans(void) {
+  struct zuphinka_pool *pool = open_kept("maxTotal = 1\n", 1);
+  struct zuphinka_pool_loan loan = lend(pool), stale = loan;
+  for (int round = 0; round < 3; round++) {
+    give_back(pool, &loan);
+    loan = lend(pool);
+    check(loan.id == stale.id && loan.object == stale.object);
+    uint64_t steps = counts_of(pool).steps;
+    check_no_loan(pool, &stale, ZUPHINKA_POOL_ERROR_NOT_LENT);
+    check(counts_of(pool).steps == steps && counts_of(pool).lent == 1);
+    check_error(zuphinka_pool_touch(pool, &loan), ZUPHINKA_POOL_ERROR_NONE);
+    stale = loan;
+  }
+  give_back(pool, &loan);
+  end_pool(pool);
+}
+
+/* Of two copies of a loan whose object was reclaimed, one has it destroyed. */
+static void test_stale_loans_of_reclaimed_objects(void) {
+  struct zuphinka_pool *pool =
+      open_kept("maxTotal = 1\n[abandoned]\nremoveAbandonedOnBorrow = true\nremoveAbandonedTimeoutMillis = 100\n", -1);
+  struct zuphinka_pool_loan loan = lend(pool), stale = loan;
+  atomic_store(&maker.now, 100);
+  struct zuphinka_pool_loan next = lend(pool);
+  let_go(&loan);
+  calls();
+  check_error(zuphinka_pool_give_back(pool, &loan), ZUPHINKA_POOL_ERROR_GONE);
+  check_no_loan(pool, &stale, ZUPHINKA_POOL_ERROR_NOT_LENT);
+  check_text(calls(), "d");
+  give_back(pool, &next);
+  end_pool(pool);
+}
+
+/* A loan of another pool, also of one that has ended, takes nothing from the holder of an object with its id. */
+static void test_foreign_loans(void) {
+  static struct maker others = {.most = 8, .lock = PTHREAD_MUTEX_INITIALIZER};
+  struct zuphinka_pool_host host = host_of(&others);
+  struct zuphinka_pool *pool = open_kept("", 8);
+  struct zuphinka_pool_loan loan = lend(pool), foreign, none = {.id = 0};
+  for (int round = 0; round < 3; round++) {
+    check_error(zuphinka_pool_open(&others.pool, "", 0, &host, ZUPHINKA_POOL_JOURNAL_OFF), ZUPHINKA_POOL_ERROR_NONE);
+    if (round > 0) check_no_loan(others.pool, &foreign, ZUPHINKA_POOL_ERROR_FOREIGN);
+    check_error(zuphinka_pool_get(others.pool, &foreign), ZUPHINKA_POOL_ERROR_NONE);
+    check(foreign.id == loan.id);
+    uint64_t steps = counts_of(pool).steps;
+    check_no_loan(pool, &foreign, ZUPHINKA_POOL_ERROR_FOREIGN);
+    check_no_loan(pool, &none, ZUPHINKA_POOL_ERROR_FOREIGN);
+    check(counts_of(pool).steps == steps && counts_of(pool).lent == 1);
+    struct zuphinka_pool_loan ended = foreign;
+    check_error(zuphinka_pool_give_back(others.pool, &ended), ZUPHINKA_POOL_ERROR_NONE);
+    struct zuphinka_pool *other = others.pool;
+    others.pool = NULL;
+    check_error(zuphinka_pool_end(other), ZUPHINKA_POOL_ERROR_NONE);
+  }
+  check_error(zuphinka_pool_touch(pool, &loan), ZUPHINKA_POOL_ERROR_NONE);
+  give_back(pool, &loan);
+  end_pool(pool);
+}
+
 static void test_most_idle(void) {
   struct zuphinka_pool *pool = open_kept("maxIdle = 1\n", 8);
   struct zuphinka_pool_loan loans[] = {lend(pool), lend(pool)};
@@ -681,6 +758,11 @@ static void test_opens(void) {
     check_error(zuphinka_pool_open(&pool, rows[n].settings, strlen(rows[n].settings), &host, ZUPHINKA_POOL_JOURNAL_OFF), rows[n].error);
     check(!pool);
   }
+  check_error(zuphinka_pool_open(&pool, NULL, 0, &host, ZUPHINKA_POOL_JOURNAL_OFF), ZUPHINKA_POOL_ERROR_NULL_POINTER);
+  check_error(zuphinka_pool_open(NULL, "", 0, &host, ZUPHINKA_POOL_JOURNAL_OFF), ZUPHINKA_POOL_ERROR_NULL_POINTER);
+  check_error(zuphinka_pool_open(&pool, "", 0, NULL, ZUPHINKA_POOL_JOURNAL_OFF), ZUPHINKA_POOL_ERROR_NULL_POINTER);
+  check_error(zuphinka_pool_open(&pool, "", 0, &host, (enum zuphinka_pool_journal)3), ZUPHINKA_POOL_ERROR_UNKNOWN_JOURNAL);
+  check_error(zuphinka_pool_open(&pool, "", 0, &host, (enum zuphinka_pool_journal)7), ZUPHINKA_POOL_ERROR_UNKNOWN_JOURNAL);
   check_error(zuphinka_pool_open(&pool, "", 0, &host, ZUPHINKA_POOL_JOURNAL_SEGMENTS), ZUPHINKA_POOL_ERROR_MISSING_CALLBACK);
   host.destroy = NULL;
   check_error(zuphinka_pool_open(&pool, "", 0, &host, ZUPHINKA_POOL_JOURNAL_OFF), ZUPHINKA_POOL_ERROR_MISSING_CALLBACK);
@@ -688,8 +770,8 @@ static void test_opens(void) {
 }
 
 static void test_texts(void) {
-  const char *none = zuphinka_pool_error_text((enum zuphinka_pool_error)(ZUPHINKA_POOL_ERROR_OUT_OF_RANGE + 1));
-  for (int n = 0; n <= ZUPHINKA_POOL_ERROR_OUT_OF_RANGE; n++) {
+  const char *none = zuphinka_pool_error_text((enum zuphinka_pool_error)(LAST_ERROR + 1));
+  for (int n = 0; n <= LAST_ERROR; n++) {
     const char *text = zuphinka_pool_error_text((enum zuphinka_pool_error)n);
     check(*text && strcmp(text, none) != 0);
     for (int other = 0; other < n; other++) check(strcmp(text, zuphinka_pool_error_text((enum zuphinka_pool_error)other)) != 0);
@@ -719,6 +801,20 @@ static void test_full_journal(void) {
   check_error(zuphinka_pool_get(pool, &loan), ZUPHINKA_POOL_ERROR_CLOSED);
   check_error(zuphinka_pool_add(pool), ZUPHINKA_POOL_ERROR_CLOSED);
   check_error(zuphinka_pool_evict(pool, NULL), ZUPHINKA_POOL_ERROR_CLOSED);
+  end_pool(pool);
+}
+
+/* A closed pool is closed, also if a borrow would reclaim first, and has no room for that. */
+static void test_closed_with_a_full_journal(void) {
+  struct zuphinka_pool *pool = open_kept("journalLimit = 20\n[abandoned]\nremoveAbandonedOnBorrow = true\n", 8);
+  struct zuphinka_pool_loan loan;
+  enum zuphinka_pool_error error;
+  zuphinka_pool_close(pool);
+  while ((error = zuphinka_pool_clear(pool, NULL)) == ZUPHINKA_POOL_ERROR_NONE) check(counts_of(pool).steps <= 20);
+  check_error(error, ZUPHINKA_POOL_ERROR_JOURNAL_FULL);
+  check_error(zuphinka_pool_get(pool, &loan), ZUPHINKA_POOL_ERROR_CLOSED);
+  check_error(zuphinka_pool_try_get(pool, &loan), ZUPHINKA_POOL_ERROR_CLOSED);
+  check_error(zuphinka_pool_get_timed(pool, LONG, &loan), ZUPHINKA_POOL_ERROR_CLOSED);
   end_pool(pool);
 }
 
@@ -757,7 +853,7 @@ static bool write_file(const char *folder, const char *name, const char *text, s
 static bool store_segment(void *context, uint64_t first, const char *text, size_t size) {
   struct maker *made = context;
   struct sink *sink = &made->sink;
-  struct zuphinka_counts counts;
+  struct zuphinka_tally counts;
   if (made->pool) zuphinka_pool_counts(made->pool, &counts); /* which hangs if the pool holds its lock */
   int call = atomic_fetch_add(&sink->called, 1) + 1;
   char name[32];
@@ -846,18 +942,24 @@ static bool call_all(struct zuphinka_pool *pool) {
   return all & had_room(zuphinka_pool_fill(pool, NULL));
 }
 
+/* Plays a pool of two objects with a very small journal. */
+static void play_small(int limit, bool reclaims, enum zuphinka_pool_journal journal) {
+  char settings[160];
+  snprintf(settings, sizeof settings, "maxTotal = 2\nmaxIdle = 2\nminIdle = 2\njournalLimit = %d\n%s", limit,
+           reclaims ? "[abandoned]\nremoveAbandonedOnBorrow = true\n" : "");
+  struct zuphinka_pool *pool = open_stored(&maker, settings, NULL, journal);
+  for (int round = 0; round < 5; round++) {
+    bool has_room = call_all(pool);
+    check(has_room || journal == ZUPHINKA_POOL_JOURNAL_MEMORY || limit < 6 * 2 + 2);
+  }
+  end_pool(pool);
+}
+
 /* A pool with a very small journal ends each call, and closes. Six entries for each object and two more are enough if the journal is cut. */
 static void test_small_journals(void) {
   for (int limit = 1; limit < 40; limit++) {
     for (int journal = ZUPHINKA_POOL_JOURNAL_OFF; journal <= ZUPHINKA_POOL_JOURNAL_SEGMENTS; journal++) {
-      char settings[64];
-      snprintf(settings, sizeof settings, "maxTotal = 2\nmaxIdle = 2\nminIdle = 2\njournalLimit = %d\n", limit);
-      struct zuphinka_pool *pool = open_stored(&maker, settings, NULL, (enum zuphinka_pool_journal)journal);
-      for (int round = 0; round < 5; round++) {
-        bool has_room = call_all(pool);
-        check(has_room || journal == ZUPHINKA_POOL_JOURNAL_MEMORY || limit < 6 * 2 + 2);
-      }
-      end_pool(pool);
+      for (int reclaims = 0; reclaims < 2; reclaims++) play_small(limit, reclaims, (enum zuphinka_pool_journal)journal);
     }
   }
 }
@@ -885,6 +987,7 @@ static void test_maintained_journal(void) {
 
 struct waiter {
   pthread_t thread;
+  uint32_t caller;
   struct zuphinka_pool *pool;
   struct zuphinka_pool_loan loan;
   enum zuphinka_pool_error error;
@@ -892,12 +995,14 @@ struct waiter {
 
 static void *wait_for_one(void *argument) {
   struct waiter *waiter = argument;
+  waiter->caller = zuphinka_pool_caller();
   waiter->error = zuphinka_pool_get_timed(waiter->pool, LONG, &waiter->loan);
   return NULL;
 }
 
 static void *borrow_and_return(void *argument) {
   struct waiter *waiter = argument;
+  waiter->caller = zuphinka_pool_caller();
   waiter->error = zuphinka_pool_get(waiter->pool, &waiter->loan);
   if (!waiter->error) waiter->error = zuphinka_pool_give_back(waiter->pool, &waiter->loan);
   return NULL;
@@ -906,6 +1011,7 @@ static void *borrow_and_return(void *argument) {
 /* Waits for longer than any clock goes. */
 static void *wait_for_ever(void *argument) {
   struct waiter *waiter = argument;
+  waiter->caller = zuphinka_pool_caller();
   waiter->error = zuphinka_pool_get_timed(waiter->pool, UINT64_MAX, &waiter->loan);
   return NULL;
 }
@@ -1075,6 +1181,21 @@ static void test_woken_for_nothing(void) {
   end_pool(pool);
 }
 
+/* A clock that goes back ends no wait: a borrow begins at the time of the last entry at least. */
+static void test_waits_by_a_clock_that_goes_back(void) {
+  struct zuphinka_pool *pool = open_kept("maxTotal = 1\nmaxWaitMillis = 1000\n", 1);
+  atomic_store(&maker.now, 5000);
+  struct zuphinka_pool_loan loan = lend(pool);
+  entries(pool);
+  atomic_store(&maker.now, 3000);
+  struct waiter waiter;
+  start(&waiter, 1, pool, borrow_and_return);
+  check(strstr(entries(pool), " 5000 borrow 5000 = wait\n"));
+  give_back(pool, &loan);
+  join(&waiter, 1, ZUPHINKA_POOL_ERROR_NONE);
+  end_pool(pool);
+}
+
 /* A thread gives up, and another one that waits is served. */
 static void test_one_gives_up(void) {
   struct zuphinka_pool *pool = open_kept("maxTotal = 1\n", 1);
@@ -1087,6 +1208,198 @@ static void test_one_gives_up(void) {
   check_error(zuphinka_pool_give_back(pool, &waiter.loan), ZUPHINKA_POOL_ERROR_NONE);
   end_pool(pool);
 }
+
+/* ---- overtaking */
+
+/* What a host chooses about overtaking, and how often a thread that waits is overtaken then. */
+static const struct {
+  bool is_fair;
+  uint32_t max_overtakes;
+  int most;
+} overtaking[] = {{false, 0, 16}, {false, 3, 3}, {false, 1, 1}, {true, 0, 0}, {true, 3, 0}};
+
+enum { CHOICES = sizeof overtaking / sizeof *overtaking, MANY_TIMES = 300 };
+
+/* Opens a pool of one object with such a choice, lends the object, and lets a thread wait for it. */
+static struct zuphinka_pool_loan open_waited(int choice, const char *settings, struct waiter *waiter, void *(*run)(void *)) {
+  maker.is_fair = overtaking[choice].is_fair;
+  maker.max_overtakes = overtaking[choice].max_overtakes;
+  struct zuphinka_pool *pool = open_kept(settings, 1);
+  struct zuphinka_pool_loan loan = lend(pool);
+  start(waiter, 1, pool, run);
+  return loan;
+}
+
+/* Returns how often a thread that returns an object takes it again before one that was woken by the return looks. */
+static int overtakes_of(struct zuphinka_pool *pool, struct zuphinka_pool_loan *loan, const struct waiter *waiter) {
+  int overtakes = 0;
+  atomic_store(&maker.held, waiter->caller + 1);
+  give_back(pool, loan);
+  for (; overtakes < MANY_TIMES && zuphinka_pool_try_get(pool, loan) == ZUPHINKA_POOL_ERROR_NONE; overtakes++) {
+    check_error(zuphinka_pool_give_back(pool, loan), ZUPHINKA_POOL_ERROR_NONE);
+  }
+  return overtakes;
+}
+
+/* A thread that waits is overtaken as often as the host says, and then further borrows find nothing, and make no entry. The next one that waits is
+ * overtaken as often. */
+static void test_overtakes_are_bounded(void) {
+  for (int choice = 0; choice < CHOICES; choice++) {
+    struct waiter waiters[2];
+    struct zuphinka_pool_loan loan = open_waited(choice, "maxTotal = 1\n", &waiters[0], wait_for_one), none;
+    struct zuphinka_pool *pool = maker.pool;
+    start(&waiters[1], overtaking[choice].most > 0, pool, wait_for_one);
+    check(overtakes_of(pool, &loan, &waiters[0]) == overtaking[choice].most);
+    uint64_t steps = counts_of(pool).steps;
+    check_error(zuphinka_pool_try_get(pool, &none), ZUPHINKA_POOL_ERROR_EXHAUSTED);
+    check_error(zuphinka_pool_get_timed(pool, 0, &none), ZUPHINKA_POOL_ERROR_TIMED_OUT);
+    check_error(zuphinka_pool_get_timed(pool, 20, &none), ZUPHINKA_POOL_ERROR_TIMED_OUT);
+    check(counts_of(pool).steps == steps && counts_of(pool).idle == 1);
+    atomic_store(&maker.held, 0);
+    join(&waiters[0], 1, ZUPHINKA_POOL_ERROR_NONE);
+    if (overtaking[choice].most == 0) start(&waiters[1], 1, pool, wait_for_one);
+    check(atomic_fetch_add(&((struct thing *)waiters[0].loan.object)->holders, 1) == 0);
+    check(overtakes_of(pool, &waiters[0].loan, &waiters[1]) == overtaking[choice].most);
+    atomic_store(&maker.held, 0);
+    join(&waiters[1], 1, ZUPHINKA_POOL_ERROR_NONE);
+    check_error(zuphinka_pool_give_back(pool, &waiters[1].loan), ZUPHINKA_POOL_ERROR_NONE);
+    loan = lend(pool);
+    give_back(pool, &loan);
+    end_pool(pool);
+  }
+}
+
+/* Returns how many loans the caller of this thread got between the entry with which another caller began to wait, and its loan. */
+static int loans_while_waiting(struct zuphinka_pool *pool, uint32_t other) {
+  bool is_waiting = false;
+  int loans = 0;
+  for (const char *line = entries(pool); *line; line = strchr(line, '\n') + 1) {
+    const char *end = strchr(line, '\n');
+    bool is_other = strtoul(line, NULL, 10) == other, is_loan = memcmp(end - 4, "lent", 4) == 0;
+    if (is_other) is_waiting = memcmp(end - 4, "wait", 4) == 0;
+    loans += !is_other && is_loan && is_waiting;
+  }
+  return loans;
+}
+
+/* The same where the thread that returns an object borrows again for as long as it takes. */
+static void test_no_thread_starves(void) {
+  for (int choice = 0; choice < CHOICES; choice++) {
+    struct waiter waiter;
+    struct zuphinka_pool_loan loan = open_waited(choice, "maxTotal = 1\n", &waiter, borrow_and_return);
+    for (int round = 0; round < MANY_TIMES; round++) {
+      give_back(maker.pool, &loan);
+      loan = lend(maker.pool);
+    }
+    give_back(maker.pool, &loan);
+    join(&waiter, 1, ZUPHINKA_POOL_ERROR_NONE);
+    check(loans_while_waiting(maker.pool, waiter.caller) <= overtaking[choice].most);
+    end_pool(maker.pool);
+  }
+}
+
+/* Once the thread that has waited longest was woken and found nothing, it is not overtaken again, however often a host allows it. */
+static void test_woken_for_nothing_once(void) {
+  struct waiter waiter;
+  struct zuphinka_pool_loan loan;
+  int64_t began = milliseconds_now();
+  maker.max_overtakes = UINT32_MAX;
+  struct zuphinka_pool *pool = open_kept("maxTotal = 1\n", 1);
+  check_error(zuphinka_pool_get(pool, &loan), ZUPHINKA_POOL_ERROR_NONE);
+  start(&waiter, 1, pool, borrow_and_return);
+  bool is_overtaken = true;
+  while (is_overtaken && milliseconds_now() - began < LONG) {
+    atomic_store(&maker.held, waiter.caller + 1);
+    check_error(zuphinka_pool_give_back(pool, &loan), ZUPHINKA_POOL_ERROR_NONE);
+    is_overtaken = zuphinka_pool_try_get(pool, &loan) == ZUPHINKA_POOL_ERROR_NONE;
+    atomic_store(&maker.held, 0);
+    sleep_for(2); /* in which it looks, sooner or later */
+  }
+  check(!is_overtaken);
+  join(&waiter, 1, ZUPHINKA_POOL_ERROR_NONE);
+  end_pool(pool);
+}
+
+/* Threads that wait are served in the order of arrival. */
+static void test_served_in_order(void) {
+  struct waiter waiters[MANY];
+  struct zuphinka_pool_loan loan = open_waited(0, "maxTotal = 1\n", &waiters[0], borrow_and_return);
+  for (int n = 1; n < MANY; n++) start(&waiters[n], 1, maker.pool, borrow_and_return);
+  entries(maker.pool);
+  give_back(maker.pool, &loan);
+  join(waiters, MANY, ZUPHINKA_POOL_ERROR_NONE);
+  int served = 0;
+  for (const char *line = entries(maker.pool); *line; line = strchr(line, '\n') + 1) {
+    bool is_loan = memcmp(strchr(line, '\n') - 4, "lent", 4) == 0;
+    if (is_loan) check(served < MANY && strtoul(line, NULL, 10) == waiters[served++].caller);
+  }
+  check(served == MANY);
+  end_pool(maker.pool);
+}
+
+/* What no thread that waits could have is no overtaking: a borrow takes it, also if the pool is fair. */
+static void test_something_is_left(void) {
+  maker.is_fair = true;
+  struct zuphinka_pool *pool = open_kept("maxTotal = 2\n", 2);
+  struct zuphinka_pool_loan loans[] = {lend(pool), lend(pool)}, none;
+  struct waiter waiter;
+  start(&waiter, 1, pool, borrow_and_return);
+  atomic_store(&maker.held, waiter.caller + 1);
+  for (int n = 0; n < 2; n++) give_back(pool, &loans[n]);
+  check_error(zuphinka_pool_try_get(pool, &loans[0]), ZUPHINKA_POOL_ERROR_NONE);
+  check_error(zuphinka_pool_try_get(pool, &none), ZUPHINKA_POOL_ERROR_EXHAUSTED);
+  atomic_store(&maker.held, 0);
+  join(&waiter, 1, ZUPHINKA_POOL_ERROR_NONE);
+  check_error(zuphinka_pool_give_back(pool, &loans[0]), ZUPHINKA_POOL_ERROR_NONE);
+  end_pool(pool);
+}
+
+/* A wait ends by the settings also while there is an object, but for a thread that came earlier. */
+static void test_times_out_beside_an_object(void) {
+  struct waiter waiters[2];
+  struct zuphinka_pool_loan loan = open_waited(0, "maxTotal = 1\nmaxWaitMillis = 100\n", &waiters[0], borrow_and_return);
+  start(&waiters[1], 1, maker.pool, borrow_and_return);
+  atomic_store(&maker.held, waiters[0].caller + 1);
+  give_back(maker.pool, &loan);
+  atomic_store(&maker.now, 100);
+  join(&waiters[1], 1, ZUPHINKA_POOL_ERROR_TIMED_OUT);
+  check(!strstr(entries(maker.pool), " = timeout\n"));
+  atomic_store(&maker.held, 0);
+  join(&waiters[0], 1, ZUPHINKA_POOL_ERROR_NONE);
+  end_pool(maker.pool);
+}
+
+static struct waiter newcomer;
+
+/* Another thread begins to wait, and then the test fails. */
+static bool fail_with_a_waiter(void *context, void *object) {
+  (void)object;
+  if (newcomer.pool) return true;
+  struct maker *made = context;
+  start(&newcomer, 1, made->pool, borrow_and_return);
+  atomic_store(&made->held, newcomer.caller + 1);
+  return false;
+}
+
+/* A borrow whose idle object fails goes before a thread that began to wait meanwhile, also if the pool is fair. */
+static void test_failed_object_keeps_the_turn(void) {
+  struct zuphinka_pool_host host = host_of(&maker);
+  struct zuphinka_pool_loan loan;
+  const char *settings = "maxTotal = 1\ntestOnBorrow = true\n";
+  host.validate = fail_with_a_waiter;
+  host.is_fair = true;
+  check_error(zuphinka_pool_open(&maker.pool, settings, strlen(settings), &host, ZUPHINKA_POOL_JOURNAL_MEMORY), ZUPHINKA_POOL_ERROR_NONE);
+  check_error(zuphinka_pool_add(maker.pool), ZUPHINKA_POOL_ERROR_NONE);
+  check_error(zuphinka_pool_get_timed(maker.pool, LONG, &loan), ZUPHINKA_POOL_ERROR_NONE);
+  check(loan.id == 1);
+  atomic_store(&maker.held, 0);
+  check_error(zuphinka_pool_give_back(maker.pool, &loan), ZUPHINKA_POOL_ERROR_NONE);
+  join(&newcomer, 1, ZUPHINKA_POOL_ERROR_NONE);
+  check(loans_while_waiting(maker.pool, newcomer.caller) == 1);
+  end_pool(maker.pool);
+}
+
+/* ---- slow stores */
 
 static void *lend_until_held(void *argument) {
   struct waiter *waiter = argument;
@@ -1112,6 +1425,149 @@ static void test_slow_store(void) {
   join(&waiter, 1, ZUPHINKA_POOL_ERROR_NONE);
   end_pool(pool);
 }
+
+/* Borrows and returns, without a wait, until a borrow fails. Returns its error. */
+static enum zuphinka_pool_error fill_journal(struct zuphinka_pool *pool) {
+  for (;;) {
+    struct zuphinka_pool_loan loan;
+    enum zuphinka_pool_error error = zuphinka_pool_try_get(pool, &loan);
+    if (error) return error;
+    check_error(zuphinka_pool_give_back(pool, &loan), ZUPHINKA_POOL_ERROR_NONE);
+  }
+}
+
+/* A borrow that finds the journal full waits for a store in another thread no longer than for an object. */
+static void test_waits_for_a_store_end(void) {
+  static const char *const settings[] = {
+      "journalLimit = 200\nmaxWaitMillis = 40\n",
+      "journalLimit = 200\nmaxWaitMillis = 40\n[abandoned]\nremoveAbandonedOnBorrow = true\n",
+  };
+  for (size_t n = 0; n < sizeof settings / sizeof *settings; n++) {
+    maker.has_no_clock = true;
+    struct zuphinka_pool *pool = open_stored(&maker, settings[n], NULL, ZUPHINKA_POOL_JOURNAL_SEGMENTS);
+    struct waiter waiter = {.pool = pool};
+    struct zuphinka_pool_loan loan;
+    atomic_store(&maker.sink.called, 0);
+    atomic_store(&maker.sink.is_held, true);
+    check(pthread_create(&waiter.thread, NULL, lend_until_held, &waiter) == 0);
+    while (atomic_load(&maker.sink.called) == 0) sleep_for(1);
+    check_error(fill_journal(pool), ZUPHINKA_POOL_ERROR_JOURNAL_FULL);
+    int64_t began = milliseconds_now();
+    check_error(zuphinka_pool_get_timed(pool, 20, &loan), ZUPHINKA_POOL_ERROR_JOURNAL_FULL);
+    check_error(zuphinka_pool_get(pool, &loan), ZUPHINKA_POOL_ERROR_JOURNAL_FULL);
+    check(milliseconds_now() - began >= 60);
+    atomic_store(&maker.sink.is_held, false);
+    join(&waiter, 1, ZUPHINKA_POOL_ERROR_NONE);
+    loan = lend(pool);
+    give_back(pool, &loan);
+    end_pool(pool);
+  }
+}
+
+/* A store that calls the pool. */
+static bool store_and_borrow(void *context, uint64_t first, const char *text, size_t size) {
+  (void)first, (void)text, (void)size;
+  struct maker *made = context;
+  enum zuphinka_pool_error error;
+  if (atomic_fetch_add(&made->sink.called, 1) > 0) return true;
+  check_error(fill_journal(made->pool), ZUPHINKA_POOL_ERROR_JOURNAL_FULL);
+  while ((error = zuphinka_pool_clear(made->pool, NULL)) == ZUPHINKA_POOL_ERROR_NONE) check(counts_of(made->pool).steps < 2 * 60);
+  check_error(error, ZUPHINKA_POOL_ERROR_JOURNAL_FULL);
+  check_error(zuphinka_pool_cut(made->pool, store_and_borrow, made, NULL), ZUPHINKA_POOL_ERROR_IN_USE);
+  return true;
+}
+
+/* A store that fills the journal does not wait for itself, and is not called again within. */
+static void test_store_that_borrows(void) {
+  struct zuphinka_pool_host host = host_of(&maker);
+  const char *settings = "journalLimit = 60\n";
+  host.store = store_and_borrow;
+  check_error(zuphinka_pool_open(&maker.pool, settings, strlen(settings), &host, ZUPHINKA_POOL_JOURNAL_SEGMENTS), ZUPHINKA_POOL_ERROR_NONE);
+  while (atomic_load(&maker.sink.called) < 2) {
+    struct zuphinka_pool_loan loan = lend(maker.pool);
+    give_back(maker.pool, &loan);
+  }
+  zuphinka_pool_close(maker.pool);
+  struct zuphinka_pool *pool = maker.pool;
+  maker.pool = NULL;
+  check_error(zuphinka_pool_end(pool), ZUPHINKA_POOL_ERROR_NONE);
+}
+
+/* ---- forked processes */
+
+/* Closes and ends the copy of a pool in a forked process, which must call no callback, and then becomes another program. */
+static void end_copy(struct zuphinka_pool *pool) {
+  int stored = atomic_load(&maker.sink.called);
+  maker.called = 0;
+  alarm(LONG / 1000);
+  check(zuphinka_pool_close(pool) == 0);
+  check_error(zuphinka_pool_end(pool), ZUPHINKA_POOL_ERROR_NONE);
+  check(maker.called == 0 && atomic_load(&maker.sink.called) == stored);
+  execlp("true", "true", (char *)NULL);
+  exit(WRONG);
+}
+
+/* Forks, and lets the new process end its copy of a pool. */
+static void fork_and_end(struct zuphinka_pool *pool) {
+  int status = WRONG;
+  pid_t child = fork();
+  check(child >= 0);
+  if (child == 0) end_copy(pool);
+  check(waitpid(child, &status, 0) == child && status == 0);
+}
+
+/* A forked process leaves the objects and the journal to its parent. */
+static void test_forked(void) {
+  struct zuphinka_pool *pool = open_stored(&maker, "", NULL, ZUPHINKA_POOL_JOURNAL_SEGMENTS);
+  struct zuphinka_pool_loan loan = lend(pool);
+  check_error(zuphinka_pool_add(pool), ZUPHINKA_POOL_ERROR_NONE);
+  fork_and_end(pool);
+  give_back(pool, &loan);
+  fork_and_end(pool);
+  check(counts_of(pool).idle == 2);
+  end_pool(pool);
+}
+
+/* A forked process waits for no thread of its parent: one that stores a segment, and one that waits. */
+static void test_forked_in_a_store(void) {
+  struct zuphinka_pool *pool = open_stored(&maker, "maxTotal = 1\njournalLimit = 200\n", NULL, ZUPHINKA_POOL_JOURNAL_SEGMENTS);
+  struct waiter storing = {.pool = pool}, waiter;
+  atomic_store(&maker.sink.is_held, true);
+  check(pthread_create(&storing.thread, NULL, lend_until_held, &storing) == 0);
+  while (atomic_load(&maker.sink.called) == 0) sleep_for(1);
+  struct zuphinka_pool_loan loan = lend(pool);
+  start(&waiter, 1, pool, borrow_and_return);
+  fork_and_end(pool);
+  atomic_store(&maker.sink.is_held, false);
+  give_back(pool, &loan);
+  join(&storing, 1, ZUPHINKA_POOL_ERROR_NONE);
+  join(&waiter, 1, ZUPHINKA_POOL_ERROR_NONE);
+  end_pool(pool);
+}
+
+static atomic_bool is_busy;
+
+static void *lend_while_busy(void *argument) {
+  struct waiter *waiter = argument;
+  do {
+    borrow_and_return(waiter);
+  } while (!waiter->error && atomic_load(&is_busy));
+  return NULL;
+}
+
+/* The same while threads are in all calls of a loan. */
+static void test_forked_in_any_call(void) {
+  struct waiter waiters[3];
+  struct zuphinka_pool *pool = open_stored(&maker, "maxTotal = 2\n", NULL, ZUPHINKA_POOL_JOURNAL_OFF);
+  atomic_store(&is_busy, true);
+  start(waiters, 3, pool, lend_while_busy);
+  for (int round = 0; round < 30; round++) fork_and_end(pool);
+  atomic_store(&is_busy, false);
+  join(waiters, 3, ZUPHINKA_POOL_ERROR_NONE);
+  end_pool(pool);
+}
+
+/* ---- numbers of threads */
 
 static void *tell_caller(void *argument) {
   *(uint32_t *)argument = zuphinka_pool_caller();
@@ -1153,8 +1609,8 @@ enum manner { WAITING, REFUSED, HASTY, MANNERS };
 static const char *const settings_of_manner[MANNERS] = {
     [WAITING] = "maxTotal = 1\nlifo = false\nminEvictableIdleMillis = 40\nsoftMinEvictableIdleMillis = 20\nnumTestsPerEvictionRun = -1\n",
     [REFUSED] =
-        "maxTotal = 4\nmaxIdle = 2\nblockWhenExhausted = false\ntestOnCreate = true\nminEvictableIdleMillis = 40\n"
-        "numTestsPerEvictionRun = 2\n",
+        ("maxTotal = 4\nmaxIdle = 2\nblockWhenExhausted = false\ntestOnCreate = true\nminEvictableIdleMillis = 40\n"
+         "numTestsPerEvictionRun = 2\n"),
     [HASTY] = "maxTotal = 3\nmaxWaitMillis = 2\nminEvictableIdleMillis = 1\n",
 };
 static const int most_of_manner[MANNERS] = {1, 4, 3};
@@ -1177,6 +1633,7 @@ struct player {
   uint64_t dice;
   struct zuphinka_pool_loan held[HELD];
   size_t count;
+  struct zuphinka_pool_loan ended; /* the last one that it ended */
   uint32_t caller;
   uint64_t lent;
 };
@@ -1198,10 +1655,16 @@ static bool is_expected(const struct table *table, enum zuphinka_pool_error erro
   }
 }
 
+/* Tries the loan that a player ended last, whose object another one may have by now. */
+static void use_ended(struct player *player) {
+  if (player->ended.object) check_no_loan(player->table->pool, &player->ended, ZUPHINKA_POOL_ERROR_NOT_LENT);
+}
+
 static void borrow_at_random(struct player *player) {
   struct table *table = player->table;
   struct zuphinka_pool_loan loan;
   if (player->count == (table->manner == WAITING ? 1 : HELD)) return;
+  use_ended(player);
   uint64_t how = table->manner == HASTY ? roll(&player->dice, 3) : 0;
   enum zuphinka_pool_error error = how == 0   ? zuphinka_pool_get(table->pool, &loan)
                                    : how == 1 ? zuphinka_pool_try_get(table->pool, &loan)
@@ -1225,14 +1688,20 @@ static struct zuphinka_pool_loan pick(struct player *player) {
   return loan;
 }
 
-/* Ends a loan. An object that was reclaimed is its holder's where the call fails. */
-static void end_loan(struct table *table, struct zuphinka_pool_loan loan, bool is_broken) {
+/* Ends a loan, and returns whether it has ended. An object that was reclaimed is its holder's where the call fails. */
+static bool end_loan(struct table *table, struct zuphinka_pool_loan loan, bool is_broken) {
   void *object = loan.object;
   let_go(&loan);
   enum zuphinka_pool_error error = is_broken ? zuphinka_pool_invalidate(table->pool, &loan) : zuphinka_pool_give_back(table->pool, &loan);
   bool has_ended = error == ZUPHINKA_POOL_ERROR_NONE || error == ZUPHINKA_POOL_ERROR_GONE;
   check((has_ended && loan.id == ZUPHINKA_POOL_NO_LOAN) || (error != ZUPHINKA_POOL_ERROR_CLOSED && is_expected(table, error)));
   if (!has_ended) destroy_thing(&maker, object);
+  return has_ended;
+}
+
+static void end_at_random(struct player *player, bool is_broken) {
+  struct zuphinka_pool_loan loan = pick(player);
+  if (end_loan(player->table, loan, is_broken)) player->ended = loan;
 }
 
 static void touch_at_random(struct player *player) {
@@ -1260,7 +1729,7 @@ static void call_with_one(struct player *player) {
   }
   uint64_t call = roll(&player->dice, 16);
   if (call < 13) {
-    end_loan(player->table, pick(player), call > 10);
+    end_at_random(player, call > 10);
   } else if (call < 15) {
     touch_at_random(player);
   } else if (player->count < HELD) {
@@ -1292,7 +1761,7 @@ static void call_seldom(struct player *player) {
   } else if (call <= 600 && table->journal == ZUPHINKA_POOL_JOURNAL_MEMORY) {
     check(is_expected(table, zuphinka_pool_cut(table->pool, store_segment, &maker, NULL)));
   } else {
-    struct zuphinka_counts counts = counts_of(table->pool);
+    struct zuphinka_tally counts = counts_of(table->pool);
     check(counts.idle + counts.lent + counts.reserved <= (uint64_t)most_of_manner[table->manner]);
   }
 }
@@ -1334,6 +1803,8 @@ static void open_table(struct table *table, uint64_t seed, const char *folder) {
              "[abandoned]\nremoveAbandonedOnBorrow = true\nremoveAbandonedOnMaintenance = true\nremoveAbandonedTimeoutMillis = %d\n",
              timeout_of_manner[table->manner]);
   }
+  maker.is_fair = seed % 4 == 1;
+  maker.max_overtakes = seed % 4 == 2 ? 1 : 0;
   table->pool = open_stored(&maker, settings, folder, table->journal);
   maker.seed = seed;
   maker.has_chance = true;
@@ -1343,7 +1814,7 @@ static void open_table(struct table *table, uint64_t seed, const char *folder) {
 static void close_table(struct table *table) {
   while (table->count > 0) end_loan(table, table->handed[--table->count], false);
   zuphinka_pool_close(table->pool);
-  struct zuphinka_counts counts = counts_of(table->pool);
+  struct zuphinka_tally counts = counts_of(table->pool);
   check(counts.idle == 0 && counts.lent == 0 && counts.reserved == 0 && counts.created == counts.destroyed + counts.reclaimed);
   check(atomic_load(&maker.alive) == 0);
   enum zuphinka_pool_error error = ZUPHINKA_POOL_ERROR_STORE_FAILED;
@@ -1453,6 +1924,9 @@ static const struct {
     TEST(returned_objects_that_fail),
     TEST(invalidated),
     TEST(ended_loans),
+    TEST(stale_loans),
+    TEST(stale_loans_of_reclaimed_objects),
+    TEST(foreign_loans),
     TEST(most_idle),
     TEST(additions_and_fills),
     TEST(evictions),
@@ -1463,6 +1937,7 @@ static const struct {
     TEST(opens),
     TEST(texts),
     TEST(full_journal),
+    TEST(closed_with_a_full_journal),
     TEST(dropped_journal),
     TEST(failing_store),
     TEST(small_journals),
@@ -1476,8 +1951,21 @@ static const struct {
     TEST(one_object_serves_all),
     TEST(one_object_wakes_one),
     TEST(woken_for_nothing),
+    TEST(waits_by_a_clock_that_goes_back),
     TEST(one_gives_up),
+    TEST(overtakes_are_bounded),
+    TEST(no_thread_starves),
+    TEST(woken_for_nothing_once),
+    TEST(served_in_order),
+    TEST(something_is_left),
+    TEST(times_out_beside_an_object),
+    TEST(failed_object_keeps_the_turn),
     TEST(slow_store),
+    TEST(waits_for_a_store_end),
+    TEST(store_that_borrows),
+    TEST(forked),
+    TEST(forked_in_a_store),
+    TEST(forked_in_any_call),
     TEST(callers),
 };
 

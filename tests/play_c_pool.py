@@ -4,15 +4,17 @@
     play_c_pool.py LIBRARY POOL
 
 LIBRARY is libzuphinka.a, as `rt lib` builds it, and POOL the program `pool`. The C compiler that CC names, or cc, compiles the pool and the
-program, with warnings as errors; the header must compile by itself as C99, C11 and C++ too, and each of its codes is named after its enum.
+program, with warnings as errors; the header must compile by itself as C99, C11 and C++ too, with more warnings, and each of its codes is named
+after its enum.
 
 - Each test of the program must pass.
 - A pool whose `store` fails at each call in turn must store its whole journal in the end.
-- With SEEDS seeds, THREADS threads call a pool at random over callbacks that fail at random. No two threads have an object at once, no more
-  objects exist than maxTotal allows, and none is left; the program `pool` must judge the journal legal, whatever segments it has; it must have
-  each loan that the threads counted; and all journals together must have each answer.
+- With SEEDS seeds, THREADS threads call a pool at random over callbacks that fail at random. No two threads have an object at once, a loan that has
+  ended takes none, no more objects exist than maxTotal allows, and none is left; the program `pool` must judge the journal legal, whatever segments
+  it has; it must have each loan that the threads counted; and all journals together must have each answer.
 - A pool without a journal lends SOAKED times to THREADS threads, in memory that does not grow.
-- bindings/c/shared_life.c must write the segments of a legal journal, with SHARED_ROUNDS loans for each thread.
+- bindings/c/shared_life.c must write the segments of a legal journal, with SHARED_ROUNDS loans for each thread. A second run over the same folder
+  must fail, and leave them as they are.
 - The same must hold while one allocation in REFUSE_OF fails (tests/refuse.c), and some must have failed in each of FEW_SEEDS runs.
 - All tests and some seeds must run under valgrind without an error or a leak, and under ThreadSanitizer with MORE_THREADS threads without a
   race, if these are installed; what is missing is printed.
@@ -30,7 +32,7 @@ import subprocess
 import sys
 import tempfile
 
-from play_library import FLAGS, TOP, VALGRIND, compiler, heap
+from play_library import FLAGS, TOP, VALGRIND, compiler, header_runs, heap
 from playing import differing
 from preloading import preloaded
 
@@ -134,6 +136,9 @@ class Runs:
             wanted = [SHARED_ROUNDS] * THREADS
             lent = list(collections.Counter(LENT.findall(journal)).values())
             told = [] if lent == wanted else [f"shared_life: the journal has {lent} loans for its threads"]
+            again = run(program, folder / "settings", folder, "1", str(SHARED_ROUNDS))
+            left = b"".join(path.read_bytes() for path in sorted(folder.iterdir()) if path.name != "settings")
+            told += [] if again.returncode == 1 and left == journal else ["shared_life: a second run replaces segments, or leaves more files"]
             return found + told + self.judged("shared_life", folder, journal.count(b" = "))[1]
 
     def sinks(self):
@@ -144,14 +149,8 @@ class Runs:
 
 def header_differing(folder):
     """What differs where the header is compiled by itself, and in the names of its codes."""
-    source = pathlib.Path(folder) / "header"
-    source.write_text('#include "zuphinka_pool.h"\nint main(void) { return zuphinka_pool_caller() == 0; }\n')
-    words = ["-fsyntax-only", "-pedantic", "-Wall", "-Wextra", "-Werror", "-I", TOP / "bindings/c"]
-    for name, language, standard in (compiler(), "c", "c99"), (compiler(), "c", "c11"), (os.environ.get("CXX", "c++"), "c++", "c++11"):
-        if shutil.which(name):
-            yield differing(f"zuphinka_pool.h in {standard}", (b"", b"", 0), run(name, *words, "-x", language, f"-std={standard}", source))
-        else:
-            print(f"there is no {name}, so the header isn't compiled in {standard}")
+    for name, words, wanted in header_runs(folder, "zuphinka_pool.h", "return zuphinka_pool_caller() == 0;"):
+        yield differing(name, wanted, run(*words))
     for kind, body in re.findall(r"enum (zuphinka_\w+) \{(.*?)\};", (TOP / "bindings/c/zuphinka_pool.h").read_text(), flags=re.DOTALL):
         names = re.findall(r"^  (\w+) =", body, flags=re.MULTILINE)
         yield [f"{name} isn't named after {kind}" for name in names if not name.startswith(kind.upper() + "_")]

@@ -13,7 +13,8 @@ bindings/c/zuphinka.h by the C compiler that CC names, or cc, and linked with it
 - programs: `plain_life examples/settings.toml` must write the journal of examples/plain-life.script, which stands here, and end with status 0;
   and so it must, and `play` with the first case of the folder, whole and cut, under valgrind, where it is installed, with no fault and nothing
   left behind. `plain_life` and `long_life` must take settings of LONGEST_SETTINGS bytes and no more, and must free each object before they
-  report it as destroyed (tests/destroy_first.c). `play` must find a line with a null at fault. The header must compile by itself, as C and C++.
+  report it as destroyed (tests/destroy_first.c). `play` must find a line with a null at fault. The header must compile by itself, as C and C++,
+  without one of the warnings of STRICT. The C++ compilers are g++ and clang++, or the one that CXX names.
 - cases: for files NAME.toml and NAME.script `play NAME.toml NAME.script` must write NAME.journal, and end with status 0 and nothing on standard
   error; or, where there is a file NAME.err, with status 3 and that line. For files NAME.toml and NAME.answer `play` of an empty script must
   end with status 0 where the answer is 'ok', and else with status 3 and that line.
@@ -22,7 +23,8 @@ bindings/c/zuphinka.h by the C compiler that CC names, or cc, and linked with it
 - segments: each case that ends with status 0 is cut every so many entries, for each of EVERY, and must write the segments that
   tests/pool_model.py has, which POOL, the program, must judge legal together.
 - many: the same of a pool that makes OBJECTS of them and parks most, and is cut where all are lent; and the segments of `long_life`, each named
-  for its first entry, must be judged legal together, also of a run under valgrind, where it is installed.
+  for its first entry, must be judged legal together, also of a run under valgrind, where it is installed. A second run over the same folder must
+  end early, and replace none.
 
 Prints each run that differs, and in the end the line 'N passed, M failed'.
 """
@@ -43,6 +45,7 @@ from pool_model import cut_at, settings_of
 TOP = pathlib.Path(__file__).resolve().parent.parent
 PLAIN_LIFE = b"0 10 borrow 10 = make 0\n0 11 ready 0 good = lent\n0 15 return 0 = check\n0 16 park 0 good = parked\n"
 FLAGS = ["-std=c11", "-O2", "-Wall", "-Wextra", "-Werror"]
+STRICT = ["-fsyntax-only", "-Wall", "-Wextra", "-Wshadow", "-Wpedantic", "-Werror"]
 REFUSING = ["-Wl,--wrap=malloc", "-Wl,--wrap=realloc"]
 DESTROYING = [TOP / "tests" / "destroy_first.c", "-Wl,--wrap=zuphinka_step", "-Wl,--wrap=free"]
 EVERY = (1, 3, 7)
@@ -142,6 +145,7 @@ def long_differing(life, pool, before, rounds):
         names = [f"segment-{first:020}" for first in itertools.accumulate(lengths[:-1], initial=0)]
         if [path.name for path in paths] != names or len(names) < rounds // 25:
             found.append(f"long_life: segments {[path.name for path in paths]}, of {lengths} entries")
+        found += differing("long_life, again", (b"", b"long_life: ended early\n", 1), run(*before, life, settings, made, str(rounds)))
         return found + differing("long_life, judged", (b"legal %d\n" % (4 * rounds + 4), b"", 0), run(pool, "check", settings, *paths))
 
 
@@ -190,17 +194,18 @@ def odd_runs(life, long, play, folder):
         yield name, [play, short, nulls], (b"0 0 add = make 0\n", b"pool: line 2: not a line\n", 3)
 
 
-def header_runs(folder):
-    """The header by itself, for compilers of C99, C11 and, where there is one, C++."""
-    words = ["-fsyntax-only", "-pedantic", "-Wall", "-Wextra", "-Werror", "-I", TOP / "bindings/c"]
-    compilers = [(compiler(), "c", "c99"), (compiler(), "c", "c11"), (os.environ.get("CXX", "c++"), "c++", "c++11")]
-    source = pathlib.Path(folder) / "header"
-    source.write_text('#include "zuphinka.h"\nint main(void) { return zuphinka_status_text(0) == 0; }\n')
+def header_runs(folder, header, body):
+    """A header by itself, with a `main` of this body, for compilers of C99, C11 and C++. Names those that are missing."""
+    others = [os.environ["CXX"]] if "CXX" in os.environ else ["g++", "clang++"]
+    compilers = [(compiler(), "c", standard) for standard in ("c99", "c11")] + [(name, "c++", "c++11") for name in others]
+    source = pathlib.Path(folder) / f"alone_{header}"
+    source.write_text(f'#include "{header}"\nint main(void) {{ {body} }}\n')
     for name, language, standard in compilers:
         if shutil.which(name):
-            yield f"zuphinka.h in {standard}", [name, *words, "-x", language, f"-std={standard}", source], (b"", b"", 0)
+            words = [name, *STRICT, "-I", TOP / "bindings/c", "-x", language, f"-std={standard}", source]
+            yield f"{header} in {standard} by {name}", words, (b"", b"", 0)
         else:
-            print(f"there is no {name}, so the header isn't compiled in {standard}")
+            print(f"there is no {name}, so {header} isn't compiled by it")
 
 
 def ordered_runs(library, folder):
@@ -236,7 +241,7 @@ def main(kind, library, words):
             return play_many(play, compiled("long_life", library, built, []), *words)
         if kind == "programs":
             life, long = (compiled(name, library, built, []) for name in ("plain_life", "long_life"))
-            others = [*odd_runs(life, long, play, built), *ordered_runs(library, built), *header_runs(built)]
+            others = [*odd_runs(life, long, play, built), *ordered_runs(library, built), *header_runs(built, "zuphinka.h", "return zuphinka_status_text(0) == 0;")]
             plays = lambda folder: itertools.chain(runs(life, play, folder), others)
             return play_folders(words, plays, lambda case: differing(case[0], case[2], run(*case[1])))
         if kind == "refused":

@@ -82,12 +82,12 @@ static bool write_lines(line_function *line_at, struct zuphinka *pool, FILE *fil
 
 /* Writes a segment, and cuts the journal only if all of it is written. Threads that share a pool do this with the lock held. */
 static bool cut(struct zuphinka *pool, const char *folder) {
-  struct zuphinka_counts counts;
+  struct zuphinka_tally counts;
   uint64_t steps;
   char path[1024];
   if (zuphinka_counts(pool, &counts) != ZUPHINKA_STATUS_DONE || zuphinka_steps(pool, &steps) != ZUPHINKA_STATUS_DONE) return false;
   int length = snprintf(path, sizeof path, "%s/segment-%020" PRIu64, folder, counts.steps - steps);
-  FILE *file = length > 0 && (size_t)length < sizeof path ? fopen(path, "wb") : NULL;
+  FILE *file = length > 0 && (size_t)length < sizeof path ? fopen(path, "wbx") : NULL; /* no file of another run */
   if (!file) return false;
   bool written = write_lines(zuphinka_base, pool, file) && write_lines(zuphinka_line, pool, file);
   return fclose(file) == 0 && written && zuphinka_cut(pool) == ZUPHINKA_STATUS_DONE;
@@ -114,7 +114,7 @@ int main(int count, char **arguments) {
   for (uint64_t rounds = strtoull(arguments[3], NULL, 10); goes_on && rounds > 0; rounds--) {
     goes_on = (!zuphinka_is_low(&pool, FEW) || cut(&pool, arguments[2])) && lend(&pool);
   }
-  goes_on = goes_on && close_all(&pool) && cut(&pool, arguments[2]);
+  goes_on = close_all(&pool) && goes_on && cut(&pool, arguments[2]);
   zuphinka_drop(&pool);
   if (!goes_on) fprintf(stderr, "long_life: ended early\n");
   return goes_on ? 0 : 1;

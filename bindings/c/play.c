@@ -173,7 +173,7 @@ static bool read_request(char *line, struct zuphinka_request *request) {
 
 struct state {
   uint64_t steps, room;
-  struct zuphinka_counts counts;
+  struct zuphinka_tally counts;
 };
 
 static struct state state_of(struct zuphinka *pool) {
@@ -397,8 +397,8 @@ static void append_key(struct text *text, const struct text *key) {
 }
 
 /* What is told of settings, with the key that is at fault. */
-static uint32_t tell_settings(const char *text, size_t length, struct zuphinka_settings *settings, struct text *key) {
-  struct zuphinka_settings untouched;
+static uint32_t tell_settings(const char *text, size_t length, struct zuphinka_setup *settings, struct text *key) {
+  struct zuphinka_setup untouched;
   uint64_t size = 0;
   char none = 'x';
   memset(&untouched, 0x5a, sizeof untouched);
@@ -433,7 +433,7 @@ static void fault_in(uint32_t status, const struct text *key) {
 }
 
 static void open_pool(struct zuphinka *pool, const char *path) {
-  struct zuphinka_settings settings;
+  struct zuphinka_setup settings;
   struct text key = {0};
   size_t length;
   char *text = read_file(path, &length);
@@ -459,7 +459,7 @@ static void open_pool(struct zuphinka *pool, const char *path) {
 static void check_empty(struct zuphinka *pool) {
   struct zuphinka_request request = {.input = ZUPHINKA_INPUT_ADD};
   struct zuphinka_reply reply = {0};
-  struct zuphinka_counts counts = {0};
+  struct zuphinka_tally counts = {0};
   uint64_t number = 7;
   char text[1] = {'x'};
   check(zuphinka_step(pool, &request, &reply) == ZUPHINKA_STATUS_NOT_OPEN && !reply.answer, "a step of no pool");
@@ -569,6 +569,7 @@ int main(int count, char **arguments) {
   bool is_read = count <= 3 || read_number(arguments[3], UINT64_MAX, &every);
   if (count < 3 || count > 5 || is_each != (count == 5) || !is_read) fault("wrong arguments");
   check_texts();
+  check(zuphinka_version() == ZUPHINKA_VERSION_NUMBER, "a library of another version than the header");
   run(arguments, every);
   flush();
   if (is_each)

@@ -65,16 +65,27 @@ static bool sync_folder(const char *folder) {
   return close(file) == 0 && is_synced;
 }
 
-/* Stores a segment in a file that is complete or absent, also after a crash: it has another name until it is written. */
+/* Gives a file its name, unless another file has it, and makes the name permanent. */
+static bool name_file(const char *folder, const char *unfinished, const char *finished) {
+  if (link(unfinished, finished) != 0) return false;
+  if (sync_folder(folder)) return true;
+  unlink(finished);
+  return false;
+}
+
+/* Stores a segment in a file that is complete or absent, also after a crash: it has a name of this process until it is written. It replaces no file
+ * of another pool. */
 static bool store(void *folder, uint64_t first, const char *text, size_t size) {
   char unfinished[1024], finished[1024];
-  int length = snprintf(unfinished, sizeof unfinished, "%s/unfinished", (const char *)folder);
+  int length = snprintf(unfinished, sizeof unfinished, "%s/unfinished-%ld", (const char *)folder, (long)getpid());
   int other = snprintf(finished, sizeof finished, "%s/segment-%020" PRIu64, (const char *)folder, first);
   if (length < 0 || (size_t)length >= sizeof unfinished || other < 0 || (size_t)other >= sizeof finished) return false;
   int file = open(unfinished, O_WRONLY | O_CREAT | O_TRUNC, 0644);
   if (file < 0) return false;
   bool is_written = write_text(file, text, size);
-  return close(file) == 0 && is_written && rename(unfinished, finished) == 0 && sync_folder(folder);
+  bool is_stored = close(file) == 0 && is_written && name_file(folder, unfinished, finished);
+  unlink(unfinished);
+  return is_stored;
 }
 
 /* ---- threads */

@@ -55,7 +55,8 @@
  * ZUPHINKA_ANSWER_TIMED_OUT. Make, test and destroy objects without the lock. Destroy an object before you report it
  * (ZUPHINKA_INPUT_DESTROYED): the report frees its place, and another thread may make a new object at once.
  *
- * bindings/c/zuphinka_pool.c does all of this, and is tested with eight threads under ThreadSanitizer. Copy from it, or use it as it is
+ * A thread that returns an object and borrows at once may take it again before the one that it woke, over and over. To bound that, let borrowers
+ * queue: bindings/c/zuphinka_pool.c does, and all else above. It is tested with eight threads under ThreadSanitizer. Copy from it, or use it as it is
  * (zuphinka_pool.h), as bindings/c/shared_life.c does.
  */
 #ifndef ZUPHINKA_H
@@ -65,11 +66,12 @@
 #include <stddef.h>
 #include <stdint.h>
 
-/* The version of this header, which is that of the library: a text and its three numbers. */
+/* The version of this header, which is that of the library: a text, its three numbers, and one number that is greater for each later version. */
 #define ZUPHINKA_VERSION "0.1.0"
 #define ZUPHINKA_VERSION_MAJOR 0
 #define ZUPHINKA_VERSION_MINOR 1
 #define ZUPHINKA_VERSION_PATCH 0
+#define ZUPHINKA_VERSION_NUMBER (ZUPHINKA_VERSION_MAJOR * 1000000 + ZUPHINKA_VERSION_MINOR * 1000 + ZUPHINKA_VERSION_PATCH)
 
 #ifdef __cplusplus
 extern "C" {
@@ -188,7 +190,7 @@ struct zuphinka_reply {
 };
 
 /* Numbers of entries and objects. */
-struct zuphinka_counts {
+struct zuphinka_tally {
   uint64_t steps;     /* entries since the pool was opened */
   uint64_t idle;      /* idle objects, including those under an idle test */
   uint64_t lent;      /* lent objects */
@@ -200,7 +202,7 @@ struct zuphinka_counts {
 };
 
 /* Settings, as docs/guide/settings.md explains them. The key of field `max_total` is maxTotal, and so on. */
-struct zuphinka_settings {
+struct zuphinka_setup {
   uint64_t journal_limit;                  /* the most entries that the journal stores */
   int64_t max_wait_millis;                 /* milliseconds; negative: no limit */
   int64_t min_evictable_idle_millis;       /* milliseconds; 0 or negative: no such eviction */
@@ -227,8 +229,11 @@ struct zuphinka_settings {
 #if defined(__STDC_VERSION__) && __STDC_VERSION__ >= 201112L
 _Static_assert(sizeof(void *) == 8 && sizeof(size_t) == 8, "zuphinka.h is for 64-bit systems");
 _Static_assert(sizeof(struct zuphinka_request) == 40 && sizeof(struct zuphinka_reply) == 32, "zuphinka.h: another layout of structs");
-_Static_assert(sizeof(struct zuphinka_settings) == 72, "zuphinka.h: another layout of structs");
+_Static_assert(sizeof(struct zuphinka_setup) == 72, "zuphinka.h: another layout of structs");
 #endif
+
+/* Returns the ZUPHINKA_VERSION_NUMBER of the library that the program is linked with. It needs no pool. */
+uint32_t zuphinka_version(void);
 
 /*
  * Reads settings from a text: a TOML document of `length` bytes (docs/guide/settings.md). A text of no bytes has all defaults. It needs no pool. A
@@ -242,7 +247,7 @@ _Static_assert(sizeof(struct zuphinka_settings) == 72, "zuphinka.h: another layo
  *   - ZUPHINKA_STATUS_OUT_OF_MEMORY, possibly in place of any other error except ZUPHINKA_STATUS_NOT_TEXT.
  * If no key is reported, `key` and `size` are unchanged.
  */
-uint32_t zuphinka_settings(const char *text, size_t length, struct zuphinka_settings *settings, char *key, size_t capacity, uint64_t *size);
+uint32_t zuphinka_settings(const char *text, size_t length, struct zuphinka_setup *settings, char *key, size_t capacity, uint64_t *size);
 
 /*
  * Opens a pool in an empty handle: without objects, with an empty journal, and with settings from a text, a TOML document of `length` bytes
@@ -269,7 +274,7 @@ uint32_t zuphinka_open(struct zuphinka *pool, const char *settings, size_t lengt
 uint32_t zuphinka_step(struct zuphinka *pool, const struct zuphinka_request *request, struct zuphinka_reply *reply);
 
 /* Stores the counts in `counts`. Returns ZUPHINKA_STATUS_DONE; or ZUPHINKA_STATUS_NOT_OPEN, and `counts` is unchanged. */
-uint32_t zuphinka_counts(struct zuphinka *pool, struct zuphinka_counts *counts);
+uint32_t zuphinka_counts(struct zuphinka *pool, struct zuphinka_tally *counts);
 
 /*
  * Stores in `steps` the number of entries in the journal, since its last cut. Returns ZUPHINKA_STATUS_DONE; or ZUPHINKA_STATUS_NOT_OPEN, and

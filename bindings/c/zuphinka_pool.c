@@ -8,9 +8,12 @@
 #include <stdio.h>
 #include <stdlib.h>
 #include <time.h>
+#include <unistd.h>
 
 enum {
   KEPT = 1024,          /* entries that a pool without a journal keeps at least before it drops them */
+  FIRST_PLACES = 16,    /* of loans */
+  MOST_OVERTAKES = 16,  /* of a thread that waits, if the host doesn't say */
   AT_ONCE = 256,        /* lines that are copied in one critical section */
   TRIES = 16,           /* allocations that fail one after the other before a copy gives up */
   SMALLEST_TEXT = 4096, /* bytes */
@@ -31,41 +34,73 @@ struct segment {
   uint64_t first, entries;
 };
 
+/* The loans that have not ended. Each has a place, which has the number of the loan; a free place has the next free one, with the bit FREE. */
+struct loans {
+  uint64_t *places;
+  uint64_t capacity, free; /* the first free place; or `capacity`, if none is free */
+  uint64_t begun;
+};
+
+static const uint64_t FREE = UINT64_C(1) << 63;
+
+/* A thread that waits. It has this memory until it leaves the queue, and then another one may have it: whoever woke it may signal late. */
+struct waiter {
+  struct waiter *older, *younger; /* a spare one has the next spare one in `older` */
+  pthread_cond_t changed;
+  bool is_woken;  /* an object or a place is set aside for it, or the pool is closed */
+  bool is_calmed; /* it was woken, and others took what was set aside */
+};
+
+/* The threads that wait, in the order of arrival. Those that were woken come first. */
+struct queue {
+  struct waiter *oldest, *youngest;
+  struct waiter *asleep; /* the oldest one that was not woken */
+  struct waiter *spare;  /* for further threads */
+  uint64_t length, woken;
+  uint32_t overtaken;      /* how many borrows that came later took what the oldest one, and those behind it, could have had */
+  uint32_t most_overtaken; /* from which number on newcomers queue */
+};
+
 struct zuphinka_pool {
   struct zuphinka_pool_host host;
-  struct zuphinka_settings settings;
+  struct zuphinka_setup settings;
   enum zuphinka_pool_journal journal;
+  uint64_t number; /* no other pool of the process has it; it is not 0 */
+  pid_t process;   /* the process that opened the pool */
   struct timespec opened;
   bool works_on_borrow; /* a callback runs between the take of an idle object and its loan */
   bool works_on_return; /* a callback runs between the return of an object and its parking */
 
-  pthread_mutex_t cutting; /* of `unstored`. A thread that has it may take `lock`, and then nobody else cuts the journal */
-  struct segment unstored; /* without bytes: none */
+  struct segment unstored; /* of the thread that cuts; without bytes: none */
 
-  pthread_mutex_t lock; /* of all that follows */
-  pthread_cond_t changed;
+  pthread_mutex_t lock;         /* of all that follows */
+  pthread_condattr_t monotonic; /* waits end by CLOCK_MONOTONIC */
   struct zuphinka core;
-  uint64_t last;            /* the time of the last entry */
-  uint64_t present;         /* objects that have a place */
-  uint64_t idle;            /* objects whose tokens the core has */
-  uint64_t sleepers, woken; /* threads that wait; those of them that were woken and have not looked yet, or fewer */
+  uint64_t last;    /* the time of the last entry */
+  uint64_t present; /* objects that have a place */
+  uint64_t idle;    /* objects whose tokens the core has */
+  struct loans loans;
+  struct queue queue;
   uint64_t stored, dropped; /* entries in the journal; entries cut off before them */
   uint64_t most;            /* entries from which on a pool without a journal drops them */
   uint64_t low;             /* the room below which a segment is stored */
   bool has_unstored;        /* `unstored` has a segment */
+  bool is_cutting;          /* a thread cuts the journal, or stores what was cut off, and no other one may */
+  pthread_t cutter;         /* that thread */
+  pthread_cond_t cut;       /* it is done */
   bool is_closed;
 };
-
-/* The threads that a step may serve. */
-enum waking { WAKE_NONE, WAKE_ONE, WAKE_ALL };
 
 /* For how long a borrow waits, besides what the settings say. */
 enum patience { AS_SET, NOT_AT_ALL, UNTIL };
 
+/* A borrow, while it looks for an object. */
 struct wait {
   uint64_t began, at; /* by the pool's clock: when it began, and when the clock was read last */
   enum patience patience;
   struct timespec until; /* for UNTIL, by CLOCK_MONOTONIC */
+  bool is_back;          /* it took an idle object, which failed: it goes before those that wait */
+  struct waiter *waiter; /* null if it is not in the queue */
 };
 
 /* ---- time and numbers of threads */
@@ -119,6 +154,48 @@ uint32_t zuphinka_pool_caller(void) {
   return number;
 }
 
+/* ---- loans */
+
+static uint64_t next_pool_number(void) {
+  static atomic_uint_least64_t numbered;
+  return atomic_fetch_add_explicit(&numbered, 1, memory_order_relaxed) + 1;
+}
+
+/* Sees that a place is free for one more loan. Returns whether there is memory for it. */
+static bool has_free_place(struct loans *loans) {
+  if (loans->free < loans->capacity) return true;
+  uint64_t capacity = 2 * loans->capacity + FIRST_PLACES;
+  uint64_t *places = realloc(loans->places, capacity * sizeof *places);
+  if (!places) return false;
+  for (uint64_t place = loans->capacity; place < capacity; place++) places[place] = FREE | (place + 1);
+  loans->places = places;
+  loans->capacity = capacity;
+  return true;
+}
+
+/* Begins a loan in a free place, with the lock held. */
+static struct zuphinka_pool_loan begin_loan(struct zuphinka_pool *pool, uint64_t id, void *object) {
+  struct loans *loans = &pool->loans;
+  uint64_t place = loans->free;
+  loans->free = loans->places[place] & ~FREE;
+  loans->places[place] = ++loans->begun;
+  return (struct zuphinka_pool_loan){.object = object, .id = id, .pool = pool->number, .place = place, .number = loans->begun};
+}
+
+/* Ends a loan, with the lock held: no copy of it is a loan any more. */
+static void free_place(struct loans *loans, const struct zuphinka_pool_loan *loan) {
+  loans->places[loan->place] = FREE | loans->free;
+  loans->free = loan->place;
+}
+
+/* Returns why there is no such loan, with the lock held. */
+static enum zuphinka_pool_error error_of_loan(const struct zuphinka_pool *pool, const struct zuphinka_pool_loan *loan) {
+  if (loan->id == ZUPHINKA_POOL_NO_LOAN) return ZUPHINKA_POOL_ERROR_NOT_LENT;
+  if (loan->pool != pool->number) return ZUPHINKA_POOL_ERROR_FOREIGN;
+  bool is_lent = loan->place < pool->loans.capacity && pool->loans.places[loan->place] == loan->number;
+  return is_lent ? ZUPHINKA_POOL_ERROR_NONE : ZUPHINKA_POOL_ERROR_NOT_LENT;
+}
+
 /* ---- steps of the core */
 
 /* Ends the program: the core answered what it never answers. */
@@ -127,7 +204,7 @@ static _Noreturn void broken(const struct zuphinka_request *request, uint32_t st
   abort();
 }
 
-/* Drops the stored entries, with both locks held. Without memory it drops none. */
+/* Drops the stored entries, with the lock held and while no other thread cuts. Without memory it drops none. */
 static void drop_entries(struct zuphinka_pool *pool) {
   if (pool->stored == 0 || zuphinka_cut(&pool->core) != ZUPHINKA_STATUS_DONE) return;
   pool->dropped += pool->stored;
@@ -137,10 +214,7 @@ static void drop_entries(struct zuphinka_pool *pool) {
 
 /* Keeps the journal of a pool without one short. A cut takes time for the present objects: it comes after four entries for each. */
 static void keep_short(struct zuphinka_pool *pool) {
-  if (pool->journal != ZUPHINKA_POOL_JOURNAL_OFF || pool->stored < pool->most) return;
-  if (pthread_mutex_trylock(&pool->cutting) != 0) return;
-  drop_entries(pool);
-  pthread_mutex_unlock(&pool->cutting);
+  if (pool->journal == ZUPHINKA_POOL_JOURNAL_OFF && pool->stored >= pool->most && !pool->is_cutting) drop_entries(pool);
 }
 
 static void note(struct zuphinka_pool *pool, uint32_t input, uint32_t answer) {
@@ -158,11 +232,12 @@ static void note(struct zuphinka_pool *pool, uint32_t input, uint32_t answer) {
   }
 }
 
-/* Takes a step with the lock held. Times never decrease. */
+/* Takes a step with the lock held. Times never decrease. A borrow has a place for its loan before. */
 static uint32_t take_step(struct zuphinka_pool *pool, const struct zuphinka_request *request, struct zuphinka_reply *reply) {
   struct zuphinka_request sent = *request;
   sent.caller = zuphinka_pool_caller();
   if (sent.at < pool->last) sent.at = pool->last;
+  if (sent.input == ZUPHINKA_INPUT_BORROW && !has_free_place(&pool->loans)) return ZUPHINKA_STATUS_OUT_OF_MEMORY;
   keep_short(pool);
   uint32_t status = zuphinka_step(&pool->core, &sent, reply);
   if (status != ZUPHINKA_STATUS_DONE) return status;
@@ -174,41 +249,150 @@ static uint32_t take_step(struct zuphinka_pool *pool, const struct zuphinka_requ
 
 /* ---- threads that wait */
 
-/* Returns how many borrows would find an object or a place. */
+/* Returns how many borrows would find an object or a place. A closed pool answers each. */
 static uint64_t available(const struct zuphinka_pool *pool) {
-  if (pool->settings.max_total < 0) return UINT64_MAX;
+  if (pool->is_closed || pool->settings.max_total < 0) return UINT64_MAX;
   uint64_t most = (uint64_t)pool->settings.max_total;
   return pool->idle + (pool->present < most ? most - pool->present : 0);
 }
 
-/* Returns whether to wake one more thread, so that one is on its way to each object and place. It then counts as woken. */
-static enum waking wake_one(struct zuphinka_pool *pool) {
-  if (pool->woken >= pool->sleepers || pool->woken >= available(pool)) return WAKE_NONE;
-  pool->woken++;
-  return WAKE_ONE;
+/* Sets something aside for the oldest waiter that sleeps, which is then to be woken. */
+static struct waiter *serve_oldest(struct queue *queue) {
+  struct waiter *waiter = queue->asleep;
+  waiter->is_woken = true;
+  waiter->is_calmed = false;
+  queue->asleep = waiter->younger;
+  queue->woken++;
+  return waiter;
 }
 
-static enum waking wake_all(struct zuphinka_pool *pool) {
-  pool->woken = pool->sleepers;
-  return WAKE_ALL;
+/* Lets the youngest waiter that was woken sleep on, since there is nothing for it any more. */
+static void calm_youngest(struct queue *queue) {
+  struct waiter *waiter = queue->asleep ? queue->asleep->older : queue->youngest;
+  waiter->is_woken = false;
+  waiter->is_calmed = true;
+  queue->asleep = waiter;
+  queue->woken--;
 }
 
-/* Returns whom an answer may serve. */
-static enum waking waking_after(struct zuphinka_pool *pool, uint32_t input, uint32_t answer) {
-  switch (answer) {
-    case ZUPHINKA_ANSWER_PARKED:
-    case ZUPHINKA_ANSWER_KEPT:
-    case ZUPHINKA_ANSWER_FREED:
-    case ZUPHINKA_ANSWER_RECLAIMED: return wake_one(pool);
-    case ZUPHINKA_ANSWER_COUNT: return input == ZUPHINKA_INPUT_CLOSE ? wake_all(pool) : WAKE_NONE;
-    default: return WAKE_NONE;
+static void wake(struct waiter *waiter) {
+  if (waiter) pthread_cond_signal(&waiter->changed);
+}
+
+/* Sees that as many waiters are woken as find something, the oldest ones. A step changes that number by one, and a close serves all. Returns the
+ * last one that is to be woken. */
+static struct waiter *balance(struct zuphinka_pool *pool) {
+  struct queue *queue = &pool->queue;
+  struct waiter *served = NULL;
+  if (queue->length == 0) return NULL;
+  uint64_t found = available(pool), wanted = found < queue->length ? found : queue->length;
+  while (queue->woken != wanted) {
+    if (queue->woken > wanted) {
+      calm_youngest(queue);
+    } else {
+      wake(served);
+      served = serve_oldest(queue);
+    }
+  }
+  return served;
+}
+
+/* Lets the lock go, and wakes the thread for which there is something. */
+static void unlock(struct zuphinka_pool *pool) {
+  struct waiter *served = balance(pool);
+  pthread_mutex_unlock(&pool->lock);
+  wake(served);
+}
+
+/* Returns a waiter for a thread, or null without memory for it. */
+static struct waiter *take_spare(struct zuphinka_pool *pool) {
+  struct waiter *waiter = pool->queue.spare;
+  if (waiter) {
+    pool->queue.spare = waiter->older;
+    return waiter;
+  }
+  waiter = malloc(sizeof *waiter);
+  if (!waiter || pthread_cond_init(&waiter->changed, &pool->monotonic) == 0) return waiter;
+  free(waiter);
+  return NULL;
+}
+
+static void free_spares(struct queue *queue) {
+  while (queue->spare) {
+    struct waiter *waiter = queue->spare;
+    queue->spare = waiter->older;
+    pthread_cond_destroy(&waiter->changed);
+    free(waiter);
   }
 }
 
-static void unlock_and_wake(struct zuphinka_pool *pool, enum waking waking) {
-  pthread_mutex_unlock(&pool->lock);
-  if (waking == WAKE_ONE) pthread_cond_signal(&pool->changed);
-  if (waking == WAKE_ALL) pthread_cond_broadcast(&pool->changed);
+/* Links a waiter in at the end of the queue. */
+static void append(struct queue *queue, struct waiter *waiter) {
+  waiter->older = queue->youngest;
+  waiter->younger = NULL;
+  *(queue->youngest ? &queue->youngest->younger : &queue->oldest) = waiter;
+  queue->youngest = waiter;
+  if (!queue->asleep) queue->asleep = waiter;
+}
+
+/* Links a waiter in at the front of the queue. It found nothing, so none of the others is woken. */
+static void prepend(struct queue *queue, struct waiter *waiter) {
+  waiter->older = NULL;
+  waiter->younger = queue->oldest;
+  *(queue->oldest ? &queue->oldest->older : &queue->youngest) = waiter;
+  queue->oldest = queue->asleep = waiter;
+  queue->overtaken = 0;
+}
+
+/* Makes a borrow wait: behind all others; or before them, if it had an object. Returns whether there is memory for it. */
+static bool join_queue(struct zuphinka_pool *pool, struct wait *wait) {
+  struct queue *queue = &pool->queue;
+  wait->waiter = take_spare(pool);
+  if (!wait->waiter) return false;
+  wait->waiter->is_woken = wait->waiter->is_calmed = false;
+  queue->length++;
+  if (wait->is_back) {
+    prepend(queue, wait->waiter);
+  } else {
+    append(queue, wait->waiter);
+  }
+  wake(balance(pool));
+  return true;
+}
+
+/* Ends the wait of a borrow. The next oldest counts from 0 how often it is overtaken. */
+static void leave_queue(struct zuphinka_pool *pool, struct wait *wait) {
+  struct queue *queue = &pool->queue;
+  struct waiter *waiter = wait->waiter;
+  if (!waiter) return;
+  if (waiter == queue->oldest) queue->overtaken = 0;
+  if (waiter == queue->asleep) queue->asleep = waiter->younger;
+  *(waiter->older ? &waiter->older->younger : &queue->oldest) = waiter->younger;
+  *(waiter->younger ? &waiter->younger->older : &queue->youngest) = waiter->older;
+  queue->length--;
+  queue->woken -= waiter->is_woken;
+  waiter->older = queue->spare;
+  queue->spare = waiter;
+  wait->waiter = NULL;
+}
+
+/* Returns whether a borrow may look for an object: one that waits if it was woken, or at its end if there is nothing; another one if there is
+ * something that no waiter was woken for, or it may overtake them. */
+static bool may_look(const struct zuphinka_pool *pool, const struct wait *wait) {
+  const struct queue *queue = &pool->queue;
+  if (wait->waiter) return wait->waiter->is_woken || available(pool) == 0;
+  return wait->is_back || queue->length == 0 || queue->overtaken < queue->most_overtaken || available(pool) > queue->woken;
+}
+
+/* Counts a borrow that found something, if it took it from those that wait. */
+static void note_overtake(struct zuphinka_pool *pool, const struct wait *wait) {
+  bool is_newcomer = !wait->waiter && !wait->is_back;
+  if (is_newcomer && available(pool) < pool->queue.woken) pool->queue.overtaken++;
+}
+
+/* Notes that a waiter looks: the oldest one, which was woken for nothing, is overtaken no more. */
+static void note_look(struct queue *queue, const struct waiter *waiter) {
+  if (waiter->is_calmed && waiter == queue->oldest) queue->overtaken = queue->most_overtaken;
 }
 
 /* ---- segments */
@@ -262,7 +446,7 @@ static uint32_t copy_all(struct zuphinka_pool *pool, bool is_base, uint64_t *pos
   return status;
 }
 
-/* Cuts the stored entries off, with `cutting` held and no segment unstored: they are the unstored segment then. */
+/* Cuts the stored entries off, where no segment is unstored: they are the unstored segment then. Of the thread that cuts, without the lock. */
 static enum zuphinka_pool_error copy_segment(struct zuphinka_pool *pool) {
   struct segment segment = {.first = 0};
   uint64_t lines = 0;
@@ -281,7 +465,7 @@ static enum zuphinka_pool_error copy_segment(struct zuphinka_pool *pool) {
   return ZUPHINKA_POOL_ERROR_NONE;
 }
 
-/* Passes the unstored segment to the host, with `cutting` held. */
+/* Passes the unstored segment to the host. Of the thread that cuts, without the lock. */
 static enum zuphinka_pool_error store_unstored(struct zuphinka_pool *pool, zuphinka_pool_store *store, void *context, uint64_t *entries) {
   struct segment *segment = &pool->unstored;
   if (!segment->text.bytes) return ZUPHINKA_POOL_ERROR_NONE;
@@ -292,8 +476,8 @@ static enum zuphinka_pool_error store_unstored(struct zuphinka_pool *pool, zuphi
   return ZUPHINKA_POOL_ERROR_NONE;
 }
 
-/* Stores the unstored segment and then the journal, with `cutting` held and without the lock. After an error the next borrow that tries again
- * is one that finds half of the room that is left. */
+/* Stores the unstored segment and then the journal. Of the thread that cuts, without the lock. After an error the next borrow that tries again is
+ * one that finds half of the room that is left. */
 static enum zuphinka_pool_error store_all(struct zuphinka_pool *pool, zuphinka_pool_store *store, void *context, uint64_t *entries) {
   enum zuphinka_pool_error error = store_unstored(pool, store, context, entries);
   if (!error) error = copy_segment(pool);
@@ -308,36 +492,89 @@ static enum zuphinka_pool_error store_all(struct zuphinka_pool *pool, zuphinka_p
   return error;
 }
 
-/* Stores the journal in time, with the lock held before and after, and not meanwhile. */
-static void keep_room(struct zuphinka_pool *pool, uint64_t least, bool is_due) {
-  if (pool->journal != ZUPHINKA_POOL_JOURNAL_SEGMENTS || !(is_due || zuphinka_is_low(&pool->core, least))) return;
-  if (pthread_mutex_trylock(&pool->cutting) != 0) return;
-  uint64_t entries = 0;
-  pthread_mutex_unlock(&pool->lock);
-  store_all(pool, pool->host.store, pool->host.context, &entries);
-  pthread_mutex_lock(&pool->lock);
-  pthread_mutex_unlock(&pool->cutting);
+/* Returns for how many milliseconds a borrow may still wait by the settings; UINT64_MAX: no limit. */
+static uint64_t time_left(const struct zuphinka_pool *pool, const struct wait *wait) {
+  int64_t most = pool->settings.max_wait_millis;
+  uint64_t waited = wait->at > wait->began ? wait->at - wait->began : 0;
+  if (most < 0) return UINT64_MAX;
+  return (uint64_t)most > waited ? (uint64_t)most - waited : 0;
 }
 
-/* Makes room in a full journal, with the lock held before and after, and not meanwhile. Returns whether entries were cut off. */
-static bool make_room(struct zuphinka_pool *pool) {
-  if (pool->journal == ZUPHINKA_POOL_JOURNAL_MEMORY) return false;
-  uint64_t dropped = pool->dropped, entries = 0;
+/* Stores the end of a sleep in `end`, and returns whether it has one. */
+static bool has_end(const struct zuphinka_pool *pool, const struct wait *wait, struct timespec *end) {
+  uint64_t left = time_left(pool, wait);
+  struct timespec limit = later(monotonic(), left);
+  bool is_limited = left != UINT64_MAX, has_until = wait->patience == UNTIL;
+  bool ends_until = has_until && (!is_limited || is_before(wait->until, limit));
+  *end = ends_until ? wait->until : limit;
+  return is_limited || has_until;
+}
+
+/* Takes the right to cut the journal, with the lock held. */
+static void begin_cut(struct zuphinka_pool *pool) {
+  pool->is_cutting = true;
+  pool->cutter = pthread_self();
+}
+
+static void end_cut(struct zuphinka_pool *pool) {
+  pool->is_cutting = false;
+  pthread_cond_broadcast(&pool->cut);
+}
+
+/* Does the same with a store of the whole journal in between, with the lock held before and after, and not meanwhile. */
+static enum zuphinka_pool_error cut_and_store(struct zuphinka_pool *pool, zuphinka_pool_store *store, void *context, uint64_t *entries) {
+  begin_cut(pool);
   pthread_mutex_unlock(&pool->lock);
-  pthread_mutex_lock(&pool->cutting);
-  if (pool->journal == ZUPHINKA_POOL_JOURNAL_SEGMENTS) store_all(pool, pool->host.store, pool->host.context, &entries);
+  enum zuphinka_pool_error error = store_all(pool, store, context, entries);
   pthread_mutex_lock(&pool->lock);
-  if (pool->journal == ZUPHINKA_POOL_JOURNAL_OFF) drop_entries(pool);
-  pthread_mutex_unlock(&pool->cutting);
+  end_cut(pool);
+  return error;
+}
+
+/* Stores the journal in time, with the lock held before and after, and not meanwhile. */
+static void keep_room(struct zuphinka_pool *pool, uint64_t least, bool is_due) {
+  if (pool->journal != ZUPHINKA_POOL_JOURNAL_SEGMENTS || !(is_due || zuphinka_is_low(&pool->core, least)) || pool->is_cutting) return;
+  uint64_t entries = 0;
+  cut_and_store(pool, pool->host.store, pool->host.context, &entries);
+}
+
+/* Sleeps while another thread cuts the journal, for as long as a borrow waits for an object, or, without one, as long as it takes; with the lock held
+ * before and after. Returns whether none cuts any more. The thread that cuts does not wait for itself. */
+static bool wait_for_cut(struct zuphinka_pool *pool, struct wait *wait) {
+  struct timespec end;
+  bool is_over = wait && wait->patience == NOT_AT_ALL, is_limited = wait && has_end(pool, wait, &end);
+  while (pool->is_cutting && !is_over && !pthread_equal(pool->cutter, pthread_self())) {
+    if (is_limited) {
+      is_over = pthread_cond_timedwait(&pool->cut, &pool->lock, &end) != 0;
+    } else {
+      pthread_cond_wait(&pool->cut, &pool->lock);
+    }
+    if (wait) wait->at = time_under_lock(pool);
+  }
+  return !pool->is_cutting;
+}
+
+/* Makes room in a full journal for a borrow, or for another call, with the lock held before and after, and not meanwhile. Returns whether entries
+ * were cut off. */
+static bool make_room(struct zuphinka_pool *pool, struct wait *wait) {
+  uint64_t dropped = pool->dropped, entries = 0;
+  if (pool->journal == ZUPHINKA_POOL_JOURNAL_MEMORY) return false;
+  bool may_cut = wait_for_cut(pool, wait) && pool->dropped == dropped;
+  if (may_cut && pool->journal == ZUPHINKA_POOL_JOURNAL_SEGMENTS) {
+    cut_and_store(pool, pool->host.store, pool->host.context, &entries);
+  } else if (may_cut) {
+    drop_entries(pool);
+  }
   return pool->dropped != dropped;
 }
 
 /* ---- critical sections */
 
-/* Takes a step with the lock held, and makes room for it if the journal is full. */
-static uint32_t step_with_room(struct zuphinka_pool *pool, const struct zuphinka_request *request, struct zuphinka_reply *reply) {
+/* Takes a step of a borrow, or of another call, with the lock held. Makes room for it if the journal is full. */
+static uint32_t step_with_room(struct zuphinka_pool *pool, struct wait *wait, const struct zuphinka_request *request,
+                               struct zuphinka_reply *reply) {
   uint32_t status = take_step(pool, request, reply);
-  while (status == ZUPHINKA_STATUS_JOURNAL_FULL && make_room(pool)) status = take_step(pool, request, reply);
+  while (status == ZUPHINKA_STATUS_JOURNAL_FULL && make_room(pool, wait)) status = take_step(pool, request, reply);
   return status;
 }
 
@@ -352,14 +589,18 @@ static enum zuphinka_pool_error error_of_step(const struct zuphinka_pool *pool, 
   broken(request, status, 0);
 }
 
-/* One critical section of one step. */
-static enum zuphinka_pool_error ask(struct zuphinka_pool *pool, struct zuphinka_request request, struct zuphinka_reply *reply) {
+/* One critical section of one step, of a borrow or of another call. */
+static enum zuphinka_pool_error ask_for(struct zuphinka_pool *pool, struct wait *wait, struct zuphinka_request request,
+                                        struct zuphinka_reply *reply) {
   request.at = time_of(pool);
   pthread_mutex_lock(&pool->lock);
-  uint32_t status = step_with_room(pool, &request, reply);
-  enum zuphinka_pool_error error = error_of_step(pool, &request, status);
-  unlock_and_wake(pool, error ? WAKE_NONE : waking_after(pool, request.input, reply->answer));
+  enum zuphinka_pool_error error = error_of_step(pool, &request, step_with_room(pool, wait, &request, reply));
+  unlock(pool);
   return error;
+}
+
+static enum zuphinka_pool_error ask(struct zuphinka_pool *pool, struct zuphinka_request request, struct zuphinka_reply *reply) {
+  return ask_for(pool, NULL, request, reply);
 }
 
 /* One critical section that completes work on an object: it never fails. */
@@ -422,58 +663,52 @@ static enum zuphinka_pool_error error_of_outcome(uint32_t outcome) {
 
 /* ---- borrows */
 
-/* Returns for how many milliseconds a borrow may still wait by the settings; UINT64_MAX: no limit. */
-static uint64_t time_left(const struct zuphinka_pool *pool, const struct wait *wait) {
-  int64_t most = pool->settings.max_wait_millis;
-  uint64_t waited = wait->at > wait->began ? wait->at - wait->began : 0;
-  if (most < 0) return UINT64_MAX;
-  return (uint64_t)most > waited ? (uint64_t)most - waited : 0;
-}
-
-/* Stores the end of a sleep in `end`, and returns whether it has one. */
-static bool has_end(const struct zuphinka_pool *pool, const struct wait *wait, struct timespec *end) {
-  uint64_t left = time_left(pool, wait);
-  struct timespec limit = later(monotonic(), left);
-  bool is_limited = left != UINT64_MAX, has_until = wait->patience == UNTIL;
-  bool ends_until = has_until && (!is_limited || is_before(wait->until, limit));
-  *end = ends_until ? wait->until : limit;
-  return is_limited || has_until;
-}
+static bool is_found(uint32_t answer) { return answer == ZUPHINKA_ANSWER_TAKE || answer == ZUPHINKA_ANSWER_MAKE; }
 
 /* Sleeps once, with the lock held before and after. */
-static void sleep_once(struct zuphinka_pool *pool, const struct wait *wait) {
+static void sleep_once(struct zuphinka_pool *pool, struct wait *wait) {
   struct timespec end;
-  pool->sleepers++;
   if (has_end(pool, wait, &end)) {
-    pthread_cond_timedwait(&pool->changed, &pool->lock, &end);
+    pthread_cond_timedwait(&wait->waiter->changed, &pool->lock, &end);
   } else {
-    pthread_cond_wait(&pool->changed, &pool->lock);
+    pthread_cond_wait(&wait->waiter->changed, &pool->lock);
   }
-  pool->sleepers--;
-  if (pool->woken > 0) pool->woken--;
 }
 
-/* Sleeps until a borrow may find something, the pool closes, or the wait is over by the settings; with the lock held before and after. A thread
- * that is woken for nothing sleeps on and makes no entry. */
+/* Sleeps until a borrow is woken, or its wait is over by the settings; with the lock held before and after. It keeps its position in the queue, and
+ * one that finds nothing again makes no entry. Where the wait is over, and there is something for others alone, it has timed out. */
 static enum zuphinka_pool_error sleep_for_change(struct zuphinka_pool *pool, struct wait *wait) {
-  do {
-    if (wait->patience == NOT_AT_ALL) return ZUPHINKA_POOL_ERROR_EXHAUSTED;
+  if (wait->patience == NOT_AT_ALL) return ZUPHINKA_POOL_ERROR_EXHAUSTED;
+  if (!wait->waiter && !join_queue(pool, wait)) return ZUPHINKA_POOL_ERROR_OUT_OF_MEMORY;
+  while (!wait->waiter->is_woken && time_left(pool, wait) > 0) {
     if (wait->patience == UNTIL && !is_before(monotonic(), wait->until)) return ZUPHINKA_POOL_ERROR_TIMED_OUT;
     sleep_once(pool, wait);
     wait->at = time_under_lock(pool);
-  } while (!pool->is_closed && available(pool) == 0 && time_left(pool, wait) > 0);
-  return ZUPHINKA_POOL_ERROR_NONE;
+    note_look(&pool->queue, wait->waiter);
+  }
+  return may_look(pool, wait) ? ZUPHINKA_POOL_ERROR_NONE : ZUPHINKA_POOL_ERROR_TIMED_OUT;
 }
 
-/* Asks for an object with the lock held, and waits while there is none. */
+/* Asks for an object with the lock held. */
+static enum zuphinka_pool_error ask_for_object(struct zuphinka_pool *pool, struct wait *wait, struct zuphinka_reply *reply) {
+  struct zuphinka_request request = {.at = wait->at, .number = wait->began, .input = ZUPHINKA_INPUT_BORROW};
+  enum zuphinka_pool_error error = error_of_step(pool, &request, step_with_room(pool, wait, &request, reply));
+  if (error) return error;
+  if (is_found(reply->answer)) note_overtake(pool, wait);
+  if (reply->answer == ZUPHINKA_ANSWER_WAIT && available(pool) > 0) broken(&request, ZUPHINKA_STATUS_DONE, reply->answer);
+  return error;
+}
+
+/* Asks for an object with the lock held, and waits while there is none, or while those that wait come first. */
 static enum zuphinka_pool_error wait_for_object(struct zuphinka_pool *pool, struct wait *wait, struct zuphinka_reply *reply) {
-  for (;;) {
-    struct zuphinka_request request = {.at = wait->at, .number = wait->began, .input = ZUPHINKA_INPUT_BORROW};
-    enum zuphinka_pool_error error = error_of_step(pool, &request, step_with_room(pool, &request, reply));
-    if (error || reply->answer != ZUPHINKA_ANSWER_WAIT) return error;
-    error = sleep_for_change(pool, wait);
-    if (error) return error;
+  enum zuphinka_pool_error error = ZUPHINKA_POOL_ERROR_NONE;
+  reply->answer = ZUPHINKA_ANSWER_WAIT;
+  while (!error && reply->answer == ZUPHINKA_ANSWER_WAIT) {
+    error = may_look(pool, wait) ? ask_for_object(pool, wait, reply) : ZUPHINKA_POOL_ERROR_NONE;
+    if (!error && reply->answer == ZUPHINKA_ANSWER_WAIT) error = sleep_for_change(pool, wait);
   }
+  leave_queue(pool, wait);
+  return error;
 }
 
 /* Lends a taken object with the lock held, if no callback runs before. */
@@ -486,58 +721,75 @@ static void lend_at_once(struct zuphinka_pool *pool, const struct wait *wait, st
   reply->answer = ZUPHINKA_ANSWER_LENT;
 }
 
-/* Looks for an object or a place. A thread that fails leaves what it may have been woken for to another one. */
-static enum zuphinka_pool_error look(struct zuphinka_pool *pool, struct wait *wait, struct zuphinka_reply *reply) {
+/* Looks for an object or a place, and begins its loan. What a thread that fails was woken for is there for the next one. */
+static enum zuphinka_pool_error look(struct zuphinka_pool *pool, struct wait *wait, struct zuphinka_reply *reply,
+                                     struct zuphinka_pool_loan *loan) {
   pthread_mutex_lock(&pool->lock);
   keep_room(pool, pool->low, false);
+  if (!wait->is_back && wait->began < pool->last) wait->began = pool->last; /* the times of entries never decrease */
   enum zuphinka_pool_error error = wait_for_object(pool, wait, reply);
-  if (!error) lend_at_once(pool, wait, reply);
-  unlock_and_wake(pool, error ? wake_one(pool) : WAKE_NONE);
+  if (!error && is_found(reply->answer)) {
+    *loan = begin_loan(pool, reply->number, reply->object);
+    lend_at_once(pool, wait, reply);
+  }
+  unlock(pool);
   return error;
 }
 
+/* Reports the object of a loan as ready, or not. Returns whether it is lent; else it is destroyed, and its loan has ended. */
+static bool lend(struct zuphinka_pool *pool, const struct zuphinka_pool_loan *loan, uint32_t outcome) {
+  if (report(pool, ZUPHINKA_INPUT_READY, loan->id, outcome, loan->object) == ZUPHINKA_ANSWER_LENT) return true;
+  pthread_mutex_lock(&pool->lock);
+  free_place(&pool->loans, loan);
+  pthread_mutex_unlock(&pool->lock);
+  return false;
+}
+
 /* Makes an object for a borrower. */
-static enum zuphinka_pool_error lend_made(struct zuphinka_pool *pool, uint64_t id, struct zuphinka_pool_loan *loan) {
-  void *object = NULL;
-  uint32_t outcome = make(pool, id, &object);
-  if (outcome == ZUPHINKA_OUTCOME_GOOD) outcome = activate(pool, pool->settings.test_on_borrow, object);
-  if (report(pool, ZUPHINKA_INPUT_READY, id, outcome, object) != ZUPHINKA_ANSWER_LENT) return error_of_outcome(outcome);
-  *loan = (struct zuphinka_pool_loan){.object = object, .id = id};
-  return ZUPHINKA_POOL_ERROR_NONE;
+static enum zuphinka_pool_error lend_made(struct zuphinka_pool *pool, struct zuphinka_pool_loan *loan) {
+  uint32_t outcome = make(pool, loan->id, &loan->object);
+  if (outcome == ZUPHINKA_OUTCOME_GOOD) outcome = activate(pool, pool->settings.test_on_borrow, loan->object);
+  return lend(pool, loan, outcome) ? ZUPHINKA_POOL_ERROR_NONE : error_of_outcome(outcome);
 }
 
-/* Makes a taken object ready for a borrower. Returns whether it is lent; else it is destroyed. */
-static bool lend_taken(struct zuphinka_pool *pool, const struct zuphinka_reply *taken, struct zuphinka_pool_loan *loan) {
-  uint32_t outcome = activate(pool, pool->settings.test_on_borrow, taken->object);
-  if (report(pool, ZUPHINKA_INPUT_READY, taken->number, outcome, taken->object) != ZUPHINKA_ANSWER_LENT) return false;
-  *loan = (struct zuphinka_pool_loan){.object = taken->object, .id = taken->number};
-  return true;
+/* Makes a taken object ready for a borrower. Returns whether it is lent. */
+static bool lend_taken(struct zuphinka_pool *pool, const struct zuphinka_pool_loan *loan) {
+  return lend(pool, loan, activate(pool, pool->settings.test_on_borrow, loan->object));
 }
 
-static enum zuphinka_pool_error reclaim(struct zuphinka_pool *pool, uint32_t input, uint64_t *reclaimed);
+static enum zuphinka_pool_error reclaim(struct zuphinka_pool *pool, struct wait *wait, uint32_t input, uint64_t *reclaimed);
 
-static enum zuphinka_pool_error borrow(struct zuphinka_pool *pool, struct wait *wait, struct zuphinka_pool_loan *loan) {
-  uint64_t reclaimed = 0;
-  wait->began = wait->at = time_of(pool);
-  if (pool->settings.abandoned && pool->settings.remove_abandoned_on_borrow) {
-    enum zuphinka_pool_error error = reclaim(pool, ZUPHINKA_INPUT_RECLAIM_ON_BORROW, &reclaimed);
-    if (error) return zuphinka_pool_is_closed(pool) ? ZUPHINKA_POOL_ERROR_CLOSED : error;
-  }
+/* Lends an object, an idle one or a new one. An idle one that fails leaves the borrower to look again. */
+static enum zuphinka_pool_error find(struct zuphinka_pool *pool, struct wait *wait, struct zuphinka_pool_loan *loan) {
   for (;;) {
     struct zuphinka_reply reply = {0};
-    enum zuphinka_pool_error error = look(pool, wait, &reply);
+    enum zuphinka_pool_error error = look(pool, wait, &reply, loan);
     if (error) return error;
     switch (reply.answer) {
-      case ZUPHINKA_ANSWER_LENT: *loan = (struct zuphinka_pool_loan){.object = reply.object, .id = reply.number}; return error;
-      case ZUPHINKA_ANSWER_MAKE: return lend_made(pool, reply.number, loan);
+      case ZUPHINKA_ANSWER_LENT: return error;
+      case ZUPHINKA_ANSWER_MAKE: return lend_made(pool, loan);
       case ZUPHINKA_ANSWER_EXHAUSTED: return ZUPHINKA_POOL_ERROR_EXHAUSTED;
       case ZUPHINKA_ANSWER_TIMED_OUT: return ZUPHINKA_POOL_ERROR_TIMED_OUT;
       case ZUPHINKA_ANSWER_REFUSED: return ZUPHINKA_POOL_ERROR_CLOSED;
       default: break;
     }
-    if (lend_taken(pool, &reply, loan)) return ZUPHINKA_POOL_ERROR_NONE;
+    if (lend_taken(pool, loan)) return error;
+    wait->is_back = true;
     wait->at = time_of(pool);
   }
+}
+
+static enum zuphinka_pool_error borrow(struct zuphinka_pool *pool, struct wait *wait, struct zuphinka_pool_loan *loan) {
+  struct zuphinka_pool_loan found = {.id = ZUPHINKA_POOL_NO_LOAN};
+  uint64_t reclaimed = 0;
+  wait->began = wait->at = time_of(pool);
+  if (pool->settings.abandoned && pool->settings.remove_abandoned_on_borrow) {
+    enum zuphinka_pool_error error = reclaim(pool, wait, ZUPHINKA_INPUT_RECLAIM_ON_BORROW, &reclaimed);
+    if (error) return zuphinka_pool_is_closed(pool) ? ZUPHINKA_POOL_ERROR_CLOSED : error;
+  }
+  enum zuphinka_pool_error error = find(pool, wait, &found);
+  if (!error) *loan = found;
+  return error;
 }
 
 enum zuphinka_pool_error zuphinka_pool_get(struct zuphinka_pool *pool, struct zuphinka_pool_loan *loan) {
@@ -574,52 +826,58 @@ static void park_at_once(struct zuphinka_pool *pool, const struct zuphinka_reque
   if (status != ZUPHINKA_STATUS_DONE) broken(&request, status, 0);
 }
 
-/* The first critical section of a return: the answer, which may be that of the parking. */
-static enum zuphinka_pool_error take_back(struct zuphinka_pool *pool, const struct zuphinka_pool_loan *loan, struct zuphinka_reply *reply) {
-  struct zuphinka_request request = {.at = time_of(pool), .number = loan->id, .input = ZUPHINKA_INPUT_RETURN};
+/* The first critical section of a return or an invalidation: the answer, which may be that of the parking. Ends the loan. */
+static enum zuphinka_pool_error take_back(struct zuphinka_pool *pool, uint32_t input, const struct zuphinka_pool_loan *loan,
+                                          struct zuphinka_reply *reply) {
+  struct zuphinka_request request = {.at = time_of(pool), .number = loan->id, .input = input};
   pthread_mutex_lock(&pool->lock);
-  uint32_t status = step_with_room(pool, &request, reply);
-  enum zuphinka_pool_error error = error_of_step(pool, &request, status);
-  if (!error) park_at_once(pool, &request, loan->object, reply);
-  unlock_and_wake(pool, error ? WAKE_NONE : waking_after(pool, request.input, reply->answer));
+  enum zuphinka_pool_error error = error_of_loan(pool, loan);
+  if (!error) error = error_of_step(pool, &request, step_with_room(pool, NULL, &request, reply));
+  if (!error) {
+    if (reply->answer == ZUPHINKA_ANSWER_REFUSED) broken(&request, ZUPHINKA_STATUS_DONE, reply->answer);
+    free_place(&pool->loans, loan);
+    park_at_once(pool, &request, loan->object, reply);
+  }
+  unlock(pool);
   return error;
 }
 
-/* Ends a loan by the answer to its return. A reclaimed object has no place to free. */
-static enum zuphinka_pool_error end_loan(struct zuphinka_pool *pool, struct zuphinka_pool_loan *loan, uint32_t answer) {
-  struct zuphinka_pool_loan ended = *loan;
-  if (answer == ZUPHINKA_ANSWER_REFUSED) return ZUPHINKA_POOL_ERROR_NOT_LENT;
-  *loan = (struct zuphinka_pool_loan){.id = ZUPHINKA_POOL_NO_LOAN};
+/* Does what the answer to a return says. A reclaimed object has no place to free. */
+static enum zuphinka_pool_error put_away(struct zuphinka_pool *pool, uint64_t id, void *object, uint32_t answer) {
   switch (answer) {
-    case ZUPHINKA_ANSWER_CHECK: report(pool, ZUPHINKA_INPUT_PARK, ended.id, put_to_rest(pool, ended.object), ended.object); break;
-    case ZUPHINKA_ANSWER_DESTROY: destroy(pool, ended.id, ended.object); break;
-    case ZUPHINKA_ANSWER_GONE: pool->host.destroy(pool->host.context, ended.object); return ZUPHINKA_POOL_ERROR_GONE;
+    case ZUPHINKA_ANSWER_CHECK: report(pool, ZUPHINKA_INPUT_PARK, id, put_to_rest(pool, object), object); break;
+    case ZUPHINKA_ANSWER_DESTROY: destroy(pool, id, object); break;
+    case ZUPHINKA_ANSWER_GONE: pool->host.destroy(pool->host.context, object); return ZUPHINKA_POOL_ERROR_GONE;
     default: break;
   }
   return ZUPHINKA_POOL_ERROR_NONE;
 }
 
-enum zuphinka_pool_error zuphinka_pool_give_back(struct zuphinka_pool *pool, struct zuphinka_pool_loan *loan) {
+static enum zuphinka_pool_error end_loan(struct zuphinka_pool *pool, uint32_t input, struct zuphinka_pool_loan *loan) {
+  struct zuphinka_pool_loan ended = *loan;
   struct zuphinka_reply reply = {0};
-  if (loan->id == ZUPHINKA_POOL_NO_LOAN) return ZUPHINKA_POOL_ERROR_NOT_LENT;
-  enum zuphinka_pool_error error = take_back(pool, loan, &reply);
-  return error ? error : end_loan(pool, loan, reply.answer);
+  enum zuphinka_pool_error error = take_back(pool, input, &ended, &reply);
+  if (error) return error;
+  *loan = (struct zuphinka_pool_loan){.id = ZUPHINKA_POOL_NO_LOAN};
+  return put_away(pool, ended.id, ended.object, reply.answer);
+}
+
+enum zuphinka_pool_error zuphinka_pool_give_back(struct zuphinka_pool *pool, struct zuphinka_pool_loan *loan) {
+  return end_loan(pool, ZUPHINKA_INPUT_RETURN, loan);
 }
 
 enum zuphinka_pool_error zuphinka_pool_invalidate(struct zuphinka_pool *pool, struct zuphinka_pool_loan *loan) {
-  struct zuphinka_reply reply = {0};
-  if (loan->id == ZUPHINKA_POOL_NO_LOAN) return ZUPHINKA_POOL_ERROR_NOT_LENT;
-  enum zuphinka_pool_error error = ask(pool, (struct zuphinka_request){.number = loan->id, .input = ZUPHINKA_INPUT_INVALIDATE}, &reply);
-  return error ? error : end_loan(pool, loan, reply.answer);
+  return end_loan(pool, ZUPHINKA_INPUT_INVALIDATE, loan);
 }
 
 enum zuphinka_pool_error zuphinka_pool_touch(struct zuphinka_pool *pool, const struct zuphinka_pool_loan *loan) {
+  struct zuphinka_request request = {.at = time_of(pool), .number = loan->id, .input = ZUPHINKA_INPUT_USE};
   struct zuphinka_reply reply = {0};
-  if (loan->id == ZUPHINKA_POOL_NO_LOAN) return ZUPHINKA_POOL_ERROR_NOT_LENT;
-  enum zuphinka_pool_error error = ask(pool, (struct zuphinka_request){.number = loan->id, .input = ZUPHINKA_INPUT_USE}, &reply);
-  if (error) return error;
-  if (reply.answer == ZUPHINKA_ANSWER_GONE) return ZUPHINKA_POOL_ERROR_GONE;
-  return reply.answer == ZUPHINKA_ANSWER_REFUSED ? ZUPHINKA_POOL_ERROR_NOT_LENT : ZUPHINKA_POOL_ERROR_NONE;
+  pthread_mutex_lock(&pool->lock);
+  enum zuphinka_pool_error error = error_of_loan(pool, loan);
+  if (!error) error = error_of_step(pool, &request, step_with_room(pool, NULL, &request, &reply));
+  pthread_mutex_unlock(&pool->lock);
+  return error ? error : reply.answer == ZUPHINKA_ANSWER_GONE ? ZUPHINKA_POOL_ERROR_GONE : ZUPHINKA_POOL_ERROR_NONE;
 }
 
 /* ---- additions and maintenance */
@@ -696,11 +954,11 @@ enum zuphinka_pool_error zuphinka_pool_evict(struct zuphinka_pool *pool, struct 
 }
 
 /* Reclaims abandoned objects, at a borrow or for maintenance. */
-static enum zuphinka_pool_error reclaim(struct zuphinka_pool *pool, uint32_t input, uint64_t *reclaimed) {
+static enum zuphinka_pool_error reclaim(struct zuphinka_pool *pool, struct wait *wait, uint32_t input, uint64_t *reclaimed) {
   struct zuphinka_reply found = {0}, reply = {.answer = ZUPHINKA_ANSWER_RECLAIMED};
-  enum zuphinka_pool_error error = ask(pool, (struct zuphinka_request){.input = input}, &found);
+  enum zuphinka_pool_error error = ask_for(pool, wait, (struct zuphinka_request){.input = input}, &found);
   while (!error && reply.answer == ZUPHINKA_ANSWER_RECLAIMED && *reclaimed < found.number) {
-    error = ask(pool, (struct zuphinka_request){.input = ZUPHINKA_INPUT_RECLAIM_NEXT}, &reply);
+    error = ask_for(pool, wait, (struct zuphinka_request){.input = ZUPHINKA_INPUT_RECLAIM_NEXT}, &reply);
     *reclaimed += !error && reply.answer == ZUPHINKA_ANSWER_RECLAIMED;
   }
   return error;
@@ -708,7 +966,7 @@ static enum zuphinka_pool_error reclaim(struct zuphinka_pool *pool, uint32_t inp
 
 enum zuphinka_pool_error zuphinka_pool_reclaim(struct zuphinka_pool *pool, uint64_t *reclaimed) {
   uint64_t count = 0;
-  enum zuphinka_pool_error error = reclaim(pool, ZUPHINKA_INPUT_RECLAIM_FOR_MAINTENANCE, &count);
+  enum zuphinka_pool_error error = reclaim(pool, NULL, ZUPHINKA_INPUT_RECLAIM_FOR_MAINTENANCE, &count);
   if (reclaimed) *reclaimed = count;
   return error;
 }
@@ -719,7 +977,7 @@ enum zuphinka_pool_error zuphinka_pool_maintain(struct zuphinka_pool *pool, stru
   keep_room(pool, 2 * pool->low, pool->has_unstored);
   pthread_mutex_unlock(&pool->lock);
   enum zuphinka_pool_error error = evict(pool, &all.eviction);
-  if (!error) error = reclaim(pool, ZUPHINKA_INPUT_RECLAIM_FOR_MAINTENANCE, &all.reclaimed);
+  if (!error) error = reclaim(pool, NULL, ZUPHINKA_INPUT_RECLAIM_FOR_MAINTENANCE, &all.reclaimed);
   if (!error) error = fill(pool, &all.filled);
   if (done) *done = all;
   return error;
@@ -746,10 +1004,14 @@ enum zuphinka_pool_error zuphinka_pool_clear(struct zuphinka_pool *pool, uint64_
   return error;
 }
 
+/* Returns whether this process has only a copy of a pool, whose objects are another's. */
+static bool is_forked(const struct zuphinka_pool *pool) { return pool->process != getpid(); }
+
 /* The close of an open pool never fails, nor does the sweep while objects are idle. */
 uint64_t zuphinka_pool_close(struct zuphinka_pool *pool) {
   uint64_t count = 0;
   struct zuphinka_reply reply = {0};
+  if (is_forked(pool)) return count;
   enum zuphinka_pool_error error = ask(pool, (struct zuphinka_request){.input = ZUPHINKA_INPUT_CLOSE}, &reply);
   if (!error && reply.answer == ZUPHINKA_ANSWER_COUNT) sweep(pool, reply.number, &count);
   return count;
@@ -764,7 +1026,7 @@ bool zuphinka_pool_is_closed(struct zuphinka_pool *pool) {
   return is_closed;
 }
 
-void zuphinka_pool_counts(struct zuphinka_pool *pool, struct zuphinka_counts *counts) {
+void zuphinka_pool_counts(struct zuphinka_pool *pool, struct zuphinka_tally *counts) {
   pthread_mutex_lock(&pool->lock);
   zuphinka_counts(&pool->core, counts);
   pthread_mutex_unlock(&pool->lock);
@@ -779,9 +1041,10 @@ bool zuphinka_pool_is_low(struct zuphinka_pool *pool) {
 
 enum zuphinka_pool_error zuphinka_pool_cut(struct zuphinka_pool *pool, zuphinka_pool_store *store, void *context, uint64_t *entries) {
   uint64_t count = 0;
-  pthread_mutex_lock(&pool->cutting);
-  enum zuphinka_pool_error error = store_all(pool, store, context, &count);
-  pthread_mutex_unlock(&pool->cutting);
+  enum zuphinka_pool_error error = ZUPHINKA_POOL_ERROR_IN_USE;
+  pthread_mutex_lock(&pool->lock);
+  if (wait_for_cut(pool, NULL)) error = cut_and_store(pool, store, context, &count);
+  pthread_mutex_unlock(&pool->lock);
   if (entries) *entries = count;
   return error;
 }
@@ -801,24 +1064,29 @@ static enum zuphinka_pool_error error_of_open(uint32_t status) {
   }
 }
 
-/* Makes the condition variable, whose waits end by CLOCK_MONOTONIC. */
-static bool open_condition(pthread_cond_t *condition) {
-  pthread_condattr_t attributes;
-  if (pthread_condattr_init(&attributes) != 0) return false;
-  bool is_made = pthread_condattr_setclock(&attributes, CLOCK_MONOTONIC) == 0 && pthread_cond_init(condition, &attributes) == 0;
-  pthread_condattr_destroy(&attributes);
-  return is_made;
+/* Makes the attributes of condition variables whose waits end by CLOCK_MONOTONIC. */
+static bool open_attributes(pthread_condattr_t *attributes) {
+  if (pthread_condattr_init(attributes) != 0) return false;
+  if (pthread_condattr_setclock(attributes, CLOCK_MONOTONIC) == 0) return true;
+  pthread_condattr_destroy(attributes);
+  return false;
 }
 
-/* Makes the locks, all or none. */
+/* Makes the lock and what threads wait by, all or nothing. */
 static bool open_locks(struct zuphinka_pool *pool) {
-  if (pthread_mutex_init(&pool->lock, NULL) != 0) return false;
-  if (pthread_mutex_init(&pool->cutting, NULL) == 0) {
-    if (open_condition(&pool->changed)) return true;
-    pthread_mutex_destroy(&pool->cutting);
+  if (!open_attributes(&pool->monotonic)) return false;
+  if (pthread_cond_init(&pool->cut, &pool->monotonic) == 0) {
+    if (pthread_mutex_init(&pool->lock, NULL) == 0) return true;
+    pthread_cond_destroy(&pool->cut);
   }
-  pthread_mutex_destroy(&pool->lock);
+  pthread_condattr_destroy(&pool->monotonic);
   return false;
+}
+
+/* Returns how often a waiter may be overtaken. */
+static uint32_t most_overtakes(const struct zuphinka_pool_host *host) {
+  if (host->is_fair) return 0;
+  return host->max_overtakes ? host->max_overtakes : MOST_OVERTAKES;
 }
 
 /* Opens the core and the locks of a pool whose callbacks are set. */
@@ -836,6 +1104,7 @@ static enum zuphinka_pool_error open_parts(struct zuphinka_pool *pool, const cha
   bool tests_on_return = pool->settings.test_on_return && pool->host.validate;
   pool->works_on_borrow = pool->host.activate || tests_on_borrow;
   pool->works_on_return = pool->host.passivate || tests_on_return;
+  pool->queue.most_overtaken = most_overtakes(&pool->host);
   pool->low = pool->settings.journal_limit / 4;
   pool->most = KEPT;
   pool->opened = monotonic();
@@ -844,11 +1113,13 @@ static enum zuphinka_pool_error open_parts(struct zuphinka_pool *pool, const cha
 
 enum zuphinka_pool_error zuphinka_pool_open(struct zuphinka_pool **pool, const char *settings, size_t length,
                                             const struct zuphinka_pool_host *host, enum zuphinka_pool_journal journal) {
+  if (!pool || !settings || !host) return ZUPHINKA_POOL_ERROR_NULL_POINTER;
+  if ((unsigned)journal > ZUPHINKA_POOL_JOURNAL_SEGMENTS) return ZUPHINKA_POOL_ERROR_UNKNOWN_JOURNAL;
   bool lacks_store = journal == ZUPHINKA_POOL_JOURNAL_SEGMENTS && !host->store;
   if (!host->make || !host->destroy || lacks_store) return ZUPHINKA_POOL_ERROR_MISSING_CALLBACK;
   struct zuphinka_pool *opened = malloc(sizeof *opened);
   if (!opened) return ZUPHINKA_POOL_ERROR_OUT_OF_MEMORY;
-  *opened = (struct zuphinka_pool){.host = *host, .journal = journal};
+  *opened = (struct zuphinka_pool){.host = *host, .journal = journal, .number = next_pool_number(), .process = getpid()};
   enum zuphinka_pool_error error = open_parts(opened, settings, length);
   if (error) {
     free(opened);
@@ -860,7 +1131,7 @@ enum zuphinka_pool_error zuphinka_pool_open(struct zuphinka_pool **pool, const c
 
 /* Returns the error of an end that comes too early, or stores the last segment. */
 static enum zuphinka_pool_error finish(struct zuphinka_pool *pool) {
-  struct zuphinka_counts counts;
+  struct zuphinka_tally counts;
   uint64_t entries = 0;
   zuphinka_pool_counts(pool, &counts);
   if (counts.lent + counts.reserved > 0) return ZUPHINKA_POOL_ERROR_IN_USE;
@@ -868,17 +1139,37 @@ static enum zuphinka_pool_error finish(struct zuphinka_pool *pool) {
   return zuphinka_pool_cut(pool, pool->host.store, pool->host.context, &entries);
 }
 
+/* Frees the memory of a pool, except for its objects. */
+static void free_pool(struct zuphinka_pool *pool) {
+  zuphinka_drop(&pool->core);
+  free_spares(&pool->queue);
+  free(pool->unstored.text.bytes);
+  free(pool->loans.places);
+  free(pool);
+}
+
+/* Frees the copy of a pool in a forked process. If another thread was in a call when the process forked, its work is unfinished for ever, and the
+ * memory stays as it is. */
+static void free_copy(struct zuphinka_pool *pool) {
+  if (pthread_mutex_trylock(&pool->lock) != 0) return;
+  bool is_finished = !pool->is_cutting && pool->queue.length == 0;
+  pthread_mutex_unlock(&pool->lock);
+  if (is_finished) free_pool(pool);
+}
+
 enum zuphinka_pool_error zuphinka_pool_end(struct zuphinka_pool *pool) {
   if (!pool) return ZUPHINKA_POOL_ERROR_NONE;
+  if (is_forked(pool)) {
+    free_copy(pool);
+    return ZUPHINKA_POOL_ERROR_NONE;
+  }
   if (!zuphinka_pool_is_closed(pool)) zuphinka_pool_close(pool);
   enum zuphinka_pool_error error = finish(pool);
   if (error) return error;
-  zuphinka_drop(&pool->core);
-  pthread_cond_destroy(&pool->changed);
-  pthread_mutex_destroy(&pool->cutting);
+  pthread_condattr_destroy(&pool->monotonic);
+  pthread_cond_destroy(&pool->cut);
   pthread_mutex_destroy(&pool->lock);
-  free(pool->unstored.text.bytes);
-  free(pool);
+  free_pool(pool);
   return error;
 }
 
@@ -907,6 +1198,9 @@ const char *zuphinka_pool_error_text(enum zuphinka_pool_error error) {
     case ZUPHINKA_POOL_ERROR_UNKNOWN_KEY: return "the settings have an unknown key";
     case ZUPHINKA_POOL_ERROR_WRONG_TYPE: return "a value in the settings has the wrong type";
     case ZUPHINKA_POOL_ERROR_OUT_OF_RANGE: return "a number in the settings is out of range";
+    case ZUPHINKA_POOL_ERROR_NULL_POINTER: return "a pointer is null";
+    case ZUPHINKA_POOL_ERROR_UNKNOWN_JOURNAL: return "the journal has no such use";
+    case ZUPHINKA_POOL_ERROR_FOREIGN: return "the object is not one of the pool's";
     default: return "the code is no error";
   }
 }

@@ -11,10 +11,12 @@
  * Rules
  *
  *   - Threads may call a pool at any time between `zuphinka_pool_open` and `zuphinka_pool_end`, also several at once. No call comes from a signal
- *     handler or from a forked child, and no thread is cancelled in a call.
- *   - Callbacks run in the calling thread, without the pool's lock, and return normally. They may call the pool, except `zuphinka_pool_end`;
- *     `store` may only call `zuphinka_pool_counts` and `zuphinka_pool_is_low`. A callback that fails reports its reason to the host itself, in
- *     its context or in a variable of the thread.
+ *     handler, and no thread is cancelled in a call.
+ *   - A forked process has a copy of each pool of its parent, but the objects and the journal are the parent's. It may only close and end the copy,
+ *     which calls no callback and waits for nobody. It may open pools of its own.
+ *   - Callbacks run in the calling thread, without the pool's lock, and return normally. They may call the pool, except `zuphinka_pool_end`. While
+ *     `store` runs nothing else cuts the journal: a call of its own gets ZUPHINKA_POOL_ERROR_JOURNAL_FULL if the journal is full. A callback that
+ *     fails reports its reason to the host itself, in its context or in a variable of the thread.
  *   - Pointers point to memory of their types. A pointer may be null only if its description says so.
  *
  * No more than maxTotal objects exist at once, except for those that were reclaimed from their holders: the pool destroys an object before it
@@ -68,7 +70,10 @@ enum zuphinka_pool_error {
   ZUPHINKA_POOL_ERROR_NOT_TOML = 19,          /* the settings are not a TOML document */
   ZUPHINKA_POOL_ERROR_UNKNOWN_KEY = 20,       /* the settings have an unknown key; `zuphinka_settings` names the key of these three */
   ZUPHINKA_POOL_ERROR_WRONG_TYPE = 21,        /* a value in the settings has the wrong type */
-  ZUPHINKA_POOL_ERROR_OUT_OF_RANGE = 22       /* a number in the settings is out of range */
+  ZUPHINKA_POOL_ERROR_OUT_OF_RANGE = 22,      /* a number in the settings is out of range */
+  ZUPHINKA_POOL_ERROR_NULL_POINTER = 23,      /* the place for the pool, the settings or the host is null */
+  ZUPHINKA_POOL_ERROR_UNKNOWN_JOURNAL = 24,   /* the use of the journal is none of `enum zuphinka_pool_journal` */
+  ZUPHINKA_POOL_ERROR_FOREIGN = 25            /* the loan is one of another pool */
 };
 
 /* The use of the journal, as explained above. */
@@ -77,7 +82,7 @@ enum zuphinka_pool_journal { ZUPHINKA_POOL_JOURNAL_OFF = 0, ZUPHINKA_POOL_JOURNA
 /* Takes a segment: `size` bytes of text, whose first entry has position `first` in the history. Returns whether it has stored all of it. */
 typedef bool zuphinka_pool_store(void *context, uint64_t first, const char *text, size_t size);
 
-/* The callbacks of a host. Each gets `context`. Those that return bool return whether they succeeded. */
+/* The callbacks of a host, and what it chooses. Each callback gets `context`. Those that return bool return whether they succeeded. */
 struct zuphinka_pool_host {
   void *context; /* any pointer, null included */
 
@@ -102,12 +107,27 @@ struct zuphinka_pool_host {
   /* Takes a segment, for ZUPHINKA_POOL_JOURNAL_SEGMENTS; otherwise null. If it fails the pool keeps the segment, cuts no further and tries again
    * later, until its journal is full. A host that does without a segment returns true. */
   zuphinka_pool_store *store;
+
+  /* How many borrows may overtake the thread that has waited longest: 1 to 4,294,967,295; 0 stands for 16. Threads that wait queue in the order
+   * of arrival. A borrow overtakes them if it begins later and takes an object or a place that they could have had. Once so many have, or that
+   * thread was woken and found nothing, further borrows queue too, and `zuphinka_pool_try_get` finds nothing. It is the same for the next thread
+   * that has waited longest. */
+  uint32_t max_overtakes;
+
+  /* Whether no borrow overtakes a thread that waits, whatever `max_overtakes` says. */
+  bool is_fair;
 };
 
-/* A lent object. Its holder returns it to `zuphinka_pool_give_back` or `zuphinka_pool_invalidate`, once, from any thread. */
+/*
+ * A lent object. Its holder returns it to `zuphinka_pool_give_back` or `zuphinka_pool_invalidate`, once, from any thread. A copy is the same loan: it
+ * ends with it, and no call takes a loan that has ended, even if the object is lent again.
+ */
 struct zuphinka_pool_loan {
   void *object;
   uint64_t id; /* the object's id in the journal */
+
+  /* Only the library uses these. No other loan of the process has the same numbers. */
+  uint64_t pool, place, number;
 };
 
 /* The id in a loan that has ended. */
@@ -130,8 +150,8 @@ struct zuphinka_pool_maintenance {
  * Opens a pool with settings from a text, a TOML document of `length` bytes (docs/guide/settings.md; of no bytes: all defaults), and stores it in
  * `pool`. It copies `host`, and makes no object yet.
  *
- * Errors, and `pool` is unchanged: ZUPHINKA_POOL_ERROR_NOT_TEXT, _NOT_TOML, _UNKNOWN_KEY, _WRONG_TYPE, _OUT_OF_RANGE, _MISSING_CALLBACK,
- * _NO_LOCK, _OUT_OF_MEMORY.
+ * Errors, and `pool` is unchanged: ZUPHINKA_POOL_ERROR_NULL_POINTER, also for settings of no bytes; _UNKNOWN_JOURNAL, _MISSING_CALLBACK,
+ * _NOT_TEXT, _NOT_TOML, _UNKNOWN_KEY, _WRONG_TYPE, _OUT_OF_RANGE, _NO_LOCK, _OUT_OF_MEMORY.
  */
 enum zuphinka_pool_error zuphinka_pool_open(struct zuphinka_pool **pool, const char *settings, size_t length,
                                             const struct zuphinka_pool_host *host, enum zuphinka_pool_journal journal);
@@ -146,12 +166,13 @@ enum zuphinka_pool_error zuphinka_pool_open(struct zuphinka_pool **pool, const c
  */
 enum zuphinka_pool_error zuphinka_pool_get(struct zuphinka_pool *pool, struct zuphinka_pool_loan *loan);
 
-/* Does the same without waiting: ZUPHINKA_POOL_ERROR_EXHAUSTED if it would wait. */
+/* Does the same without waiting: ZUPHINKA_POOL_ERROR_EXHAUSTED if it would wait, also behind others (`max_overtakes`). */
 enum zuphinka_pool_error zuphinka_pool_try_get(struct zuphinka_pool *pool, struct zuphinka_pool_loan *loan);
 
 /*
  * Does the same, and waits for an object for at most `milliseconds`, and no longer than the settings say. Neither bounds the time of the
- * callbacks; nor does `zuphinka_pool_try_get`. A call that finds the journal full waits for the segment that is being stored.
+ * callbacks; nor does `zuphinka_pool_try_get`. If the journal is full while another thread stores a segment, a borrow waits for that, but no longer
+ * than for an object. Then it gets ZUPHINKA_POOL_ERROR_JOURNAL_FULL.
  */
 enum zuphinka_pool_error zuphinka_pool_get_timed(struct zuphinka_pool *pool, uint64_t milliseconds, struct zuphinka_pool_loan *loan);
 
@@ -160,8 +181,9 @@ enum zuphinka_pool_error zuphinka_pool_get_timed(struct zuphinka_pool *pool, uin
  * idle or the pool is closed. Ends the loan, and sets its id to ZUPHINKA_POOL_NO_LOAN.
  *
  * Errors: ZUPHINKA_POOL_ERROR_GONE, if the object was reclaimed: it is destroyed, and the loan has ended. ZUPHINKA_POOL_ERROR_NOT_LENT, if the
- * loan ended before: nothing is done. ZUPHINKA_POOL_ERROR_JOURNAL_FULL and _OUT_OF_MEMORY come only if the object isn't lent any more, since it
- * was reclaimed: nothing is done. The object belongs to its holder alone, who may return it again or destroy it.
+ * loan ended before, and ZUPHINKA_POOL_ERROR_FOREIGN, if it is one of another pool: nothing is done. ZUPHINKA_POOL_ERROR_JOURNAL_FULL and
+ * _OUT_OF_MEMORY come only if the object isn't lent any more, since it was reclaimed: nothing is done. The object belongs to its holder alone, who
+ * may return it again or destroy it.
  */
 enum zuphinka_pool_error zuphinka_pool_give_back(struct zuphinka_pool *pool, struct zuphinka_pool_loan *loan);
 
@@ -172,7 +194,7 @@ enum zuphinka_pool_error zuphinka_pool_invalidate(struct zuphinka_pool *pool, st
  * Notes that a lent object is used: it counts as abandoned only after removeAbandonedTimeoutMillis without a use.
  *
  * Errors: ZUPHINKA_POOL_ERROR_GONE, if the object was reclaimed: it belongs to its holder alone, until the holder returns it.
- * ZUPHINKA_POOL_ERROR_NOT_LENT, _JOURNAL_FULL, _OUT_OF_MEMORY: nothing is noted.
+ * ZUPHINKA_POOL_ERROR_NOT_LENT, _FOREIGN, _JOURNAL_FULL, _OUT_OF_MEMORY: nothing is noted.
  */
 enum zuphinka_pool_error zuphinka_pool_touch(struct zuphinka_pool *pool, const struct zuphinka_pool_loan *loan);
 
@@ -225,7 +247,8 @@ enum zuphinka_pool_error zuphinka_pool_clear(struct zuphinka_pool *pool, uint64_
 
 /*
  * Closes the pool and destroys its idle objects; returns how many. All threads that wait get ZUPHINKA_POOL_ERROR_CLOSED. Lent objects stay with
- * their holders, and are destroyed when they are returned. It never fails. A pool that was closed before is unchanged.
+ * their holders, and are destroyed when they are returned. It never fails. A pool that was closed before is unchanged. In a forked process it does
+ * nothing.
  */
 uint64_t zuphinka_pool_close(struct zuphinka_pool *pool);
 
@@ -233,7 +256,7 @@ uint64_t zuphinka_pool_close(struct zuphinka_pool *pool);
 bool zuphinka_pool_is_closed(struct zuphinka_pool *pool);
 
 /* Stores the counts, all of one time, in `counts`. */
-void zuphinka_pool_counts(struct zuphinka_pool *pool, struct zuphinka_counts *counts);
+void zuphinka_pool_counts(struct zuphinka_pool *pool, struct zuphinka_tally *counts);
 
 /* Returns whether to cut the journal: it stores entries, and less than a quarter of journalLimit is left. */
 bool zuphinka_pool_is_low(struct zuphinka_pool *pool);
@@ -244,7 +267,7 @@ bool zuphinka_pool_is_low(struct zuphinka_pool *pool);
  * Without entries it does nothing. The text is copied while the pool lends, and `store` runs without the lock. One cut runs at a time.
  *
  * Errors: ZUPHINKA_POOL_ERROR_STORE_FAILED: the pool keeps the segment for the next cut. ZUPHINKA_POOL_ERROR_OUT_OF_MEMORY: the journal isn't
- * cut. Nothing is lost.
+ * cut. ZUPHINKA_POOL_ERROR_IN_USE: `store` called it. Nothing is lost.
  */
 enum zuphinka_pool_error zuphinka_pool_cut(struct zuphinka_pool *pool, zuphinka_pool_store *store, void *context, uint64_t *entries);
 
@@ -256,7 +279,8 @@ const char *zuphinka_pool_error_text(enum zuphinka_pool_error error);
 
 /*
  * Ends a pool that no thread calls any more: closes it, passes the rest of the journal to `store` if the journal is stored in segments, and frees
- * the pool. Objects that were reclaimed and not returned belong to their holders alone. Null: nothing to do.
+ * the pool. Objects that were reclaimed and not returned belong to their holders alone. Null: nothing to do. In a forked process it only frees the
+ * memory of the copy, unless a thread of the parent was in a call when it forked: then it does nothing.
  *
  * Errors, and the pool is closed but not ended: ZUPHINKA_POOL_ERROR_IN_USE, if objects are lent; ZUPHINKA_POOL_ERROR_STORE_FAILED,
  * _OUT_OF_MEMORY, of the last segment.

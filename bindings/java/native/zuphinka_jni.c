@@ -100,10 +100,10 @@ JNIEXPORT jlong JNICALL Java_zuphinka_Core_giveBack(JNIEnv *env, jclass class, j
   return status ? status : packed(&reply);
 }
 
-/* Stores the counts in their order in `struct zuphinka_counts`, then the entries since the base, and the room of the journal. */
+/* Stores the counts in their order in `struct zuphinka_tally`, then the entries since the base, and the room of the journal. */
 JNIEXPORT void JNICALL Java_zuphinka_Core_counts(JNIEnv *env, jclass class, jlong handle, jlongArray to) {
   (void)class;
-  struct zuphinka_counts counts;
+  struct zuphinka_tally counts;
   uint64_t steps = 0, room = 0;
   zuphinka_counts(pool_at(handle), &counts);
   zuphinka_steps(pool_at(handle), &steps);

@@ -28,6 +28,14 @@ use std::alloc::Global;
 use std::str;
 use tally::Tally;
 
+/// Returns the version of the library: major * 1,000,000 + minor * 1,000 + patch.
+#[unsafe(no_mangle)]
+pub extern "C" fn zuphinka_version() -> u32
+    ensures { result ≡ 1000 }
+{
+    1_000
+}
+
 /// Reads settings from a text, and stores them in `settings`. If the first error of the text names a key, stores the
 /// key at the start of `key`, if it fits, and its length in `size`.
 #[unsafe(no_mangle)]
