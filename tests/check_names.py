@@ -4,8 +4,9 @@
 check_names.py  The last line is 'N passed, M failed'.
 
 Each file, folder and heading that a page names or links to exists; each single name between backquotes is a word of some source or the name
-of an edit, and a method belongs to its type; each definition of a table that says in which file it stands is declared there; and each clause that
-docs/proof/proved.md names is one of its crate. Each page of docs/ opens with a sentence that says for whom it is.
+of an edit, and a method belongs to its type; each name that stands beside a source, as in "`name` in `file`", "`name` (`file`)" or a row of a table
+with a column "File", is declared in that source; and each clause that docs/proof/proved.md names is one of its crate. Each page of docs/ opens with a
+sentence that says for whom it is.
 """
 
 import functools
@@ -126,6 +127,35 @@ def headings(page):
     return {re.sub(r"[^\w -]", "", line.lstrip("# ")).lower().replace(" ", "-") for line in lines}
 
 
+NAMES = r"((?:`[\w:]+`(?:, and |, | and | or )?)+)"
+BESIDE = re.compile(NAMES + r"(?:,? in | \()`([\w./-]+\.(?:rt|antt|rs|java|c|h))`")
+# What declares a name in a source: a word of the language before it, a variant or a field, or a lemma's signature.
+DECLARES = r"\b(?:fn|struct|enum|trait|type|mod|const|static|let|def|class|record|data|abbrev|unfoldable|ruleset)\s+(?:pub )?%s\b|^\s*(?:pub )?(?:const |inline )?%s\s*[:({,=]|^[\w*. ]+\b%s\("
+
+
+def files_named(named, crate):
+    """The sources that a page may mean by a path: from the top, from crates/, from the crate that the paragraph is about, or else any."""
+    near = [TOP / named, TOP / "crates" / named, *([TOP / "crates" / crate / named] if crate else [])]
+    found = [path for path in near if path.is_file()]
+    return found or [path for path in sources() if str(path).endswith("/" + named)]
+
+
+def is_declared(name, files):
+    """Whether a source declares a name; of `Type::function` the last part is looked for."""
+    last = re.escape(name.split("::")[-1])
+    pattern = re.compile(DECLARES.replace("%s", last), re.MULTILINE)
+    return any(pattern.search(path.read_text()) for path in files)
+
+
+def check_beside(page):
+    """Each name that stands beside a source is declared there."""
+    for paragraph, crate in paragraphs(page):
+        for names, named in BESIDE.findall(paragraph):
+            files = files_named(named, crate)
+            for name in backquoted(names):
+                yield name, None if files and is_declared(name, files) else f"not declared in {named}"
+
+
 def check_links(page):
     for target in re.findall(r"\]\(([^)]+)\)", page.read_text()):
         name, _, heading = target.partition("#")
@@ -163,8 +193,9 @@ def check_definitions(page):
     """Each name of a row is declared in a file that the row, or 'the same' of one before it, says."""
     files = []
     for row in tables(page):
-        if "File" in row:
-            names, stands = backquoted(row["Name"]), backquoted(row["File"])
+        named = row.get("Name") or row.get("Function")
+        if named and "File" in row:
+            names, stands = backquoted(named), backquoted(row["File"])
         elif "Specification" in row:
             names, *stands = backquoted(row["Specification"])
             names = [names]
@@ -175,7 +206,9 @@ def check_definitions(page):
             files = [next((folder / name for folder in folders if (folder / name).exists()), TOP) for name in stands]
         text = "\n".join(file.read_text() for file in files if file.is_file())
         for name in names:
-            yield name, None if re.search(DECLARED % re.escape(name), text, re.MULTILINE) else f"not declared in {' '.join(stands) or 'the same'}"
+            last = re.escape(name.split("::")[-1])
+            said = re.search(DECLARED % last, text, re.MULTILINE) or re.search(rf"\b(?:fn|struct|enum) {last}\b", text)
+            yield name, None if said else f"not declared in {' '.join(stands) or 'the same'}"
 
 
 def check_clauses(page):
@@ -190,9 +223,9 @@ def check_clauses(page):
 
 def main():
     passed, failed = 0, 0
-    checks = [(check, page) for page in PAGES for check in (check_mentions, check_links)]
+    checks = [(check, page) for page in PAGES for check in (check_mentions, check_beside, check_links)]
     checks += [(check_opening, page) for page in PAGES if page != TOP / "README.md"]
-    checks += [(check_definitions, TOP / "docs/proof" / name) for name in ("definitions.md", "sharing.md")]
+    checks += [(check_definitions, TOP / "docs" / name) for name in ("proof/definitions.md", "proof/sharing.md", "dev/architecture.md")]
     checks.append((check_clauses, TOP / "docs/proof/proved.md"))
     for check, page in checks:
         found = list(check(page))
@@ -201,7 +234,7 @@ def main():
             failed += bool(fault)
             if fault:
                 print(f"{page.name}: {named}: {fault}")
-        if not found and check not in (check_links, check_mentions):
+        if not found and check not in (check_links, check_mentions, check_beside):
             failed += 1
             print(f"{page.name}: nothing for {check.__name__}")
     print(f"{passed} passed, {failed} failed")

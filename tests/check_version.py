@@ -1,11 +1,11 @@
 #!/usr/bin/env python3
-"""Sees that all tell the version that the file VERSION has: the Rust crate and its lock file, the C header, the programs, the man page and the
-change log.
+"""Sees that all tell the version that the file VERSION has: the Rust crate and its lock file, the C header, the C library, the programs, the man
+page and the change log.
 
     check_version.py [PROGRAM..]
 
 Each constant VERSION in the sources of a crate is what a program prints: its name, the version and a line feed. Of the PROGRAMs, paths of
-such programs, that is what `--version` prints. Prints each that differs, and in the end the line 'N passed, M failed'.
+such programs, that is what `--version` prints. What the C library returns, and its contract, is the version as one number. Prints each that differs, and in the end the line 'N passed, M failed'.
 """
 
 import pathlib
@@ -18,12 +18,20 @@ from playing import play_checks
 
 TOP = pathlib.Path(__file__).resolve().parent.parent
 PROGRAMS = ["journal_picture", "judge", "pool"]
+# The contract and the body of the library's function, which has the number twice.
+NUMBER = r"fn zuphinka_version\(\) -> u32\n    ensures \{ result ≡ (\d+) \}\n\{\n    ([\d_]+)\n\}"
 PRINTED = re.compile(r'^pub(?:\(crate\))? const VERSION: &str = "(.*)\\n";$', re.MULTILINE)
 
 
 def found(pattern, name):
     """What a pattern finds in a file of the repository."""
     return re.findall(pattern, (TOP / name).read_text(), flags=re.MULTILINE)
+
+
+def number(version):
+    """A version as one number, as zuphinka.h makes it of its three."""
+    major, minor, patch = map(int, version.split("."))
+    return major * 1_000_000 + minor * 1_000 + patch
 
 
 def printed():
@@ -40,6 +48,7 @@ def checks(version, programs):
     yield "Cargo.lock", [version], [package["version"] for package in lock if package["name"] == "zuphinka"]
     yield "the text of zuphinka.h", [version], found(r'^#define ZUPHINKA_VERSION "(.*)"$', "bindings/c/zuphinka.h")
     yield "the numbers of zuphinka.h", version.split("."), found(r"^#define ZUPHINKA_VERSION_(?:MAJOR|MINOR|PATCH) (\d+)$", "bindings/c/zuphinka.h")
+    yield "the C library", [(number(version),) * 2], [tuple(map(int, numbers)) for numbers in found(NUMBER, "crates/zuphinka/src/lib.rt")]
     yield "the man page", [f"Zuphinka {version}"], found(r'^\.TH POOL 1 "" "(.*)"$', "docs/pool.1")
     yield "the change log", True, version in found(r"^## \[(.*?)\]", "CHANGELOG.md")
     yield "the programs of the sources", PROGRAMS, sorted(printed())

@@ -1,11 +1,12 @@
 #!/usr/bin/env python3
-"""Sees that bench/peers and bench/soak find what is wrong.
+"""Sees that bench/peers, bench/longest_waits and bench/soak find what is wrong.
 
     play_bench.py POOL
 
 POOL is the program. bench/peers must end with an error after a run with a pair too few or of a pool for Java with a wrong report, and name and leave
-out the pools whose packages are missing. Where all packages are installed, all its columns must come, in both tables. bench/soak must fail each report
-in which one number is wrong.
+out the pools whose packages are missing. Where all packages are installed, all its columns must come, in both tables. bench/longest_waits must end with
+an error after a report with a wait too few, name what it leaves out, and tell the waits that are too long. bench/soak must fail each report in which one
+number is wrong.
 
 Prints what fails, and in the end the line 'N passed, M failed'.
 """
@@ -24,6 +25,7 @@ from entrants import (
     CLOCK, COMMONS, COMMONS_HOOKS, COUNTER, HOOKS, JAR, JAVA, JAVA_HOOKS, LOAD, PLAIN, R2D2, REGISTRY, Row, is_right_contestant, runs_cargo
 )
 from soaking import ROUNDS, THREADS, Length, fault_of_load, faults_of
+from waiting import C, JAVA as JAVA_WAITS, TASKS, THREADS as THREAD_WAITS, Miscounted, looked_at, waited, waits_of
 
 LONGEST = 600
 PAIRS = 4_000
@@ -47,6 +49,9 @@ WRONG = {
     "status": "1", "pairs": "99", "uses": "99", "memory_early": "0", "memory": "1101", "double": "1", "stray": "1", "excess": "1",
     "made": "8", "destroyed": "6", "created": "8", "freed": "6", "left": "1",
 }
+# What a program of bench/longest_waits reports of 200 waits, and reports that are wrong.
+WAITED = "200 waits, longest 30 us, median 4 us\n"
+WRONG_WAITS = ["", WAITED.replace("200", "199"), WAITED.replace("30", "3"), WAITED.replace("4 us", "four us"), WAITED + WAITED]
 LOADED = {"status": "0", "refused": "0", "borrowed": str(THREADS * ROUNDS), "returned": str(THREADS * ROUNDS), "created": "4", "destroyed": "4"}
 WRONG_LOAD = {"status": "3", "refused": "1", "borrowed": "1", "returned": "1", "created": "5", "destroyed": "3"}
 
@@ -146,6 +151,34 @@ def check_counting():
     yield None if found else f"a pair too few: status {done.returncode}: {done.stdout}{done.stderr}"
 
 
+def check_waits():
+    """A right report of waits passes, and a wrong one is an error. A longest wait of more than three times r2d2's is told."""
+    yield None if waits_of(WAITED, 200) == (30, 4) else "a right report of waits fails"
+    for report in WRONG_WAITS:
+        yield f"a report of 200 waits passes: {report!r}" if waits_of(report, 200) else None
+    yield None if waited(["printf", WAITED + "%.0s%.0s"], 10, 200) == (30, 4) else "a program that is right fails"
+    for command in ["printf", WAITED.replace("200", "199") + "%.0s%.0s"], ["false"]:
+        try:
+            yield f"{command} passes: {waited(command, 10, 200)}"
+        except Miscounted:
+            yield None
+    row = {R2D2: (30, 4), THREAD_WAITS: (90, 4), TASKS: (91, 4), C: (0, 0), COMMONS: (1_000, 4)}
+    looked = list(looked_at(10, row))
+    yield None if looked == ["", f"long: held for 10 µs: {TASKS}: 91 µs, r2d2 30", ""] else f"other waits are too long: {looked}"
+    yield "a wait without r2d2's beside it is looked at" if list(looked_at(10, {JAVA_WAITS: (1, 1)})) else None
+
+
+def check_missing_waits():
+    """Without the packages r2d2 and Commons Pool are named and left out, and no row has a target."""
+    done = subprocess.run([TOP / "bench/longest_waits", "--waits", "3", "--rounds", "1", *ABSENT], capture_output=True, text=True, timeout=LONGEST)
+    for line in f"left out: {R2D2}: no ", f"left out: {COMMONS}: no ":
+        yield None if line in done.stdout else f"{line!r} isn't said: {done.stdout}{done.stderr}"
+    head, *rows = (tables(done.stdout) or [[[]]])[0]
+    has_cells = len(rows) == 4 and all(re.fullmatch(r"[\d,]+ \([\d,]+\)", cell) for row in rows for cell in row[1:])
+    yield None if {THREAD_WAITS, TASKS} <= set(head) and has_cells else f"other waits: {done.stdout}{done.stderr}"
+    yield None if (done.returncode, last_line(done)) == (0, "0 rows, 0 long") else f"status {done.returncode}: {last_line(done)}"
+
+
 def check_soak():
     """A right report passes four checks, and one with a wrong number fails."""
     length = Length("pairs", 100)
@@ -162,11 +195,11 @@ def check_soak():
 
 
 def main(pool):
-    checks = [*check_soak(), *check_java()]
+    checks = [*check_soak(), *check_java(), *check_waits()]
     if runs_cargo():
-        checks += [*check_missing(pool), *check_counting(), *check_present(pool)]
+        checks += [*check_missing_waits(), *check_missing(pool), *check_counting(), *check_present(pool)]
     else:
-        print("bench/peers is left out, since no cargo runs here")
+        print("bench/peers and bench/longest_waits are left out, since no cargo runs here")
     faults = [fault for fault in checks if fault]
     print(*faults, sep="\n", end="\n" if faults else "")
     print(f"{len(checks) - len(faults)} passed, {len(faults)} failed")

@@ -104,7 +104,7 @@ PARTS = (
         CARGO,
     ),
     Part("c-pool", "the C pool for threads, also with failing allocations", "python3 tests/play_c_pool.py {zuphinka} {pool}", ("pool", "zuphinka")),
-    Part("benchmarks", "bench/peers and bench/soak notice what is wrong", "python3 tests/play_bench.py {pool}", ("pool", "zuphinka"), CARGO),
+    Part("benchmarks", "bench/peers, bench/longest_waits and bench/soak notice what is wrong", "python3 tests/play_bench.py {pool}", ("pool", "zuphinka"), CARGO),
     Part("soak", "ten seconds of bench/soak", "python3 bench/soak --seconds 10 --pool {pool}", ("pool", "zuphinka"), CARGO),
     Part("killed", "runs of the program that are killed", "python3 tests/play_killed.py {pool}", ("pool",)),
     Part(
@@ -115,7 +115,7 @@ PARTS = (
     ),
     Part(
         "counts",
-        "the counts of the core and of the reference, and pools that are cut after each entry",
+        "the counts of the core, and of pools that are cut after each entry, against those computed from the journal",
         f"python3 tests/play_counts.py {{test_counts}} {SCRIPTS}",
         ("test_counts",),
     ),

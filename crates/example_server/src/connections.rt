@@ -2,6 +2,7 @@
 ghost use Rattle.std.specs.Prelude.{◌≡◌, true, false};
 
 use pool_shared::Factory;
+use thiserror::Error;
 
 /// A connection to something that answers. It counts the requests.
 #[derive(Drop)]
@@ -28,7 +29,8 @@ pub enum Request {
 }
 
 /// The factory's error: there is no connection.
-#[derive(Clone, Copy, Debug)]
+#[derive(Clone, Copy, Debug, Error)]
+#[error("the database is unreachable")]
 pub struct Unreachable;
 
 /// A factory that makes connections, and activates them when they are borrowed.

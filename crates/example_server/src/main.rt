@@ -108,17 +108,15 @@ fn day<B: Room + Send + Sync, R: Threads + Wait + Sync>(
         SERVERS + 1,
         Connector,
         watch,
-    )
-    .map_err(|_| Fault::NotOpened)?;
+    )?;
     let mut keeper = callers.pop().ok_or(Fault::CallerMissing)?;
 
     let (mut back, answered) = serve_all(rt, alloc, &pool, callers)?;
     moment.store(EVENING, Ordering::SeqCst);
-    pool.maintain(rt, &mut keeper)
-        .map_err(|_| Fault::NotMaintained)?;
-    pool.close(rt, &mut keeper).map_err(|_| Fault::NotClosed)?;
+    pool.maintain(rt, &mut keeper)?;
+    pool.close(rt, &mut keeper)?;
     back.push(keeper)?;
-    let core = pool.finish(rt, back).map_err(|_| Fault::CallerMissing)?;
+    let core = pool.finish(rt, back)?;
     Ok(Evening { core, answered })
 }
 
@@ -150,7 +148,7 @@ fn report(rt: &HostRuntime, settings: Settings, evening: &Evening) -> Result<(),
 
 fn main(rt: HostRuntime) -> Result<(), Fault> {
     let site = Site::new(rt.alloc())?;
-    let settings = Settings::from_text(rt.alloc(), SETTINGS).map_err(|_| Fault::Settings)?;
+    let settings = Settings::from_text(rt.alloc(), SETTINGS)?;
     let moment = AtomicU64::new(MORNING);
     let evening = day::<Brand, _>(&rt, rt.alloc(), site, settings, &moment)?;
     report(&rt, settings, &evening)

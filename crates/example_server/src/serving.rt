@@ -32,18 +32,16 @@ pub fn serve<B: Room, R: Wait>(
     let server = me.number();
     let mut answered = 0u64;
     for request in 0..REQUESTS {
-        let mut connection = pool.borrow(rt, &mut me).map_err(|_| Fault::NotBorrowed)?;
+        let mut connection = pool.borrow(rt, &mut me)?;
         if !connection.value_mut().ask(request_of(server, request)) {
-            pool.invalidate(rt, &mut me, connection)
-                .map_err(|_| Fault::NotTakenBack)?;
+            pool.invalidate(rt, &mut me, connection)?;
             continue;
         }
         answered = answered.saturating_add(1);
         if forgets(server, request) {
             drop(connection);
         } else {
-            pool.give_back(rt, &mut me, connection)
-                .map_err(|_| Fault::NotTakenBack)?;
+            pool.give_back(rt, &mut me, connection)?;
         }
     }
     Ok((me, answered))

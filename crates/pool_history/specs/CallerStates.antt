@@ -5,6 +5,7 @@ use Rattle.pool_journal.specs.declared.entry.Entry.{Entry}
 use Rattle.pool_settings.specs.declared.settings.Settings.{Settings}
 use Rattle.pool_core.specs.Legal.{IsLegal}
 use Rattle.pool_history.specs.Ownership.{IsOwnerRespecting, NoneMisused}
+use Rattle.pool_history.specs.Segments.{EachFitted}
 use Rattle.pool_history.specs.declared.room.Fragment.{Fragment}
 use Rattle.pool_history.specs.declared.room.View.{View}
 use Rattle.pool_history.specs.CellInvariant.{entries_with_number, fragments_only, fragment, IsPrefix}
@@ -35,17 +36,18 @@ cut_positions_in [] = []
 cut_positions_in (h ∷ hs) = h.cut_positions
 
 -- the invariant of a caller: its pass is of this cell, and has one fragment, which has observed a legal and owner-respecting
--- history; its own entries are exactly those with its number
+-- history; its own entries are exactly those with its number, and each fitted
 pub record CallerInvariant (table : TableId) (s : Settings) (id : TableId) (number : ℕ) (v : View) : Type 0 where
   pub here : id ≡ table
   pub knows : v ≡ fragments_only (fragment s number (observed_in v.fragments) (appended_in v.fragments) (cut_count_in v.fragments) (cut_positions_in v.fragments) ∷ [])
   pub legal : IsLegal s (observed_in v.fragments)
   pub owner_respecting : IsOwnerRespecting (observed_in v.fragments)
   pub all : appended_in v.fragments ≡ entries_with_number number (observed_in v.fragments)
+  pub fits : EachFitted s number (cut_positions_in v.fragments) (observed_in v.fragments)
 
 -- the same caller has observed a legal and owner-respecting history that extends what it had observed, and in which no entry
--- has the answer Refused NotHeld or Refused BadOutcome; its own entries are exactly those with its number, and its number of
--- cuts is unchanged
+-- has the answer Refused NotHeld or Refused BadOutcome; its own entries are exactly those with its number, and each fitted; its
+-- number of cuts is unchanged
 pub record Advances (s : Settings) (before after : CallerState) : Type 0 where
   pub number : after.number ≡ before.number
   pub later : IsPrefix before.observed after.observed
@@ -53,14 +55,16 @@ pub record Advances (s : Settings) (before after : CallerState) : Type 0 where
   pub owner_respecting : IsOwnerRespecting after.observed
   pub none_misused : NoneMisused after.observed
   pub all : after.appended ≡ entries_with_number after.number after.observed
+  pub fits : EachFitted s after.number after.cut_positions after.observed
   pub uncut : after.cut_count ≡ before.cut_count
   pub later_cuts : IsPrefix before.cut_positions after.cut_positions
 
--- a caller has observed a legal and owner-respecting history, and its own entries are exactly those with its number
+-- a caller has observed a legal and owner-respecting history; its own entries are exactly those with its number, and each fitted
 pub record IsConsistent (s : Settings) (me : CallerState) : Type 0 where
   pub legal : IsLegal s me.observed
   pub owner_respecting : IsOwnerRespecting me.observed
   pub all : me.appended ≡ entries_with_number me.number me.observed
+  pub fits : EachFitted s me.number me.cut_positions me.observed
 
 -- a new caller has observed nothing and appended nothing
 abbrev pub newcomer_at : ℕ → CallerState

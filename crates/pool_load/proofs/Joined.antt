@@ -1,16 +1,15 @@
 -- The promises of joined threads, in the order in which they were started.
-use Rattle.std.proofs.Common.{◌≡◌, ℕ, ◌+◌, ◌*◌, ◌<◌, ◌≤◌, List, [], ◌∷◌, ◌++◌, length, length-append, map, Option, Some, None, Result, Ok, Err, slice_get, refl, sym, ap, ◌∙◌, subst, arith}
-use Rattle.std.specs.Prelude.{slice_index_or, sum}
+use Rattle.std.proofs.Common.{◌≡◌, ℕ, suc, ◌+◌, ◌*◌, ◌<◌, ◌≤◌, List, [], ◌∷◌, ◌++◌, length, length-append, map, Option, Some, None, Result, Ok, Err, slice_get, refl, sym, ap, ◌∙◌, subst, arith}
+use Rattle.std.specs.Prelude.{IfOk, fold, slice_index_or, sum}
 use Rattle.std.specs.Option.{option_map}
 use Rattle.std.proofs.lemmas.List.{length-map, map-append}
-use Rattle.std.proofs.lemmas.List.Sums.{fold-append}
+use Rattle.std.proofs.lemmas.List.Sums.{fold-append, sum_by-cons}
 use Rattle.std.proofs.Math.Nat.{mul-add}
 use Rattle.std.proofs.lemmas.Option.{slice_get-map, slice_get_within, slice_get-get_or, get_or_from_slice_get}
 use Rattle.pool_settings.specs.declared.settings.Settings.{Settings}
 use Rattle.pool_history.specs.CallerStates.{CallerState}
 use Rattle.pool_engines.specs.declared.load_fault.LoadFault.{LoadFault}
-use Rattle.pool_engines.specs.declared.load_fault.LoadFault.TheVariants as stops
-use Rattle.pool_load.specs.Workers.{IsOutcome, Works, AllWorked}
+use Rattle.pool_load.specs.Workers.{IsOutcome, Works, AllWorked, added, total_of}
 
 -- an element of a mapped list comes from an element
 pub record From {X Y : Type 0} (f : X → Y) (xs : List X) (i : ℕ) (y : Y) : Type 0 where
@@ -56,33 +55,60 @@ module _ {H W : Type 0} (before : H → CallerState) (rounds : H → ℕ) (calle
           let c = subst (λ (c : CallerState). Works s n (outcome ended.x) b c) ended.is h in
           subst (λ (x : Result ℕ LoadFault). Works s n x b a) (ap outcome (sym same) ∙ gave.is) c
 
-pub outcomes_more : {W : Type 0} (outcome : W → Result ℕ LoadFault) (ws : List W) (w : W) (fs : List ℕ) (f : ℕ) → map outcome ws ≡ map Ok fs → outcome w ≡ Ok f
-    → map outcome (ws ++ w ∷ []) ≡ map Ok (fs ++ f ∷ [])
-outcomes_more outcome ws w fs f so_far is = map-append outcome ws (w ∷ []) ∙ ap (λ l. l ++ outcome w ∷ []) so_far ∙ ap (λ o. map Ok fs ++ o ∷ []) is ∙ sym (map-append Ok fs (f ∷ []))
+-- the sum so far, or the first error, with one more outcome
+pub total_more : {W : Type 0} (outcome : W → Result ℕ LoadFault) (ws : List W) (w : W) → total_of (map outcome (ws ++ w ∷ [])) ≡ added (total_of (map outcome ws)) (outcome w)
+total_more outcome ws w = ap total_of (map-append outcome ws (w ∷ [])) ∙ fold-append added (Ok 0) (map outcome ws) (outcome w ∷ [])
 
-pub sum_more : (fs : List ℕ) (f : ℕ) → sum (fs ++ f ∷ []) ≡ sum fs + f
-sum_more fs f = fold-append (λ (a b : ℕ). a + b) 0 fs (f ∷ [])
+error_stays : (fault : LoadFault) (os : List (Result ℕ LoadFault)) → fold added (Err fault) os ≡ Err fault
+error_stays fault [] = refl
+error_stays fault (o ∷ os) = error_stays fault os
 
--- at most this many borrows of a worker in the list were refused
-pub no_more : {W : Type 0} (caller : W → CallerState) (outcome : W → Result ℕ LoadFault) (s : Settings) (most : ℕ) (ws : List W) (i : ℕ) (w : W) (f : ℕ)
-    → ((i : ℕ) (d : W) → i < length ws → IsOutcome s most (outcome (slice_index_or ws i d)) (caller (slice_index_or ws i d)))
-    → i < length ws → w ≡ slice_index_or ws i w → outcome w ≡ Ok f → f ≤ most
-no_more caller outcome s most ws i w f each lt here is =
-    subst (λ o. IsOutcome s most o (caller w)) is (subst (λ x. IsOutcome s most (outcome x) (caller x)) (sym here) (each i w lt))
+-- if no outcome is an error, all are numbers, and the sum is theirs
+pub record AllNumbers (n r : ℕ) (os : List (Result ℕ LoadFault)) : Type 0 where
+  pub refusals : List ℕ
+  pub are : os ≡ map Ok refusals
+  pub sums : r ≡ n + sum refusals
 
-pub bound_more : {W : Type 0} (ws : List W) (w : W) (most n f : ℕ) → n ≤ most * length ws → f ≤ most → n + f ≤ most * length (ws ++ w ∷ [])
-bound_more ws w most n f so_far here =
+pub all_numbers : (n r : ℕ) (os : List (Result ℕ LoadFault)) → fold added (Ok n) os ≡ Ok r → AllNumbers n r os
+all_numbers n r [] is = let same : n ≡ r = cc is in record { refusals = []; are = refl; sums = omega (arith, same) }
+all_numbers n r (Ok m ∷ os) is =
+    let rest = all_numbers (n + m) r os is in
+    let more = sum_by-cons (λ (x : ℕ). x) m rest.refusals in
+    let sums = rest.sums in
+    record { refusals = m ∷ rest.refusals; are = ap (λ l. Ok m ∷ l) rest.are; sums = omega (arith, sums, more) }
+all_numbers n r (Err fault ∷ os) is = absurd (cc (sym (error_stays fault os) ∙ is))
+
+-- otherwise the error is one of them
+pub error_among : (n : ℕ) (os : List (Result ℕ LoadFault)) (fault : LoadFault) → fold added (Ok n) os ≡ Err fault → (i : ℕ) × (slice_get os i ≡ Some (Err fault))
+error_among n [] fault is = absurd (cc is)
+error_among n (Ok m ∷ os) fault is = let rest = error_among (n + m) os fault is in (suc rest.0, rest.1)
+error_among n (Err first ∷ os) fault is = (0, ap Some (sym (error_stays first os) ∙ is))
+
+-- at most this many borrows of each worker in the list were refused
+abbrev pub AllWithin : {W : Type 0} → (W → Result ℕ LoadFault) → ℕ → List W → Type 0
+AllWithin {W} outcome most ws = (i : ℕ) (d : W) → i < length ws → IfOk (outcome (slice_index_or ws i d)) (λ n. n ≤ most)
+
+pub no_more : {W : Type 0} (outcome : W → Result ℕ LoadFault) (most : ℕ) (ws : List W) (i : ℕ) (w : W) → AllWithin outcome most ws → i < length ws → w ≡ slice_index_or ws i w → IfOk (outcome w) (λ n. n ≤ most)
+no_more outcome most ws i w each lt here = subst (λ x. IfOk (outcome x) (λ n. n ≤ most)) (sym here) (each i w lt)
+
+pub bound_more : {W : Type 0} (ws : List W) (w : W) (most : ℕ) (total more : Result ℕ LoadFault) → IfOk total (λ n. n ≤ most * length ws) → IfOk more (λ n. n ≤ most) → IfOk (added total more) (λ n. n ≤ most * length (ws ++ w ∷ []))
+bound_more ws w most (Ok n) (Ok m) so_far here =
     let long = length-append ws (w ∷ []) in
     rw long (rw mul-add (omega (arith, so_far, here)))
+bound_more ws w most (Ok n) (Err fault) so_far here = tt
+bound_more ws w most (Err fault) more so_far here = tt
 
-outcome_up : (s : Settings) (rounds most : ℕ) (o : Result ℕ LoadFault) (me : CallerState) → rounds ≤ most → IsOutcome s rounds o me → IsOutcome s most o me
-outcome_up s rounds most (Ok f) me up is = omega (arith, up, is)
-outcome_up s rounds most (Err stops.NoThread) me up is = tt
-outcome_up s rounds most (Err _) me up is = is
+pub bound_up : (total : Result ℕ LoadFault) (n m : ℕ) → n ≤ m → IfOk total (λ k. k ≤ n) → IfOk total (λ k. k ≤ m)
+bound_up (Ok k) n m up is = omega (arith, up, is)
+bound_up (Err fault) n m up is = tt
+
+outcome_up : (s : Settings) (rounds most : ℕ) (o : Result ℕ LoadFault) (before after : CallerState) → rounds ≤ most → IsOutcome s rounds o before after → IfOk o (λ n. n ≤ most)
+outcome_up s rounds most (Ok f) before after up is = omega (arith, up, is)
+outcome_up s rounds most (Err fault) before after up is = tt
 
 -- each outcome is one of this number of rounds, even if more are allowed
 pub outcomes_within : {W : Type 0} (caller : W → CallerState) (outcome : W → Result ℕ LoadFault) (s : Settings) (rounds most : ℕ) (before : List CallerState) (ws : List W) → AllWorked s rounds before (map caller ws) (map outcome ws) → rounds ≤ most
-    → (i : ℕ) (d : W) → i < length ws → IsOutcome s most (outcome (slice_index_or ws i d)) (caller (slice_index_or ws i d))
+    → AllWithin outcome most ws
 outcomes_within caller outcome s rounds most before ws worked up i d lt =
     let w = slice_index_or ws i d in
     let at : slice_get ws i ≡ Some w = slice_get-get_or ws i d lt in
@@ -90,4 +116,4 @@ outcomes_within caller outcome s rounds most before ws worked up i d lt =
     let at_b = slice_get-get_or before i (caller w) (omega (arith, long, lt)) in
     let at_a : slice_get (map caller ws) i ≡ Some (caller w) = slice_get-map caller ws i ∙ ap (option_map caller) at in
     let at_o : slice_get (map outcome ws) i ≡ Some (outcome w) = slice_get-map outcome ws i ∙ ap (option_map outcome) at in
-    outcome_up s rounds most (outcome w) (caller w) up (worked.each i (slice_index_or before i (caller w)) (caller w) (outcome w) at_b at_a at_o).result
+    outcome_up s rounds most (outcome w) (slice_index_or before i (caller w)) (caller w) up (worked.each i (slice_index_or before i (caller w)) (caller w) (outcome w) at_b at_a at_o).result

@@ -1,25 +1,29 @@
 -- Traces of borrows and returns make rounds.
-use Rattle.std.proofs.Common.{◌≡◌, ℕ, zero, suc, ◌+◌, List, [], ◌++◌, Ok, Err, append_assoc, append-nil, refl, sym, ap, ◌∙◌, subst, arith}
+use Rattle.std.proofs.Common.{◌≡◌, ◌≢◌, ◌⊎◌, inl, inr, ℕ, zero, suc, ◌+◌, ◌<◌, Bool, true, false, List, [], ◌∷◌, ◌++◌, Ok, Err, append_assoc, append-nil, refl, sym, ap, ◌∙◌, subst, arith}
 use Rattle.pool_journal.specs.declared.entry.Entry.{Entry}
-use Rattle.pool_journal.specs.declared.input.Input.TheVariants as inputs
-use Rattle.pool_journal.specs.declared.input.When.TheVariants as times
+use Rattle.pool_journal.specs.declared.answer.Answer.{Answer}
+use Rattle.pool_journal.specs.declared.answer.Answer.TheVariants as answers
 use Rattle.pool_settings.specs.declared.settings.Settings.{Settings}
-use Rattle.pool_history.specs.CallerStates.{CallerState}
+use Rattle.pool_history.specs.CallerStates.{CallerState, Advances}
 use Rattle.pool_shared.specs.declared.faults.BorrowFault.{BorrowFault}
 use Rattle.pool_shared.specs.declared.faults.BorrowFault.TheVariants as faults
+use Rattle.pool_shared.specs.declared.faults.PoolFault.{PoolFault}
 use Rattle.pool_shared.specs.declared.faults.PoolFault.TheVariants as pool_faults
 use Rattle.pool_shared.specs.declared.faults.ReturnFault.{ReturnFault}
 use Rattle.pool_shared.specs.declared.faults.ReturnFault.TheVariants as refusals
 use Rattle.pool_shared.specs.declared.faults.Returned.{Returned}
 use Rattle.pool_shared.specs.declared.lent.Lent.{Lent}
 use Rattle.pool_shared.specs.Traces.{run_stages}
+use Rattle.pool_shared.specs.TraceToResult.{IsRoomFault}
+use Rattle.pool_journal.specs.Journal.{phase}
+use Rattle.pool_journal.specs.declared.record.Phase.TheVariants as phases
+use Rattle.pool_journal.specs.declared.input.Input.TheVariants as inputs
 use Rattle.pool_shared.specs.Borrows as borrows
 use Rattle.pool_shared.specs.Returns as returns
-use Rattle.pool_shared.specs.Reclaims as removals
-use Rattle.pool_core.specs.Legal.{IsLegal}
 use Rattle.pool_engines.specs.declared.load_fault.LoadFault.{LoadFault}
 use Rattle.pool_engines.specs.declared.load_fault.LoadFault.TheVariants as stops
-use Rattle.pool_load.specs.Rounds.{IsRefusal, IsThrough, ReturnDone, Round, lends, refuses, IsWorked, MakesRound, MakesRounds, IsNonResourceError, StopsFor, IsFull, Stops}
+use Rattle.pool_load.specs.Rounds.{IsRefusal, IsThrough, ReturnDone, Round, lends, refuses, IsWorked, MakesRound, MakesRounds, IsNonResourceError, StopsFor, borrowing, returning, StopsOneRound, StopsRound, StopsInRounds, Stops}
+use Rattle.pool_shared.proofs.Sweeping.{goes_then}
 
 -- a borrow that failed with an error of its own
 refusal_is : (T : Type 0) {E : Type 0} (s : Settings) (number began : ℕ) (st : borrows.Stage) (f : BorrowFault E) (me : CallerState) → IsNonResourceError f → borrows.BorrowEnds {T = T} s number began st (Err f) me → IsRefusal st
@@ -56,27 +60,63 @@ kept_round E s number l m f a b c is row back =
     let there : returns.ReturnSpec s number l (Err (refusals.NotLent, m)) b c = subst (λ x. returns.ReturnSpec s number l (Err (x, m)) b c) is back in
     both E s number l a b c row there.1.es there.1.made (record { due = there.1.due; ends = subst IsThrough (sym there.1.ends.0) tt })
 
--- if a borrow failed for lack of room, an expected entry didn't fit
-full_there : (s : Settings) (began : ℕ) (st : borrows.Stage) (me : CallerState) → IsLegal s me.observed → borrows.IsStopped s began pool_faults.JournalFull st me → IsFull s me
-full_there s began (borrows.removes removals.begins) me legal is = record { legal = legal; input = inputs.Reclaim times.Borrow; full = is }
-full_there s began (borrows.removes (removals.reclaims (suc left) taken)) me legal is = record { legal = legal; input = inputs.ReclaimNext; full = (is.0, is.1) }
-full_there s began (borrows.removes (removals.reclaims zero taken)) me legal is = absurd is
-full_there s began (borrows.removes _) me legal is = absurd is
-full_there s began borrows.asks me legal is = record { legal = legal; input = inputs.Borrow began; full = is }
-full_there s began _ me legal is = absurd is
+-- a borrow that failed for lack of room or memory
+pub stopped_borrow : (T : Type 0) {E : Type 0} (s : Settings) (number : ℕ) (f : BorrowFault E) (stop : LoadFault) (before after : CallerState) → StopsFor stop f → borrows.BorrowSpec {T = T} s number (Err f) before after → StopsRound s stop before after
+stopped_borrow T s number faults.JournalFull stops.JournalFull before after is row = (row.1.es, row.1.made, borrowing (record { began = row.0; due = row.1.due; fails = row.1.ends }))
+stopped_borrow T s number faults.OutOfMemory stops.OutOfMemory before after is row = (row.1.es, row.1.made, borrowing (record { began = row.0; due = row.1.due; fails = row.1.ends }))
+stopped_borrow T s number _ stops.JournalFull before after is row = absurd is
+stopped_borrow T s number _ stops.OutOfMemory before after is row = absurd is
+stopped_borrow T s number f _ before after is row = absurd is
 
-pub stopped_borrow : (T : Type 0) {E : Type 0} (s : Settings) (number : ℕ) (f : BorrowFault E) (stop : LoadFault) (before after : CallerState) → IsLegal s after.observed → StopsFor stop f → borrows.BorrowSpec {T = T} s number (Err f) before after → Stops s stop after
-stopped_borrow T s number faults.JournalFull stops.JournalFull before after legal is row = full_there s row.0 (run_stages borrows.next (borrows.first_stage s) row.1.es) after legal row.1.ends
-stopped_borrow T s number faults.OutOfMemory stops.OutOfMemory before after legal is row = tt
-stopped_borrow T s number _ stops.JournalFull before after legal is row = absurd is
-stopped_borrow T s number _ stops.OutOfMemory before after legal is row = absurd is
-stopped_borrow T s number f _ before after legal is row = absurd is
+-- no entry leads to the first stage of a return
+abbrev is_giving : returns.Stage → Bool
+is_giving returns.gives = true
+is_giving _ = false
 
--- the same for a return
-pub stopped_return : {T : Type 0} (s : Settings) (number : ℕ) (l m : Lent T) (f : ReturnFault) (before after : CallerState) → f ≡ refusals.JournalFull → IsLegal s after.observed → returns.ReturnSpec s number l (Err (f, m)) before after → IsFull s after
-stopped_return s number l m f before after is legal row =
-    let there : returns.ReturnSpec s number l (Err (refusals.JournalFull, m)) before after = subst (λ x. returns.ReturnSpec s number l (Err (x, m)) before after) is row in
-    record { legal = legal; input = inputs.GiveBack l.id; full = there.1.ends.1 }
+giving_not : (a : Answer) → is_giving (returns.after_giving a) ≡ false
+giving_not answers.Check = refl
+giving_not answers.Gone = refl
+giving_not _ = refl
+
+checking_not : (a : Answer) → is_giving (returns.after_checking a) ≡ false
+checking_not answers.Parked = refl
+checking_not _ = refl
+
+not_again : (st : returns.Stage) (e : Entry) → is_giving (returns.next st e) ≡ false
+not_again returns.gives e = giving_not e.answer
+not_again returns.checks e = checking_not e.answer
+not_again _ e = refl
+
+never_again : (st : returns.Stage) (e : Entry) (es : List Entry) → is_giving (run_stages returns.next st (e ∷ es)) ≡ false
+never_again st e [] = not_again st e
+never_again st e (f ∷ fs) = never_again (returns.next st e) f fs
+
+none_given : (es : List Entry) → run_stages returns.next returns.gives es ≡ returns.gives → es ≡ []
+none_given [] is = refl
+none_given (e ∷ es) is = absurd (cc (sym (never_again returns.gives e es) ∙ ap is_giving is))
+
+-- a return that failed for lack of room or memory
+returned_none : (E : Type 0) {T : Type 0} (s : Settings) (number : ℕ) (l : Lent T) (f : PoolFault) (a b c : CallerState) → borrows.BorrowSpec {T = T} {E = E} s number (Ok l) a b → (gs : List Entry) → c.appended ≡ b.appended ++ gs
+    → run_stages returns.next returns.gives gs ≡ returns.gives → phase l.id c.observed ≢ phases.Lent → IsRoomFault s (inputs.GiveBack l.id) f c → StopsOneRound s f a c
+returned_none E s number l f a b c row gs made ends not_lent fails =
+    let r = row.1 in
+    let none = none_given gs ends in (
+      r.es,
+      made ∙ ap (λ x. b.appended ++ x) none ∙ append-nil b.appended ∙ r.made,
+      returning l.id (record { borrowed = record { began = row.0; due = r.due; ends = r.ends.0 }; not_lent = not_lent; fails = fails }),
+    )
+
+pub full_return : (E : Type 0) {T : Type 0} (s : Settings) (number : ℕ) (l m : Lent T) (f : ReturnFault) (a b c : CallerState) → f ≡ refusals.JournalFull → borrows.BorrowSpec {T = T} {E = E} s number (Ok l) a b → returns.ReturnSpec s number l (Err (f, m)) b c
+    → StopsRound s stops.JournalFull a c
+full_return E s number l m f a b c is row back =
+    let there : returns.ReturnSpec s number l (Err (refusals.JournalFull, m)) b c = subst (λ x. returns.ReturnSpec s number l (Err (x, m)) b c) is back in
+    returned_none E s number l pool_faults.JournalFull a b c row there.1.es there.1.made there.1.ends.0 there.1.ends.2 there.1.ends.1
+
+pub short_return : (E : Type 0) {T : Type 0} (s : Settings) (number : ℕ) (l m : Lent T) (f : ReturnFault) (a b c : CallerState) → f ≡ refusals.OutOfMemory → borrows.BorrowSpec {T = T} {E = E} s number (Ok l) a b → returns.ReturnSpec s number l (Err (f, m)) b c
+    → StopsRound s stops.OutOfMemory a c
+short_return E s number l m f a b c is row back =
+    let there : returns.ReturnSpec s number l (Err (refusals.OutOfMemory, m)) b c = subst (λ x. returns.ReturnSpec s number l (Err (x, m)) b c) is back in
+    returned_none E s number l pool_faults.OutOfMemory a b c row there.1.es there.1.made there.1.ends.0 there.1.ends.2 there.1.ends.1
 
 worked_more : (s : Settings) (r f g : ℕ) (es xs : List Entry) → IsWorked s r f es → Round s g xs → IsWorked s (suc r) (f + g) (es ++ xs)
 worked_more s zero f g es xs w round =
@@ -93,3 +133,33 @@ pub rounds_more : (s : Settings) (r f g : ℕ) (a b c : CallerState) → MakesRo
 rounds_more s r f g a b c w x =
     let one : suc r ≡ r + 1 = omega arith in
     (w.0 ++ x.0, x.1 ∙ ap (λ l. l ++ x.0) w.1 ∙ append_assoc a.appended w.0 x.0, subst (λ n. IsWorked s n (f + g) (w.0 ++ x.0)) one (worked_more s r f g w.0 x.0 w.2 x.2))
+
+-- the caller is in the state in which it was, or advanced from it
+abbrev pub GoesOn : Settings → CallerState → CallerState → Type 0
+GoesOn s a b = (b ≡ a) ⊎ Advances s a b
+
+pub goes_on : (s : Settings) (a b c : CallerState) → GoesOn s a b → Advances s b c → Advances s a c
+goes_on s a b c so_far next = elim so_far [
+  | inl same ↦ subst (λ x. Advances s x c) same next
+  | inr before ↦ goes_then s a b c before next
+]
+
+-- a round that stopped after whole ones
+stopped_by : (s : Settings) (rounds done g : ℕ) (f : PoolFault) (a b c : CallerState) → done < rounds → GoesOn s a b → MakesRounds s done g a b → Advances s b c → StopsOneRound s f b c → StopsInRounds s rounds f a c
+stopped_by s rounds done g f a b c fewer so_far w next x =
+    record {
+      goes = goes_on s a b c so_far next;
+      done = done;
+      fewer = fewer;
+      refused = g;
+      whole = w.0;
+      part = x.0;
+      made = x.1 ∙ ap (λ l. l ++ x.0) w.1 ∙ append_assoc a.appended w.0 x.0;
+      worked = w.2;
+      stopped = x.2;
+    }
+
+pub stopped_after : (s : Settings) (rounds done g : ℕ) (fault : LoadFault) (a b c : CallerState) → done < rounds → GoesOn s a b → MakesRounds s done g a b → Advances s b c → StopsRound s fault b c → Stops s rounds fault a c
+stopped_after s rounds done g stops.JournalFull a b c fewer so_far w next x = stopped_by s rounds done g pool_faults.JournalFull a b c fewer so_far w next x
+stopped_after s rounds done g stops.OutOfMemory a b c fewer so_far w next x = stopped_by s rounds done g pool_faults.OutOfMemory a b c fewer so_far w next x
+stopped_after s rounds done g _ a b c fewer so_far w next x = absurd x

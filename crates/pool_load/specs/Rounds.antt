@@ -1,16 +1,19 @@
 -- Rounds of a caller: a borrow, and its return if it got an object.
-use Rattle.std.specs.Prelude.{◌≡◌, ℕ, zero, suc, ◌+◌, List, [], ◌++◌}
+use Rattle.std.specs.Prelude.{◌≡◌, ◌≢◌, ℕ, zero, suc, ◌+◌, ◌<◌, List, [], ◌++◌}
 use Rattle.pool_journal.specs.declared.entry.Entry.{Entry}
-use Rattle.pool_journal.specs.declared.input.Input.{Input}
+use Rattle.pool_journal.specs.declared.input.Input.TheVariants.{GiveBack}
 use Rattle.pool_journal.specs.declared.answer.Answer.{Answer}
 use Rattle.pool_journal.specs.declared.answer.Answer.TheVariants as answers
 use Rattle.pool_journal.specs.declared.answer.Cause.TheVariants as causes
 use Rattle.pool_settings.specs.declared.settings.Settings.{Settings}
-use Rattle.pool_core.specs.Legal.{IsLegal}
-use Rattle.pool_history.specs.CallerStates.{CallerState}
-use Rattle.pool_lock.specs.Sections.{IsFullFor}
+use Rattle.pool_journal.specs.Journal.{phase}
+use Rattle.pool_journal.specs.declared.record.Phase.TheVariants as phases
+use Rattle.pool_history.specs.CallerStates.{CallerState, Advances}
 use Rattle.pool_shared.specs.declared.faults.BorrowFault.{BorrowFault}
 use Rattle.pool_shared.specs.declared.faults.BorrowFault.TheVariants as faults
+use Rattle.pool_shared.specs.declared.faults.PoolFault.{PoolFault}
+use Rattle.pool_shared.specs.declared.faults.PoolFault.TheVariants as pool_faults
+use Rattle.pool_shared.specs.TraceToResult.{IsRoomFault}
 use Rattle.pool_shared.specs.Traces.{run_stages, AllExpected}
 use Rattle.pool_shared.specs.Borrows as borrows
 use Rattle.pool_shared.specs.Returns as returns
@@ -86,14 +89,48 @@ StopsFor JournalFull faults.JournalFull = Unit {0}
 StopsFor OutOfMemory faults.OutOfMemory = Unit {0}
 StopsFor _ _ = ⊥
 
--- after a legal history that is observed, an expected entry doesn't fit
-pub record IsFull (s : Settings) (me : CallerState) : Type 0 where
-  pub legal : IsLegal s me.observed
-  pub input : Input
-  pub full : IsFullFor s input me
+-- the entries of a borrow whose next critical section failed with this error
+pub record BorrowStopped (s : Settings) (f : PoolFault) (es : List Entry) (me : CallerState) : Type 0 where
+  pub began : ℕ
+  pub due : AllExpected (borrows.IsExpected s began) borrows.next (borrows.first_stage s) es
+  pub fails : borrows.IsStopped s began f (run_stages borrows.next (borrows.first_stage s) es) me
 
--- why a caller stopped in its rounds
-abbrev pub Stops : Settings → LoadFault → CallerState → Type 0
-Stops s JournalFull me = IsFull s me
-Stops s OutOfMemory me = Unit {0}
-Stops s _ me = ⊥
+-- the entries of a whole borrow of this object, whose return failed with this error before its first entry, since the object
+-- wasn't lent any more
+pub record ReturnStopped (s : Settings) (f : PoolFault) (i : ℕ) (es : List Entry) (me : CallerState) : Type 0 where
+  pub borrowed : BorrowDone s i es
+  pub not_lent : phase i me.observed ≢ phases.Lent
+  pub fails : IsRoomFault s (GiveBack i) f me
+
+-- the entries of one round that stopped with this error, in its borrow or in its return
+pub data RoundStopped (s : Settings) (f : PoolFault) (es : List Entry) (me : CallerState) : Type 0 where
+  borrowing : BorrowStopped s f es me → RoundStopped s f es me
+  returning : (i : ℕ) → ReturnStopped s f i es me → RoundStopped s f es me
+
+-- a caller appended the entries of one round that stopped with this error
+abbrev pub StopsOneRound : Settings → PoolFault → CallerState → CallerState → Type 0
+StopsOneRound s f before after = (es : List Entry) × (after.appended ≡ before.appended ++ es) × RoundStopped s f es after
+
+-- why a caller stopped in a round
+abbrev pub StopsRound : Settings → LoadFault → CallerState → CallerState → Type 0
+StopsRound s JournalFull before after = StopsOneRound s pool_faults.JournalFull before after
+StopsRound s OutOfMemory before after = StopsOneRound s pool_faults.OutOfMemory before after
+StopsRound s _ before after = ⊥
+
+-- a caller advanced by fewer whole rounds than this number, and by one more round that stopped with this error
+pub record StopsInRounds (s : Settings) (rounds : ℕ) (f : PoolFault) (before after : CallerState) : Type 0 where
+  pub goes : Advances s before after
+  pub done : ℕ
+  pub fewer : done < rounds
+  pub refused : ℕ
+  pub whole : List Entry
+  pub part : List Entry
+  pub made : after.appended ≡ before.appended ++ (whole ++ part)
+  pub worked : IsWorked s done refused whole
+  pub stopped : RoundStopped s f part after
+
+-- why a caller stopped in these rounds
+abbrev pub Stops : Settings → ℕ → LoadFault → CallerState → CallerState → Type 0
+Stops s rounds JournalFull before after = StopsInRounds s rounds pool_faults.JournalFull before after
+Stops s rounds OutOfMemory before after = StopsInRounds s rounds pool_faults.OutOfMemory before after
+Stops s rounds _ before after = ⊥

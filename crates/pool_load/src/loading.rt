@@ -1,10 +1,11 @@
 // Many workers at once, and the statistics of their history.
-ghost use Rattle.std.specs.Prelude.{◌≡◌, ◌+◌, ◌*◌, ◌≤◌, ℕ, length, Ok, IfOk, IfErr, OnOk};
+ghost use Rattle.std.specs.Prelude.{◌≡◌, ◌+◌, ◌*◌, ◌≤◌, ℕ, length, Result, IfOk, IfErr, OnOk};
 ghost use Rattle.pool_history.specs.CallerStates.{Advances};
+ghost use Rattle.pool_shared.specs.declared.faults.PoolFault.{PoolFault};
 ghost use Rattle.pool_shared.specs.Clears.{CloseSpec};
 ghost use Rattle.pool_stats.specs.Statistics.{statistics_of};
-ghost use Rattle.pool_load.specs.Workers.{StopsLoad, WorksAndCloses};
-ghost use Rattle.pool_load.specs.Loads.{IsInRange, IsLoad, IsLoadFault};
+ghost use Rattle.pool_load.specs.Workers.{IsWanting, WorksAndCloses};
+ghost use Rattle.pool_load.specs.Loads.{IsInRange, IsLoad, StopsLoad, IsLoadFault};
 
 use crate::gate::Gate;
 use crate::ids::{IdPool, Ids, Ticks};
@@ -12,7 +13,7 @@ use crate::workers::{collect_all, work_all};
 use pool_core::Core;
 use pool_engines::LoadFault;
 use pool_settings::Settings;
-use pool_shared::{Caller, OpenFault, PoolFault, Room, Site};
+use pool_shared::{Caller, OpenFault, Room, Site};
 use pool_stats::Statistics;
 use std::alloc::Global;
 use std::marker::Brand;
@@ -35,15 +36,16 @@ pub struct LoadReport {
 }
 
 /// Opens a pool with these settings, runs `workers` workers on it that make `rounds` rounds each, each in its own
-/// thread, and then closes it. In a round a worker borrows an object, passes the gate with it, and returns it; a borrow
-/// that is refused is a round too. All threads are joined before the call returns.
+/// thread, and then closes it, which destroys the idle objects. In a round a worker borrows an object, passes the gate
+/// with it, and returns it; a borrow that is refused is a round too. All threads are joined before the call returns.
 ///
 /// The value of an object is its id, the factory never fails, and the clock counts its readings.
 ///
 /// # Errors
 ///
-/// `WorkerCount` and `RoundCount` exactly if a number is out of its range, in this order. `JournalFull` if an expected
-/// entry did not fit. `NoThread` if the system did not create a thread: then no worker has begun. `OutOfMemory`.
+/// `WorkerCount` and `RoundCount` exactly if a number is out of its range, in this order. `JournalFull` if a worker
+/// stopped in one of its rounds, since the entry of its next critical section did not fit. `NoThread` if the system did
+/// not create a thread: then no worker has begun. `OutOfMemory`.
 pub fn load<G: Gate, R: Threads + Wait + Sync>(
     rt: &R,
     alloc: Global,
@@ -82,7 +84,7 @@ fn load_on<B: Room + Send + Sync, G: Gate, R: Threads + Wait + Sync>(
     requires room { (site ≡ B.table) × (settings ≡ B.settings) × (workers + 1 ≡ B.callers) }
     requires range { IsInRange workers rounds }
     ensures load { IfOk result (λ r. IsLoad settings workers rounds r.refused r.stats) }
-    ensures stops { IfErr result (StopsLoad settings) }
+    ensures stops { IfErr result (StopsLoad settings workers rounds) }
 {
     let callers = workers + 1;
     let (pool, mut callers) = match IdPool::<B>::open(
@@ -102,15 +104,18 @@ fn load_on<B: Room + Send + Sync, G: Gate, R: Threads + Wait + Sync>(
     let Some(last) = callers.pop() else {
         unreachable!()
     };
-    let (refused, all) = work_and_close::<B, G, R>(rt, alloc, &pool, gate, callers, last, rounds)?;
+    let (outcome, all) = work_and_close::<B, G, R>(rt, alloc, &pool, gate, callers, last, rounds)?;
     let Ok(core) = pool.finish(rt, all) else {
         unreachable!()
     };
-    report(alloc, core, refused)
+    match outcome {
+        Ok(refused) => report(alloc, core, refused),
+        Err(fault) => Err(fault),
+    }
 }
 
 /// Lets each caller work in its own thread, and then the last one close the pool. Returns the number of refused borrows
-/// and all callers.
+/// or the error of a worker, and all callers.
 fn work_and_close<B: Room + Send + Sync, G: Gate, R: Threads + Wait + Sync>(
     rt: &R,
     alloc: Global,
@@ -119,36 +124,29 @@ fn work_and_close<B: Room + Send + Sync, G: Gate, R: Threads + Wait + Sync>(
     callers: Vec<Caller<B>>,
     last: Caller<B>,
     rounds: u64,
-) -> Result<(u64, Vec<Caller<B>>), LoadFault>
+) -> Result<(Result<u64, LoadFault>, Vec<Caller<B>>), LoadFault>
     requires bounded { length callers.items ≤ 1023 }
     requires rounds { rounds ≤ 1000000 }
     ensures closed { IfOk result (λ r. WorksAndCloses B.settings rounds callers.items last
         r.0 r.1.items) }
-    ensures stops { IfErr result (StopsLoad B.settings) }
+    ensures error { IfErr result (λ fault. IsWanting fault) }
 {
     let worked = work_all::<B, G, R>(rt, alloc, pool, gate, callers, rounds)?;
-    let (refused, mut all) = collect_all::<B>(alloc, worked)?;
+    let (outcome, mut all) = collect_all::<B>(alloc, worked)?;
     let mut last = last;
-    close::<B, R>(rt, pool, &mut last)?;
+    close::<B, R>(rt, pool, &mut last);
     match all.push(last) {
-        Ok(()) => Ok((refused, all)),
+        Ok(()) => Ok((outcome, all)),
         Err(_) => Err(LoadFault::OutOfMemory),
     }
 }
 
-/// Lets the last caller close the pool.
-fn close<B: Room, R: Wait>(rt: &R, pool: &IdPool<B>, last: &mut Caller<B>) -> Result<(), LoadFault>
+/// Lets the last caller close the pool. The history of the load shows that this does not fail: no worker closes it.
+fn close<B: Room, R: Wait>(rt: &R, pool: &IdPool<B>, last: &mut Caller<B>)
     ensures advances { Advances B.settings last.old last.new }
-    ensures spec { IfOk result (λ u. (taken : ℕ)
-        × CloseSpec B.settings (Ok taken) last.old last.new) }
-    ensures stops { IfErr result (StopsLoad B.settings) }
+    ensures spec { (result : Result ℕ PoolFault) × CloseSpec B.settings result last.old last.new }
 {
-    match pool.close(rt, last) {
-        Ok(_) => Ok(()),
-        Err(PoolFault::JournalFull) => Err(LoadFault::JournalFull),
-        Err(PoolFault::OutOfMemory) => Err(LoadFault::OutOfMemory),
-        Err(PoolFault::Closed) => unreachable!(),
-    }
+    let _ = pool.close(rt, last);
 }
 
 /// Returns the statistics of a pool's journal, with the number of refused borrows.

@@ -1,6 +1,7 @@
 // Rounds of one caller.
 ghost use Rattle.std.specs.Prelude.{◌≡◌, ◌≤◌, IfOk, IfErr};
-ghost use Rattle.pool_load.specs.Rounds.{MakesRound, MakesRounds, IsNonResourceError, StopsFor, Stops};
+ghost use Rattle.pool_history.specs.CallerStates.{Advances};
+ghost use Rattle.pool_load.specs.Rounds.{MakesRound, MakesRounds, IsNonResourceError, StopsFor, StopsRound, Stops};
 
 use crate::gate::Gate;
 use pool_engines::LoadFault;
@@ -28,10 +29,9 @@ fn round<T: Drop, E: Drop, F: Factory<T, E> + Drop, C: Clock + Drop, B: Room, G:
     number: u64,
 ) -> Result<u64, LoadFault>
     ensures most { IfOk result (λ n. n ≤ 1) }
-    ensures number { me.new.number ≡ me.old.number }
-    ensures uncut { me.new.cut_count ≡ me.old.cut_count }
+    ensures advances { Advances B.settings me.old me.new }
     ensures spec { IfOk result (λ n. MakesRound B.settings n me.old me.new) }
-    ensures stops { IfErr result (λ fault. Stops B.settings fault me.new) }
+    ensures stops { IfErr result (λ fault. StopsRound B.settings fault me.old me.new) }
 {
     match pool.borrow(rt, me) {
         Ok(lent) => {
@@ -69,7 +69,7 @@ pub fn work<T: Drop, E: Drop, F: Factory<T, E> + Drop, C: Clock + Drop, B: Room,
     ensures uncut { me.new.cut_count ≡ me.old.cut_count }
     ensures most { IfOk result (λ n. n ≤ rounds) }
     ensures rows { IfOk result (λ n. MakesRounds B.settings rounds n me.old me.new) }
-    ensures stops { IfErr result (λ fault. Stops B.settings fault me.new) }
+    ensures stops { IfErr result (λ fault. Stops B.settings rounds fault me.old me.new) }
 {
     let mut refused = 0;
     for done in 0..rounds {

@@ -1,6 +1,6 @@
 // Workers in threads of their own.
-ghost use Rattle.std.specs.Prelude.{◌≡◌, ◌≤◌, ◌<◌, ℕ, List, length, map, sum, slice_index_or, Ok, IfOk, IfErr};
-ghost use Rattle.pool_load.specs.Workers.{Works, AllWorked, IsOutcome, StopsLoad, IsWanting};
+ghost use Rattle.std.specs.Prelude.{◌≡◌, ◌≤◌, ◌<◌, ℕ, List, length, map, slice_index_or, IfOk, IfErr};
+ghost use Rattle.pool_load.specs.Workers.{Works, AllWorked, IsWanting, added, total_of};
 
 use crate::gate::Gate;
 use crate::ids::IdPool;
@@ -163,30 +163,45 @@ pub(crate) fn work_all<B: Room + Send + Sync, G: Gate, R: Threads + Wait + Sync>
     )
 }
 
-/// Returns the number of refused borrows of all workers, and their callers.
+/// Returns the sum of two numbers of refused borrows, or the first error.
+fn add(total: Result<u64, LoadFault>, more: Result<u64, LoadFault>) -> Result<u64, LoadFault>
+    requires total { IfOk total (λ n. n ≤ 1023000000) }
+    requires more { IfOk more (λ n. n ≤ 1000000) }
+    ensures sum { result ≡ added total more }
+{
+    match total {
+        Ok(refused) => match more {
+            Ok(more) => Ok(refused + more),
+            Err(fault) => Err(fault),
+        },
+        Err(fault) => Err(fault),
+    }
+}
+
+/// Returns the number of refused borrows of all workers, or the error of the first that has one, and their callers.
+///
+/// # Errors
+///
+/// `OutOfMemory`.
 pub(crate) fn collect_all<B: Room>(
     alloc: Global,
     workers: Vec<Worked<B>>,
-) -> Result<(u64, Vec<Caller<B>>), LoadFault>
+) -> Result<(Result<u64, LoadFault>, Vec<Caller<B>>), LoadFault>
     requires bounded { length workers.items ≤ 1023 }
-    requires each { (i : ℕ) (d : _) → i < length workers.items → IsOutcome B.settings 1000000
-        (slice_index_or workers.items i d).outcome (slice_index_or workers.items i d).caller }
+    requires each { (i : ℕ) (d : _) → i < length workers.items
+        → IfOk (slice_index_or workers.items i d).outcome (λ n. n ≤ 1000000) }
     ensures callers { IfOk result (λ r. r.1.items ≡ map (λ w. w.caller) workers.items) }
-    ensures refused { IfOk result (λ r. (refusals : List ℕ)
-        × (map (λ w. w.outcome) workers.items ≡ map Ok refusals) × (r.0 ≡ sum refusals)) }
-    ensures stops { IfErr result (StopsLoad B.settings) }
+    ensures outcome { IfOk result (λ r. r.0 ≡ total_of (map (λ w. w.outcome) workers.items)) }
+    ensures error { IfErr result (λ fault. IsWanting fault) }
 {
     let mut callers = Vec::new(alloc);
-    let mut refused = 0;
+    let mut total = Ok(0);
     for worker in workers {
         let Worked { caller, outcome } = worker;
-        match outcome {
-            Ok(more) => refused += more,
-            Err(fault) => return Err(fault),
-        }
+        total = add(total, outcome);
         if callers.push(caller).is_err() {
             return Err(LoadFault::OutOfMemory);
         }
     }
-    Ok((refused, callers))
+    Ok((total, callers))
 }

@@ -24,7 +24,7 @@ use Rattle.pool_core.specs.Reply.{reply}
 use Rattle.pool_history.specs.declared.room.View.{View}
 use Rattle.pool_history.specs.CellInvariant.{authority}
 use Rattle.pool_history.specs.CallerStates.{CallerState}
-use Rattle.pool_history.specs.Stored.{IsStoredSegment}
+use Rattle.pool_history.specs.Segments.{IsStoredSegment, FitsAfter}
 use Rattle.pool_history.specs.Ownership.{IsOwnerRespecting, IsReadyOutcome, IsParkOutcome, IsAddOutcome, IsTestOutcome}
 
 -- each stored value has this property
@@ -123,6 +123,6 @@ pub record Refuses {T : Type 0} (s : Settings) (input : Input) (handed : Option 
   pub same : after.appended ≡ before.appended
   pub error : IsWhy s input handed f after
 
--- the history has one more entry: the answer to this caller's input, at some time
-abbrev pub AppendsOne : ℕ → Input → Answer → List Entry → List Entry → Type 0
-AppendsOne n input a old new = (at : ℕ) × (new ≡ old ++ entry_of n at input a ∷ [])
+-- the history, with these cuts, has one more entry: the answer to this caller's input, at some time; and it fitted
+abbrev pub AppendsOne : Settings → List ℕ → ℕ → Input → Answer → List Entry → List Entry → Type 0
+AppendsOne s cut_positions n input a old new = (at : ℕ) × (new ≡ old ++ entry_of n at input a ∷ []) × FitsAfter s cut_positions old (entry_of n at input a)

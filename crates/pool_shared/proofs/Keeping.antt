@@ -55,4 +55,4 @@ within s before after goes = (keeps_laws s after.observed goes.legal).at_most_ma
 
 -- a caller without a step
 pub untouched : (table : TableId) (s : Settings) (id : TableId) (n : ℕ) (v : View) (me : CallerState) → CallerInvariant table s id n v → state_of n v ≡ me → Advances s me me
-untouched table s id n v me known is = subst (λ (t : CallerState). Advances s t t) is (goes_self s (state_of n v) record { legal = known.legal; owner_respecting = known.owner_respecting; all = known.all })
+untouched table s id n v me known is = subst (λ (t : CallerState). Advances s t t) is (goes_self s (state_of n v) record { legal = known.legal; owner_respecting = known.owner_respecting; all = known.all; fits = known.fits })

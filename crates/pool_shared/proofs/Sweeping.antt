@@ -32,12 +32,13 @@ goes_then s a b c p q =
       owner_respecting = q.owner_respecting;
       none_misused = q.none_misused;
       all = q.all;
+      fits = q.fits;
       uncut = q.uncut ∙ p.uncut;
       later_cuts = prefix_trans a.cut_positions b.cut_positions c.cut_positions p.later_cuts q.later_cuts;
     }
 
 pub goes_self : (s : Settings) (a : CallerState) → IsConsistent s a → Advances s a a
-goes_self s a k = record { number = refl; later = prefix_self a.observed; legal = k.legal; owner_respecting = k.owner_respecting; none_misused = none_misused s a.observed k.legal k.owner_respecting; all = k.all; uncut = refl; later_cuts = prefix_self a.cut_positions }
+goes_self s a k = record { number = refl; later = prefix_self a.observed; legal = k.legal; owner_respecting = k.owner_respecting; none_misused = none_misused s a.observed k.legal k.owner_respecting; all = k.all; fits = k.fits; uncut = refl; later_cuts = prefix_self a.cut_positions }
 
 pub took_one : (first : Input) (count left taken i : ℕ) (a b c d : CallerState) → 0 < left → Trace (IsExpected first) next (sweeps count 0) a b (sweeps left taken) → AppendsAnswer ClearNext (answers.DestroyIdle i) b c → AppendsAnswer (Destroyed i) answers.Freed c d
     → Trace (IsExpected first) next (sweeps count 0) a d (sweeps (left - 1) (taken + 1))

@@ -89,4 +89,4 @@ comes_on s first now after come goes =
 pub goes_far : (s : Settings) (first now after : CallerState) → ComesFrom first now → Advances s now after → Advances s first after
 goes_far s first now after come goes =
     let on = comes_on s first now after come goes in
-    record { number = on.number; later = on.later; legal = goes.legal; owner_respecting = goes.owner_respecting; none_misused = goes.none_misused; all = goes.all; uncut = on.uncut; later_cuts = on.later_cuts }
+    record { number = on.number; later = on.later; legal = goes.legal; owner_respecting = goes.owner_respecting; none_misused = goes.none_misused; all = goes.all; fits = goes.fits; uncut = on.uncut; later_cuts = on.later_cuts }

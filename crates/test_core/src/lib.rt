@@ -1,4 +1,4 @@
-//! Tests of the core, of the reference evaluator compared with it, and of the engines.
+//! Tests of the core and of the engines.
 #![tactic(auto)]
 
 #[cfg(test)]
@@ -13,8 +13,6 @@ mod going_on;
 mod judging;
 #[cfg(test)]
 mod lives;
-#[cfg(test)]
-mod plain;
 #[cfg(test)]
 mod playing;
 #[cfg(test)]

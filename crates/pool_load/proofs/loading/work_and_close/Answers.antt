@@ -1,5 +1,4 @@
-use Rattle.std.proofs.Common.{◌∷◌, [], ◌++◌, map, ap, ◌∙◌, subst}
-use Rattle.pool_load.specs.Workers.{AllWorked}
+use Rattle.std.proofs.Common.{◌∷◌, [], ◌++◌, map, ap, ◌∙◌}
 use Rattle.pool_load.proofs.Joined.{outcomes_within}
 use Rattle.pool_load.proofs.loading.work_and_close.Goals as goal
 
@@ -9,16 +8,16 @@ collect_all-requires-clause-each g c =
 
 pub returns-in-Ok-clause-closed : goal.returns-in-Ok-clause-closed
 returns-in-Ok-clause-closed g c =
-    let took = c.in_ok-refused.ensures in
-    let closes = c.in_ok-close.ensures in
+    let took = c.in_ok-outcome.ensures in
+    let closes = c.close.ensures in
     record {
       workers = map (λ w. w.caller) c.in_ok-worked.worked.items;
       closer = c.close.new.last;
-      refusals = took.refused.0;
-      taken = closes.spec.0;
-      worked = subst (λ o. AllWorked g.B.Room.settings c.args.rounds c.args.callers.items (map (λ w. w.caller) c.in_ok-worked.worked.items) o) took.refused.1 c.in_ok-worked.ensures.ok;
+      outcomes = map (λ w. w.outcome) c.in_ok-worked.worked.items;
+      result = closes.spec.0;
+      worked = c.in_ok-worked.ensures.ok;
       goes = closes.advances;
       row = closes.spec.1;
       all = c.in-Ok.ensures.items ∙ ap (λ l. l ++ c.close.new.last ∷ []) took.callers;
-      sums = took.refused.2;
+      sums = took.outcome;
     }

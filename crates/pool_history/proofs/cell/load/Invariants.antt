@@ -1,5 +1,0 @@
-use Rattle.crossbeam_utils.specs.Seq.{Stays}
-use Rattle.pool_history.proofs.cell.load.Given as goal
-
-abbrev pub invariant-loop : goal.invariant-loop
-invariant-loop g l = Stays l.initial.pass l.pass
