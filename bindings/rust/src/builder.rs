@@ -284,6 +284,7 @@ impl<M: Manager> Builder<M> {
         let policy = Policy {
             max_lifetime: self.max_lifetime.map(|time| millis(time).unsigned_abs()),
             tests_idle: self.settings.test_while_idle,
+            max_overtakes: self.max_overtakes,
             reports: Reports::new(self.on_error.take()),
         };
         self.settings.test_while_idle |= self.max_lifetime.is_some();

@@ -47,6 +47,11 @@ impl<M: Manager> Pool<M> {
         time(self.shared().settings.max_wait_millis)
     }
 
+    /// Returns how often a waiting borrow is overtaken at most.
+    pub fn max_overtakes(&self) -> u32 {
+        self.shared().policy.max_overtakes
+    }
+
     /// Returns whether a new object is validated.
     pub fn test_on_create(&self) -> bool {
         self.shared().settings.test_on_create

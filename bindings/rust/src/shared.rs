@@ -36,6 +36,8 @@ pub(crate) struct Policy<M: Manager> {
     pub max_lifetime: Option<u64>,
     /// Whether eviction runs validate idle objects, and do not only look at their age.
     pub tests_idle: bool,
+    /// How often a waiter is overtaken.
+    pub max_overtakes: u32,
     pub reports: Reports<M>,
 }
 

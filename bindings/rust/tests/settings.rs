@@ -194,7 +194,7 @@ type Setting = (
 const ABANDONED: Abandoned = Abandoned::new().on_borrow(true).timeout(MINUTE);
 
 /// Each setting, with a value that is not its default.
-const SETTINGS: [Setting; 19] = [
+const SETTINGS: [Setting; 20] = [
     (|it| it.max_total(5), |it| it.max_total() == Some(5)),
     (|it| it.max_total(None), |it| it.max_total().is_none()),
     (|it| it.max_idle(3), |it| it.max_idle() == Some(3)),
@@ -207,6 +207,7 @@ const SETTINGS: [Setting; 19] = [
     ),
     (|it| it.max_wait(MINUTE), |it| it.max_wait() == Some(MINUTE)),
     (|it| it.max_wait(None), |it| it.max_wait().is_none()),
+    (|it| it.max_overtakes(0), |it| it.max_overtakes() == 0),
     (|it| it.test_on_create(true), |it| it.test_on_create()),
     (|it| it.test_on_borrow(true), |it| it.test_on_borrow()),
     (|it| it.test_on_return(true), |it| it.test_on_return()),
@@ -255,6 +256,7 @@ fn a_pool_shows_the_defaults() {
     assert_eq!(pool.min_idle(), 0);
     assert!(pool.lifo() && pool.block_when_exhausted());
     assert_eq!(pool.max_wait(), Some(MINUTE / 2));
+    assert_eq!(pool.max_overtakes(), 16);
     assert_eq!(pool.min_evictable_idle(), Some(30 * MINUTE));
     assert_eq!(pool.tests_per_eviction_run(), 3);
     assert_eq!(pool.journal_limit(), 1 << 32);
