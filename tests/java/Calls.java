@@ -14,6 +14,9 @@ import java.util.List;
 import java.util.NoSuchElementException;
 import java.util.Set;
 import java.util.concurrent.Callable;
+import java.util.concurrent.CompletableFuture;
+import java.util.concurrent.CountDownLatch;
+import java.util.concurrent.TimeUnit;
 import java.util.concurrent.atomic.AtomicInteger;
 import java.util.stream.Collectors;
 import java.util.stream.Stream;
@@ -401,6 +404,40 @@ public final class Calls extends Expectations {
         new Noting(new Texts(), config, null).close();
         boolean isOver = Thread.getAllStackTraces().keySet().stream().noneMatch(thread -> thread.getName().equals("zuphinka-maintenance"));
         expect("the threads end with their pools", true, isOver);
+    }
+
+    /** A close lets a call of the factory end that the maintenance thread makes, and then the thread ends. */
+    private static void closedDuringMaintenance() throws Exception {
+        GenericObjectPoolConfig<String> config = config();
+        config.setMinIdle(1);
+        config.setTimeBetweenEvictionRuns(Duration.ofMillis(1));
+        config.setEvictorShutdownTimeout(Duration.ofMillis(1));
+        CompletableFuture<Thread> begun = new CompletableFuture<>();
+        CountDownLatch closed = new CountDownLatch(1);
+        CompletableFuture<Object> awaited = new CompletableFuture<>();
+        ZuphinkaPool<String> pool = new ZuphinkaPool<>(new BasePooledObjectFactory<>() {
+            @Override
+            public String create() {
+                begun.complete(Thread.currentThread());
+                awaited.complete(result(() -> closed.await(LONGEST_MILLIS, TimeUnit.MILLISECONDS)));
+                return "text";
+            }
+
+            @Override
+            public PooledObject<String> wrap(String text) {
+                return new DefaultPooledObject<>(text);
+            }
+        }, config);
+        Thread thread = begun.get(LONGEST_MILLIS, TimeUnit.MILLISECONDS);
+        pool.close();
+        closed.countDown();
+        expect("a make during a close is not interrupted", true, awaited.get(LONGEST_MILLIS, TimeUnit.MILLISECONDS));
+        thread.join(LONGEST_MILLIS);
+        expect("its thread ends", false, thread.isAlive());
+        expect("what it made is destroyed", "0 idle, 0 active, 1 created, 1 destroyed", counts(pool));
+        config.setEvictorShutdownTimeout(Duration.ofSeconds(Long.MAX_VALUE));
+        ZuphinkaPool<String> patient = new ZuphinkaPool<>(new Texts(), config);
+        expect("a close with the longest time for its thread", "done", ending(patient::close));
     }
 
     private static void abandonment() throws Exception {
@@ -868,6 +905,7 @@ public final class Calls extends Expectations {
         times();
         failures();
         upkeep();
+        closedDuringMaintenance();
         abandonment();
         wrappers();
         trackedUse();
