@@ -304,11 +304,11 @@ public final class Promises extends Expectations {
 
     /** Borrows. No borrow waits for ever where objects are forgotten. */
     private Item borrow(Random own) throws Exception {
-        boolean isEndless = config.getMaxWaitDuration().isNegative() && (isForgetful || own.nextInt(10) > 0);
+        boolean isLimited = config.getMaxWaitDuration().isNegative() && (isForgetful || own.nextInt(10) > 0);
         if (own.nextInt(3) == 0) {
             return pool.borrow(Duration.ofMillis(own.nextInt(6)));
         }
-        return isEndless ? pool.borrow(Duration.ofMillis(200)) : pool.calls.borrowObject();
+        return isLimited ? pool.borrow(Duration.ofMillis(200)) : pool.calls.borrowObject();
     }
 
     /** Returns or invalidates an object. One that was reclaimed may be refused. */
