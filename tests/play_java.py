@@ -5,11 +5,11 @@
 
 LIBRARY is libzuphinka.a, and the other two are programs. tests/java/Calls.java makes each call of a pool, with what the factory throws.
 tests/java/Stress.java makes random calls in eight threads over a factory that fails at random. tests/java/Refusals.java refuses the native library
-each of its allocations in turn. The journals that they write must be legal. A stored file must be synced before it has its name, and its folder
-afterwards. The jar must have the version of all products and load nothing but the C library, and the codes of zuphinka.Core must be those of
-bindings/c/zuphinka.h. Each public and protected item must have documentation in which javac finds nothing wrong. If there is no JDK or no Commons
-Pool 2, all of it is left out. The examples are run by the commands of bindings/java/README.md, that over DBCP2 only if DBCP2 and H2 are there; its
-journal must be drawn.
+each of its allocations in turn. tests/java/Folders.java has pools that want one folder, and folders that are removed. The journals that they write
+must be legal. A stored file must be synced before it has its name, and its folder afterwards. The jar must have the version of all products and
+load nothing but the C library, and the codes of zuphinka.Core must be those of bindings/c/zuphinka.h. Each public and protected item must have
+documentation in which javac finds nothing wrong. If there is no JDK or no Commons Pool 2, all of it is left out. The examples are run by the
+commands of bindings/java/README.md, that over DBCP2 only if DBCP2 and H2 are there; its journal must be drawn.
 
 Prints what fails, and in the end the line 'N passed, M failed'.
 """
@@ -39,6 +39,8 @@ COUNT = re.compile(r"^(\d+) passed, (\d+) failed$", flags=re.MULTILINE)
 WARNING = re.compile(r"(?:WARNING|FATAL ERROR) in native method")
 # The time of an entry, in milliseconds.
 TIME = re.compile(r'^\d+ (\d+) .* = ', flags=re.MULTILINE)
+# A file of a journal that has no name of its own yet. No two pools have the same.
+UNFINISHED = re.compile(r"\.unfinished-[0-9a-f-]{36}")
 SEEDS, MILLIS = range(8), 700
 # The functions by which the native library allocates, which tests/refuse_java.c wraps.
 ALLOCATORS = ("malloc", "calloc", "realloc")
@@ -99,15 +101,30 @@ def found(jar, classes, folder):
     yield "without the native library", (1, True), (done.returncode, "UnsatisfiedLinkError" in done.stdout)
 
 
-def refusals(jar, classes, library, pool, folder):
-    """What is wanted of lives in which allocations fail, and what came of it: those of the native library each in turn, and those of a full heap."""
-    native, journals = folder / "refusing.so", folder / "refusals"
+def refusing(library, folder):
+    """The native library, with the native methods of zuphinka.Refusal."""
+    native = folder / "refusing.so"
     wrapped = [f"-Wl,--wrap={name}" for name in ALLOCATORS]
     java.compile_native(library, heap_of_kit(), native, *wrapped, TOP / "tests/refuse_java.c")
+    return native
+
+
+def refusals(jar, classes, native, pool, folder):
+    """What is wanted of lives in which allocations fail, and what came of it: those of the native library each in turn, and those of a full heap."""
+    journals = folder / "refusals"
     yield from program("refusals", run(jar, classes, "Refusals", journals, options=[f"-Dzuphinka.library={native}", java.QUICK]))
     for place in sorted(journals.iterdir()):
         yield f"refusals: {place.name}", *legal(pool, place / "settings.toml", *sorted(place.glob("segment-*")))
     yield from program("a full heap", run(jar, classes, "Refusals", "heap", options=["-Xmx24m", "-XX:+UseSerialGC", java.QUICK]))
+
+
+def folders(jar, classes, native, pool, folder):
+    """What is wanted of journals in folders, and what came of it."""
+    journals = folder / "folders"
+    journals.mkdir()
+    yield from program("folders", run(jar, classes, "Folders", journals, options=[f"-Dzuphinka.library={native}", java.QUICK]))
+    for settings in sorted(journals.rglob("settings.toml")):
+        yield f"folders: {settings.parent.name}", *legal(pool, settings, *sorted(settings.parent.glob("segment-*")))
 
 
 def calls(jar, classes, pool, folder):
@@ -123,10 +140,13 @@ def calls(jar, classes, pool, folder):
         journal = above[-1] / "stored"
         wanted += [f"sync {existing} 0" for existing in above]
         segments = sorted(journal.glob("segment-*"))
-        for file in [journal / "settings.toml", *segments]:
-            wanted += [f"sync {file}.part {file.stat().st_size}", f"rename {file}.part {file}", f"sync {journal} 0"]
+        for file, way in (journal / "settings.toml", "link"), *((segment, "rename") for segment in segments):
+            unfinished = journal / ".unfinished"
+            wanted += [f"sync {unfinished} {file.stat().st_size}", f"{way} {unfinished} {file}", f"sync {journal} 0"]
         yield f"calls: {journal.parent.name}/stored", *legal(pool, journal / "settings.toml", *segments)
-    yield "calls: syncs and renames", wanted, [line for line in noted.read_text().splitlines() if str(place) in line]
+    lines = [line for line in noted.read_text().splitlines() if str(place) in line]
+    yield "calls: syncs, links and renames", wanted, [UNFINISHED.sub(".unfinished", line) for line in lines]
+    yield "calls: names of unfinished files", 2, len({name for line in lines for name in UNFINISHED.findall(line)})
 
 
 def portable(jar):
@@ -204,7 +224,9 @@ def checks(library, pool, picture):
         classes = folder / "classes"
         java.compile_classes(sorted((TOP / "tests/java").rglob("*.java")), classes, jar, java.commons_pool())
         yield from calls(jar, classes, pool, folder)
-        yield from refusals(jar, classes, library, pool, folder)
+        native = refusing(library, folder)
+        yield from refusals(jar, classes, native, pool, folder)
+        yield from folders(jar, classes, native, pool, folder)
         yield from found(jar, classes, folder)
         yield from documentation(folder / "documented")
         yield from examples(pool, picture, folder)

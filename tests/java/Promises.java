@@ -6,6 +6,7 @@ import java.util.NoSuchElementException;
 import java.util.Queue;
 import java.util.Random;
 import java.util.Set;
+import java.util.SplittableRandom;
 import java.util.TreeMap;
 import java.util.TreeSet;
 import java.util.concurrent.ConcurrentLinkedQueue;
@@ -27,9 +28,9 @@ import org.apache.commons.pool2.impl.GenericObjectPoolConfig;
  * Runs of six threads that make random calls of one pool with random settings, over a factory that fails at random, while they are interrupted at
  * random. Each notices which promises of a pool are broken: those that Commons Pool gives, and ZuphinkaPool keeps.
  *
- * <p>{@code Promises zuphinka|commons-pool RUNS MILLIS LONGEST} makes runs with the seeds from 0 on. Each calls for MILLIS milliseconds, and waits for
- * LONGEST milliseconds at most for the ends of its threads and objects. It prints how many runs broke a promise, and in how many of them each was
- * broken. A run of ZuphinkaPool that breaks one counts as failed.
+ * <p>{@code Promises zuphinka|commons-pool RUNS MILLIS LONGEST} makes runs with fixed seeds. Each calls for MILLIS milliseconds, and waits for LONGEST
+ * milliseconds at most for the ends of its threads and objects. It prints how many runs broke a promise, and in how many of them each was broken. A
+ * run of ZuphinkaPool that breaks one counts as failed.
  */
 public final class Promises extends Expectations {
     private static final int THREADS = 6;
@@ -93,9 +94,12 @@ public final class Promises extends Expectations {
         final AtomicInteger alive = new AtomicInteger();
         private final ThreadLocal<Random> random;
 
-        Items(long seed) {
-            AtomicInteger number = new AtomicInteger();
-            random = ThreadLocal.withInitial(() -> new Random(seed + 1_000L * number.incrementAndGet()));
+        Items(SplittableRandom seeds) {
+            random = ThreadLocal.withInitial(() -> {
+                synchronized (seeds) {
+                    return new Random(seeds.nextLong());
+                }
+            });
         }
 
         final void maybeFail() throws Exception {
@@ -160,8 +164,8 @@ public final class Promises extends Expectations {
 
     /** The same with hooks. */
     private final class HookedItems extends Items {
-        HookedItems(long seed) {
-            super(seed);
+        HookedItems(SplittableRandom seeds) {
+            super(seeds);
         }
 
         @Override
@@ -191,17 +195,17 @@ public final class Promises extends Expectations {
     private final AtomicBoolean isOver = new AtomicBoolean();
     private final AtomicLong calls = new AtomicLong();
 
-    private Promises(String library, long seed, long longestMillis) {
+    private Promises(String library, SplittableRandom seeds, long longestMillis) {
         this.longestMillis = longestMillis;
-        random = new Random(seed);
+        random = new Random(seeds.nextLong());
         config = config(random);
         isFailing = random.nextInt(3) > 0;
         isForgetful = random.nextInt(3) == 0;
         closesFirst = random.nextBoolean();
-        items = random.nextBoolean() ? new HookedItems(seed) : new Items(seed);
+        items = random.nextBoolean() ? new HookedItems(seeds.split()) : new Items(seeds.split());
         pool = EitherPool.of(library, items, config, isForgetful ? abandoned(random) : null);
         for (int number = 0; number < THREADS; number++) {
-            Random own = new Random(100 * seed + number);
+            Random own = new Random(seeds.nextLong());
             threads.add(new Thread(() -> play(own)));
         }
     }
@@ -304,7 +308,7 @@ public final class Promises extends Expectations {
 
     /** Borrows. No borrow waits for ever where objects are forgotten. */
     private Item borrow(Random own) throws Exception {
-        boolean isLimited = config.getMaxWaitDuration().isNegative() && (isForgetful || own.nextInt(10) > 0);
+        boolean isLimited = config.getMaxWaitDuration().isNegative() && (isForgetful || own.nextInt(3) > 0);
         if (own.nextInt(3) == 0) {
             return pool.borrow(Duration.ofMillis(own.nextInt(6)));
         }
@@ -398,13 +402,14 @@ public final class Promises extends Expectations {
         long calls = 0;
         int bad = 0;
         Map<String, Integer> kinds = new TreeMap<>();
-        for (int seed = 0; seed < runs; seed++) {
-            Promises run = new Promises(words[0], seed, Long.parseLong(words[3])).run(Long.parseLong(words[2]));
+        SplittableRandom seeds = new SplittableRandom(0);
+        for (int number = 0; number < runs; number++) {
+            Promises run = new Promises(words[0], seeds.split(), Long.parseLong(words[3])).run(Long.parseLong(words[2]));
             calls += run.calls.get();
             bad += run.broken.isEmpty() ? 0 : 1;
             run.broken.forEach(promise -> kinds.merge(promise, 1, Integer::sum));
             if (isOurs) {
-                expect("seed " + seed, Set.of(), new TreeSet<>(run.broken));
+                expect("run " + number, Set.of(), new TreeSet<>(run.broken));
             }
         }
         System.out.println(words[0] + ": " + bad + " of " + runs + " runs broke a promise, in " + calls + " calls");

@@ -61,6 +61,8 @@ public class ZuphinkaPool<T> implements ObjectPool<T>, UsageTracking<T> {
     private final Duration evictorShutdown;
     private final Maintenance maintenance;
     private final ObjectName beanName;
+    /** Set before a close stores the rest of the journal: what is freed later is to be stored by whoever frees it. */
+    private volatile boolean isEnding;
 
     private static final class InvalidObject extends Exception {
         private static final long serialVersionUID = 1;
@@ -111,8 +113,8 @@ public class ZuphinkaPool<T> implements ObjectPool<T>, UsageTracking<T> {
      * @param config the settings; not null
      * @param abandoned when objects are abandoned; null: never
      * @param journal what becomes of the journal; not null. A stored one is for one pool
-     * @throws IllegalArgumentException if the factory is null, the limit of the journal is out of its range, or the configuration asks for what the
-     *     pool does not have: {@code fairness}, or an {@code evictionPolicy} other than the default one
+     * @throws IllegalArgumentException if the factory is null, the limit of the journal is out of its range, another pool has the journal of this
+     *     folder, or the configuration asks for what the pool does not have: {@code fairness}, or an {@code evictionPolicy} other than the default one
      * @throws OutOfMemoryError if there is no memory for the pool
      * @throws LinkageError if the native library is not found or cannot be loaded
      */
@@ -128,11 +130,21 @@ public class ZuphinkaPool<T> implements ObjectPool<T>, UsageTracking<T> {
         isWrapperUnseen = isBorrowedBare && isReturnedBare && abandoned == null
                 && (!settings.testWhileIdle || inherits("validateObject", PooledObject.class))
                 && inherits("destroyObject", PooledObject.class) && inherits("destroyObject", PooledObject.class, DestroyMode.class);
-        sections = new Sections<>(settings, journal);
+        sections = open(settings, journal);
         evictorShutdown = config.getEvictorShutdownTimeoutDuration();
         Duration pause = config.getDurationBetweenEvictionRuns();
         beanName = config.getJmxEnabled() ? PoolBean.register(this, config.clone(), this.abandoned, factory.getClass().getName()) : null;
         maintenance = pause.isNegative() || pause.isZero() ? null : Maintenance.start(this, pause);
+    }
+
+    private static <T> Sections<T> open(CoreSettings settings, Journal journal) {
+        journal.take();
+        try {
+            return new Sections<>(settings, journal);
+        } catch (Throwable e) {
+            journal.leave();
+            throw e;
+        }
     }
 
     /** Returns whether a method of the factory is the one of {@link BasePooledObjectFactory}, which does nothing. */
@@ -224,7 +236,7 @@ public class ZuphinkaPool<T> implements ObjectPool<T>, UsageTracking<T> {
                 throw new IllegalStateException("makeObject() returned an object that the pool has");
             }
         } catch (Throwable e) {
-            sections.end(report, member, Core.MAKE_FAILED);
+            end(report, member, Core.MAKE_FAILED);
             throw e;
         }
         if (abandoned != null && abandoned.getLogAbandoned()) {
@@ -321,7 +333,28 @@ public class ZuphinkaPool<T> implements ObjectPool<T>, UsageTracking<T> {
         try {
             discard(member, mode);
         } finally {
-            sections.end(Core.DESTROYED, member, 0);
+            end(Core.DESTROYED, member, 0);
+        }
+    }
+
+    /** Reports that an object was destroyed, or could not be made: its place is free. Once the pool is closed, the entries of that are stored. */
+    private void end(int report, Member<T> member, int outcome) {
+        sections.end(report, member, outcome);
+        if (isEnding) {
+            storeLast();
+        }
+    }
+
+    /** Stores the rest of the journal of a closed pool, once it has as many entries as objects are left: a segment has a line for each of these. */
+    private void storeLast() {
+        Counts counts = sections.counts();
+        if (counts.entries() < counts.lent() + counts.reserved()) {
+            return;
+        }
+        try {
+            flushJournal();
+        } catch (OutOfMemoryError e) {
+            swallow(new IllegalStateException(e));
         }
     }
 
@@ -641,8 +674,8 @@ public class ZuphinkaPool<T> implements ObjectPool<T>, UsageTracking<T> {
     /**
      * Closes the pool: nothing is lent any more, threads that wait get an {@link IllegalStateException}, and idle objects are destroyed. Lent ones
      * are destroyed when they are returned. It ends the maintenance thread, for which it waits as long as {@code evictorShutdownTimeout} says,
-     * unregisters the MBean, and stores the rest of a journal that is stored. What the factory and the sink throw is passed to {@link #swallowed}. A
-     * second close destroys nothing.
+     * unregisters the MBean, and stores the rest of a journal that is stored. The entries of later returns are stored by these, each time that there
+     * are as many as objects that are still lent. What the factory and the sink throw is passed to {@link #swallowed}. A second close destroys nothing.
      *
      * @throws OutOfMemoryError if there is no memory to cut the rest of a journal that is stored; the pool is closed, and {@link #flushJournal} may
      *     be tried again
@@ -656,6 +689,7 @@ public class ZuphinkaPool<T> implements ObjectPool<T>, UsageTracking<T> {
         if (beanName != null) {
             PoolBean.unregister(beanName);
         }
+        isEnding = true;
         flushJournal();
     }
 
