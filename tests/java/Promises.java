@@ -29,7 +29,7 @@ import org.apache.commons.pool2.impl.GenericObjectPoolConfig;
  * random. Each notices which promises of a pool are broken: those that Commons Pool gives, and ZuphinkaPool keeps.
  *
  * <p>{@code Promises zuphinka|commons-pool RUNS MILLIS LONGEST} makes runs with fixed seeds. Each calls for MILLIS milliseconds, and waits for LONGEST
- * milliseconds at most for the ends of its threads and objects. It prints how many runs broke a promise, and in how many of them each was broken. A
+ * milliseconds at most for the end of each thread and object. It prints how many runs broke a promise, and in how many of them each was broken. A
  * run of ZuphinkaPool that breaks one counts as failed.
  */
 public final class Promises extends Expectations {
@@ -199,6 +199,7 @@ public final class Promises extends Expectations {
         this.longestMillis = longestMillis;
         random = new Random(seeds.nextLong());
         config = config(random);
+        config.setEvictorShutdownTimeout(Duration.ofMillis(longestMillis));
         isFailing = random.nextInt(3) > 0;
         isForgetful = random.nextInt(3) == 0;
         closesFirst = random.nextBoolean();
@@ -231,7 +232,6 @@ public final class Promises extends Expectations {
         config.setMinEvictableIdleTime(Duration.ofMillis(one(random, List.of(-1, 1, 5, 1_800_000))));
         config.setSoftMinEvictableIdleTime(Duration.ofMillis(one(random, List.of(-1, 2))));
         config.setTimeBetweenEvictionRuns(Duration.ofMillis(random.nextBoolean() ? -1 : 1 + random.nextInt(5)));
-        config.setEvictorShutdownTimeout(Duration.ofMinutes(1));
         return config;
     }
 
