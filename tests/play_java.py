@@ -44,6 +44,8 @@ UNFINISHED = re.compile(r"\.unfinished-[0-9a-f-]{36}")
 SEEDS, MILLIS = range(8), 700
 # The functions by which the native library allocates, which tests/refuse_java.c wraps.
 ALLOCATORS = ("malloc", "calloc", "realloc")
+# The most bytes of a part of a text there.
+SHORT_PART = 512
 # What the example over DBCP2 needs, and the packages that have it.
 EXAMPLE_JARS = {"commons-dbcp2": "libcommons-dbcp2-java", "h2": "libh2-java"}
 # A run that takes longer hangs, in seconds.
@@ -102,10 +104,10 @@ def found(jar, classes, folder):
 
 
 def refusing(library, folder):
-    """The native library, with the native methods of zuphinka.Refusal."""
+    """The native library with short parts of texts, and with the native methods of zuphinka.Refusal."""
     native = folder / "refusing.so"
-    wrapped = [f"-Wl,--wrap={name}" for name in ALLOCATORS]
-    java.compile_native(library, heap_of_kit(), native, *wrapped, TOP / "tests/refuse_java.c")
+    flags = [*(f"-Wl,--wrap={name}" for name in ALLOCATORS), f"-DZUPHINKA_JNI_LONGEST_PART={SHORT_PART}"]
+    java.compile_native(library, heap_of_kit(), native, *flags, TOP / "tests/refuse_java.c")
     return native
 
 
@@ -122,7 +124,8 @@ def folders(jar, classes, native, pool, folder):
     """What is wanted of journals in folders, and what came of it."""
     journals = folder / "folders"
     journals.mkdir()
-    yield from program("folders", run(jar, classes, "Folders", journals, options=[f"-Dzuphinka.library={native}", java.QUICK]))
+    options = [f"-Dzuphinka.library={native}", "-XX:MaxDirectMemorySize=2m", java.QUICK]
+    yield from program("folders", run(jar, classes, "Folders", journals, options=options))
     for settings in sorted(journals.rglob("settings.toml")):
         yield f"folders: {settings.parent.name}", *legal(pool, settings, *sorted(settings.parent.glob("segment-*")))
 

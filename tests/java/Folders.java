@@ -1,8 +1,11 @@
+import java.io.ByteArrayOutputStream;
 import java.io.IOException;
+import java.io.OutputStream;
 import java.nio.charset.StandardCharsets;
 import java.nio.file.Files;
 import java.nio.file.Path;
 import java.util.ArrayList;
+import java.util.Arrays;
 import java.util.Collections;
 import java.util.Comparator;
 import java.util.List;
@@ -16,14 +19,16 @@ import org.apache.commons.pool2.PooledObject;
 import org.apache.commons.pool2.impl.DefaultPooledObject;
 import org.apache.commons.pool2.impl.GenericObjectPoolConfig;
 import zuphinka.Journal;
+import zuphinka.Parts;
 import zuphinka.Refusal;
+import zuphinka.Segment;
 import zuphinka.ZuphinkaPool;
 
 /**
- * Journals in folders: no two pools store theirs in one, a folder stays the same whatever happens to it, and all entries are stored.
+ * Journals in folders: no two pools store theirs in one, a folder stays the same whatever happens to it, and all entries are stored, of any length.
  *
  * <p>{@code Folders FOLDER} writes the journals to folders in this one, and changes its current folder. The native library is linked with
- * tests/refuse_java.c.
+ * tests/refuse_java.c, and has parts of 512 bytes.
  */
 public final class Folders extends Expectations {
     private static final int RACES = 20;
@@ -107,9 +112,13 @@ public final class Folders extends Expectations {
     private static long entries(Path path) throws IOException {
         long found = 0;
         for (String name : Files.isDirectory(path) ? files(path) : List.of("")) {
-            found += Files.readString(path.resolve(name), StandardCharsets.US_ASCII).lines().filter(line -> line.matches("\\d+ .* = .*")).count();
+            found += entriesIn(Files.readString(path.resolve(name), StandardCharsets.US_ASCII));
         }
         return found;
+    }
+
+    private static long entriesIn(String text) {
+        return text.lines().filter(line -> line.matches("\\d+ .* = .*")).count();
     }
 
     /** Two pools of one process store their first segments one after the other. */
@@ -247,8 +256,56 @@ public final class Folders extends Expectations {
         expect("the files of a relative folder", List.of(FIRST, "settings.toml"), files(folder.resolve("stored")));
     }
 
+    /** Counts bytes. */
+    private static final class Counter extends OutputStream {
+        private long bytes;
+
+        @Override
+        public void write(int one) {
+            bytes++;
+        }
+
+        @Override
+        public void write(byte[] some, int from, int number) {
+            bytes += number;
+        }
+    }
+
+    /** A text of any length is written, also one that no array has. The native library returns it in parts of 512 bytes. */
+    private static void texts() throws Exception {
+        Noting pool = new Noting(new Texts(), Journal.kept()).play(30);
+        Segment journal = pool.getJournal();
+        ByteArrayOutputStream written = new ByteArrayOutputStream();
+        journal.writeTo(written);
+        expect("a text of several parts", true, Parts.number(journal) > 3);
+        expect("its bytes", List.of((long) written.size(), true), List.of(journal.size(), Arrays.equals(written.toByteArray(), journal.text())));
+        expect("its entries", journal.entries(), entriesIn(written.toString(StandardCharsets.US_ASCII)));
+        Segment cut = pool.cut();
+        expect("a cut", true, Arrays.equals(journal.text(), cut.text()));
+        pool.close();
+        Segment huge = Parts.repeated(new byte[1 << 20], 1 << 11);
+        Counter counter = new Counter();
+        huge.writeTo(counter);
+        expect("the bytes of a huge text", 1L << 31, counter.bytes);
+        try {
+            expect("a huge text", "refused", huge.text().length);
+        } catch (IllegalStateException e) {
+            expect("a huge text", "segment: 2147483648 bytes are too many for an array, but not for writeTo", e.getMessage());
+        }
+    }
+
+    /** A large segment is stored where there is little memory beside the heap. */
+    private static void large(Path folder) throws Exception {
+        byte[] text = new byte[(8 << 20) + 1];
+        Parts.store(folder, Parts.repeated(text, 2));
+        expect("the bytes of a large segment", 2L * text.length, Files.size(folder.resolve(FIRST)));
+        remove(folder);
+    }
+
     public static void main(String[] words) throws Exception {
         Path folder = Path.of(words[0]);
+        texts();
+        large(folder.resolve("large"));
         twoPools(folder.resolve("two"));
         for (int number = 0; number < RACES; number++) {
             race(folder.resolve("race-" + number));

@@ -10,6 +10,7 @@ import java.nio.file.Files;
 import java.nio.file.Path;
 import java.nio.file.StandardCopyOption;
 import java.nio.file.StandardOpenOption;
+import java.util.List;
 import java.util.Locale;
 import java.util.UUID;
 import java.util.stream.Stream;
@@ -24,6 +25,8 @@ import java.util.stream.Stream;
  */
 final class SegmentFolder implements SegmentSink {
     private static final String SETTINGS = "settings.toml";
+    /** The most bytes of a write. Each thread keeps a copy of that size for its next write. */
+    private static final int LONGEST_WRITE = 1 << 18;
     /** From the root, so that it stays the same folder. */
     private final Path folder;
     /** Where a file is written before it gets its name. No other pool has this name. */
@@ -93,7 +96,7 @@ final class SegmentFolder implements SegmentSink {
         if (!isOwn || Files.notExists(folder.resolve(SETTINGS))) {
             claim(segment.settings());
         }
-        writeUnfinished(segment.text());
+        writeUnfinished(segment.parts);
         Files.move(unfinished, folder.resolve(String.format(Locale.ROOT, "segment-%020d", segment.position())), StandardCopyOption.ATOMIC_MOVE);
         sync(folder);
     }
@@ -104,7 +107,7 @@ final class SegmentFolder implements SegmentSink {
         if (!isOwn) {
             requireFree();
         }
-        writeUnfinished(settings.getBytes(StandardCharsets.UTF_8));
+        writeUnfinished(List.of(settings.getBytes(StandardCharsets.UTF_8)));
         try {
             Files.createLink(folder.resolve(SETTINGS), unfinished);
             isOwn = true;
@@ -118,14 +121,20 @@ final class SegmentFolder implements SegmentSink {
     }
 
     /** Writes a file that has no name of its own yet. One that an earlier try left is removed, since it may be the settings too. */
-    private void writeUnfinished(byte[] text) throws IOException {
+    private void writeUnfinished(List<byte[]> parts) throws IOException {
         Files.deleteIfExists(unfinished);
         try (FileChannel file = FileChannel.open(unfinished, StandardOpenOption.CREATE_NEW, StandardOpenOption.WRITE)) {
-            ByteBuffer rest = ByteBuffer.wrap(text);
-            while (rest.hasRemaining()) {
-                file.write(rest);
+            for (byte[] part : parts) {
+                write(file, part);
             }
             file.force(true);
+        }
+    }
+
+    private static void write(FileChannel file, byte[] text) throws IOException {
+        int written = 0;
+        while (written < text.length) {
+            written += file.write(ByteBuffer.wrap(text, written, Math.min(LONGEST_WRITE, text.length - written)));
         }
     }
 

@@ -1,6 +1,8 @@
 package zuphinka;
 
 import java.io.IOException;
+import java.util.ArrayList;
+import java.util.List;
 import java.util.concurrent.locks.ReentrantLock;
 
 /** Cuts the journal of a core in time, and stores what is cut. Where nothing else is said, the caller holds the lock of the pool. */
@@ -80,12 +82,18 @@ final class StoredJournal {
 
     /** Returns the journal since it was last cut; null if there is no memory. */
     Segment segment() {
-        byte[] text = Core.segment(core);
-        if (text == null) {
+        List<byte[]> parts = new ArrayList<>();
+        long[] numbers = new long[2];
+        byte[] part = Core.part(core, numbers);
+        while (part != null && part.length > 0) {
+            parts.add(part);
+            part = Core.part(core, numbers);
+        }
+        if (part == null) {
             return null;
         }
         Counts counts = counts();
-        return new Segment(counts.steps() - counts.entries(), counts.entries(), text, settings);
+        return new Segment(counts.steps() - counts.entries(), counts.entries(), parts, settings);
     }
 
     Counts counts() {

@@ -854,7 +854,7 @@ public class ZuphinkaPool<T> implements ObjectPool<T>, UsageTracking<T> {
      * Returns the journal since it was last cut. The pool is unchanged.
      *
      * @return the entries, with the base that they continue
-     * @throws OutOfMemoryError if there is no memory for the text, or it has 2 GiB or more
+     * @throws OutOfMemoryError if there is no memory for the text
      */
     public Segment getJournal() {
         return sections.segment();
