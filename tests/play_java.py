@@ -92,15 +92,30 @@ def falls(*segments):
 
 
 def found(jar, classes, folder):
-    """What is wanted of runs over classes without the native library, and what came of it: the library is found in each place that the page names."""
+    """What is wanted of runs in two class loaders each, and what came of it: the native library is found in each place that the page names, and its
+    copy in a folder that takes it."""
     with zipfile.ZipFile(jar) as packed:
         packed.extractall(folder / "bare", [name for name in packed.namelist() if name.endswith(".class")])
-    places = [f"-Dzuphinka.library={jar.parent / 'libzuphinka_jni.so'}", f"-Djava.library.path={jar.parent}"]
-    for number, option in enumerate(places):
-        done = run(folder / "bare", classes, "Stress", 1, 50, folder / f"found-{number}", options=[option])
-        yield f"the native library by {option.partition('=')[0]}", 0, done.returncode
-    done = run(folder / "bare", classes, "Stress", 1, 50, folder / "not-found")
-    yield "without the native library", (1, True), (done.returncode, "UnsatisfiedLinkError" in done.stdout)
+    good, other, bad = folder / "good", folder / "home", folder / "bad"
+    library, home = f"-Dzuphinka.library={jar.parent / 'libzuphinka_jni.so'}", [f"-Djava.io.tmpdir={good}", f"-Duser.home={other}"]
+    good.mkdir(), other.mkdir()
+    refuse = {"LD_PRELOAD": str(preloaded("refuse_folders", folder))}
+    places = [
+        ("by its property", folder / "bare", [library], {}),
+        ("by the path of libraries", folder / "bare", [f"-Djava.library.path={jar.parent}"], {}),
+        ("in the jar", jar, home, {}),
+        ("without a temporary folder", jar, [f"-Djava.io.tmpdir={bad}"], {}),
+        ("with a full folder", jar, home, refuse | {"FULL": str(good)}),
+        ("with a folder that runs nothing", jar, home, refuse | {"NOEXEC": str(good)}),
+    ]
+    for name, path, options, variables in places:
+        done = run(path, classes, "Loaders", classes, path, java.commons_pool(), options=options, variables=variables)
+        yield from program(f"the native library {name}", done)
+    nowhere = [f"-D{name}={bad}" for name in ("java.io.tmpdir", "user.home", "user.dir")]
+    for name, path, options in ("without a library", folder / "bare", []), ("without a folder", jar, nowhere):
+        done = run(path, classes, "Stress", 1, 50, folder / "not-found", options=options)
+        yield name, (1, True), (done.returncode, "UnsatisfiedLinkError" in done.stdout and "The property zuphinka.library names its file" in done.stdout)
+    yield "copies that are left", [], [*good.iterdir(), *other.iterdir()]
 
 
 def refusing(library, folder):
