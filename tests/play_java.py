@@ -114,7 +114,8 @@ def found(jar, classes, folder):
     nowhere = [f"-D{name}={bad}" for name in ("java.io.tmpdir", "user.home", "user.dir")]
     for name, path, options in ("without a library", folder / "bare", []), ("without a folder", jar, nowhere):
         done = run(path, classes, "Stress", 1, 50, folder / "not-found", options=options)
-        yield name, (1, True), (done.returncode, "UnsatisfiedLinkError" in done.stdout and "The property zuphinka.library names its file" in done.stdout)
+        told = [words in done.stdout for words in ("UnsatisfiedLinkError", "The property zuphinka.library names its file")]
+        yield name, (1, [True, True]), (done.returncode, told)
     yield "copies that are left", [], [*good.iterdir(), *other.iterdir()]
 
 

@@ -28,9 +28,9 @@ import org.apache.commons.pool2.impl.GenericObjectPoolConfig;
  * Runs of six threads that make random calls of one pool with random settings, over a factory that fails at random, while they are interrupted at
  * random. Each notices which promises of a pool are broken: those that Commons Pool gives, and ZuphinkaPool keeps.
  *
- * <p>{@code Promises zuphinka|commons-pool RUNS MILLIS LONGEST} makes runs with fixed seeds. Each calls for MILLIS milliseconds, and waits for LONGEST
- * milliseconds at most for the end of each thread and object. It prints how many runs broke a promise, and in how many of them each was broken. A
- * run of ZuphinkaPool that breaks one counts as failed.
+ * <p>{@code Promises zuphinka|commons-pool RUNS MILLIS LONGEST} makes runs with fixed seeds. Each calls for MILLIS milliseconds, and waits for
+ * LONGEST milliseconds at most for the end of each thread and object. It prints how many runs broke a promise, and in how many of them each was
+ * broken. A run of ZuphinkaPool that breaks one counts as failed.
  */
 public final class Promises extends Expectations {
     private static final int THREADS = 6;

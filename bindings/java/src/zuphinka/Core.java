@@ -101,8 +101,8 @@ final class Core {
     static native void counts(long core, long[] to);
 
     /**
-     * Returns the next part of the text of the journal: its base, and the entries since that. The part after the last one is empty. Null if there is no
-     * memory. The two numbers, at first 0, are the lines of the base and the entries that the parts before have.
+     * Returns the next part of the text of the journal: its base, and the entries since that. The part after the last one is empty. Null if there is
+     * no memory. The two numbers, at first 0, are the lines of the base and the entries that the parts before have.
      */
     static native byte[] part(long core, long[] numbers);
 

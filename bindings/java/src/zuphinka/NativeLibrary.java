@@ -10,8 +10,8 @@ import java.util.List;
 import java.util.stream.Stream;
 
 /**
- * Loads the native library: from the path that {@value #PROPERTY} names, else from the jar, else from {@code java.library.path}. A copy of it is loaded
- * if it is in the jar, or if another class loader has loaded it, since one file is for one class loader.
+ * Loads the native library: from the path that {@value #PROPERTY} names, else from the jar, else from {@code java.library.path}. A copy of it is
+ * loaded if it is in the jar, or if another class loader has loaded it, since one file is for one class loader.
  */
 final class NativeLibrary {
     static final String PROPERTY = "zuphinka.library";

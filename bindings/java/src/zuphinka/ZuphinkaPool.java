@@ -114,7 +114,7 @@ public class ZuphinkaPool<T> implements ObjectPool<T>, UsageTracking<T> {
      * @param abandoned when objects are abandoned; null: never
      * @param journal what becomes of the journal; not null. A stored one is for one pool
      * @throws IllegalArgumentException if the factory is null, the limit of the journal is out of its range, another pool has the journal of this
-     *     folder, or the configuration asks for what the pool does not have: {@code fairness}, or an {@code evictionPolicy} other than the default one
+     *     folder, or the configuration asks for what the pool does not have: {@code fairness}, or an {@code evictionPolicy} other than the default
      * @throws OutOfMemoryError if there is no memory for the pool
      * @throws LinkageError if the native library is not found or cannot be loaded
      */
@@ -675,7 +675,7 @@ public class ZuphinkaPool<T> implements ObjectPool<T>, UsageTracking<T> {
      * Closes the pool: nothing is lent any more, threads that wait get an {@link IllegalStateException}, and idle objects are destroyed. Lent ones
      * are destroyed when they are returned. It ends the maintenance thread, for which it waits as long as {@code evictorShutdownTimeout} says,
      * unregisters the MBean, and stores the rest of a journal that is stored. The entries of later returns are stored by these, each time that there
-     * are as many as objects that are still lent. What the factory and the sink throw is passed to {@link #swallowed}. A second close destroys nothing.
+     * are as many as objects that are still lent. What the factory and the sink throw is passed to {@link #swallowed}. A second close destroys none.
      *
      * @throws OutOfMemoryError if there is no memory to cut the rest of a journal that is stored; the pool is closed, and {@link #flushJournal} may
      *     be tried again
