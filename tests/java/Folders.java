@@ -202,6 +202,7 @@ public final class Folders extends Expectations {
         expect("a file that was removed", List.of("segment-00000000000000000004", "segment-00000000000000000008", "settings.toml"), files(folder));
         pool.close();
         expect("failures", List.of(), pool.noted);
+        remove(folder); // its journal has no beginning
     }
 
     /** What is returned after the close is stored too, also if an object never comes back. */
