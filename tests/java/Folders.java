@@ -38,12 +38,19 @@ public final class Folders extends Expectations {
 
     private Folders() {}
 
+    /** A call that may fail. */
+    private interface Act {
+        void run() throws IOException;
+    }
+
     /** Makes texts, and fails to destroy them if it is told to. */
     private static final class Texts extends BasePooledObjectFactory<String> {
         volatile boolean isBroken;
+        volatile Act during = () -> {};
 
         @Override
-        public String create() {
+        public String create() throws IOException {
+            during.run();
             return new String("text");
         }
 
@@ -232,6 +239,27 @@ public final class Folders extends Expectations {
         expect("few segments", true, files(folder).size() <= 2 + 4);
     }
 
+    /** What a borrow adds is stored too if the pool is closed while its object is made, whether that fails or not. */
+    private static void closedInMake(Path folder) throws Exception {
+        Texts texts = new Texts();
+        Noting pool = new Noting(texts, Journal.inFolder(folder.resolve("made")));
+        texts.during = pool::close;
+        String lent = pool.borrowObject();
+        pool.returnObject(lent);
+        expect("entries of a borrow during a close", pool.getCounts().steps(), entries(folder.resolve("made")));
+        Noting other = new Noting(texts, Journal.inFolder(folder.resolve("failed")));
+        texts.during = () -> {
+            other.close();
+            throw new IOException("make");
+        };
+        try {
+            expect("a make that fails", "nothing", other.borrowObject());
+        } catch (IOException e) {
+            expect("a make that fails", "make", e.getMessage());
+        }
+        expect("entries of a make that fails during a close", other.getCounts().steps(), entries(folder.resolve("failed")));
+    }
+
     /** The names of files have the digits of ASCII, whatever the locale. */
     private static void locale(Path folder) throws Exception {
         Locale before = Locale.getDefault();
@@ -314,6 +342,7 @@ public final class Folders extends Expectations {
         oneJournal(folder.resolve("one"));
         removed(folder.resolve("removed"));
         returnedLate(folder.resolve("late"));
+        closedInMake(folder.resolve("closed"));
         locale(folder.resolve("locale"));
         relative(folder.resolve("relative"));
         printCounts();
