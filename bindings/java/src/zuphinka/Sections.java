@@ -146,6 +146,18 @@ final class Sections<T> {
         wakeOne();
     }
 
+    /**
+     * Takes the lock for a section that begins a call. The other sections of the call complete work on an object, and take it by {@link #acquire}.
+     *
+     * @throws StackOverflowError if the stack is too full for the sections of a call, which would end in one with the lock, or without an object
+     */
+    private void begin() {
+        if (!Core.hasStack()) {
+            throw new StackOverflowError("zuphinka: too little stack");
+        }
+        acquire();
+    }
+
     /** Takes the lock. It is held for a fraction of a microsecond, while it takes some to wake a thread: so a thread pauses before it sleeps. */
     private void acquire() {
         if (lock.tryLock()) {
@@ -174,9 +186,12 @@ final class Sections<T> {
     }
 
     private void release() {
-        journal.cutIfLow(members.size());
-        lock.unlock();
-        Reference.reachabilityFence(this);
+        try {
+            journal.cutIfLow(members.size());
+        } finally {
+            lock.unlock();
+            Reference.reachabilityFence(this);
+        }
     }
 
     // Waits.
@@ -241,7 +256,7 @@ final class Sections<T> {
      * @throws IllegalStateException if the pool is closed, or its journal is full
      */
     Member<T> borrow(long first, long longestNanos, boolean isBare) throws InterruptedException {
-        acquire();
+        begin();
         try {
             long reply = ask(first, longestNanos, isBare);
             switch (Core.answer(reply)) {
@@ -344,7 +359,7 @@ final class Sections<T> {
     /** Returns an object that needs no test and no passivation, and parks it. Returns the answer. */
     long giveBackBare(Member<T> member) {
         long now = System.nanoTime();
-        acquire();
+        begin();
         try {
             long at = timeOf(now);
             long reply = Core.giveBack(core, at, member.id, member.slot, caller());
@@ -363,7 +378,7 @@ final class Sections<T> {
     /** Returns an object to be tested or passivated. Returns the answer. */
     long giveBack(Member<T> member) {
         long now = System.nanoTime();
-        acquire();
+        begin();
         try {
             return noteReturn(step(now, Core.RETURN, member.id, 0, 0), member, now);
         } finally {
@@ -378,6 +393,17 @@ final class Sections<T> {
             member.giveBack(now);
         }
         return reply;
+    }
+
+    /** Invalidates an object, or notes a use of it. Returns the answer. */
+    long ask(int input, Member<T> member) {
+        long now = System.nanoTime();
+        begin();
+        try {
+            return step(now, input, member.id, 0, 0);
+        } finally {
+            release();
+        }
     }
 
     /** Reports on an object that stays present. Returns the answer. */
@@ -406,7 +432,7 @@ final class Sections<T> {
     void noteUse(Member<T> member, long nanosAgo) {
         long now = System.nanoTime();
         long used = now - Math.min(nanosAgo, now - start);
-        acquire();
+        begin();
         try {
             stepAt(millis(used), Core.USE, member.id, 0, 0);
         } finally {
@@ -418,7 +444,7 @@ final class Sections<T> {
 
     /** Asks for something that concerns no object. Returns the answer. */
     long ask(int input) {
-        acquire();
+        begin();
         try {
             return step(input, 0, 0, 0);
         } finally {
@@ -428,7 +454,7 @@ final class Sections<T> {
 
     /** Asks for a place for a new object. Returns the object; null if there is none or there are enough, or for a fill of a closed pool. */
     Member<T> place(int input) {
-        acquire();
+        begin();
         try {
             members.reserve();
             long reply = step(input, 0, 0, 0);
@@ -452,7 +478,7 @@ final class Sections<T> {
     /** Examines the next idle object, or takes it for a clear. */
     Found<T> next(int input) {
         Found<T> found = new Found<>(); // here, since an object whose answer is lost would lose its place
-        acquire();
+        begin();
         try {
             long reply = step(input, 0, 0, 0);
             found.answer = Core.answer(reply);
@@ -483,7 +509,7 @@ final class Sections<T> {
 
     /** Closes the pool and wakes all threads that wait. Returns how many idle objects are to be destroyed, 0 if it was closed before. */
     long close() {
-        acquire();
+        begin();
         try {
             if (isClosed) {
                 return 0;
@@ -512,7 +538,7 @@ final class Sections<T> {
 
     /** Cuts and stores the rest of a journal that is stored. */
     void storeRest() throws IOException {
-        acquire();
+        begin();
         try {
             journal.cutRest();
         } finally {
@@ -523,7 +549,7 @@ final class Sections<T> {
 
     /** Returns the journal since it was last cut. */
     Segment segment() {
-        acquire();
+        begin();
         try {
             Segment segment = journal.segment();
             if (segment == null) {
@@ -537,7 +563,7 @@ final class Sections<T> {
 
     /** Cuts the journal, and returns what was cut. */
     Segment cut() {
-        acquire();
+        begin();
         try {
             return journal.cutNow();
         } finally {
@@ -549,7 +575,7 @@ final class Sections<T> {
 
     /** Returns the counts of the core. */
     Counts counts() {
-        acquire();
+        begin();
         try {
             return journal.counts();
         } finally {
@@ -559,7 +585,7 @@ final class Sections<T> {
 
     /** Returns the loans of an object. */
     Loans loansOf(Member<?> member) {
-        acquire();
+        begin();
         try {
             return member.loans();
         } finally {
@@ -569,7 +595,7 @@ final class Sections<T> {
 
     /** Returns what the pool counts besides. */
     Usage usage() {
-        acquire();
+        begin();
         try {
             return new Usage(borrowed, returned, failedOnBorrow, waitedNanos, longestWaitNanos, waiters);
         } finally {
@@ -579,7 +605,7 @@ final class Sections<T> {
 
     /** Returns whether the pool was closed. */
     boolean isClosed() {
-        acquire();
+        begin();
         try {
             return isClosed;
         } finally {

@@ -32,14 +32,15 @@ import org.apache.commons.pool2.impl.GenericObjectPoolConfig;
  *
  * <p>The configurations are copied, and later changes to them have no effect. Any number of threads may use a pool.
  *
- * <p>Each call that takes a step may throw two exceptions that it does not list. They leave the pool as it was before the step:
+ * <p>Each call that takes a step may throw three exceptions that it does not list. They leave the pool as it was before the step:
  * <ul>
  * <li>an {@link IllegalStateException} with the message "Journal full", if the journal has no room: a kept one until it is cut, a stored one until
  * its sink stores the segment that waits. The failure of the sink is its cause;
- * <li>an {@link OutOfMemoryError}, if there is no memory. The call may be tried again.
+ * <li>an {@link OutOfMemoryError}, if there is no memory. The call may be tried again;
+ * <li>a {@link StackOverflowError}, if the thread has less than 120 KiB of its stack left.
  * </ul>
- * The return and the invalidation of a lent object never throw these, nor does the close of an open pool before it has closed and cleared it. Work
- * begun on an object is always completed.
+ * The return and the invalidation of a lent object never throw the first two, nor does the close of an open pool before it has closed and cleared
+ * it. Work begun on an object is always completed.
  *
  * <p>An {@link Error} that the factory throws is thrown by each call, once the place of its object is free.
  *
@@ -416,7 +417,7 @@ public class ZuphinkaPool<T> implements ObjectPool<T>, UsageTracking<T> {
             missing("Invalidated object not currently part of this pool");
             return;
         }
-        long reply = sections.report(Core.INVALIDATE, member, 0);
+        long reply = sections.ask(Core.INVALIDATE, member);
         switch (Core.answer(reply)) {
             case Core.DESTROY:
                 destroy(member, mode);
@@ -445,7 +446,7 @@ public class ZuphinkaPool<T> implements ObjectPool<T>, UsageTracking<T> {
             member.pooled.use();
         }
         member.used = Instant.now();
-        sections.report(Core.USE, member, 0);
+        sections.ask(Core.USE, member);
         storeSegment();
     }
 
