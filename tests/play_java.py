@@ -4,7 +4,7 @@
     play_java.py LIBRARY POOL JOURNAL_PICTURE
 
 LIBRARY is libzuphinka.a, and the other two are programs. tests/java/Calls.java makes each call of a pool, with what the factory throws.
-tests/java/Errors.java calls pools whose stack is full.
+tests/java/Errors.java calls pools whose stack is full, and tests/java/Waits.java lets threads wait.
 tests/java/Stress.java makes random calls in eight threads over a factory that fails at random. tests/java/Refusals.java refuses the native library
 each of its allocations in turn. The journals that they write must be legal. A stored file must be synced before it has its name, and its folder
 afterwards. The jar must have the version of all products and load nothing but the C library, and the codes of zuphinka.Core must be those of
@@ -41,6 +41,8 @@ WARNING = re.compile(r"(?:WARNING|FATAL ERROR) in native method")
 # The time of an entry, in milliseconds.
 TIME = re.compile(r'^\d+ (\d+) .* = ', flags=re.MULTILINE)
 SEEDS, MILLIS = range(8), 700
+# Test programs that need nothing but the library.
+PROGRAMS = "Errors", "Waits"
 # The functions by which the native library allocates, which tests/refuse_java.c wraps.
 ALLOCATORS = ("malloc", "calloc", "realloc")
 # What the example over DBCP2 needs, and the packages that have it.
@@ -205,7 +207,8 @@ def checks(library, pool, picture):
         classes = folder / "classes"
         java.compile_classes(sorted((TOP / "tests/java").rglob("*.java")), classes, jar, java.commons_pool())
         yield from calls(jar, classes, pool, folder)
-        yield from program("errors", run(jar, classes, "Errors"))
+        for name in PROGRAMS:
+            yield from program(name.lower(), run(jar, classes, name))
         yield from refusals(jar, classes, library, pool, folder)
         yield from found(jar, classes, folder)
         yield from documentation(folder / "documented")

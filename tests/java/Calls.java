@@ -9,7 +9,6 @@ import java.time.Duration;
 import java.time.Instant;
 import java.util.ArrayList;
 import java.util.Arrays;
-import java.util.Collections;
 import java.util.List;
 import java.util.NoSuchElementException;
 import java.util.Set;
@@ -38,9 +37,6 @@ import zuphinka.ZuphinkaPool;
 
 /** Makes each call of a pool, with what the factory throws, and sees what it returns, throws and leaves. Writes journals to a folder. */
 public final class Calls extends Expectations {
-    /** A thread that was woken and has nothing after this time was not woken. */
-    private static final long LONGEST_MILLIS = 20_000;
-
     private Calls() {}
 
     /** A factory of texts, numbered from 0, which fails where it is told to, and notes what it is asked. */
@@ -131,37 +127,10 @@ public final class Calls extends Expectations {
         }
     }
 
-    /** Runs a call, and returns its result, or the name and the message of what it throws. */
-    private static Object result(Callable<?> call) {
-        try {
-            return call.call();
-        } catch (Throwable e) {
-            String cause = e.getCause() == null ? "" : " from " + e.getCause().getMessage();
-            return e.getClass().getSimpleName() + ": " + e.getMessage() + cause;
-        }
-    }
-
-    /** A call without a result. */
-    private interface Act {
-        void run() throws Exception;
-    }
-
-    private static Object ending(Act act) {
-        return result(() -> {
-            act.run();
-            return "done";
-        });
-    }
-
     private static GenericObjectPoolConfig<String> config() {
         GenericObjectPoolConfig<String> config = new GenericObjectPoolConfig<>();
         config.setJmxEnabled(false);
         return config;
-    }
-
-    private static String counts(ZuphinkaPool<?> pool) {
-        return pool.getNumIdle() + " idle, " + pool.getNumActive() + " active, " + pool.getCreatedCount() + " created, "
-                + pool.getDestroyedCount() + " destroyed";
     }
 
     private static void life() throws Exception {
@@ -281,26 +250,6 @@ public final class Calls extends Expectations {
         expect("a wait counts", true, pool.getMaxBorrowWaitTimeMillis() >= before.get(0) + 50);
         pool.close();
         write(pool);
-    }
-
-    /** Acts while threads wait for an object, and returns what they get, as {@link #result}. */
-    private static List<Object> whileWaiting(ZuphinkaPool<String> pool, int number, Callable<?> borrow, Act act) throws Exception {
-        List<Object> got = Collections.synchronizedList(new ArrayList<>());
-        List<Thread> waiters = new ArrayList<>();
-        for (int started = 0; started < number; started++) {
-            Thread waiter = new Thread(() -> got.add(result(borrow)));
-            waiter.setDaemon(true);
-            waiter.start();
-            waiters.add(waiter);
-        }
-        while (pool.getNumWaiters() < number) {
-            Thread.sleep(1);
-        }
-        act.run();
-        for (Thread waiter : waiters) {
-            waiter.join(LONGEST_MILLIS);
-        }
-        return List.copyOf(got);
     }
 
     private static void failures() throws Exception {

@@ -40,10 +40,6 @@ public final class Errors extends Expectations {
         return config;
     }
 
-    private static String counts(ZuphinkaPool<?> pool) {
-        return pool.getNumIdle() + " idle, " + pool.getNumActive() + " active";
-    }
-
     /** Borrows and returns in another thread, and returns the counts after it. */
     private static String afterLoan(ZuphinkaPool<Object> pool) throws Exception {
         FutureTask<String> loan = new FutureTask<>(() -> {
@@ -104,7 +100,7 @@ public final class Errors extends Expectations {
             Thread thread = new Thread(null, new Diver(pool), "diver", SMALL_STACK);
             thread.start();
             thread.join();
-            expect("a pool that was called with a full stack", "1 idle, 0 active", afterLoan(pool));
+            expect("a pool that was called with a full stack", "1 idle, 0 active, 1 created, 0 destroyed", afterLoan(pool));
             pool.close();
         }
     }

@@ -70,11 +70,6 @@ public final class Refusals extends Expectations {
         }
     }
 
-    /** A call without a result. */
-    private interface Act {
-        void run() throws Exception;
-    }
-
     /** One life, with its segments, the calls that threw, and what was wrong. */
     private static final class Life {
         private final Kind kind;

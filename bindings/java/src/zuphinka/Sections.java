@@ -256,24 +256,32 @@ final class Sections<T> {
      * @throws IllegalStateException if the pool is closed, or its journal is full
      */
     Member<T> borrow(long first, long longestNanos, boolean isBare) throws InterruptedException {
+        Member<T> member = null;
         begin();
         try {
-            long reply = ask(first, longestNanos, isBare);
-            switch (Core.answer(reply)) {
-                case Core.LENT:
-                    journal.count();
-                    idle--;
-                    return lent(members.at(Core.value(reply)), asked, asked - first);
-                case Core.TAKE:
-                    return members.at(Core.value(reply));
-                case Core.MAKE:
-                    return members.add(Core.value(reply));
-                default:
-                    wakeOne();
-                    throw refusal(reply);
-            }
+            member = find(first, longestNanos, isBare);
+            return member;
         } finally {
+            if (member == null) {
+                wakeOne(); // what this thread was woken for is there for another one
+            }
             release();
+        }
+    }
+
+    private Member<T> find(long first, long longestNanos, boolean isBare) throws InterruptedException {
+        long reply = ask(first, longestNanos, isBare);
+        switch (Core.answer(reply)) {
+            case Core.LENT:
+                journal.count();
+                idle--;
+                return lent(members.at(Core.value(reply)), asked, asked - first);
+            case Core.TAKE:
+                return members.at(Core.value(reply));
+            case Core.MAKE:
+                return members.add(Core.value(reply));
+            default:
+                throw refusal(reply);
         }
     }
 
