@@ -1,9 +1,14 @@
+import java.io.PrintWriter;
+import java.io.StringWriter;
+import java.time.Duration;
 import java.util.ArrayList;
 import java.util.List;
 import java.util.concurrent.FutureTask;
 import java.util.concurrent.TimeUnit;
 import org.apache.commons.pool2.BasePooledObjectFactory;
+import org.apache.commons.pool2.DestroyMode;
 import org.apache.commons.pool2.PooledObject;
+import org.apache.commons.pool2.impl.AbandonedConfig;
 import org.apache.commons.pool2.impl.DefaultPooledObject;
 import org.apache.commons.pool2.impl.GenericObjectPoolConfig;
 import zuphinka.Journal;
@@ -105,8 +110,235 @@ public final class Errors extends Expectations {
         }
     }
 
+    /** What receives the failures of a sink. */
+    private static final class Noting extends ZuphinkaPool<Object> {
+        final List<Throwable> noted = new ArrayList<>();
+        private final boolean isBroken;
+
+        Noting(Plain factory, Journal journal, boolean isBroken) {
+            super(factory, config(1), null, journal);
+            this.isBroken = isBroken;
+        }
+
+        @Override
+        protected void swallowed(Exception failure) {
+            noted.add(failure instanceof IllegalStateException ? failure.getCause() : failure);
+            if (isBroken) {
+                throw new StackOverflowError("swallowed");
+            }
+        }
+    }
+
+    /** An error of a sink, or of what receives its failures, costs no place. */
+    private static void sinks() throws Exception {
+        StackOverflowError error = new StackOverflowError("sink");
+        Journal failing = Journal.storedBy(segment -> {
+            throw error;
+        }).limit(100);
+        for (Plain factory : List.of(new Plain(), new Fragile())) {
+            for (boolean isBroken : new boolean[] {false, true}) {
+                Noting pool = new Noting(factory, failing, isBroken);
+                for (int round = 0; round < 15; round++) {
+                    pool.returnObject(pool.borrowObject());
+                }
+                expect("a sink that ends in an error", "1 idle, 0 active, 1 created, 0 destroyed", counts(pool));
+                expect("it is passed on", true, pool.noted.contains(error));
+                expect("a flush of such a sink", "done", ending(pool::flushJournal));
+                expect("a close over such a sink", "done", ending(pool::close));
+                expect("after the close", "0 idle, 0 active, 1 created, 1 destroyed", counts(pool));
+            }
+        }
+    }
+
+    /** A factory with hooks. Destructions and wrappers fail where it is told to. */
+    private static final class Fragile extends Plain {
+        String failing = "";
+        final Throwable error;
+        int destroyed;
+
+        Fragile() {
+            this(new OutOfMemoryError("a call"));
+        }
+
+        Fragile(Throwable error) {
+            this.error = error;
+        }
+
+        /** Throws where it is told to, once. */
+        void pass(String what) {
+            if (failing.equals(what)) {
+                failing = "";
+                if (error instanceof Error) {
+                    throw (Error) error;
+                }
+                throw (RuntimeException) error;
+            }
+        }
+
+        @Override
+        public PooledObject<Object> wrap(Object object) {
+            return new FragileWrapper(this, object);
+        }
+
+        @Override
+        public void activateObject(PooledObject<Object> pooled) {}
+
+        @Override
+        public void passivateObject(PooledObject<Object> pooled) {}
+
+        @Override
+        public void destroyObject(PooledObject<Object> pooled) {
+            destroyed++;
+            pass("destroy");
+        }
+    }
+
+    /** A factory without hooks, whose wrappers fail. */
+    private static final class FragileWrappers extends Plain {
+        private final Fragile told;
+
+        FragileWrappers(Fragile told) {
+            this.told = told;
+        }
+
+        @Override
+        public PooledObject<Object> wrap(Object object) {
+            return new FragileWrapper(told, object);
+        }
+
+        @Override
+        public void destroyObject(PooledObject<Object> pooled) {
+            told.destroyed++;
+        }
+    }
+
+    private static final class FragileWrapper extends DefaultPooledObject<Object> {
+        private final Fragile told;
+
+        FragileWrapper(Fragile told, Object object) {
+            super(object);
+            this.told = told;
+        }
+
+        @Override
+        public boolean allocate() {
+            told.pass("allocate");
+            return super.allocate();
+        }
+
+        @Override
+        public boolean deallocate() {
+            told.pass("deallocate");
+            return super.deallocate();
+        }
+
+        @Override
+        public void invalidate() {
+            told.pass("invalidate");
+            super.invalidate();
+        }
+
+        @Override
+        public void setLogAbandoned(boolean isLogged) {
+            told.pass("log");
+            super.setLogAbandoned(isLogged);
+        }
+
+        @Override
+        public void printStackTrace(PrintWriter writer) {
+            told.pass("print");
+            super.printStackTrace(writer);
+        }
+    }
+
+    /** Pools of one object, whose loans are logged, with and without hooks. */
+    private static ZuphinkaPool<Object> logged(Fragile told, boolean hasHooks) {
+        AbandonedConfig abandoned = new AbandonedConfig();
+        abandoned.setLogAbandoned(true);
+        abandoned.setLogWriter(new PrintWriter(new StringWriter()));
+        abandoned.setRemoveAbandonedOnMaintenance(true);
+        abandoned.setRemoveAbandonedTimeout(Duration.ZERO);
+        return new ZuphinkaPool<>(hasHooks ? told : new FragileWrappers(told), config(5), abandoned);
+    }
+
+    /** What fails between two steps of a borrow or a return costs no place, and the object is destroyed. */
+    private static void loans(Throwable error, boolean hasHooks) throws Exception {
+        String thrown = error.getClass().getSimpleName() + ": a call";
+        String name = thrown + (hasHooks ? ", with hooks: " : ": ");
+        Fragile told = new Fragile(error);
+        ZuphinkaPool<Object> pool = logged(told, hasHooks);
+        told.failing = "log";
+        expect(name + "a wrapper that is not logged", thrown, result(pool::borrowObject));
+        expect(name + "its object is destroyed", "1, 0 idle, 0 active, 1 created, 1 destroyed", told.destroyed + ", " + counts(pool));
+        told.failing = "allocate";
+        boolean isError = error instanceof Error;
+        expect(name + "a new object that is not allocated", isError ? thrown : "NoSuchElementException: Unable to activate object from a call",
+                result(pool::borrowObject));
+        pool.addObject();
+        told.failing = "allocate";
+        Object second = result(pool::borrowObject);
+        expect(name + "an idle object that is not allocated", isError, thrown.equals(second));
+        if (!isError) {
+            pool.returnObject(second);
+        }
+        expect(name + "they are destroyed", "3, 3 destroyed", told.destroyed + ", " + pool.getDestroyedCount() + " destroyed");
+        Object lent = pool.borrowObject();
+        told.failing = "deallocate";
+        expect(name + "a return that is not deallocated", isError ? thrown : "done", ending(() -> pool.returnObject(lent)));
+        expect(name + "all places are free", "4, 0 idle, 0 active, 4 created, 4 destroyed", told.destroyed + ", " + counts(pool));
+        Object last = pool.borrowObject();
+        told.failing = "invalidate";
+        expect(name + "an invalidation", thrown, ending(() -> pool.invalidateObject(last)));
+        expect(name + "its object is destroyed", "5, 0 idle, 0 active, 5 created, 5 destroyed", told.destroyed + ", " + counts(pool));
+        pool.close();
+    }
+
+    /** What fails at the first object of several leaves none of the others behind. */
+    private static void many(Throwable error) throws Exception {
+        String thrown = error.getClass().getSimpleName() + ": a call";
+        for (String failing : List.of("print", "invalidate", "destroy")) {
+            Fragile told = new Fragile(error);
+            ZuphinkaPool<Object> pool = logged(told, true);
+            for (int number = 0; number < 5; number++) {
+                pool.borrowObject();
+            }
+            told.failing = failing;
+            expect("a reclaim, " + failing, error instanceof Error ? thrown : "done", ending(pool::evict));
+            expect("all are destroyed, " + failing, "5, 0 idle, 0 active, 5 created, 5 destroyed", told.destroyed + ", " + counts(pool));
+            for (int number = 0; number < 5; number++) {
+                pool.addObject();
+            }
+            told.failing = failing;
+            boolean isThrown = error instanceof Error && !failing.equals("print");
+            expect("a close, " + failing, isThrown ? thrown : "done", ending(pool::close));
+            expect("all are destroyed by it, " + failing, "10, 0 idle, 0 active, 10 created, 10 destroyed", told.destroyed + ", " + counts(pool));
+        }
+    }
+
+    /** A close that ends in an error has ended the maintenance thread, and stored the journal. */
+    private static void closes() throws Exception {
+        Fragile told = new Fragile();
+        GenericObjectPoolConfig<Object> config = config(1);
+        config.setTimeBetweenEvictionRuns(Duration.ofHours(1));
+        List<Long> stored = new ArrayList<>();
+        ZuphinkaPool<Object> pool = new ZuphinkaPool<>(told, config, null, Journal.storedBy(segment -> stored.add(segment.entries())));
+        pool.addObject();
+        told.failing = "destroy";
+        expect("a close that ends in an error", "OutOfMemoryError: a call", ending(pool::close));
+        expect("its journal is stored", List.of(pool.getCounts().steps()), stored);
+        boolean isOver = Thread.getAllStackTraces().keySet().stream().noneMatch(thread -> thread.getName().equals("zuphinka-maintenance"));
+        expect("its thread has ended", true, isOver);
+    }
+
     public static void main(String[] words) throws Exception {
         fullStacks();
+        sinks();
+        for (Throwable error : List.of(new OutOfMemoryError("a call"), new IllegalArgumentException("a call"))) {
+            loans(error, false);
+            loans(error, true);
+            many(error);
+        }
+        closes();
         printCounts();
     }
 }

@@ -131,6 +131,7 @@ final class StoredJournal {
      * Stores the segment that waits, if there is one. The caller needs no lock.
      *
      * @throws IOException if the sink fails. The segment still waits.
+     * @throws RuntimeException the same; with an error of the sink as its cause
      */
     void storePending() throws IOException {
         storing.lock();
@@ -140,6 +141,8 @@ final class StoredJournal {
                 journal.sink.store(segment);
                 pending = null;
             }
+        } catch (Error e) {
+            throw new IllegalStateException("The sink failed", e);
         } finally {
             storing.unlock();
         }

@@ -42,7 +42,8 @@ import org.apache.commons.pool2.impl.GenericObjectPoolConfig;
  * The return and the invalidation of a lent object never throw the first two, nor does the close of an open pool before it has closed and cleared
  * it. Work begun on an object is always completed.
  *
- * <p>An {@link Error} that the factory throws is thrown by each call, once the place of its object is free.
+ * <p>An {@link Error} that the factory throws is thrown by each call, once the place of its object is free. So is one of a wrapper. Of several, as of
+ * a close, the first is thrown once all objects are destroyed.
  *
  * @param <T> the type of the objects
  */
@@ -203,13 +204,21 @@ public class ZuphinkaPool<T> implements ObjectPool<T>, UsageTracking<T> {
                 makeReady(member, true, first);
                 return member.pooled.getObject();
             }
-            if (isBorrowedBare) {
-                tellLoan(member);
+            if (isBorrowedBare ? isTold(member) : makeReady(member, false, first)) {
                 return member.pooled.getObject();
             }
-            if (makeReady(member, false, first)) {
-                return member.pooled.getObject();
-            }
+        }
+    }
+
+    /** Tells the wrapper of an object that it is lent. If that fails the object is destroyed, and this returns false. */
+    private boolean isTold(Member<T> member) {
+        try {
+            tellLoan(member);
+            return true;
+        } catch (Throwable e) {
+            destroyLent(member);
+            rethrow(e);
+            return false;
         }
     }
 
@@ -220,17 +229,36 @@ public class ZuphinkaPool<T> implements ObjectPool<T>, UsageTracking<T> {
             if (member.pooled == null) {
                 throw new NullPointerException("makeObject() returned null");
             }
-            member.isWrapperTold = !isWrapperUnseen || member.pooled.getClass() != DefaultPooledObject.class;
-            if (!objects.add(member)) {
+            if (!hasAdded(member)) {
                 throw new IllegalStateException("makeObject() returned an object that the pool has");
             }
         } catch (Throwable e) {
             sections.end(report, member, Core.MAKE_FAILED);
             throw e;
         }
-        if (abandoned != null && abandoned.getLogAbandoned()) {
-            member.pooled.setLogAbandoned(true);
-            member.pooled.setRequireFullStackTrace(abandoned.getRequireFullStackTrace());
+    }
+
+    /** Adds a new object to those of the pool, and returns whether it was not there. If that fails it is destroyed. */
+    private boolean hasAdded(Member<T> member) {
+        try {
+            if (abandoned != null && abandoned.getLogAbandoned()) {
+                member.pooled.setLogAbandoned(true);
+                member.pooled.setRequireFullStackTrace(abandoned.getRequireFullStackTrace());
+            }
+            member.isWrapperTold = !isWrapperUnseen || member.pooled.getClass() != DefaultPooledObject.class;
+            return objects.add(member);
+        } catch (Throwable e) {
+            discardQuietly(member);
+            throw e;
+        }
+    }
+
+    /** Destroys an object that has no place, whatever the factory throws. */
+    private void discardQuietly(Member<T> member) {
+        try {
+            discard(member, DestroyMode.NORMAL);
+        } catch (Throwable e) {
+            swallow(e);
         }
     }
 
@@ -253,8 +281,8 @@ public class ZuphinkaPool<T> implements ObjectPool<T>, UsageTracking<T> {
 
     /** Activates and tests an object, and lends it. If that fails it is destroyed: returns false, or throws for a new one. */
     private boolean makeReady(Member<T> member, boolean isNew, long first) {
-        tellLoan(member);
         try {
+            tellLoan(member);
             factory.activateObject(member.pooled);
         } catch (Throwable e) {
             destroyFailed(member, Core.READY, Core.ACTIVATE_FAILED, e);
@@ -309,6 +337,15 @@ public class ZuphinkaPool<T> implements ObjectPool<T>, UsageTracking<T> {
         }
     }
 
+    /** Destroys a lent object whose wrapper failed, and returns the answer: it may not be lent. */
+    private int destroyLent(Member<T> member) {
+        int answer = Core.answer(sections.report(Core.INVALIDATE, member, 0));
+        if (answer == Core.DESTROY) {
+            destroyQuietly(member);
+        }
+        return answer;
+    }
+
     private void destroyQuietly(Member<T> member) {
         try {
             destroy(member, DestroyMode.NORMAL);
@@ -328,8 +365,11 @@ public class ZuphinkaPool<T> implements ObjectPool<T>, UsageTracking<T> {
 
     private void discard(Member<T> member, DestroyMode mode) throws Exception {
         objects.remove(member);
-        member.pooled.invalidate();
-        factory.destroyObject(member.pooled, mode);
+        try {
+            member.pooled.invalidate();
+        } finally {
+            factory.destroyObject(member.pooled, mode);
+        }
     }
 
     // Returns.
@@ -349,10 +389,7 @@ public class ZuphinkaPool<T> implements ObjectPool<T>, UsageTracking<T> {
             missing("Returned object not currently part of this pool");
             return;
         }
-        if (isReturnedBare) {
-            tellReturn(member); // before another thread may have it
-        }
-        long reply = isReturnedBare ? sections.giveBackBare(member) : sections.giveBack(member);
+        long reply = isReturnedBare ? giveBackBare(member) : sections.giveBack(member);
         switch (Core.answer(reply)) {
             case Core.PARKED:
             case Core.GONE:
@@ -369,6 +406,19 @@ public class ZuphinkaPool<T> implements ObjectPool<T>, UsageTracking<T> {
         storeSegment();
     }
 
+    /** Returns an object that needs no test and no passivation. Returns the answer: Gone, too, if its wrapper failed and it is destroyed. */
+    private long giveBackBare(Member<T> member) {
+        try {
+            tellReturn(member); // before another thread may have it
+        } catch (Throwable e) {
+            int answer = destroyLent(member);
+            rethrow(e);
+            swallow(e);
+            return answer == Core.DESTROY ? Core.GONE : answer;
+        }
+        return sections.giveBackBare(member);
+    }
+
     private void missing(String message) {
         if (abandoned == null) {
             throw new IllegalStateException(message);
@@ -380,18 +430,18 @@ public class ZuphinkaPool<T> implements ObjectPool<T>, UsageTracking<T> {
         if (fault != null) {
             destroyFailed(member, Core.PARK, Core.TEST_FAILED, fault);
             if (fault != INVALID) {
-                swallow((Exception) fault);
+                swallow(fault);
             }
             return;
         }
         try {
             factory.passivateObject(member.pooled);
+            tellReturn(member);
         } catch (Throwable e) {
             destroyFailed(member, Core.PARK, Core.PASSIVATE_FAILED, e);
-            swallow((Exception) e);
+            swallow(e);
             return;
         }
-        tellReturn(member);
         if (Core.answer(sections.report(Core.PARK, member, Core.GOOD)) == Core.DESTROY) {
             destroyQuietly(member);
         }
@@ -575,7 +625,7 @@ public class ZuphinkaPool<T> implements ObjectPool<T>, UsageTracking<T> {
         }
         rethrow(fault);
         if (fault != null) {
-            swallow((Exception) fault);
+            swallow(fault);
         }
     }
 
@@ -585,7 +635,7 @@ public class ZuphinkaPool<T> implements ObjectPool<T>, UsageTracking<T> {
         if (left > 0 && noteTrackedUses()) {
             left = Core.value(sections.ask(input));
         }
-        List<Member<T>> reclaimed = new ArrayList<>();
+        List<Member<T>> reclaimed = new ArrayList<>((int) left); // before one is reclaimed, so that it is destroyed too
         for (; left > 0; left--) {
             Member<T> member = sections.reclaimNext();
             if (member == null) {
@@ -593,16 +643,34 @@ public class ZuphinkaPool<T> implements ObjectPool<T>, UsageTracking<T> {
             }
             reclaimed.add(member);
         }
+        Error first = null;
         for (Member<T> member : reclaimed) {
+            try {
+                discardAbandoned(member);
+            } catch (Throwable e) {
+                first = firstError(first, e);
+            }
+        }
+        rethrow(first);
+    }
+
+    private void discardAbandoned(Member<T> member) throws Exception {
+        try {
             if (abandoned.getLogAbandoned()) {
                 member.pooled.printStackTrace(abandoned.getLogWriter());
             }
-            try {
-                discard(member, DestroyMode.ABANDONED);
-            } catch (Exception e) {
-                swallow(e);
-            }
+        } finally {
+            discard(member, DestroyMode.ABANDONED);
         }
+    }
+
+    /** Returns the first error of several calls, all of which are made. Another failure is swallowed. */
+    private Error firstError(Error first, Throwable fault) {
+        if (first == null && fault instanceof Error) {
+            return (Error) fault;
+        }
+        swallow(fault);
+        return first;
     }
 
     /** Notes when lent objects were last used that know it themselves, and returns whether there was a use of which the core did not know. */
@@ -630,27 +698,41 @@ public class ZuphinkaPool<T> implements ObjectPool<T>, UsageTracking<T> {
     }
 
     private void destroyIdle(long count) {
+        Error first = null;
         for (long left = count; left > 0; left--) {
             Sections.Found<T> found = sections.next(Core.CLEAR_NEXT);
             if (found.answer != Core.DESTROY_IDLE) {
-                return;
+                break;
             }
-            destroyQuietly(found.member);
+            try {
+                destroy(found.member, DestroyMode.NORMAL);
+            } catch (Throwable e) {
+                first = firstError(first, e);
+            }
         }
+        rethrow(first);
     }
 
     /**
      * Closes the pool: nothing is lent any more, threads that wait get an {@link IllegalStateException}, and idle objects are destroyed. Lent ones
      * are destroyed when they are returned. It ends the maintenance thread, for which it waits as long as {@code evictorShutdownTimeout} says,
-     * unregisters the MBean, and stores the rest of a journal that is stored. What the factory and the sink throw is passed to {@link #swallowed}. A
-     * second close destroys nothing.
+     * unregisters the MBean, and stores the rest of a journal that is stored, also if the factory throws an {@link Error}. What the factory and the
+     * sink throw otherwise is passed to {@link #swallowed}. A second close destroys nothing.
      *
      * @throws OutOfMemoryError if there is no memory to cut the rest of a journal that is stored; the pool is closed, and {@link #flushJournal} may
      *     be tried again
      */
     @Override
     public void close() {
-        destroyIdle(sections.close());
+        try {
+            destroyIdle(sections.close());
+        } finally {
+            end();
+        }
+    }
+
+    /** Ends what a pool has besides its objects. */
+    private void end() {
         if (maintenance != null) {
             maintenance.stop(evictorShutdown);
         }
@@ -858,7 +940,7 @@ public class ZuphinkaPool<T> implements ObjectPool<T>, UsageTracking<T> {
         }
         try {
             sections.storePending();
-        } catch (IOException | RuntimeException e) {
+        } catch (Throwable e) {
             swallow(e);
         }
     }
@@ -866,17 +948,17 @@ public class ZuphinkaPool<T> implements ObjectPool<T>, UsageTracking<T> {
     /**
      * Receives each failure that no call throws: those of destructions, passivations and tests of returned or idle objects, of the maintenance
      * thread, and of a sink. It does nothing. Override it to log them. It runs without the pool's lock, in the thread whose call failed, and so in
-     * several threads at once. A {@link RuntimeException} that it throws is ignored, since the call that failed has to be completed.
+     * several threads at once. What it throws is ignored, since the call that failed has to be completed.
      *
-     * @param failure what the factory or the sink threw
+     * @param failure what the factory or the sink threw; an {@link Error} as the cause of an {@link IllegalStateException}
      */
     protected void swallowed(Exception failure) {}
 
     /** Passes a failure to {@link #swallowed}. */
-    final void swallow(Exception failure) {
+    final void swallow(Throwable failure) {
         try {
-            swallowed(failure);
-        } catch (RuntimeException e) {
+            swallowed(failure instanceof Exception ? (Exception) failure : new IllegalStateException(failure));
+        } catch (Throwable e) {
             // No object may lose its place by that.
         }
     }
