@@ -88,24 +88,91 @@ final class Sections<T> {
     }
 
     private long step(long nanoTime, int input, long number, long token, int outcome) {
-        return stepAt(timeOf(nanoTime), input, number, token, outcome);
-    }
-
-    private long stepAt(long at, int input, long number, long token, int outcome) {
-        long reply = Core.step(core, at, number, token, caller(), input, outcome);
-        if (reply < 0) {
-            makeRoom(reply);
-            reply = checked(Core.step(core, at, number, token, caller(), input, outcome));
+        long reply = Core.step(core, timeOf(nanoTime), number, token, caller(), input, outcome);
+        while (reply < 0) {
+            makeRoom(reply, input);
+            reply = Core.step(core, timeOf(nanoTime), number, token, caller(), input, outcome);
         }
         note(reply);
         return reply;
     }
 
-    private void makeRoom(long status) {
-        if (status != Core.JOURNAL_FULL) {
-            checked(status);
+    /** Takes a step of a borrow that concerns no object, and waits for room in the journal no longer than the borrow waits for an object. */
+    private long stepWithin(long first, long longestNanos, int input) throws InterruptedException {
+        long now = System.nanoTime();
+        long reply = Core.step(core, timeOf(now), 0, 0, caller(), input, 0);
+        while (reply < 0) {
+            makeRoomWithin(reply, input, left(first, longestNanos));
+            reply = Core.step(core, timeOf(now), 0, 0, caller(), input, 0);
         }
-        journal.makeRoom();
+        note(reply);
+        return reply;
+    }
+
+    /** Makes room in a full journal for an input, as {@link #makeRoomWithin}, as long as that takes. */
+    private void makeRoom(long status, int input) {
+        boolean isInterrupted = false;
+        try {
+            for (;;) {
+                try {
+                    makeRoomWithin(status, input, Long.MAX_VALUE);
+                    return;
+                } catch (InterruptedException e) {
+                    isInterrupted = true;
+                }
+            }
+        } finally {
+            if (isInterrupted) {
+                Thread.currentThread().interrupt();
+            }
+        }
+    }
+
+    /**
+     * Makes room in a full journal for an input, so that it can be tried again; without the lock while a segment is stored. It waits for another
+     * thread that stores one for some nanoseconds.
+     *
+     * @throws IllegalStateException if there is no room, or the pool is closed
+     */
+    private void makeRoomWithin(long status, int input, long nanos) throws InterruptedException {
+        if (isClosed && needsOpenPool(input)) {
+            throw closed();
+        }
+        checked(journal.isKept() || status != Core.JOURNAL_FULL ? status : 0);
+        long before = journal.cuts();
+        if (journal.isPending()) {
+            lock.unlock();
+            try {
+                storeWithin(nanos);
+            } finally {
+                acquire();
+            }
+            members.reserve(); // other threads may have made objects
+        }
+        if (journal.cuts() == before) {
+            journal.cutFull();
+        }
+    }
+
+    private void storeWithin(long nanos) throws InterruptedException {
+        boolean hasTurn;
+        try {
+            hasTurn = journal.storePending(nanos);
+        } catch (IOException | RuntimeException e) {
+            throw new IllegalStateException("Journal full", e);
+        }
+        if (!hasTurn) {
+            throw new IllegalStateException("Journal full");
+        }
+    }
+
+    /** Returns whether a closed pool refuses an input, whatever its journal has room for. */
+    private static boolean needsOpenPool(int input) {
+        return input == Core.BORROW || input == Core.ADD || input == Core.EVICT || input == Core.RECLAIM_ON_BORROW;
+    }
+
+    private static IllegalStateException closed() {
+        return new IllegalStateException("Pool not open");
     }
 
     private static long checked(long reply) {
@@ -235,6 +302,11 @@ final class Sections<T> {
         }
     }
 
+    /** Returns for how many nanoseconds a borrow may wait yet, by its own limit or the settings. */
+    private long left(long first, long longestNanos) {
+        return longestNanos >= 0 ? Math.max(0, longestNanos - (System.nanoTime() - first)) : left(millis(first));
+    }
+
     /** Returns for how many nanoseconds a thread may wait yet by the settings, if it has waited since this millisecond. */
     private long left(long began) {
         if (settings.maxWaitMillis < 0 || settings.maxWaitMillis > TimeUnit.NANOSECONDS.toMillis(ENDLESS)) {
@@ -290,11 +362,11 @@ final class Sections<T> {
         asked = first;
         for (;;) {
             members.reserve(); // each time, since other threads may make objects while this one waits
-            long at = timeOf(asked);
-            long reply = askOnce(at, began, isBare);
-            if (reply < 0) {
-                makeRoom(reply);
-                reply = checked(askOnce(at, began, isBare));
+            long reply = askOnce(timeOf(asked), began, isBare);
+            while (reply < 0) {
+                makeRoomWithin(reply, Core.BORROW, left(first, longestNanos));
+                asked = System.nanoTime();
+                reply = askOnce(timeOf(asked), began, isBare);
             }
             note(reply);
             int answer = Core.answer(reply);
@@ -323,7 +395,7 @@ final class Sections<T> {
                 return new NoSuchElementException("Timeout waiting for idle object");
             case Core.REFUSED:
                 if (Core.cause(reply) == Core.CLOSED) {
-                    return new IllegalStateException("Pool not open");
+                    return closed();
                 }
                 return new IllegalStateException("Object is not lent");
             default:
@@ -369,11 +441,10 @@ final class Sections<T> {
         long now = System.nanoTime();
         begin();
         try {
-            long at = timeOf(now);
-            long reply = Core.giveBack(core, at, member.id, member.slot, caller());
-            if (reply < 0) {
-                makeRoom(reply);
-                reply = checked(Core.giveBack(core, at, member.id, member.slot, caller()));
+            long reply = Core.giveBack(core, timeOf(now), member.id, member.slot, caller());
+            while (reply < 0) {
+                makeRoom(reply, Core.RETURN);
+                reply = Core.giveBack(core, timeOf(now), member.id, member.slot, caller());
             }
             note(reply);
             journal.count();
@@ -436,13 +507,18 @@ final class Sections<T> {
         }
     }
 
-    /** Notes that the holder of an object last used it so many nanoseconds ago. */
-    void noteUse(Member<T> member, long nanosAgo) {
+    /** Notes that the holder of an object last used it so many nanoseconds ago, for a call that waits for room in the journal for some. */
+    void noteUse(Member<T> member, long nanosAgo, long first, long longestNanos) throws InterruptedException {
         long now = System.nanoTime();
-        long used = now - Math.min(nanosAgo, now - start);
+        long used = millis(now - Math.min(nanosAgo, now - start));
         begin();
         try {
-            stepAt(millis(used), Core.USE, member.id, 0, 0);
+            long reply = Core.step(core, used, member.id, 0, caller(), Core.USE, 0);
+            while (reply < 0) {
+                makeRoomWithin(reply, Core.USE, left(first, longestNanos));
+                reply = Core.step(core, used, member.id, 0, caller(), Core.USE, 0);
+            }
+            note(reply);
         } finally {
             release();
         }
@@ -455,6 +531,16 @@ final class Sections<T> {
         begin();
         try {
             return step(input, 0, 0, 0);
+        } finally {
+            release();
+        }
+    }
+
+    /** Asks how many objects a reclaim is for that belongs to a call. The call waits for room in the journal for some nanoseconds. */
+    long askReclaim(int input, long first, long longestNanos) throws InterruptedException {
+        begin();
+        try {
+            return Core.value(stepWithin(first, longestNanos, input));
         } finally {
             release();
         }
@@ -500,10 +586,10 @@ final class Sections<T> {
     }
 
     /** Takes the next abandoned object from its holder: its place is free. Returns it, or null if none is left. */
-    Member<T> reclaimNext() {
+    Member<T> reclaimNext(long first, long longestNanos) throws InterruptedException {
         acquire();
         try {
-            long reply = step(Core.RECLAIM_NEXT, 0, 0, 0);
+            long reply = stepWithin(first, longestNanos, Core.RECLAIM_NEXT);
             if (Core.answer(reply) != Core.RECLAIMED) {
                 return null;
             }
@@ -534,9 +620,9 @@ final class Sections<T> {
 
     // The journal.
 
-    /** Returns whether a segment waits to be stored. */
-    boolean hasPendingSegment() {
-        return journal.isPending();
+    /** Stores the segment that waits, without the lock, if it is due. */
+    void storeDue() throws IOException {
+        journal.storeDue();
     }
 
     /** Stores the segment that waits, without the lock. */
@@ -546,13 +632,19 @@ final class Sections<T> {
 
     /** Cuts and stores the rest of a journal that is stored. */
     void storeRest() throws IOException {
+        do {
+            journal.storePending();
+        } while (!isRestCut());
+        journal.storePending();
+    }
+
+    private boolean isRestCut() {
         begin();
         try {
-            journal.cutRest();
+            return journal.isRestCut();
         } finally {
             release();
         }
-        journal.storePending();
     }
 
     /** Returns the journal since it was last cut. */

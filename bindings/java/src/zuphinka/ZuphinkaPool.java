@@ -35,7 +35,8 @@ import org.apache.commons.pool2.impl.GenericObjectPoolConfig;
  * <p>Each call that takes a step may throw three exceptions that it does not list. They leave the pool as it was before the step:
  * <ul>
  * <li>an {@link IllegalStateException} with the message "Journal full", if the journal has no room: a kept one until it is cut, a stored one until
- * its sink stores the segment that waits. The failure of the sink is its cause;
+ * its sink stores the segment that waits. The failure of the sink is its cause, if it failed. Otherwise another thread stores that segment for longer
+ * than a borrow waits;
  * <li>an {@link OutOfMemoryError}, if there is no memory. The call may be tried again;
  * <li>a {@link StackOverflowError}, if the thread has less than 120 KiB of its stack left.
  * </ul>
@@ -193,7 +194,7 @@ public class ZuphinkaPool<T> implements ObjectPool<T>, UsageTracking<T> {
     private T borrow(long longestNanos) throws Exception {
         long first = System.nanoTime();
         if (settings.reclaimsOnBorrow) {
-            reclaim(Core.RECLAIM_ON_BORROW);
+            reclaim(Core.RECLAIM_ON_BORROW, first, longestNanos);
         }
         for (;;) {
             Member<T> member = sections.borrow(first, longestNanos, isBorrowedBare);
@@ -557,7 +558,8 @@ public class ZuphinkaPool<T> implements ObjectPool<T>, UsageTracking<T> {
     }
 
     /**
-     * Maintains the pool: {@link #evict}, then {@link #preparePool}. The maintenance thread calls it.
+     * Maintains the pool: {@link #evict}, then {@link #preparePool}. It stores a segment that a sink did not store before. The maintenance thread
+     * calls it.
      *
      * @throws IllegalStateException if the pool is closed
      * @throws Exception as {@link #preparePool}
@@ -565,6 +567,7 @@ public class ZuphinkaPool<T> implements ObjectPool<T>, UsageTracking<T> {
     public void maintain() throws Exception {
         evict();
         preparePool();
+        storeSegmentAgain();
     }
 
     /**
@@ -585,7 +588,7 @@ public class ZuphinkaPool<T> implements ObjectPool<T>, UsageTracking<T> {
             left--;
         }
         if (settings.reclaimsOnMaintenance) {
-            reclaim(Core.RECLAIM_FOR_MAINTENANCE);
+            reclaim(Core.RECLAIM_FOR_MAINTENANCE, System.nanoTime(), Long.MAX_VALUE);
         }
         storeSegment();
     }
@@ -629,22 +632,29 @@ public class ZuphinkaPool<T> implements ObjectPool<T>, UsageTracking<T> {
         }
     }
 
-    /** Takes abandoned objects from their holders, and destroys them. */
-    private void reclaim(int input) {
-        long left = Core.value(sections.ask(input));
-        if (left > 0 && noteTrackedUses()) {
-            left = Core.value(sections.ask(input));
+    /** Takes abandoned objects from their holders, and destroys them. It waits for room in the journal as the call does that it belongs to. */
+    private void reclaim(int input, long first, long longestNanos) throws InterruptedException {
+        long left = sections.askReclaim(input, first, longestNanos);
+        if (left > 0 && noteTrackedUses(first, longestNanos)) {
+            left = sections.askReclaim(input, first, longestNanos);
         }
         List<Member<T>> reclaimed = new ArrayList<>((int) left); // before one is reclaimed, so that it is destroyed too
-        for (; left > 0; left--) {
-            Member<T> member = sections.reclaimNext();
-            if (member == null) {
-                break;
+        try {
+            for (; left > 0; left--) {
+                Member<T> member = sections.reclaimNext(first, longestNanos);
+                if (member == null) {
+                    return;
+                }
+                reclaimed.add(member);
             }
-            reclaimed.add(member);
+        } finally {
+            discardAbandoned(reclaimed);
         }
+    }
+
+    private void discardAbandoned(List<Member<T>> members) {
         Error first = null;
-        for (Member<T> member : reclaimed) {
+        for (Member<T> member : members) {
             try {
                 discardAbandoned(member);
             } catch (Throwable e) {
@@ -674,7 +684,7 @@ public class ZuphinkaPool<T> implements ObjectPool<T>, UsageTracking<T> {
     }
 
     /** Notes when lent objects were last used that know it themselves, and returns whether there was a use of which the core did not know. */
-    private boolean noteTrackedUses() {
+    private boolean noteTrackedUses(long first, long longestNanos) throws InterruptedException {
         boolean isNoted = false;
         for (Member<T> member : objects.all()) {
             if (member.pooled.getObject() instanceof TrackedUse && member.pooled.getState() == PooledObjectState.ALLOCATED) {
@@ -682,7 +692,8 @@ public class ZuphinkaPool<T> implements ObjectPool<T>, UsageTracking<T> {
                 if (used.isAfter(member.pooled.getLastBorrowInstant()) && (member.used == null || used.isAfter(member.used))) {
                     member.used = used;
                     Instant now = Instant.now();
-                    sections.noteUse(member, used.isBefore(now) ? Duration.between(used, now).toNanos() : 0);
+                    long ago = used.isBefore(now) ? Duration.between(used, now).toNanos() : 0;
+                    sections.noteUse(member, ago, first, longestNanos);
                     isNoted = true;
                 }
             }
@@ -934,10 +945,17 @@ public class ZuphinkaPool<T> implements ObjectPool<T>, UsageTracking<T> {
         }
     }
 
+    /** Stores a segment that is due, unless another thread does. */
     private void storeSegment() {
-        if (!sections.hasPendingSegment()) {
-            return;
+        try {
+            sections.storeDue();
+        } catch (Throwable e) {
+            swallow(e);
         }
+    }
+
+    /** Stores a segment that waits, also if that failed before. */
+    private void storeSegmentAgain() {
         try {
             sections.storePending();
         } catch (Throwable e) {
