@@ -4,7 +4,7 @@
     play_java.py LIBRARY POOL JOURNAL_PICTURE
 
 LIBRARY is libzuphinka.a, and the other two are programs. tests/java/Calls.java makes each call of a pool, with what the factory throws.
-tests/java/Errors.java lets everything that a pool calls end in an error, and calls pools on a full stack. tests/java/Waits.java lets threads wait.
+tests/java/Errors.java lets everything that a pool calls end in an error, and calls pools on a full stack. tests/java/Waits.java lets threads wait, and counts who overtakes.
 tests/java/Stress.java makes random calls in eight threads over a factory that fails at random. tests/java/Refusals.java refuses the native library
 each of its allocations in turn. The journals that they write must be legal. A stored file must be synced before it has its name, and its folder
 afterwards. The jar must have the version of all products and load nothing but the C library, and the codes of zuphinka.Core must be those of

@@ -610,15 +610,13 @@ public final class Calls extends Expectations {
     }
 
     private static void refusals() {
-        GenericObjectPoolConfig<String> fair = config();
-        fair.setFairness(true);
         GenericObjectPoolConfig<String> own = config();
         own.setEvictionPolicy((settings, object, idle) -> true);
         GenericObjectPoolConfig<String> named = config();
         named.setEvictionPolicyClassName("org.example.Policy");
-        for (GenericObjectPoolConfig<String> config : Arrays.asList(fair, own, named)) {
+        for (GenericObjectPoolConfig<String> config : Arrays.asList(own, named)) {
             Object ending = ending(() -> new ZuphinkaPool<>(new Texts(), config).close());
-            expect("refused", config == fair ? "fairness" : "evictionPolicy", ending.toString().replaceAll(".*Exception: |:.*", ""));
+            expect("refused", "evictionPolicy", ending.toString().replaceAll(".*Exception: |:.*", ""));
         }
         expect("no factory", "IllegalArgumentException: Factory may not be null", ending(() -> new ZuphinkaPool<String>(null).close()));
         expect("a limit of no entries", "IllegalArgumentException: journal limit: 0 is not from 1 to 4294967296",

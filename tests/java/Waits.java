@@ -1,10 +1,14 @@
 import java.io.IOException;
+import java.nio.charset.StandardCharsets;
 import java.time.Duration;
+import java.util.ArrayList;
+import java.util.Collections;
 import java.util.List;
 import java.util.concurrent.Callable;
 import java.util.concurrent.CountDownLatch;
 import java.util.concurrent.FutureTask;
 import java.util.concurrent.TimeUnit;
+import java.util.concurrent.atomic.AtomicBoolean;
 import java.util.concurrent.atomic.AtomicInteger;
 import org.apache.commons.pool2.BasePooledObjectFactory;
 import org.apache.commons.pool2.PooledObject;
@@ -12,6 +16,7 @@ import org.apache.commons.pool2.impl.AbandonedConfig;
 import org.apache.commons.pool2.impl.DefaultPooledObject;
 import org.apache.commons.pool2.impl.GenericObjectPoolConfig;
 import zuphinka.Journal;
+import zuphinka.Queueing;
 import zuphinka.Segment;
 import zuphinka.SegmentSink;
 import zuphinka.ZuphinkaPool;
@@ -20,6 +25,8 @@ import zuphinka.ZuphinkaPool;
 public final class Waits extends Expectations {
     /** A call that takes longer hangs. */
     private static final long LONGEST_SECONDS = 20;
+    /** How often a thread waits beside one that borrows again at once. */
+    private static final int ROUNDS = 50;
 
     private Waits() {}
 
@@ -162,7 +169,100 @@ public final class Waits extends Expectations {
         pool.close();
     }
 
+    /** Returns how often at most a thread got an object between the wait and the loan of another one. */
+    private static int mostOvertakes(ZuphinkaPool<Object> pool, long other) {
+        String name = Long.toString(other);
+        String[] lines = new String(pool.getJournal().text(), StandardCharsets.US_ASCII).split("\n");
+        int overtakes = 0;
+        int most = 0;
+        boolean isWaiting = false;
+        for (String line : lines) {
+            List<String> words = List.of(line.split(" "));
+            boolean gets = words.contains("take") || words.contains("make");
+            if (words.get(0).equals(name) && words.contains("borrow")) {
+                isWaiting = words.contains("wait");
+                most = Math.max(most, overtakes);
+                overtakes = 0;
+            } else if (gets && isWaiting) {
+                overtakes++;
+            }
+        }
+        return most;
+    }
+
+    /** One thread borrows again as soon as it has returned, and another one borrows between. Returns how often that one is overtaken at most. */
+    private static int overtakesOf(ZuphinkaPool<Object> pool) throws Exception {
+        AtomicBoolean isOver = new AtomicBoolean();
+        long[] id = new long[1];
+        FutureTask<Object> waiting = begun(() -> {
+            id[0] = Thread.currentThread().getId();
+            for (int round = 0; round < ROUNDS; round++) {
+                pool.returnObject(pool.borrowObject());
+                Thread.sleep(1);
+            }
+            isOver.set(true);
+            return "served";
+        });
+        while (!isOver.get() && !waiting.isDone()) {
+            pool.returnObject(pool.borrowObject());
+        }
+        expect("the thread that waits", "served", within(waiting));
+        return mostOvertakes(pool, id[0]);
+    }
+
+    private static void overtaking() throws Exception {
+        GenericObjectPoolConfig<Object> config = new GenericObjectPoolConfig<>();
+        config.setJmxEnabled(false);
+        config.setMaxTotal(1);
+        for (int most : new int[] {16, 3, 0}) {
+            config.setFairness(most == 0);
+            ZuphinkaPool<Object> pool = new ZuphinkaPool<>(new Plain(), config, null, Journal.kept().limit(50_000_000));
+            if (most == 3) {
+                pool.setMaxOvertakes(most);
+            }
+            expect("the number of overtakes", most, pool.getMaxOvertakes());
+            expect("the fairness", most == 0, pool.getFairness());
+            int overtakes = overtakesOf(pool);
+            expect("overtaken " + overtakes + " times, " + most + " at most", true, overtakes <= most);
+            expect("a negative number", "IllegalArgumentException: maxOvertakes: -1 is negative", ending(() -> pool.setMaxOvertakes(-1)));
+            pool.close();
+        }
+    }
+
+    /** Threads of a fair pool that come one after the other are served in that order. */
+    private static void arrival() throws Exception {
+        GenericObjectPoolConfig<Object> config = new GenericObjectPoolConfig<>();
+        config.setJmxEnabled(false);
+        config.setMaxTotal(1);
+        config.setFairness(true);
+        ZuphinkaPool<Object> pool = new ZuphinkaPool<>(new Plain(), config);
+        Object lent = pool.borrowObject();
+        List<Object> order = Collections.synchronizedList(new ArrayList<>());
+        List<FutureTask<Object>> waiting = new ArrayList<>();
+        for (int number = 0; number < 6; number++) {
+            int own = number;
+            waiting.add(begun(() -> {
+                Object object = pool.borrowObject();
+                order.add(own);
+                pool.returnObject(object);
+                return own;
+            }));
+            while (pool.getNumWaiters() <= number) {
+                Thread.sleep(1);
+            }
+        }
+        pool.returnObject(lent);
+        for (FutureTask<Object> task : waiting) {
+            within(task);
+        }
+        expect("in the order of arrival", List.of(0, 1, 2, 3, 4, 5), List.copyOf(order));
+        pool.close();
+    }
+
     public static void main(String[] words) throws Exception {
+        expect("the queue", List.of(), Queueing.faults());
+        overtaking();
+        arrival();
         fullJournal();
         slowSink();
         failingSink();

@@ -19,6 +19,7 @@ final class CoreSettings {
     final boolean isAbandonedRemoved;
     final boolean reclaimsOnBorrow;
     final boolean reclaimsOnMaintenance;
+    final boolean isFair;
     final int maxTotal;
     final long maxWaitMillis;
     private final String text;
@@ -40,15 +41,13 @@ final class CoreSettings {
         isAbandonedRemoved = abandoned != null;
         reclaimsOnBorrow = isAbandonedRemoved && abandoned.getRemoveAbandonedOnBorrow();
         reclaimsOnMaintenance = isAbandonedRemoved && abandoned.getRemoveAbandonedOnMaintenance();
+        isFair = config.getFairness();
         maxTotal = config.getMaxTotal();
         maxWaitMillis = millis(config.getMaxWaitDuration(), -1);
         text = textOf(config, journalLimit) + (isAbandonedRemoved ? textOf(abandoned) : "");
     }
 
     private static void refuseUnknown(GenericObjectPoolConfig<?> config) {
-        if (config.getFairness()) {
-            throw new IllegalArgumentException("fairness: the pool serves the thread that asks first");
-        }
         String policy = config.getEvictionPolicyClassName();
         boolean isDefault = policy == null || policy.equals(BaseObjectPoolConfig.DEFAULT_EVICTION_POLICY_CLASS_NAME);
         if (config.getEvictionPolicy() != null || !isDefault) {

@@ -6,7 +6,6 @@ import java.lang.ref.Reference;
 import java.nio.charset.StandardCharsets;
 import java.util.NoSuchElementException;
 import java.util.concurrent.TimeUnit;
-import java.util.concurrent.locks.Condition;
 import java.util.concurrent.locks.ReentrantLock;
 
 /**
@@ -16,7 +15,7 @@ import java.util.concurrent.locks.ReentrantLock;
 final class Sections<T> {
     private static final Cleaner CLEANER = Cleaner.create();
     /** A wait that may take longer, in nanoseconds, has no limit. */
-    private static final long ENDLESS = TimeUnit.DAYS.toNanos(10_000);
+    static final long ENDLESS = TimeUnit.DAYS.toNanos(10_000);
     /** How long a thread pauses before it looks at the lock again: at first, at most, and in all before it sleeps, in nanoseconds. */
     private static final long FIRST_PAUSE = 250;
     private static final long LONGEST_PAUSE = 10_000;
@@ -25,16 +24,13 @@ final class Sections<T> {
     private final CoreSettings settings;
     private final long start = System.nanoTime();
     private final ReentrantLock lock = new ReentrantLock();
-    private final Condition changed = lock.newCondition();
 
     // The lock protects what follows.
     private final long core;
     private final StoredJournal journal;
     private final Members<T> members = new Members<>();
+    private final Waiters waiters;
     private int idle;
-    private int waiters;
-    /** How many threads were signalled and have not looked yet, or fewer: a thread that was not signalled may have been counted as one that was. */
-    private int signalled;
     private boolean isClosed;
     /** The time of the last step, in milliseconds since the start. */
     private long latest;
@@ -57,6 +53,7 @@ final class Sections<T> {
         }
         core = opened;
         this.journal = new StoredJournal(core, journal, settings.text());
+        waiters = new Waiters(lock, settings.isFair ? 0 : Waiters.DEFAULT_OVERTAKES);
         CLEANER.register(this, () -> Core.drop(opened));
     }
 
@@ -77,7 +74,9 @@ final class Sections<T> {
         return (nanoTime - start) / 1_000_000;
     }
 
-    /** Returns a reading of {@link System#nanoTime} as the time of the next step. The clock is read without the lock, so another step may be later. */
+    /**
+     * Returns a reading of {@link System#nanoTime} as the time of the next step. The clock is read without the lock, so another step may be later.
+     */
     private long timeOf(long nanoTime) {
         latest = Math.max(latest, millis(nanoTime));
         return latest;
@@ -271,34 +270,53 @@ final class Sections<T> {
 
     /** Wakes a thread that waits, if there is something to find that no other thread is on its way to. */
     private void wakeOne() {
-        if (waiters > signalled && signalled < available()) {
-            signalled++;
-            changed.signal();
+        if (!waiters.isEmpty()) {
+            waiters.wakeOne(available());
         }
     }
 
-    /** Waits until there may be something to find or the time is over, and returns whether the core is to be asked again. */
-    private boolean await(long first, long began, long longestNanos) throws InterruptedException {
-        boolean hasOwnLimit = longestNanos >= 0;
+    /** Returns whether a borrow has to leave what there is to older waiters. It does not wait yet if its waiter is null. */
+    private boolean isBehind(Waiters.Waiter waiter) {
+        if (waiters.isEmpty() || isClosed) {
+            return false;
+        }
+        long available = available();
+        return available > 0 && waiters.areServedBefore(waiter, available);
+    }
+
+    /**
+     * Sleeps until there may be something to find, or the time is over. A thread that is woken for nothing sleeps on, and makes no entry.
+     *
+     * @throws NoSuchElementException if the borrow has a limit of its own, which is over
+     */
+    private void sleep(Waiters.Waiter waiter, long first, long longestNanos) throws InterruptedException {
         for (;;) {
-            long left = hasOwnLimit ? longestNanos - (System.nanoTime() - first) : left(began);
-            if (hasOwnLimit && left <= 0) {
-                return false;
+            long left = left(first, longestNanos);
+            if (left <= 0 && longestNanos >= 0) {
+                throw refusal(Core.TIMED_OUT);
             }
-            waiters++;
-            try {
-                if (left > ENDLESS) {
-                    changed.await();
-                } else if (left > 0) {
-                    changed.awaitNanos(left);
-                }
-            } finally {
-                waiters--;
-                signalled = Math.max(0, signalled - 1);
+            waiters.sleepOn(waiter);
+            if (isBehind(waiter)) {
+                wakeOne(); // what this thread was woken for is there for an older one
             }
-            if (isClosed || available() > 0 || (!hasOwnLimit && left(began) <= 0)) {
-                return true;
+            if (left > 0) {
+                waiter.sleep(left);
             }
+            boolean isOver = longestNanos < 0 && left(first, longestNanos) <= 0;
+            if (isClosed || isOver || (available() > 0 && !isBehind(waiter))) {
+                return;
+            }
+        }
+    }
+
+    /** A waiter waits no longer. If it was woken and has nothing, another one may have what it was woken for. */
+    private void leave(Waiters.Waiter waiter, boolean hasObject) {
+        if (hasObject) {
+            waiters.noteTaken(waiter, available());
+        }
+        waiters.leave(waiter);
+        if (waiter.isWoken() && !hasObject) {
+            wakeOne();
         }
     }
 
@@ -328,21 +346,48 @@ final class Sections<T> {
      * @throws IllegalStateException if the pool is closed, or its journal is full
      */
     Member<T> borrow(long first, long longestNanos, boolean isBare) throws InterruptedException {
-        Member<T> member = null;
         begin();
         try {
-            member = find(first, longestNanos, isBare);
-            return member;
-        } finally {
-            if (member == null) {
-                wakeOne(); // what this thread was woken for is there for another one
+            asked = first;
+            long reply = isBehind(null) ? Core.WAIT : ask(first, longestNanos, isBare);
+            if (waits(reply, longestNanos)) {
+                return find(first, longestNanos, isBare);
             }
+            Member<T> found = found(reply, first);
+            if (!waiters.isEmpty()) {
+                waiters.noteTaken(null, available());
+            }
+            return found;
+        } finally {
             release();
         }
     }
 
+    /** Returns whether a borrow waits after an answer. One with a limit of its own waits on if the time of the settings is over. */
+    private static boolean waits(long reply, long longestNanos) {
+        int answer = Core.answer(reply);
+        return answer == Core.WAIT || (answer == Core.TIMED_OUT && longestNanos >= 0);
+    }
+
+    /** Waits until there is an object or a place for a borrow, behind those that wait. */
     private Member<T> find(long first, long longestNanos, boolean isBare) throws InterruptedException {
-        long reply = ask(first, longestNanos, isBare);
+        Waiters.Waiter waiter = waiters.join();
+        Member<T> found = null;
+        try {
+            long reply;
+            do {
+                sleep(waiter, first, longestNanos);
+                asked = System.nanoTime();
+                reply = isBehind(waiter) ? Core.TIMED_OUT : ask(first, longestNanos, isBare);
+            } while (waits(reply, longestNanos));
+            found = found(reply, first);
+            return found;
+        } finally {
+            leave(waiter, found != null);
+        }
+    }
+
+    private Member<T> found(long reply, long first) {
         switch (Core.answer(reply)) {
             case Core.LENT:
                 journal.count();
@@ -357,28 +402,18 @@ final class Sections<T> {
         }
     }
 
+    /** Asks the core for an object, and makes room for that in a full journal. */
     private long ask(long first, long longestNanos, boolean isBare) throws InterruptedException {
         long began = millis(first);
-        asked = first;
-        for (;;) {
-            members.reserve(); // each time, since other threads may make objects while this one waits
-            long reply = askOnce(timeOf(asked), began, isBare);
-            while (reply < 0) {
-                makeRoomWithin(reply, Core.BORROW, left(first, longestNanos));
-                asked = System.nanoTime();
-                reply = askOnce(timeOf(asked), began, isBare);
-            }
-            note(reply);
-            int answer = Core.answer(reply);
-            boolean waits = answer == Core.WAIT || (answer == Core.TIMED_OUT && longestNanos >= 0);
-            if (!waits) {
-                return reply;
-            }
-            if (!await(first, began, longestNanos)) {
-                return reply;
-            }
+        members.reserve(); // each time, since other threads may make objects while this one waits
+        long reply = askOnce(timeOf(asked), began, isBare);
+        while (reply < 0) {
+            makeRoomWithin(reply, Core.BORROW, left(first, longestNanos));
             asked = System.nanoTime();
+            reply = askOnce(timeOf(asked), began, isBare);
         }
+        note(reply);
+        return reply;
     }
 
     private long askOnce(long at, long began, boolean isBare) {
@@ -610,8 +645,7 @@ final class Sections<T> {
             }
             long reply = step(Core.CLOSE, 0, 0, 0);
             isClosed = true;
-            signalled = waiters;
-            changed.signalAll();
+            waiters.wakeAll();
             return Core.answer(reply) == Core.COUNT ? Core.value(reply) : 0;
         } finally {
             release();
@@ -697,7 +731,26 @@ final class Sections<T> {
     Usage usage() {
         begin();
         try {
-            return new Usage(borrowed, returned, failedOnBorrow, waitedNanos, longestWaitNanos, waiters);
+            return new Usage(borrowed, returned, failedOnBorrow, waitedNanos, longestWaitNanos, waiters.size());
+        } finally {
+            release();
+        }
+    }
+
+    /** Returns how often a thread that waits may be overtaken. */
+    int maxOvertakes() {
+        begin();
+        try {
+            return waiters.maxOvertakes();
+        } finally {
+            release();
+        }
+    }
+
+    void setMaxOvertakes(int times) {
+        begin();
+        try {
+            waiters.setMaxOvertakes(times);
         } finally {
             release();
         }

@@ -115,7 +115,7 @@ public class ZuphinkaPool<T> implements ObjectPool<T>, UsageTracking<T> {
      * @param abandoned when objects are abandoned; null: never
      * @param journal what becomes of the journal; not null. A stored one is for one pool
      * @throws IllegalArgumentException if the factory is null, the limit of the journal is out of its range, or the configuration asks for what the
-     *     pool does not have: {@code fairness}, or an {@code evictionPolicy} other than the default one
+     *     pool does not have: an {@code evictionPolicy} other than the default one
      * @throws OutOfMemoryError if there is no memory for the pool
      * @throws LinkageError if the native library is not found or cannot be loaded
      */
@@ -153,7 +153,8 @@ public class ZuphinkaPool<T> implements ObjectPool<T>, UsageTracking<T> {
     /**
      * Lends an object: an idle one, or a new one if there is a free place. Otherwise it waits, as long as the configuration says. Idle objects that
      * fail their activation or their test are destroyed, and the next one is tried. If the configuration says so, it first takes abandoned objects
-     * from their holders.
+     * from their holders. Once the thread that has waited longest was overtaken as often as {@link #setMaxOvertakes} allows, it queues behind that
+     * one, and makes no entry meanwhile.
      *
      * @return an object that no other caller has, until it is returned, invalidated or abandoned
      * @throws NoSuchElementException if no object and no place is free, and the configuration says not to wait or the time is over; or if a new
@@ -189,6 +190,44 @@ public class ZuphinkaPool<T> implements ObjectPool<T>, UsageTracking<T> {
      */
     public T borrowObject(long longestMillis) throws Exception {
         return borrowObject(Duration.ofMillis(longestMillis));
+    }
+
+    /**
+     * Sets how often a waiting borrow is overtaken at most: 16 by default, and 0 if the configuration has {@code fairness}. With 0 the pool is
+     * fair. {@code GenericObjectPool} has no limit unless {@code fairness} is set.
+     *
+     * <p>A later borrow overtakes the oldest waiter if it takes an object or a place, and leaves too few for those who wait. Once the oldest was
+     * overtaken so often, or was woken and found nothing, later borrows queue behind it until it has its object or leaves. A borrow that does not
+     * wait then fails as if nothing were there.
+     *
+     * <p>Overtaking costs no sleep, so a high number lends more objects per second where many wait. A low one makes the longest wait shorter.
+     *
+     * @param times a number from 0
+     * @throws IllegalArgumentException if it is negative
+     */
+    public void setMaxOvertakes(int times) {
+        if (times < 0) {
+            throw new IllegalArgumentException("maxOvertakes: " + times + " is negative");
+        }
+        sections.setMaxOvertakes(times);
+    }
+
+    /**
+     * Returns how often a waiting borrow is overtaken at most.
+     *
+     * @return a number from 0
+     */
+    public int getMaxOvertakes() {
+        return sections.maxOvertakes();
+    }
+
+    /**
+     * Returns whether the pool is fair: no borrow overtakes one that waits.
+     *
+     * @return whether {@link #getMaxOvertakes} is 0
+     */
+    public boolean getFairness() {
+        return getMaxOvertakes() == 0;
     }
 
     private T borrow(long longestNanos) throws Exception {
