@@ -377,6 +377,22 @@ public final class Calls extends Expectations {
         write(pool);
     }
 
+    /** A use is noted only if the configuration tracks usage. */
+    private static void uses() throws Exception {
+        AbandonedConfig tracking = new AbandonedConfig();
+        tracking.setUseUsageTracking(true);
+        for (AbandonedConfig abandoned : Arrays.asList(null, new AbandonedConfig(), tracking)) {
+            Noting pool = new Noting(new Texts(), config(), abandoned);
+            String lent = pool.borrowObject();
+            long before = pool.getCounts().steps();
+            pool.use(lent);
+            pool.use(new String("another"));
+            expect("steps of a use", abandoned == tracking ? 1L : 0L, pool.getCounts().steps() - before);
+            pool.close();
+            write(pool);
+        }
+    }
+
     /** Makes plain objects. No method sees their wrappers once they are made. */
     static class Plain extends BasePooledObjectFactory<Object> {
         @Override
@@ -816,6 +832,7 @@ public final class Calls extends Expectations {
         failures();
         upkeep();
         abandonment();
+        uses();
         wrappers();
         trackedUse();
         refusals();

@@ -147,6 +147,7 @@ public final class Refusals extends Expectations {
             AbandonedConfig abandoned = new AbandonedConfig();
             abandoned.setRemoveAbandonedOnMaintenance(kind.isTested);
             abandoned.setRemoveAbandonedTimeout(Duration.ofDays(1));
+            abandoned.setUseUsageTracking(true);
             return new ZuphinkaPool<>(new Things(), config, abandoned, journal());
         }
 

@@ -201,6 +201,7 @@ public final class Stress {
         abandoned.setRemoveAbandonedOnBorrow(true);
         abandoned.setRemoveAbandonedOnMaintenance(true);
         abandoned.setRemoveAbandonedTimeout(Duration.ofMillis(30));
+        abandoned.setUseUsageTracking(true);
         return abandoned;
     }
 

@@ -19,6 +19,7 @@ final class CoreSettings {
     final boolean isAbandonedRemoved;
     final boolean reclaimsOnBorrow;
     final boolean reclaimsOnMaintenance;
+    final boolean isUsageTracked;
     final boolean isFair;
     final int maxTotal;
     final long maxWaitMillis;
@@ -41,6 +42,7 @@ final class CoreSettings {
         isAbandonedRemoved = abandoned != null;
         reclaimsOnBorrow = isAbandonedRemoved && abandoned.getRemoveAbandonedOnBorrow();
         reclaimsOnMaintenance = isAbandonedRemoved && abandoned.getRemoveAbandonedOnMaintenance();
+        isUsageTracked = isAbandonedRemoved && abandoned.getUseUsageTracking();
         isFair = config.getFairness();
         maxTotal = config.getMaxTotal();
         maxWaitMillis = millis(config.getMaxWaitDuration(), -1);

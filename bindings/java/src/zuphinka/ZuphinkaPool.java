@@ -521,22 +521,21 @@ public class ZuphinkaPool<T> implements ObjectPool<T>, UsageTracking<T> {
     }
 
     /**
-     * Notes that its holder uses a lent object now: the time until it is abandoned begins again. If the configuration tracks usage, it records the
-     * stack of the call. It has no effect on an object that is not of this pool.
+     * Notes that its holder uses a lent object now, if the configuration tracks usage: the time until it is abandoned begins again, and its wrapper
+     * records the stack of the call. Otherwise it has no effect, nor on an object that is not of this pool.
      *
      * @param object a lent object
      */
     @Override
     public void use(T object) {
-        Member<T> member = objects.find(object);
+        Member<T> member = settings.isUsageTracked ? objects.find(object) : null;
         if (member == null) {
             return;
         }
-        if (abandoned != null && abandoned.getUseUsageTracking()) {
-            member.pooled.use();
-        }
-        member.used = Instant.now();
+        Instant now = Instant.now();
+        member.pooled.use();
         sections.ask(Core.USE, member);
+        member.used = now;
         storeSegment();
     }
 
@@ -729,10 +728,10 @@ public class ZuphinkaPool<T> implements ObjectPool<T>, UsageTracking<T> {
             if (member.pooled.getObject() instanceof TrackedUse && member.pooled.getState() == PooledObjectState.ALLOCATED) {
                 Instant used = ((TrackedUse) member.pooled.getObject()).getLastUsedInstant();
                 if (used.isAfter(member.pooled.getLastBorrowInstant()) && (member.used == null || used.isAfter(member.used))) {
-                    member.used = used;
                     Instant now = Instant.now();
                     long ago = used.isBefore(now) ? Duration.between(used, now).toNanos() : 0;
                     sections.noteUse(member, ago, first, longestNanos);
+                    member.used = used;
                     isNoted = true;
                 }
             }
