@@ -31,6 +31,7 @@ import org.apache.commons.pool2.impl.DefaultPooledObjectInfo;
 import org.apache.commons.pool2.impl.GenericObjectPool;
 import org.apache.commons.pool2.impl.GenericObjectPoolConfig;
 import org.apache.commons.pool2.impl.GenericObjectPoolMXBean;
+import zuphinka.Finding;
 import zuphinka.Journal;
 import zuphinka.Segment;
 import zuphinka.ZuphinkaPool;
@@ -833,6 +834,7 @@ public final class Calls extends Expectations {
         upkeep();
         abandonment();
         uses();
+        expect("objects by slot and id", List.of(), within(begun(Finding::faults)));
         wrappers();
         trackedUse();
         refusals();

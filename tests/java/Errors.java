@@ -3,8 +3,6 @@ import java.io.StringWriter;
 import java.time.Duration;
 import java.util.ArrayList;
 import java.util.List;
-import java.util.concurrent.FutureTask;
-import java.util.concurrent.TimeUnit;
 import org.apache.commons.pool2.BasePooledObjectFactory;
 import org.apache.commons.pool2.DestroyMode;
 import org.apache.commons.pool2.PooledObject;
@@ -16,8 +14,6 @@ import zuphinka.ZuphinkaPool;
 
 /** Errors of the virtual machine, and of code that a pool calls: none keeps the pool's lock, or the place of an object. */
 public final class Errors extends Expectations {
-    /** A call that takes longer hangs. */
-    private static final long LONGEST_SECONDS = 20;
     private static final int POOLS = 40;
     private static final long SMALL_STACK = 300_000;
     /** In how many frames above a full stack the pool is called. */
@@ -46,15 +42,11 @@ public final class Errors extends Expectations {
     }
 
     /** Borrows and returns in another thread, and returns the counts after it. */
-    private static String afterLoan(ZuphinkaPool<Object> pool) throws Exception {
-        FutureTask<String> loan = new FutureTask<>(() -> {
+    private static Object afterLoan(ZuphinkaPool<Object> pool) {
+        return within(begun(() -> {
             pool.returnObject(pool.borrowObject());
             return counts(pool);
-        });
-        Thread thread = new Thread(loan);
-        thread.setDaemon(true);
-        thread.start();
-        return loan.get(LONGEST_SECONDS, TimeUnit.SECONDS);
+        }));
     }
 
     /** Calls a pool while little of the stack is left: first nothing, then more in each frame. */

@@ -3,11 +3,13 @@ import java.util.Collections;
 import java.util.List;
 import java.util.Objects;
 import java.util.concurrent.Callable;
+import java.util.concurrent.FutureTask;
+import java.util.concurrent.TimeUnit;
 import zuphinka.ZuphinkaPool;
 
 /** What a test program expects: it counts what was found, and prints what was not. */
 abstract class Expectations {
-    /** A thread that was woken and has nothing after this time was not woken. */
+    /** A call that takes longer hangs, and a thread that was woken and has nothing then was not woken. */
     private static final long LONGEST_MILLIS = 20_000;
 
     private static int passed;
@@ -40,6 +42,20 @@ abstract class Expectations {
             String cause = e.getCause() == null ? "" : " from " + e.getCause().getMessage();
             return e.getClass().getSimpleName() + ": " + e.getMessage() + cause;
         }
+    }
+
+    /** Makes a call in another thread. */
+    static FutureTask<Object> begun(Callable<?> call) {
+        FutureTask<Object> task = new FutureTask<>(() -> result(call));
+        Thread thread = new Thread(task);
+        thread.setDaemon(true);
+        thread.start();
+        return task;
+    }
+
+    /** Returns what such a call returned, as {@link #result}. One that does not end is an exception. */
+    static Object within(FutureTask<Object> task) {
+        return result(() -> task.get(LONGEST_MILLIS, TimeUnit.MILLISECONDS));
     }
 
     static Object ending(Act act) {

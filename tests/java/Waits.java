@@ -4,10 +4,8 @@ import java.time.Duration;
 import java.util.ArrayList;
 import java.util.Collections;
 import java.util.List;
-import java.util.concurrent.Callable;
 import java.util.concurrent.CountDownLatch;
 import java.util.concurrent.FutureTask;
-import java.util.concurrent.TimeUnit;
 import java.util.concurrent.atomic.AtomicBoolean;
 import java.util.concurrent.atomic.AtomicInteger;
 import org.apache.commons.pool2.BasePooledObjectFactory;
@@ -23,8 +21,6 @@ import zuphinka.ZuphinkaPool;
 
 /** Threads that wait for an object: which one is woken, and in what order they are served. */
 public final class Waits extends Expectations {
-    /** A call that takes longer hangs. */
-    private static final long LONGEST_SECONDS = 20;
     /** How often a thread waits beside one that borrows again at once. */
     private static final int ROUNDS = 50;
 
@@ -80,19 +76,6 @@ public final class Waits extends Expectations {
                 throw new IOException(e);
             }
         }
-    }
-
-    /** Makes a call in another thread. */
-    private static FutureTask<Object> begun(Callable<?> call) {
-        FutureTask<Object> task = new FutureTask<>(() -> result(call));
-        Thread thread = new Thread(task);
-        thread.setDaemon(true);
-        thread.start();
-        return task;
-    }
-
-    private static Object within(FutureTask<Object> task) {
-        return result(() -> task.get(LONGEST_SECONDS, TimeUnit.SECONDS));
     }
 
     private static Object loans(ZuphinkaPool<Object> pool, int number) {
