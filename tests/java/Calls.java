@@ -13,6 +13,7 @@ import java.util.List;
 import java.util.NoSuchElementException;
 import java.util.Set;
 import java.util.concurrent.Callable;
+import java.util.concurrent.CountDownLatch;
 import java.util.concurrent.atomic.AtomicInteger;
 import java.util.stream.Collectors;
 import java.util.stream.Stream;
@@ -353,6 +354,43 @@ public final class Calls extends Expectations {
         expect("the threads end with their pools", true, isOver);
     }
 
+    /** A pool whose constructor takes longer than the first pauses of its maintenance thread. */
+    private static final class Slow extends ZuphinkaPool<String> {
+        private static final AtomicInteger EARLY = new AtomicInteger();
+        private final CountDownLatch noted = new CountDownLatch(1);
+        private volatile boolean isComplete;
+
+        Slow(Texts texts, GenericObjectPoolConfig<String> config) throws InterruptedException {
+            super(texts, config);
+            Thread.sleep(200);
+            isComplete = true;
+        }
+
+        @Override
+        protected void swallowed(Exception failure) {
+            if (!isComplete) {
+                EARLY.incrementAndGet();
+            }
+            noted.countDown();
+        }
+    }
+
+    /** What receives failures runs only once the constructor of its class has ended. */
+    private static void construction() throws Exception {
+        GenericObjectPoolConfig<String> config = config();
+        config.setMinIdle(1);
+        config.setTimeBetweenEvictionRuns(Duration.ofMillis(1));
+        Texts texts = new Texts();
+        texts.makes = new IOException("make");
+        Slow pool = new Slow(texts, config);
+        expect("a failure of the maintenance thread", "done", within(begun(() -> {
+            pool.noted.await();
+            return "done";
+        })));
+        expect("before the constructor ended", 0, Slow.EARLY.get());
+        pool.close();
+    }
+
     private static void abandonment() throws Exception {
         GenericObjectPoolConfig<String> config = config();
         config.setMaxTotal(1);
@@ -392,6 +430,30 @@ public final class Calls extends Expectations {
             pool.close();
             write(pool);
         }
+    }
+
+    /** A time that is no whole number of milliseconds counts as the next one. */
+    private static void shortTimes() {
+        Duration half = Duration.ofNanos(500_000);
+        GenericObjectPoolConfig<String> config = config();
+        config.setMinEvictableIdleTime(half);
+        config.setSoftMinEvictableIdleTime(Duration.ofNanos(1_000_001));
+        config.setMaxWait(half);
+        AbandonedConfig abandoned = new AbandonedConfig();
+        abandoned.setRemoveAbandonedTimeout(half);
+        Noting pool = new Noting(new Texts(), config, abandoned);
+        List<String> times = pool.getSettingsText().lines().filter(line -> line.contains("Millis")).collect(Collectors.toList());
+        expect("short times", List.of("maxWaitMillis = 1", "minEvictableIdleMillis = 1", "softMinEvictableIdleMillis = 2",
+                "removeAbandonedTimeoutMillis = 1"), times);
+        pool.close();
+        config.setMinEvictableIdleTime(Duration.ZERO);
+        config.setSoftMinEvictableIdleTime(Duration.ofMillis(-1));
+        config.setMaxWait(Duration.ofSeconds(Long.MAX_VALUE, 999_999_999));
+        Noting other = new Noting(new Texts(), config, null);
+        times = other.getSettingsText().lines().filter(line -> line.contains("Millis")).collect(Collectors.toList());
+        expect("none, never and for ever", List.of("maxWaitMillis = 9007199254740992", "minEvictableIdleMillis = 0",
+                "softMinEvictableIdleMillis = -1"), times);
+        other.close();
     }
 
     /** Makes plain objects. No method sees their wrappers once they are made. */
@@ -832,8 +894,10 @@ public final class Calls extends Expectations {
         times();
         failures();
         upkeep();
+        construction();
         abandonment();
         uses();
+        shortTimes();
         expect("objects by slot and id", List.of(), within(begun(Finding::faults)));
         wrappers();
         trackedUse();

@@ -85,12 +85,12 @@ final class CoreSettings {
         return name + " = " + value + "\n";
     }
 
-    /** Returns a time in milliseconds, {@code negative} for a negative one. */
+    /** Returns a time in milliseconds, rounded up, since 0 may stand for no time or for no limit; {@code negative} for a negative one. */
     private static long millis(Duration time, long negative) {
         if (time.isNegative()) {
             return negative;
         }
-        return time.getSeconds() >= MOST_MILLIS / 1000 ? MOST_MILLIS : time.toMillis();
+        return time.getSeconds() >= MOST_MILLIS / 1000 ? MOST_MILLIS : time.plusNanos(999_999).toMillis();
     }
 
     /** Returns the settings as a TOML document, as {@code pool check} reads it. */

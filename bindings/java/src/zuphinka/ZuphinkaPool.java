@@ -62,6 +62,7 @@ public class ZuphinkaPool<T> implements ObjectPool<T>, UsageTracking<T> {
     /** Whether no method of the factory sees a wrapper after the object's first loan. */
     private final boolean isWrapperUnseen;
     private final Duration evictorShutdown;
+    private final Construction construction = new Construction(this, ZuphinkaPool.class);
     private final Maintenance maintenance;
     private final ObjectName beanName;
 
@@ -1004,7 +1005,8 @@ public class ZuphinkaPool<T> implements ObjectPool<T>, UsageTracking<T> {
     /**
      * Receives each failure that no call throws: those of destructions, passivations and tests of returned or idle objects, of the maintenance
      * thread, and of a sink. It does nothing. Override it to log them. It runs without the pool's lock, in the thread whose call failed, and so in
-     * several threads at once. What it throws is ignored, since the call that failed has to be completed.
+     * several threads at once. It is not called before the constructor of a subclass has ended, except by calls in that. What it throws is ignored,
+     * since the call that failed has to be completed.
      *
      * @param failure what the factory or the sink threw; an {@link Error} as the cause of an {@link IllegalStateException}
      */
@@ -1013,6 +1015,7 @@ public class ZuphinkaPool<T> implements ObjectPool<T>, UsageTracking<T> {
     /** Passes a failure to {@link #swallowed}. */
     final void swallow(Throwable failure) {
         try {
+            construction.await();
             swallowed(failure instanceof Exception ? (Exception) failure : new IllegalStateException(failure));
         } catch (Throwable e) {
             // No object may lose its place by that.
