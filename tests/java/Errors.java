@@ -1,3 +1,4 @@
+import java.io.IOException;
 import java.io.PrintWriter;
 import java.io.StringWriter;
 import java.time.Duration;
@@ -140,6 +141,46 @@ public final class Errors extends Expectations {
                 expect("after the close", "0 idle, 0 active, 1 created, 1 destroyed", counts(pool));
             }
         }
+    }
+
+    /** A pool that borrows from itself when it receives a failure. */
+    private static final class Borrowing extends ZuphinkaPool<Object> {
+        int reports;
+        int depth;
+        int deepest;
+
+        Borrowing(Journal journal) {
+            super(new Plain(), config(1_000), null, journal);
+        }
+
+        @Override
+        protected void swallowed(Exception failure) {
+            reports++;
+            depth++;
+            deepest = Math.max(deepest, depth);
+            ending(() -> {
+                for (int loan = 0; loan < 5; loan++) {
+                    returnObject(borrowObject());
+                }
+            });
+            depth--;
+        }
+    }
+
+    /** What receives failures may call the pool: it gets no report within a report. */
+    private static void reports() throws Exception {
+        Borrowing pool = new Borrowing(Journal.storedBy(segment -> {
+            throw new IOException("sink");
+        }).limit(100));
+        Object ending;
+        do {
+            ending = ending(() -> pool.returnObject(pool.borrowObject()));
+        } while (ending.equals("done"));
+        expect("the journal is full", "IllegalStateException: Journal full from sink", ending);
+        pool.flushJournal();
+        expect("reports", true, pool.reports > 1);
+        expect("a report within a report", 1, pool.deepest);
+        pool.close();
     }
 
     /** A factory with hooks. Destructions and wrappers fail where it is told to. */
@@ -325,6 +366,7 @@ public final class Errors extends Expectations {
     public static void main(String[] words) throws Exception {
         fullStacks();
         sinks();
+        reports();
         for (Throwable error : List.of(new OutOfMemoryError("a call"), new IllegalArgumentException("a call"))) {
             loans(error, false);
             loans(error, true);

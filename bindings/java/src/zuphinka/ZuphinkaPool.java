@@ -7,6 +7,7 @@ import java.util.ArrayList;
 import java.util.List;
 import java.util.NoSuchElementException;
 import java.util.Set;
+import java.util.concurrent.ConcurrentHashMap;
 import java.util.concurrent.TimeUnit;
 import java.util.stream.Collectors;
 import javax.management.ObjectName;
@@ -63,6 +64,8 @@ public class ZuphinkaPool<T> implements ObjectPool<T>, UsageTracking<T> {
     private final boolean isWrapperUnseen;
     private final Duration evictorShutdown;
     private final Construction construction = new Construction(this, ZuphinkaPool.class);
+    /** The threads that are in {@link #swallowed}. */
+    private final Set<Thread> reporting = ConcurrentHashMap.newKeySet();
     private final Maintenance maintenance;
     private final ObjectName beanName;
 
@@ -1005,20 +1008,30 @@ public class ZuphinkaPool<T> implements ObjectPool<T>, UsageTracking<T> {
     /**
      * Receives each failure that no call throws: those of destructions, passivations and tests of returned or idle objects, of the maintenance
      * thread, and of a sink. It does nothing. Override it to log them. It runs without the pool's lock, in the thread whose call failed, and so in
-     * several threads at once. It is not called before the constructor of a subclass has ended, except by calls in that. What it throws is ignored,
-     * since the call that failed has to be completed.
+     * several threads at once. It may call the pool: in a thread that is in it, it is not called again. Nor is it before the constructor of a
+     * subclass has ended, except by calls in that. What it throws is ignored, since the call that failed has to be completed.
      *
      * @param failure what the factory or the sink threw; an {@link Error} as the cause of an {@link IllegalStateException}
      */
     protected void swallowed(Exception failure) {}
 
-    /** Passes a failure to {@link #swallowed}. */
+    /** Passes a failure to {@link #swallowed}, unless this thread is in it. */
     final void swallow(Throwable failure) {
         try {
             construction.await();
-            swallowed(failure instanceof Exception ? (Exception) failure : new IllegalStateException(failure));
+            if (reporting.add(Thread.currentThread())) {
+                report(failure);
+            }
         } catch (Throwable e) {
             // No object may lose its place by that.
+        }
+    }
+
+    private void report(Throwable failure) {
+        try {
+            swallowed(failure instanceof Exception ? (Exception) failure : new IllegalStateException(failure));
+        } finally {
+            reporting.remove(Thread.currentThread());
         }
     }
 }
