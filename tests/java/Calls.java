@@ -734,6 +734,69 @@ public final class Calls extends Expectations {
         expect("unregistered", false, server.isRegistered(name));
     }
 
+    /** A closed pool says so, also if its journal has no room and borrows reclaim. */
+    private static void closedAndFull() {
+        AbandonedConfig abandoned = new AbandonedConfig();
+        abandoned.setRemoveAbandonedOnBorrow(true);
+        for (AbandonedConfig some : Arrays.asList(null, abandoned)) {
+            ZuphinkaPool<String> pool = new ZuphinkaPool<>(new Texts(), config(), some, Journal.kept().limit(101));
+            Object ending;
+            do {
+                ending = ending(() -> pool.returnObject(pool.borrowObject()));
+            } while (ending.equals("done"));
+            expect("a full journal", "IllegalStateException: Journal full", ending);
+            pool.close();
+            while (ending(pool::clear).equals("done")) {
+                // One more entry, since no object is idle.
+            }
+            expect("a clear without room", "IllegalStateException: Journal full", ending(pool::clear));
+            String closed = "IllegalStateException: Pool not open";
+            expect("a borrow from a closed pool", closed, result(pool::borrowObject));
+            expect("an add to a closed pool", closed, ending(pool::addObject));
+            expect("a maintenance of a closed pool", closed, ending(pool::maintain));
+            expect("a fill of a closed pool", "done", ending(pool::preparePool));
+        }
+    }
+
+    /** Borrows objects until there is none, and returns how many, or what the constructor threw. */
+    private static Object lentBy(Journal journal, AbandonedConfig abandoned) {
+        GenericObjectPoolConfig<String> config = config();
+        config.setBlockWhenExhausted(false);
+        return result(() -> {
+            ZuphinkaPool<String> pool = new ZuphinkaPool<>(new Texts(), config, abandoned, journal);
+            int lent = 0;
+            while (!result(pool::borrowObject).toString().contains("Exception")) {
+                lent++;
+            }
+            return lent;
+        });
+    }
+
+    /** A journal whose limit is reached before all objects are lent is refused. */
+    private static void smallJournals() {
+        AbandonedConfig abandoned = new AbandonedConfig();
+        abandoned.setRemoveAbandonedOnBorrow(true);
+        expect("a kept one", 8, lentBy(Journal.kept().limit(49), null));
+        expect("a stored one", 8, lentBy(Journal.storedBy(segment -> {}).limit(35), null));
+        expect("a dropped one", 8, lentBy(Journal.dropped().limit(35), null));
+        expect("one whose borrows reclaim", 8, lentBy(Journal.kept().limit(57), abandoned));
+        String small = "IllegalArgumentException: journal limit: %d is reached before all objects are lent (maxTotal 8)";
+        expect("too small a kept one", String.format(small, 48), lentBy(Journal.kept().limit(48), null));
+        expect("too small a stored one", String.format(small, 34), lentBy(Journal.storedBy(segment -> {}).limit(34), null));
+        expect("too small a dropped one", String.format(small, 34), lentBy(Journal.dropped().limit(34), null));
+        expect("too small a one whose borrows reclaim", String.format(small, 56), lentBy(Journal.kept().limit(56), abandoned));
+        expect("the smallest", String.format(small, 1), lentBy(Journal.kept().limit(1), null));
+        GenericObjectPoolConfig<String> many = config();
+        many.setMaxTotal(Integer.MAX_VALUE);
+        expect("any number of objects, without a journal", "done", ending(() -> new ZuphinkaPool<>(new Texts(), many).close()));
+        many.setMaxTotal(-1);
+        expect("any number of objects", "done", ending(() -> new ZuphinkaPool<>(new Texts(), many, null, Journal.kept().limit(7)).close()));
+        expect("no room for one", "IllegalArgumentException: journal limit: 6 is reached before all objects are lent (maxTotal -1)",
+                ending(() -> new ZuphinkaPool<>(new Texts(), many, null, Journal.kept().limit(6)).close()));
+        many.setMaxTotal(0);
+        expect("no objects", "done", ending(() -> new ZuphinkaPool<>(new Texts(), many, null, Journal.kept().limit(1)).close()));
+    }
+
     /** Returns the attributes of Commons Pool's MBean that are not among these, in order. */
     private static List<String> missingOf(MBeanAttributeInfo[] attributes) {
         List<String> names = Arrays.stream(attributes).map(MBeanAttributeInfo::getName).collect(Collectors.toList());
@@ -902,6 +965,8 @@ public final class Calls extends Expectations {
         wrappers();
         trackedUse();
         refusals();
+        closedAndFull();
+        smallJournals();
         bean();
         throwingSink();
         journals(folder);

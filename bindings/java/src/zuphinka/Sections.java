@@ -3,7 +3,6 @@ package zuphinka;
 import java.io.IOException;
 import java.lang.ref.Cleaner;
 import java.lang.ref.Reference;
-import java.nio.charset.StandardCharsets;
 import java.util.NoSuchElementException;
 import java.util.concurrent.TimeUnit;
 import java.util.concurrent.locks.ReentrantLock;
@@ -44,13 +43,8 @@ final class Sections<T> {
 
     Sections(CoreSettings settings, Journal journal) {
         this.settings = settings;
-        long opened = Core.open(settings.text().getBytes(StandardCharsets.UTF_8));
-        if (opened == Core.OUT_OF_MEMORY) {
-            throw new OutOfMemoryError("zuphinka: no memory for a pool");
-        }
-        if (opened <= 0) {
-            throw new IllegalArgumentException("zuphinka: the core rejects the settings, with status " + -opened + ":\n" + settings.text());
-        }
+        JournalRoom.require(settings, journal);
+        long opened = JournalRoom.open(settings.text());
         core = opened;
         this.journal = new StoredJournal(core, journal, settings.text());
         waiters = new Waiters(lock, settings.isFair ? 0 : Waiters.DEFAULT_OVERTAKES);
@@ -581,10 +575,13 @@ final class Sections<T> {
         }
     }
 
-    /** Asks for a place for a new object. Returns the object; null if there is none or there are enough, or for a fill of a closed pool. */
+    /** Asks for a place for a new object. Returns the object; null if there is none or there are enough. A fill of a closed pool does nothing. */
     Member<T> place(int input) {
         begin();
         try {
+            if (isClosed && input == Core.FILL) {
+                return null;
+            }
             members.reserve();
             long reply = step(input, 0, 0, 0);
             switch (Core.answer(reply)) {
@@ -594,9 +591,6 @@ final class Sections<T> {
                 case Core.ENOUGH:
                     return null;
                 default:
-                    if (input == Core.FILL) {
-                        return null;
-                    }
                     throw refusal(reply);
             }
         } finally {

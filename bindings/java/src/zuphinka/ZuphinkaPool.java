@@ -118,8 +118,8 @@ public class ZuphinkaPool<T> implements ObjectPool<T>, UsageTracking<T> {
      * @param config the settings; not null
      * @param abandoned when objects are abandoned; null: never
      * @param journal what becomes of the journal; not null. A stored one is for one pool
-     * @throws IllegalArgumentException if the factory is null, the limit of the journal is out of its range, or the configuration asks for what the
-     *     pool does not have: an {@code evictionPolicy} other than the default one
+     * @throws IllegalArgumentException if the factory is null, the limit of the journal is out of its range, or is reached before {@code maxTotal}
+     *     objects are lent; or if the configuration asks for what the pool does not have: an {@code evictionPolicy} other than the default one
      * @throws OutOfMemoryError if there is no memory for the pool
      * @throws LinkageError if the native library is not found or cannot be loaded
      */
