@@ -150,7 +150,7 @@ public final class Errors extends Expectations {
         int deepest;
 
         Borrowing(Journal journal) {
-            super(new Plain(), config(1_000), null, journal);
+            super(new Plain(), config(8), null, journal);
         }
 
         @Override
