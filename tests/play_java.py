@@ -4,13 +4,14 @@
     play_java.py LIBRARY POOL JOURNAL_PICTURE
 
 LIBRARY is libzuphinka.a, and the other two are programs. tests/java/Calls.java makes each call of a pool, with what the factory throws.
-tests/java/Stress.java makes random calls in eight threads over a factory that fails at random. tests/java/Refusals.java refuses the native library
-each of its allocations in turn. tests/java/Folders.java has pools that want one folder, and folders that are removed; tests/java/Loaders.java has
-pools in two class loaders, where temporary folders are unfit. The journals that they write must be legal. A stored file must be synced before it
-has its name, and its folder afterwards. The jar must have the version of all products and load nothing but the C library, and the codes of
-zuphinka.Core must be those of bindings/c/zuphinka.h. Each public and protected item must have documentation in which javac finds nothing wrong. If
-there is no JDK or no Commons Pool 2, all of it is left out. The examples are run by the commands of bindings/java/README.md, that over DBCP2 only
-if DBCP2 and H2 are there; its journal must be drawn.
+tests/java/Errors.java lets everything that a pool calls end in an error, and calls pools on a full stack. tests/java/Waits.java lets threads wait,
+and counts who overtakes. tests/java/Stress.java makes random calls in eight threads over a factory that fails at random. tests/java/Refusals.java
+refuses the native library each of its allocations in turn. tests/java/Folders.java has pools that want one folder, and folders that are removed;
+tests/java/Loaders.java has pools in two class loaders, where temporary folders are unfit. The journals that they write must be legal. A stored file
+must be synced before it has its name, and its folder afterwards. The jar must have the version of all products and load nothing but the C library,
+and the codes of zuphinka.Core must be those of bindings/c/zuphinka.h. Each public and protected item must have documentation in which javac finds
+nothing wrong. If there is no JDK or no Commons Pool 2, all of it is left out. The examples are run by the commands of bindings/java/README.md, that
+over DBCP2 only if DBCP2 and H2 are there; its journal must be drawn.
 
 Prints what fails, and in the end the line 'N passed, M failed'.
 """
@@ -43,6 +44,8 @@ TIME = re.compile(r'^\d+ (\d+) .* = ', flags=re.MULTILINE)
 # A file of a journal that has no name of its own yet. No two pools have the same.
 UNFINISHED = re.compile(r"\.unfinished-[0-9a-f-]{36}")
 SEEDS, MILLIS = range(8), 700
+# Test programs that need nothing but the library.
+PROGRAMS = "Errors", "Waits"
 # The functions by which the native library allocates, which tests/refuse_java.c wraps.
 ALLOCATORS = ("malloc", "calloc", "realloc")
 # The most bytes of a part of a text there.
@@ -244,6 +247,8 @@ def checks(library, pool, picture):
         classes = folder / "classes"
         java.compile_classes(sorted((TOP / "tests/java").rglob("*.java")), classes, jar, java.commons_pool())
         yield from calls(jar, classes, pool, folder)
+        for name in PROGRAMS:
+            yield from program(name.lower(), run(jar, classes, name))
         native = refusing(library, folder)
         yield from refusals(jar, classes, native, pool, folder)
         yield from folders(jar, classes, native, pool, folder)

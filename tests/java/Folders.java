@@ -260,6 +260,24 @@ public final class Folders extends Expectations {
         expect("entries of a make that fails during a close", other.getCounts().steps(), entries(folder.resolve("failed")));
     }
 
+    /** A sink that returns an object of its pool after the close does not wait for itself. */
+    private static void returnedInSink() throws Exception {
+        List<String> lent = new ArrayList<>();
+        List<Noting> pools = new ArrayList<>();
+        Noting pool = new Noting(new Texts(), Journal.storedBy(segment -> {
+            if (!lent.isEmpty()) {
+                pools.get(0).returnObject(lent.remove(0));
+            }
+        }));
+        pools.add(pool);
+        lent.add(pool.borrowObject());
+        expect("a return within a sink", "done", within(begun(() -> {
+            pool.close();
+            return "done";
+        })));
+        expect("its object", 1L, pool.getDestroyedCount());
+    }
+
     /** The names of files have the digits of ASCII, whatever the locale. */
     private static void locale(Path folder) throws Exception {
         Locale before = Locale.getDefault();
@@ -343,6 +361,7 @@ public final class Folders extends Expectations {
         removed(folder.resolve("removed"));
         returnedLate(folder.resolve("late"));
         closedInMake(folder.resolve("closed"));
+        returnedInSink();
         locale(folder.resolve("locale"));
         relative(folder.resolve("relative"));
         printCounts();

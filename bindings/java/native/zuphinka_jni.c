@@ -5,7 +5,9 @@
  * A reply is one number: the answer, the cause << 8, and a value << 16. The value is the token that the core returned, or else the answer's number.
  * A status other than "done" is its negative code.
  */
+#define _GNU_SOURCE
 #include <jni.h>
+#include <pthread.h>
 #include <stdlib.h>
 
 #include "zuphinka.h"
@@ -17,6 +19,9 @@
 
 /* The bytes of a part at first, which are doubled as it grows. */
 enum { SHORT_PART = 65536 };
+
+/* The bytes of stack that a call of the pool needs: HotSpot keeps 96 KiB for itself, and no section takes a quarter of the other 24. */
+enum { NEEDED_STACK = 120 * 1024 };
 
 typedef uint32_t line_printer(struct zuphinka *, uint64_t, char *, size_t, uint64_t *);
 
@@ -53,6 +58,25 @@ JNIEXPORT void JNICALL Java_zuphinka_Core_drop(JNIEnv *env, jclass class, jlong 
   (void)env, (void)class;
   zuphinka_drop(pool_at(handle));
   free(pool_at(handle));
+}
+
+/* Returns the lowest address of the thread's stack; null if the system does not know it. */
+static char *lowest_of_stack(void) {
+  pthread_attr_t attributes;
+  void *lowest = NULL;
+  size_t size = 0;
+  if (pthread_getattr_np(pthread_self(), &attributes) != 0) return NULL;
+  if (pthread_attr_getstack(&attributes, &lowest, &size) != 0) lowest = NULL;
+  pthread_attr_destroy(&attributes);
+  return lowest;
+}
+
+/* Returns whether the thread has enough stack for a call of the pool. */
+JNIEXPORT jboolean JNICALL Java_zuphinka_Core_hasStack(JNIEnv *env, jclass class) {
+  (void)env, (void)class;
+  static _Thread_local char *lowest;
+  if (!lowest) lowest = lowest_of_stack();
+  return (char *)__builtin_frame_address(0) - lowest >= NEEDED_STACK;
 }
 
 /* Takes one step. */

@@ -88,6 +88,9 @@ final class Core {
     /** Frees a core. */
     static native void drop(long core);
 
+    /** Returns whether the thread has enough stack for a call of the pool. The caller needs no lock. */
+    static native boolean hasStack();
+
     /** Takes one step. */
     static native long step(long core, long at, long number, long token, int caller, int input, int outcome);
 
