@@ -4,13 +4,13 @@
     play_java.py LIBRARY POOL JOURNAL_PICTURE
 
 LIBRARY is libzuphinka.a, and the other two are programs. tests/java/Calls.java makes each call of a pool, with what the factory throws.
-tests/java/Errors.java lets everything that a pool calls end in an error, and calls pools on a full stack. tests/java/Waits.java lets threads wait, and counts who overtakes.
-tests/java/Stress.java makes random calls in eight threads over a factory that fails at random. tests/java/Refusals.java refuses the native library
-each of its allocations in turn. The journals that they write must be legal. A stored file must be synced before it has its name, and its folder
-afterwards. The jar must have the version of all products and load nothing but the C library, and the codes of zuphinka.Core must be those of
-bindings/c/zuphinka.h. Each public and protected item must have documentation in which javac finds nothing wrong. If there is no JDK or no Commons
-Pool 2, all of it is left out. The examples are run by the commands of bindings/java/README.md, that over DBCP2 only if DBCP2 and H2 are there; its
-journal must be drawn.
+tests/java/Errors.java lets everything that a pool calls end in an error, and calls pools on a full stack. tests/java/Waits.java lets threads wait,
+and counts who overtakes. tests/java/Stress.java makes random calls in eight threads over a factory that fails at random. tests/java/Refusals.java
+refuses the native library each of its allocations in turn. The journals that they write must be legal. A stored file must be synced before it has
+its name, and its folder afterwards. The jar must have the version of all products and load nothing but the C library, and the codes of zuphinka.Core
+must be those of bindings/c/zuphinka.h. Each public and protected item must have documentation in which javac finds nothing wrong. If there is no JDK
+or no Commons Pool 2, all of it is left out. The examples are run by the commands of bindings/java/README.md, that over DBCP2 only if DBCP2 and H2 are
+there; its journal must be drawn.
 
 Prints what fails, and in the end the line 'N passed, M failed'.
 """
