@@ -442,8 +442,8 @@ public class ZuphinkaPool<T> implements ObjectPool<T>, UsageTracking<T> {
     }
 
     private void discard(Member<T> member, DestroyMode mode) throws Exception {
-        objects.remove(member);
         try {
+            objects.remove(member);
             member.pooled.invalidate();
         } finally {
             factory.destroyObject(member.pooled, mode);
