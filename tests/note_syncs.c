@@ -1,10 +1,10 @@
-/* A library to preload, which notes what a program syncs and renames.
+/* A library to preload, which notes what a program syncs, renames and links.
  *
  *     cc -O1 -shared -fPIC -o note_syncs.so tests/note_syncs.c -ldl
  *     NOTED=FILE LD_PRELOAD=./note_syncs.so PROGRAM ..
  *
- * The FILE gets a line for each call of fsync and rename, before the call: `sync PATH SIZE`, with the size that the file has then, and 0 for a
- * folder; and `rename FROM TO`. Paths have at most 4,095 bytes.
+ * The FILE gets a line for each call of fsync, rename and link, before the call: `sync PATH SIZE`, with the size that the file has then, and 0 for a
+ * folder; `rename FROM TO`; and `link FROM TO`. Paths have at most 4,095 bytes.
  */
 #define _GNU_SOURCE
 #include <dlfcn.h>
@@ -25,9 +25,9 @@ static void note(const char *line, int length) {
 
 int fsync(int file) {
   REAL(int, "fsync", int);
-  char link[64], path[PATH_MAX], line[PATH_MAX + 64];
-  snprintf(link, sizeof link, "/proc/self/fd/%d", file);
-  ssize_t length = readlink(link, path, sizeof path);
+  char name[64], path[PATH_MAX], line[PATH_MAX + 64];
+  snprintf(name, sizeof name, "/proc/self/fd/%d", file);
+  ssize_t length = readlink(name, path, sizeof path);
   struct stat found;
   if (length < 0 || fstat(file, &found) != 0) abort();
   long size = S_ISDIR(found.st_mode) ? 0 : (long)found.st_size;
@@ -39,5 +39,12 @@ int rename(const char *from, const char *to) {
   REAL(int, "rename", const char *, const char *);
   char line[2 * PATH_MAX + 16];
   note(line, snprintf(line, sizeof line, "rename %s %s\n", from, to));
+  return real(from, to);
+}
+
+int link(const char *from, const char *to) {
+  REAL(int, "link", const char *, const char *);
+  char line[2 * PATH_MAX + 16];
+  note(line, snprintf(line, sizeof line, "link %s %s\n", from, to));
   return real(from, to);
 }

@@ -4,12 +4,14 @@
     play_java.py LIBRARY POOL JOURNAL_PICTURE
 
 LIBRARY is libzuphinka.a, and the other two are programs. tests/java/Calls.java makes each call of a pool, with what the factory throws.
-tests/java/Stress.java makes random calls in eight threads over a factory that fails at random. tests/java/Refusals.java refuses the native library
-each of its allocations in turn. The journals that they write must be legal. A stored file must be synced before it has its name, and its folder
-afterwards. The jar must have the version of all products and load nothing but the C library, and the codes of zuphinka.Core must be those of
-bindings/c/zuphinka.h. Each public and protected item must have documentation in which javac finds nothing wrong. If there is no JDK or no Commons
-Pool 2, all of it is left out. The examples are run by the commands of bindings/java/README.md, that over DBCP2 only if DBCP2 and H2 are there; its
-journal must be drawn.
+tests/java/Errors.java lets everything that a pool calls end in an error, and calls pools on a full stack. tests/java/Waits.java lets threads wait,
+and counts who overtakes. tests/java/Stress.java makes random calls in eight threads over a factory that fails at random. tests/java/Refusals.java
+refuses the native library each of its allocations in turn. tests/java/Folders.java has pools that want one folder, and folders that are removed;
+tests/java/Loaders.java has pools in two class loaders, where temporary folders are unfit. The journals that they write must be legal. A stored file
+must be synced before it has its name, and its folder afterwards. The jar must have the version of all products and load nothing but the C library,
+and the codes of zuphinka.Core must be those of bindings/c/zuphinka.h. Each public and protected item must have documentation in which javac finds
+nothing wrong. If there is no JDK or no Commons Pool 2, all of it is left out. The examples are run by the commands of bindings/java/README.md, that
+over DBCP2 only if DBCP2 and H2 are there; its journal must be drawn.
 
 Prints what fails, and in the end the line 'N passed, M failed'.
 """
@@ -39,9 +41,15 @@ COUNT = re.compile(r"^(\d+) passed, (\d+) failed$", flags=re.MULTILINE)
 WARNING = re.compile(r"(?:WARNING|FATAL ERROR) in native method")
 # The time of an entry, in milliseconds.
 TIME = re.compile(r'^\d+ (\d+) .* = ', flags=re.MULTILINE)
+# A file of a journal that has no name of its own yet. No two pools have the same.
+UNFINISHED = re.compile(r"\.unfinished-[0-9a-f-]{36}")
 SEEDS, MILLIS = range(8), 700
+# Test programs that need nothing but the library.
+PROGRAMS = "Errors", "Waits"
 # The functions by which the native library allocates, which tests/refuse_java.c wraps.
 ALLOCATORS = ("malloc", "calloc", "realloc")
+# The most bytes of a part of a text there.
+SHORT_PART = 512
 # What the example over DBCP2 needs, and the packages that have it.
 EXAMPLE_JARS = {"commons-dbcp2": "libcommons-dbcp2-java", "h2": "libh2-java"}
 # A run that takes longer hangs, in seconds.
@@ -88,26 +96,58 @@ def falls(*segments):
 
 
 def found(jar, classes, folder):
-    """What is wanted of runs over classes without the native library, and what came of it: the library is found in each place that the page names."""
+    """What is wanted of runs in two class loaders each, and what came of it: the native library is found in each place that the page names, and its
+    copy in a folder that takes it."""
     with zipfile.ZipFile(jar) as packed:
         packed.extractall(folder / "bare", [name for name in packed.namelist() if name.endswith(".class")])
-    places = [f"-Dzuphinka.library={jar.parent / 'libzuphinka_jni.so'}", f"-Djava.library.path={jar.parent}"]
-    for number, option in enumerate(places):
-        done = run(folder / "bare", classes, "Stress", 1, 50, folder / f"found-{number}", options=[option])
-        yield f"the native library by {option.partition('=')[0]}", 0, done.returncode
-    done = run(folder / "bare", classes, "Stress", 1, 50, folder / "not-found")
-    yield "without the native library", (1, True), (done.returncode, "UnsatisfiedLinkError" in done.stdout)
+    good, other, bad = folder / "good", folder / "home", folder / "bad"
+    library, home = f"-Dzuphinka.library={jar.parent / 'libzuphinka_jni.so'}", [f"-Djava.io.tmpdir={good}", f"-Duser.home={other}"]
+    good.mkdir(), other.mkdir()
+    refuse = {"LD_PRELOAD": str(preloaded("refuse_folders", folder))}
+    places = [
+        ("by its property", folder / "bare", [library], {}),
+        ("by the path of libraries", folder / "bare", [f"-Djava.library.path={jar.parent}"], {}),
+        ("in the jar", jar, home, {}),
+        ("without a temporary folder", jar, [f"-Djava.io.tmpdir={bad}"], {}),
+        ("with a full folder", jar, home, refuse | {"FULL": str(good)}),
+        ("with a folder that runs nothing", jar, home, refuse | {"NOEXEC": str(good)}),
+    ]
+    for name, path, options, variables in places:
+        done = run(path, classes, "Loaders", classes, path, java.commons_pool(), options=options, variables=variables)
+        yield from program(f"the native library {name}", done)
+    nowhere = [f"-D{name}={bad}" for name in ("java.io.tmpdir", "user.home", "user.dir")]
+    for name, path, options in ("without a library", folder / "bare", []), ("without a folder", jar, nowhere):
+        done = run(path, classes, "Stress", 1, 50, folder / "not-found", options=options)
+        told = [words in done.stdout for words in ("UnsatisfiedLinkError", "The property zuphinka.library names its file")]
+        yield name, (1, [True, True]), (done.returncode, told)
+    yield "copies that are left", [], [*good.iterdir(), *other.iterdir()]
 
 
-def refusals(jar, classes, library, pool, folder):
+def refusing(library, folder):
+    """The native library with short parts of texts, and with the native methods of zuphinka.Refusal."""
+    native = folder / "refusing.so"
+    flags = [*(f"-Wl,--wrap={name}" for name in ALLOCATORS), f"-DZUPHINKA_JNI_LONGEST_PART={SHORT_PART}"]
+    java.compile_native(library, heap_of_kit(), native, *flags, TOP / "tests/refuse_java.c")
+    return native
+
+
+def refusals(jar, classes, native, pool, folder):
     """What is wanted of lives in which allocations fail, and what came of it: those of the native library each in turn, and those of a full heap."""
-    native, journals = folder / "refusing.so", folder / "refusals"
-    wrapped = [f"-Wl,--wrap={name}" for name in ALLOCATORS]
-    java.compile_native(library, heap_of_kit(), native, *wrapped, TOP / "tests/refuse_java.c")
+    journals = folder / "refusals"
     yield from program("refusals", run(jar, classes, "Refusals", journals, options=[f"-Dzuphinka.library={native}", java.QUICK]))
     for place in sorted(journals.iterdir()):
         yield f"refusals: {place.name}", *legal(pool, place / "settings.toml", *sorted(place.glob("segment-*")))
     yield from program("a full heap", run(jar, classes, "Refusals", "heap", options=["-Xmx24m", "-XX:+UseSerialGC", java.QUICK]))
+
+
+def folders(jar, classes, native, pool, folder):
+    """What is wanted of journals in folders, and what came of it."""
+    journals = folder / "folders"
+    journals.mkdir()
+    options = [f"-Dzuphinka.library={native}", "-XX:MaxDirectMemorySize=2m", java.QUICK]
+    yield from program("folders", run(jar, classes, "Folders", journals, options=options))
+    for settings in sorted(journals.rglob("settings.toml")):
+        yield f"folders: {settings.parent.name}", *legal(pool, settings, *sorted(settings.parent.glob("segment-*")))
 
 
 def calls(jar, classes, pool, folder):
@@ -123,10 +163,13 @@ def calls(jar, classes, pool, folder):
         journal = above[-1] / "stored"
         wanted += [f"sync {existing} 0" for existing in above]
         segments = sorted(journal.glob("segment-*"))
-        for file in [journal / "settings.toml", *segments]:
-            wanted += [f"sync {file}.part {file.stat().st_size}", f"rename {file}.part {file}", f"sync {journal} 0"]
+        for file, way in (journal / "settings.toml", "link"), *((segment, "rename") for segment in segments):
+            unfinished = journal / ".unfinished"
+            wanted += [f"sync {unfinished} {file.stat().st_size}", f"{way} {unfinished} {file}", f"sync {journal} 0"]
         yield f"calls: {journal.parent.name}/stored", *legal(pool, journal / "settings.toml", *segments)
-    yield "calls: syncs and renames", wanted, [line for line in noted.read_text().splitlines() if str(place) in line]
+    lines = [line for line in noted.read_text().splitlines() if str(place) in line]
+    yield "calls: syncs, links and renames", wanted, [UNFINISHED.sub(".unfinished", line) for line in lines]
+    yield "calls: names of unfinished files", 2, len({name for line in lines for name in UNFINISHED.findall(line)})
 
 
 def portable(jar):
@@ -204,7 +247,11 @@ def checks(library, pool, picture):
         classes = folder / "classes"
         java.compile_classes(sorted((TOP / "tests/java").rglob("*.java")), classes, jar, java.commons_pool())
         yield from calls(jar, classes, pool, folder)
-        yield from refusals(jar, classes, library, pool, folder)
+        for name in PROGRAMS:
+            yield from program(name.lower(), run(jar, classes, name))
+        native = refusing(library, folder)
+        yield from refusals(jar, classes, native, pool, folder)
+        yield from folders(jar, classes, native, pool, folder)
         yield from found(jar, classes, folder)
         yield from documentation(folder / "documented")
         yield from examples(pool, picture, folder)

@@ -6,6 +6,7 @@
  */
 #include <jni.h>
 #include <stdlib.h>
+#include <unistd.h>
 
 void *__real_malloc(size_t size);
 void *__real_calloc(size_t count, size_t size);
@@ -30,4 +31,13 @@ JNIEXPORT void JNICALL Java_zuphinka_Refusal_refuse(JNIEnv *env, jclass class, j
 JNIEXPORT jboolean JNICALL Java_zuphinka_Refusal_isPending(JNIEnv *env, jclass class) {
   (void)env, (void)class;
   return left > 0;
+}
+
+JNIEXPORT jboolean JNICALL Java_zuphinka_Refusal_enter(JNIEnv *env, jclass class, jbyteArray folder) {
+  (void)class;
+  jbyte *path = (*env)->GetByteArrayElements(env, folder, NULL);
+  if (!path) return JNI_FALSE;
+  jboolean is_there = chdir((const char *)path) == 0;
+  (*env)->ReleaseByteArrayElements(env, folder, path, JNI_ABORT);
+  return is_there;
 }

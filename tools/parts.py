@@ -91,6 +91,12 @@ PARTS = (
         ("pool", "zuphinka", "journal_picture"),
     ),
     Part(
+        "java-random",
+        "six threads that call at random over a factory that fails, on the pool for Java; what Commons Pool 2 does there is shown",
+        "python3 tests/play_java_random.py {zuphinka}",
+        ("zuphinka",),
+    ),
+    Part(
         "commons-pool",
         "the tests of Commons Pool 2, unchanged, over the pool for Java",
         "python3 tests/play_commons_pool.py {zuphinka} {pool}",

@@ -9,11 +9,13 @@ import java.time.Duration;
 import java.time.Instant;
 import java.util.ArrayList;
 import java.util.Arrays;
-import java.util.Collections;
 import java.util.List;
 import java.util.NoSuchElementException;
 import java.util.Set;
 import java.util.concurrent.Callable;
+import java.util.concurrent.CompletableFuture;
+import java.util.concurrent.CountDownLatch;
+import java.util.concurrent.TimeUnit;
 import java.util.concurrent.atomic.AtomicInteger;
 import java.util.stream.Collectors;
 import java.util.stream.Stream;
@@ -32,15 +34,13 @@ import org.apache.commons.pool2.impl.DefaultPooledObjectInfo;
 import org.apache.commons.pool2.impl.GenericObjectPool;
 import org.apache.commons.pool2.impl.GenericObjectPoolConfig;
 import org.apache.commons.pool2.impl.GenericObjectPoolMXBean;
+import zuphinka.Finding;
 import zuphinka.Journal;
 import zuphinka.Segment;
 import zuphinka.ZuphinkaPool;
 
 /** Makes each call of a pool, with what the factory throws, and sees what it returns, throws and leaves. Writes journals to a folder. */
 public final class Calls extends Expectations {
-    /** A thread that was woken and has nothing after this time was not woken. */
-    private static final long LONGEST_MILLIS = 20_000;
-
     private Calls() {}
 
     /** A factory of texts, numbered from 0, which fails where it is told to, and notes what it is asked. */
@@ -131,37 +131,10 @@ public final class Calls extends Expectations {
         }
     }
 
-    /** Runs a call, and returns its result, or the name and the message of what it throws. */
-    private static Object result(Callable<?> call) {
-        try {
-            return call.call();
-        } catch (Throwable e) {
-            String cause = e.getCause() == null ? "" : " from " + e.getCause().getMessage();
-            return e.getClass().getSimpleName() + ": " + e.getMessage() + cause;
-        }
-    }
-
-    /** A call without a result. */
-    private interface Act {
-        void run() throws Exception;
-    }
-
-    private static Object ending(Act act) {
-        return result(() -> {
-            act.run();
-            return "done";
-        });
-    }
-
     private static GenericObjectPoolConfig<String> config() {
         GenericObjectPoolConfig<String> config = new GenericObjectPoolConfig<>();
         config.setJmxEnabled(false);
         return config;
-    }
-
-    private static String counts(ZuphinkaPool<?> pool) {
-        return pool.getNumIdle() + " idle, " + pool.getNumActive() + " active, " + pool.getCreatedCount() + " created, "
-                + pool.getDestroyedCount() + " destroyed";
     }
 
     private static void life() throws Exception {
@@ -283,26 +256,6 @@ public final class Calls extends Expectations {
         write(pool);
     }
 
-    /** Acts while threads wait for an object, and returns what they get, as {@link #result}. */
-    private static List<Object> whileWaiting(ZuphinkaPool<String> pool, int number, Callable<?> borrow, Act act) throws Exception {
-        List<Object> got = Collections.synchronizedList(new ArrayList<>());
-        List<Thread> waiters = new ArrayList<>();
-        for (int started = 0; started < number; started++) {
-            Thread waiter = new Thread(() -> got.add(result(borrow)));
-            waiter.setDaemon(true);
-            waiter.start();
-            waiters.add(waiter);
-        }
-        while (pool.getNumWaiters() < number) {
-            Thread.sleep(1);
-        }
-        act.run();
-        for (Thread waiter : waiters) {
-            waiter.join(LONGEST_MILLIS);
-        }
-        return List.copyOf(got);
-    }
-
     private static void failures() throws Exception {
         GenericObjectPoolConfig<String> config = config();
         config.setMaxTotal(2);
@@ -403,6 +356,77 @@ public final class Calls extends Expectations {
         expect("the threads end with their pools", true, isOver);
     }
 
+    /** A close lets a call of the factory end that the maintenance thread makes, and then the thread ends. */
+    private static void closedDuringMaintenance() throws Exception {
+        GenericObjectPoolConfig<String> config = config();
+        config.setMinIdle(1);
+        config.setTimeBetweenEvictionRuns(Duration.ofMillis(1));
+        config.setEvictorShutdownTimeout(Duration.ofMillis(1));
+        CompletableFuture<Thread> begun = new CompletableFuture<>();
+        CountDownLatch closed = new CountDownLatch(1);
+        CompletableFuture<Object> awaited = new CompletableFuture<>();
+        ZuphinkaPool<String> pool = new ZuphinkaPool<>(new BasePooledObjectFactory<>() {
+            @Override
+            public String create() {
+                begun.complete(Thread.currentThread());
+                awaited.complete(result(() -> closed.await(LONGEST_MILLIS, TimeUnit.MILLISECONDS)));
+                return "text";
+            }
+
+            @Override
+            public PooledObject<String> wrap(String text) {
+                return new DefaultPooledObject<>(text);
+            }
+        }, config);
+        Thread thread = begun.get(LONGEST_MILLIS, TimeUnit.MILLISECONDS);
+        pool.close();
+        closed.countDown();
+        expect("a make during a close is not interrupted", true, awaited.get(LONGEST_MILLIS, TimeUnit.MILLISECONDS));
+        thread.join(LONGEST_MILLIS);
+        expect("its thread ends", false, thread.isAlive());
+        expect("what it made is destroyed", "0 idle, 0 active, 1 created, 1 destroyed", counts(pool));
+        config.setEvictorShutdownTimeout(Duration.ofSeconds(Long.MAX_VALUE));
+        ZuphinkaPool<String> patient = new ZuphinkaPool<>(new Texts(), config);
+        expect("a close with the longest time for its thread", "done", ending(patient::close));
+    }
+
+    /** A pool whose constructor takes longer than the first pauses of its maintenance thread. */
+    private static final class Slow extends ZuphinkaPool<String> {
+        private static final AtomicInteger EARLY = new AtomicInteger();
+        private final CountDownLatch noted = new CountDownLatch(1);
+        private volatile boolean isComplete;
+
+        Slow(Texts texts, GenericObjectPoolConfig<String> config) throws InterruptedException {
+            super(texts, config);
+            Thread.sleep(200);
+            isComplete = true;
+        }
+
+        @Override
+        protected void swallowed(Exception failure) {
+            if (!isComplete) {
+                EARLY.incrementAndGet();
+            }
+            noted.countDown();
+        }
+    }
+
+    /** What receives failures runs only once the constructor of its class has ended. */
+    private static void construction() throws Exception {
+        GenericObjectPoolConfig<String> config = config();
+        config.setMinIdle(1);
+        config.setTimeBetweenEvictionRuns(Duration.ofMillis(1));
+        Texts texts = new Texts();
+        texts.makes = new IOException("make");
+        Slow pool = new Slow(texts, config);
+        expect("a failure of the maintenance thread", "done", within(begun(() -> {
+            pool.noted.await();
+            return "done";
+        })));
+        expect("before the constructor ended", 0, Slow.EARLY.get());
+        pool.close();
+    }
+
     private static void abandonment() throws Exception {
         GenericObjectPoolConfig<String> config = config();
         config.setMaxTotal(1);
@@ -426,6 +450,46 @@ public final class Calls extends Expectations {
         expect("nothing is destroyed twice", "passivate", texts.asked());
         pool.close();
         write(pool);
+    }
+
+    /** A use is noted only if the configuration tracks usage. */
+    private static void uses() throws Exception {
+        AbandonedConfig tracking = new AbandonedConfig();
+        tracking.setUseUsageTracking(true);
+        for (AbandonedConfig abandoned : Arrays.asList(null, new AbandonedConfig(), tracking)) {
+            Noting pool = new Noting(new Texts(), config(), abandoned);
+            String lent = pool.borrowObject();
+            long before = pool.getCounts().steps();
+            pool.use(lent);
+            pool.use(new String("another"));
+            expect("steps of a use", abandoned == tracking ? 1L : 0L, pool.getCounts().steps() - before);
+            pool.close();
+            write(pool);
+        }
+    }
+
+    /** A time that is no whole number of milliseconds counts as the next one. */
+    private static void shortTimes() {
+        Duration half = Duration.ofNanos(500_000);
+        GenericObjectPoolConfig<String> config = config();
+        config.setMinEvictableIdleTime(half);
+        config.setSoftMinEvictableIdleTime(Duration.ofNanos(1_000_001));
+        config.setMaxWait(half);
+        AbandonedConfig abandoned = new AbandonedConfig();
+        abandoned.setRemoveAbandonedTimeout(half);
+        Noting pool = new Noting(new Texts(), config, abandoned);
+        List<String> times = pool.getSettingsText().lines().filter(line -> line.contains("Millis")).collect(Collectors.toList());
+        expect("short times", List.of("maxWaitMillis = 1", "minEvictableIdleMillis = 1", "softMinEvictableIdleMillis = 2",
+                "removeAbandonedTimeoutMillis = 1"), times);
+        pool.close();
+        config.setMinEvictableIdleTime(Duration.ZERO);
+        config.setSoftMinEvictableIdleTime(Duration.ofMillis(-1));
+        config.setMaxWait(Duration.ofSeconds(Long.MAX_VALUE, 999_999_999));
+        Noting other = new Noting(new Texts(), config, null);
+        times = other.getSettingsText().lines().filter(line -> line.contains("Millis")).collect(Collectors.toList());
+        expect("none, never and for ever", List.of("maxWaitMillis = 9007199254740992", "minEvictableIdleMillis = 0",
+                "softMinEvictableIdleMillis = -1"), times);
+        other.close();
     }
 
     /** Makes plain objects. No method sees their wrappers once they are made. */
@@ -661,15 +725,13 @@ public final class Calls extends Expectations {
     }
 
     private static void refusals() {
-        GenericObjectPoolConfig<String> fair = config();
-        fair.setFairness(true);
         GenericObjectPoolConfig<String> own = config();
         own.setEvictionPolicy((settings, object, idle) -> true);
         GenericObjectPoolConfig<String> named = config();
         named.setEvictionPolicyClassName("org.example.Policy");
-        for (GenericObjectPoolConfig<String> config : Arrays.asList(fair, own, named)) {
+        for (GenericObjectPoolConfig<String> config : Arrays.asList(own, named)) {
             Object ending = ending(() -> new ZuphinkaPool<>(new Texts(), config).close());
-            expect("refused", config == fair ? "fairness" : "evictionPolicy", ending.toString().replaceAll(".*Exception: |:.*", ""));
+            expect("refused", "evictionPolicy", ending.toString().replaceAll(".*Exception: |:.*", ""));
         }
         expect("no factory", "IllegalArgumentException: Factory may not be null", ending(() -> new ZuphinkaPool<String>(null).close()));
         expect("a limit of no entries", "IllegalArgumentException: journal limit: 0 is not from 1 to 4294967296",
@@ -706,6 +768,69 @@ public final class Calls extends Expectations {
         other.close();
         pool.close();
         expect("unregistered", false, server.isRegistered(name));
+    }
+
+    /** A closed pool says so, also if its journal has no room and borrows reclaim. */
+    private static void closedAndFull() {
+        AbandonedConfig abandoned = new AbandonedConfig();
+        abandoned.setRemoveAbandonedOnBorrow(true);
+        for (AbandonedConfig some : Arrays.asList(null, abandoned)) {
+            ZuphinkaPool<String> pool = new ZuphinkaPool<>(new Texts(), config(), some, Journal.kept().limit(101));
+            Object ending;
+            do {
+                ending = ending(() -> pool.returnObject(pool.borrowObject()));
+            } while (ending.equals("done"));
+            expect("a full journal", "IllegalStateException: Journal full", ending);
+            pool.close();
+            while (ending(pool::clear).equals("done")) {
+                // One more entry, since no object is idle.
+            }
+            expect("a clear without room", "IllegalStateException: Journal full", ending(pool::clear));
+            String closed = "IllegalStateException: Pool not open";
+            expect("a borrow from a closed pool", closed, result(pool::borrowObject));
+            expect("an add to a closed pool", closed, ending(pool::addObject));
+            expect("a maintenance of a closed pool", closed, ending(pool::maintain));
+            expect("a fill of a closed pool", "done", ending(pool::preparePool));
+        }
+    }
+
+    /** Borrows objects until there is none, and returns how many, or what the constructor threw. */
+    private static Object lentBy(Journal journal, AbandonedConfig abandoned) {
+        GenericObjectPoolConfig<String> config = config();
+        config.setBlockWhenExhausted(false);
+        return result(() -> {
+            ZuphinkaPool<String> pool = new ZuphinkaPool<>(new Texts(), config, abandoned, journal);
+            int lent = 0;
+            while (!result(pool::borrowObject).toString().contains("Exception")) {
+                lent++;
+            }
+            return lent;
+        });
+    }
+
+    /** A journal whose limit is reached before all objects are lent is refused. */
+    private static void smallJournals() {
+        AbandonedConfig abandoned = new AbandonedConfig();
+        abandoned.setRemoveAbandonedOnBorrow(true);
+        expect("a kept one", 8, lentBy(Journal.kept().limit(49), null));
+        expect("a stored one", 8, lentBy(Journal.storedBy(segment -> {}).limit(35), null));
+        expect("a dropped one", 8, lentBy(Journal.dropped().limit(35), null));
+        expect("one whose borrows reclaim", 8, lentBy(Journal.kept().limit(57), abandoned));
+        String small = "IllegalArgumentException: journal limit: %d is reached before all objects are lent (maxTotal 8)";
+        expect("too small a kept one", String.format(small, 48), lentBy(Journal.kept().limit(48), null));
+        expect("too small a stored one", String.format(small, 34), lentBy(Journal.storedBy(segment -> {}).limit(34), null));
+        expect("too small a dropped one", String.format(small, 34), lentBy(Journal.dropped().limit(34), null));
+        expect("too small a one whose borrows reclaim", String.format(small, 56), lentBy(Journal.kept().limit(56), abandoned));
+        expect("the smallest", String.format(small, 1), lentBy(Journal.kept().limit(1), null));
+        GenericObjectPoolConfig<String> many = config();
+        many.setMaxTotal(Integer.MAX_VALUE);
+        expect("any number of objects, without a journal", "done", ending(() -> new ZuphinkaPool<>(new Texts(), many).close()));
+        many.setMaxTotal(-1);
+        expect("any number of objects", "done", ending(() -> new ZuphinkaPool<>(new Texts(), many, null, Journal.kept().limit(7)).close()));
+        expect("no room for one", "IllegalArgumentException: journal limit: 6 is reached before all objects are lent (maxTotal -1)",
+                ending(() -> new ZuphinkaPool<>(new Texts(), many, null, Journal.kept().limit(6)).close()));
+        many.setMaxTotal(0);
+        expect("no objects", "done", ending(() -> new ZuphinkaPool<>(new Texts(), many, null, Journal.kept().limit(1)).close()));
     }
 
     /** Returns the attributes of Commons Pool's MBean that are not among these, in order. */
@@ -868,10 +993,17 @@ public final class Calls extends Expectations {
         times();
         failures();
         upkeep();
+        closedDuringMaintenance();
+        construction();
         abandonment();
+        uses();
+        shortTimes();
+        expect("objects by slot and id", List.of(), within(begun(Finding::faults)));
         wrappers();
         trackedUse();
         refusals();
+        closedAndFull();
+        smallJournals();
         bean();
         throwingSink();
         journals(folder);

@@ -70,11 +70,6 @@ public final class Refusals extends Expectations {
         }
     }
 
-    /** A call without a result. */
-    private interface Act {
-        void run() throws Exception;
-    }
-
     /** One life, with its segments, the calls that threw, and what was wrong. */
     private static final class Life {
         private final Kind kind;
@@ -152,6 +147,7 @@ public final class Refusals extends Expectations {
             AbandonedConfig abandoned = new AbandonedConfig();
             abandoned.setRemoveAbandonedOnMaintenance(kind.isTested);
             abandoned.setRemoveAbandonedTimeout(Duration.ofDays(1));
+            abandoned.setUseUsageTracking(true);
             return new ZuphinkaPool<>(new Things(), config, abandoned, journal());
         }
 

@@ -201,6 +201,7 @@ public final class Stress {
         abandoned.setRemoveAbandonedOnBorrow(true);
         abandoned.setRemoveAbandonedOnMaintenance(true);
         abandoned.setRemoveAbandonedTimeout(Duration.ofMillis(30));
+        abandoned.setUseUsageTracking(true);
         return abandoned;
     }
 
@@ -255,7 +256,7 @@ public final class Stress {
     }
 
     private void use(Random random) throws Exception {
-        Item item = random.nextInt(4) == 0 ? borrowWithin(random.nextInt(30)) : pool.borrowObject();
+        Item item = borrow(random);
         if (!item.holder.compareAndSet(null, Thread.currentThread())) {
             fault("an object is lent to two holders");
         }
@@ -275,6 +276,17 @@ public final class Stress {
             pool.invalidateObject(item);
         } else {
             pool.returnObject(item);
+        }
+    }
+
+    private Item borrow(Random random) throws Exception {
+        try {
+            return random.nextInt(4) == 0 ? borrowWithin(random.nextInt(30)) : pool.borrowObject();
+        } catch (IllegalStateException e) {
+            if (e.getMessage().equals("Journal full")) {
+                throw new NoSuchElementException("Another thread stores a segment for longer than a borrow waits");
+            }
+            throw e;
         }
     }
 

@@ -51,6 +51,7 @@ public final class Bank {
         config.setMaxWait(Duration.ofSeconds(60));
         config.setTimeBetweenEvictionRuns(Duration.ofMillis(5));
         ZuphinkaPool<PoolableConnection> pool = new ZuphinkaPool<>(factory, config, null, Journal.inFolder(folder));
+        // PoolingDataSource does that for a GenericObjectPool alone. Else each Connection.close throws, and the connection stays lent.
         factory.setPool(pool);
         return pool;
     }

@@ -5,13 +5,23 @@
  * A reply is one number: the answer, the cause << 8, and a value << 16. The value is the token that the core returned, or else the answer's number.
  * A status other than "done" is its negative code.
  */
+#define _GNU_SOURCE
 #include <jni.h>
+#include <pthread.h>
 #include <stdlib.h>
 
 #include "zuphinka.h"
 
-/* The bytes by which a text grows, and that a line needs at most. */
-enum { GROWTH = 65536 };
+/* The most bytes of a part of a text: at least those of a line. A test may choose another number. */
+#ifndef ZUPHINKA_JNI_LONGEST_PART
+#define ZUPHINKA_JNI_LONGEST_PART 67108864
+#endif
+
+/* The bytes of a part at first, which are doubled as it grows. */
+enum { SHORT_PART = 65536 };
+
+/* The bytes of stack that a call of the pool needs: HotSpot keeps 96 KiB for itself, and no section takes a quarter of the other 24. */
+enum { NEEDED_STACK = 120 * 1024 };
 
 typedef uint32_t line_printer(struct zuphinka *, uint64_t, char *, size_t, uint64_t *);
 
@@ -48,6 +58,25 @@ JNIEXPORT void JNICALL Java_zuphinka_Core_drop(JNIEnv *env, jclass class, jlong 
   (void)env, (void)class;
   zuphinka_drop(pool_at(handle));
   free(pool_at(handle));
+}
+
+/* Returns the lowest address of the thread's stack; null if the system does not know it. */
+static char *lowest_of_stack(void) {
+  pthread_attr_t attributes;
+  void *lowest = NULL;
+  size_t size = 0;
+  if (pthread_getattr_np(pthread_self(), &attributes) != 0) return NULL;
+  if (pthread_attr_getstack(&attributes, &lowest, &size) != 0) lowest = NULL;
+  pthread_attr_destroy(&attributes);
+  return lowest;
+}
+
+/* Returns whether the thread has enough stack for a call of the pool. */
+JNIEXPORT jboolean JNICALL Java_zuphinka_Core_hasStack(JNIEnv *env, jclass class) {
+  (void)env, (void)class;
+  static _Thread_local char *lowest;
+  if (!lowest) lowest = lowest_of_stack();
+  return (char *)__builtin_frame_address(0) - lowest >= NEEDED_STACK;
 }
 
 /* Takes one step. */
@@ -113,38 +142,59 @@ JNIEXPORT void JNICALL Java_zuphinka_Core_counts(JNIEnv *env, jclass class, jlon
   (*env)->SetLongArrayRegion(env, to, 0, sizeof numbers / sizeof *numbers, numbers);
 }
 
-struct text {
+struct part {
   char *bytes;
   size_t length, room;
 };
 
-/* Appends all lines of a printer, and returns whether there was memory for them. */
-static int append_lines(line_printer *print, struct zuphinka *pool, struct text *text) {
-  for (uint64_t position = 0;; position++) {
-    if (text->room - text->length < ZUPHINKA_LONGEST_LINE) {
-      size_t room = 2 * text->room + GROWTH;
-      char *bytes = realloc(text->bytes, room);
-      if (!bytes) return 0;
-      text->bytes = bytes;
-      text->room = room;
-    }
+/* How the lines of a printer end: all are appended, the part is full, or there is no memory. */
+enum ending { COMPLETE, FULL, NO_MEMORY };
+
+/* Makes room for a line in a part that is not full, and returns whether there was memory for it. */
+static int has_room(struct part *part) {
+  if (part->room - part->length >= ZUPHINKA_LONGEST_LINE) return 1;
+  size_t doubled = part->room ? 2 * part->room : SHORT_PART;
+  size_t room = doubled < ZUPHINKA_JNI_LONGEST_PART ? doubled : ZUPHINKA_JNI_LONGEST_PART;
+  char *bytes = realloc(part->bytes, room);
+  if (!bytes) return 0;
+  part->bytes = bytes;
+  part->room = room;
+  return 1;
+}
+
+/* Appends the lines of a printer from a position on, which moves on with them. */
+static enum ending append_lines(line_printer *print, struct zuphinka *pool, jlong *position, struct part *part) {
+  for (;; ++*position) {
+    if (ZUPHINKA_JNI_LONGEST_PART - part->length < ZUPHINKA_LONGEST_LINE) return FULL;
+    if (!has_room(part)) return NO_MEMORY;
     uint64_t size;
-    uint32_t status = print(pool, position, text->bytes + text->length, text->room - text->length, &size);
-    if (status != ZUPHINKA_STATUS_DONE) return status == ZUPHINKA_STATUS_NO_ENTRY;
-    text->length += size;
+    uint32_t status = print(pool, (uint64_t)*position, part->bytes + part->length, part->room - part->length, &size);
+    if (status == ZUPHINKA_STATUS_NO_ENTRY) return COMPLETE;
+    if (status != ZUPHINKA_STATUS_DONE) return NO_MEMORY;
+    part->length += size;
   }
 }
 
-/* Returns the base of the journal and the entries since it, as text; null if there is no memory. */
-JNIEXPORT jbyteArray JNICALL Java_zuphinka_Core_segment(JNIEnv *env, jclass class, jlong handle) {
+/*
+ * Returns the next part of the text of the journal, which is empty after the last one; null if there is no memory. The two numbers are how many lines
+ * of its base, and how many entries since that, the parts before have. They move on with it.
+ */
+JNIEXPORT jbyteArray JNICALL Java_zuphinka_Core_part(JNIEnv *env, jclass class, jlong handle, jlongArray numbers) {
   (void)class;
-  struct text text = {0};
+  struct part part = {0};
   jbyteArray bytes = NULL;
-  if (append_lines(zuphinka_base, pool_at(handle), &text) && append_lines(zuphinka_line, pool_at(handle), &text) && text.length <= INT32_MAX) {
-    bytes = (*env)->NewByteArray(env, (jsize)text.length);
-    if (bytes) (*env)->SetByteArrayRegion(env, bytes, 0, (jsize)text.length, (const jbyte *)text.bytes);
+  jlong next[2];
+  (*env)->GetLongArrayRegion(env, numbers, 0, 2, next);
+  enum ending ending = append_lines(zuphinka_base, pool_at(handle), &next[0], &part);
+  if (ending == COMPLETE) ending = append_lines(zuphinka_line, pool_at(handle), &next[1], &part);
+  if (ending != NO_MEMORY) {
+    bytes = (*env)->NewByteArray(env, (jsize)part.length);
+    if (bytes) {
+      (*env)->SetByteArrayRegion(env, bytes, 0, (jsize)part.length, (const jbyte *)part.bytes);
+      (*env)->SetLongArrayRegion(env, numbers, 0, 2, next);
+    }
   }
-  free(text.bytes);
+  free(part.bytes);
   return bytes;
 }
 

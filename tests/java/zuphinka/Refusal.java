@@ -1,6 +1,12 @@
 package zuphinka;
 
-/** Refuses an allocation of the native library, which is linked with tests/refuse_java.c for that. One thread at a time calls that library. */
+import java.nio.charset.StandardCharsets;
+import java.nio.file.Path;
+
+/**
+ * Refuses an allocation of the native library, which is linked with tests/refuse_java.c for that. One thread at a time calls that library. It also
+ * changes the current folder of the process, which Java cannot.
+ */
 public final class Refusal {
     static {
         NativeLibrary.load();
@@ -13,4 +19,11 @@ public final class Refusal {
 
     /** Returns whether the allocation was not yet asked for. */
     public static native boolean isPending();
+
+    /** Changes the current folder to one whose path has no characters but those of ASCII, and returns whether that was possible. */
+    public static boolean enter(Path folder) {
+        return enter((folder + "\0").getBytes(StandardCharsets.US_ASCII));
+    }
+
+    private static native boolean enter(byte[] folder);
 }

@@ -88,6 +88,9 @@ final class Core {
     /** Frees a core. */
     static native void drop(long core);
 
+    /** Returns whether the thread has enough stack for a call of the pool. The caller needs no lock. */
+    static native boolean hasStack();
+
     /** Takes one step. */
     static native long step(long core, long at, long number, long token, int caller, int input, int outcome);
 
@@ -100,8 +103,11 @@ final class Core {
     /** Stores the counts, in the order of {@link Counts}. */
     static native void counts(long core, long[] to);
 
-    /** Returns the base of the journal and the entries since it, as text; null if there is no memory. */
-    static native byte[] segment(long core);
+    /**
+     * Returns the next part of the text of the journal: its base, and the entries since that. The part after the last one is empty. Null if there is
+     * no memory. The two numbers, at first 0, are the lines of the base and the entries that the parts before have.
+     */
+    static native byte[] part(long core, long[] numbers);
 
     /** Cuts the journal, and returns 0 or a negative status. */
     static native int cut(long core);

@@ -19,6 +19,8 @@ final class CoreSettings {
     final boolean isAbandonedRemoved;
     final boolean reclaimsOnBorrow;
     final boolean reclaimsOnMaintenance;
+    final boolean isUsageTracked;
+    final boolean isFair;
     final int maxTotal;
     final long maxWaitMillis;
     private final String text;
@@ -40,15 +42,14 @@ final class CoreSettings {
         isAbandonedRemoved = abandoned != null;
         reclaimsOnBorrow = isAbandonedRemoved && abandoned.getRemoveAbandonedOnBorrow();
         reclaimsOnMaintenance = isAbandonedRemoved && abandoned.getRemoveAbandonedOnMaintenance();
+        isUsageTracked = isAbandonedRemoved && abandoned.getUseUsageTracking();
+        isFair = config.getFairness();
         maxTotal = config.getMaxTotal();
         maxWaitMillis = millis(config.getMaxWaitDuration(), -1);
         text = textOf(config, journalLimit) + (isAbandonedRemoved ? textOf(abandoned) : "");
     }
 
     private static void refuseUnknown(GenericObjectPoolConfig<?> config) {
-        if (config.getFairness()) {
-            throw new IllegalArgumentException("fairness: the pool serves the thread that asks first");
-        }
         String policy = config.getEvictionPolicyClassName();
         boolean isDefault = policy == null || policy.equals(BaseObjectPoolConfig.DEFAULT_EVICTION_POLICY_CLASS_NAME);
         if (config.getEvictionPolicy() != null || !isDefault) {
@@ -84,12 +85,12 @@ final class CoreSettings {
         return name + " = " + value + "\n";
     }
 
-    /** Returns a time in milliseconds, {@code negative} for a negative one. */
+    /** Returns a time in milliseconds, rounded up, since 0 may stand for no time or for no limit; {@code negative} for a negative one. */
     private static long millis(Duration time, long negative) {
         if (time.isNegative()) {
             return negative;
         }
-        return time.getSeconds() >= MOST_MILLIS / 1000 ? MOST_MILLIS : time.toMillis();
+        return time.getSeconds() >= MOST_MILLIS / 1000 ? MOST_MILLIS : time.plusNanos(999_999).toMillis();
     }
 
     /** Returns the settings as a TOML document, as {@code pool check} reads it. */

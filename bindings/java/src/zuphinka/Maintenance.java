@@ -3,12 +3,17 @@ package zuphinka;
 import java.lang.ref.WeakReference;
 import java.time.Duration;
 import java.util.concurrent.TimeUnit;
+import java.util.concurrent.locks.LockSupport;
 
-/** A daemon thread that maintains a pool from time to time. It ends with the pool: when that is closed, or no longer used. */
+/**
+ * A daemon thread that maintains a pool from time to time. It ends with the pool: when that is closed, or no longer used. It is never interrupted,
+ * since an interrupt would close each channel that the factory uses meanwhile.
+ */
 final class Maintenance implements Runnable {
     private final WeakReference<ZuphinkaPool<?>> pool;
     private final long pauseNanos;
     private final Thread thread;
+    private volatile boolean isStopped;
 
     private Maintenance(ZuphinkaPool<?> pool, Duration pause) {
         this.pool = new WeakReference<>(pool);
@@ -26,12 +31,17 @@ final class Maintenance implements Runnable {
 
     @Override
     public void run() {
-        try {
-            do {
-                TimeUnit.NANOSECONDS.sleep(pauseNanos);
-            } while (maintainOnce());
-        } catch (InterruptedException e) {
-            // The pool was closed.
+        do {
+            pause();
+        } while (!isStopped && maintainOnce());
+    }
+
+    /** Pauses between two rounds, or until the thread is to end. It needs no memory. */
+    private void pause() {
+        long begun = System.nanoTime();
+        for (long left = pauseNanos; left > 0 && !isStopped; left = pauseNanos - (System.nanoTime() - begun)) {
+            LockSupport.parkNanos(this, left);
+            Thread.interrupted(); // the factory may have interrupted the thread, which then cannot pause
         }
     }
 
@@ -53,14 +63,15 @@ final class Maintenance implements Runnable {
         return true;
     }
 
-    /** Ends the thread, and waits for that up to a time. */
+    /** Ends the thread after the round in which it is, and waits for that up to a time, and a day at most. */
     void stop(Duration longest) {
-        thread.interrupt();
+        isStopped = true;
+        LockSupport.unpark(thread);
         if (thread == Thread.currentThread()) {
             return;
         }
         try {
-            thread.join(Math.max(1, Math.min(longest.toMillis(), TimeUnit.DAYS.toMillis(1))));
+            thread.join(longest.toDays() > 0 ? TimeUnit.DAYS.toMillis(1) : Math.max(1, longest.toMillis()));
         } catch (InterruptedException e) {
             Thread.currentThread().interrupt();
         }

@@ -2,7 +2,7 @@ package zuphinka;
 
 import java.util.Arrays;
 
-/** The objects that have a place, by their slots. The caller holds the lock of the pool. */
+/** The objects that have a place, by their slots and their ids. The caller holds the lock of the pool. */
 final class Members<T> {
     private static final int FIRST_SLOTS = 8;
     @SuppressWarnings({"unchecked", "rawtypes"})
@@ -10,6 +10,12 @@ final class Members<T> {
     private int[] freeSlots = new int[0];
     private int free;
     private int size;
+    /** The ids of objects, which ascend; and these objects, null for one that is removed. */
+    private long[] ids = new long[0];
+    @SuppressWarnings({"unchecked", "rawtypes"})
+    private Member<T>[] byId = new Member[0];
+    /** How many ids there are. */
+    private int added;
     /** The next object to be added. It has a slot. */
     private Member<T> next;
 
@@ -17,6 +23,7 @@ final class Members<T> {
     void reserve() {
         if (next == null) {
             reserveSlot();
+            reserveId();
             next = new Member<>(freeSlots[free - 1]);
             free--;
         }
@@ -37,12 +44,41 @@ final class Members<T> {
         freeSlots = room;
     }
 
-    /** Adds the object that is reserved, with this id. */
+    private void reserveId() {
+        if (added < ids.length) {
+            return;
+        }
+        if (size < added / 2) {
+            forgetRemoved();
+            return;
+        }
+        int more = Math.max(FIRST_SLOTS, 2 * added);
+        long[] longer = Arrays.copyOf(ids, more);
+        byId = Arrays.copyOf(byId, more);
+        ids = longer;
+    }
+
+    /** Forgets the ids of the objects that are removed. */
+    private void forgetRemoved() {
+        int kept = 0;
+        for (int position = 0; position < added; position++) {
+            if (byId[position] != null) {
+                ids[kept] = ids[position];
+                byId[kept++] = byId[position];
+            }
+        }
+        Arrays.fill(byId, kept, added, null);
+        added = kept;
+    }
+
+    /** Adds the object that is reserved, with this id. It is greater than each before it. */
     Member<T> add(long id) {
         Member<T> member = next;
         next = null;
         member.id = id;
         slots[member.slot] = member;
+        ids[added] = id;
+        byId[added++] = member;
         size++;
         return member;
     }
@@ -51,6 +87,7 @@ final class Members<T> {
     void remove(Member<T> member) {
         slots[member.slot] = null;
         freeSlots[free++] = member.slot;
+        byId[Arrays.binarySearch(ids, 0, added, member.id)] = null;
         size--;
     }
 
@@ -59,14 +96,10 @@ final class Members<T> {
         return slots[(int) slot];
     }
 
-    /** Returns the object with this id, or null. It looks at all slots. */
+    /** Returns the object with this id, or null. */
     Member<T> withId(long id) {
-        for (Member<T> member : slots) {
-            if (member != null && member.id == id) {
-                return member;
-            }
-        }
-        return null;
+        int position = Arrays.binarySearch(ids, 0, added, id);
+        return position < 0 ? null : byId[position];
     }
 
     /** Returns the number of objects. */

@@ -97,7 +97,7 @@ final class PoolBean extends StandardMBean implements ZuphinkaPoolMXBean {
 
     @Override
     public boolean getFairness() {
-        return false;
+        return ask(ZuphinkaPool::getFairness);
     }
 
     @Override

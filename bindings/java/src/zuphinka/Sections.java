@@ -3,10 +3,8 @@ package zuphinka;
 import java.io.IOException;
 import java.lang.ref.Cleaner;
 import java.lang.ref.Reference;
-import java.nio.charset.StandardCharsets;
 import java.util.NoSuchElementException;
 import java.util.concurrent.TimeUnit;
-import java.util.concurrent.locks.Condition;
 import java.util.concurrent.locks.ReentrantLock;
 
 /**
@@ -16,7 +14,7 @@ import java.util.concurrent.locks.ReentrantLock;
 final class Sections<T> {
     private static final Cleaner CLEANER = Cleaner.create();
     /** A wait that may take longer, in nanoseconds, has no limit. */
-    private static final long ENDLESS = TimeUnit.DAYS.toNanos(10_000);
+    static final long ENDLESS = TimeUnit.DAYS.toNanos(10_000);
     /** How long a thread pauses before it looks at the lock again: at first, at most, and in all before it sleeps, in nanoseconds. */
     private static final long FIRST_PAUSE = 250;
     private static final long LONGEST_PAUSE = 10_000;
@@ -25,16 +23,13 @@ final class Sections<T> {
     private final CoreSettings settings;
     private final long start = System.nanoTime();
     private final ReentrantLock lock = new ReentrantLock();
-    private final Condition changed = lock.newCondition();
 
     // The lock protects what follows.
     private final long core;
     private final StoredJournal journal;
     private final Members<T> members = new Members<>();
+    private final Waiters waiters;
     private int idle;
-    private int waiters;
-    /** How many threads were signalled and have not looked yet, or fewer: a thread that was not signalled may have been counted as one that was. */
-    private int signalled;
     private boolean isClosed;
     /** The time of the last step, in milliseconds since the start. */
     private long latest;
@@ -48,15 +43,11 @@ final class Sections<T> {
 
     Sections(CoreSettings settings, Journal journal) {
         this.settings = settings;
-        long opened = Core.open(settings.text().getBytes(StandardCharsets.UTF_8));
-        if (opened == Core.OUT_OF_MEMORY) {
-            throw new OutOfMemoryError("zuphinka: no memory for a pool");
-        }
-        if (opened <= 0) {
-            throw new IllegalArgumentException("zuphinka: the core rejects the settings, with status " + -opened + ":\n" + settings.text());
-        }
+        JournalRoom.require(settings, journal);
+        long opened = JournalRoom.open(settings.text());
         core = opened;
         this.journal = new StoredJournal(core, journal, settings.text());
+        waiters = new Waiters(lock, settings.isFair ? 0 : Waiters.DEFAULT_OVERTAKES);
         CLEANER.register(this, () -> Core.drop(opened));
     }
 
@@ -77,7 +68,9 @@ final class Sections<T> {
         return (nanoTime - start) / 1_000_000;
     }
 
-    /** Returns a reading of {@link System#nanoTime} as the time of the next step. The clock is read without the lock, so another step may be later. */
+    /**
+     * Returns a reading of {@link System#nanoTime} as the time of the next step. The clock is read without the lock, so another step may be later.
+     */
     private long timeOf(long nanoTime) {
         latest = Math.max(latest, millis(nanoTime));
         return latest;
@@ -88,24 +81,91 @@ final class Sections<T> {
     }
 
     private long step(long nanoTime, int input, long number, long token, int outcome) {
-        return stepAt(timeOf(nanoTime), input, number, token, outcome);
-    }
-
-    private long stepAt(long at, int input, long number, long token, int outcome) {
-        long reply = Core.step(core, at, number, token, caller(), input, outcome);
-        if (reply < 0) {
-            makeRoom(reply);
-            reply = checked(Core.step(core, at, number, token, caller(), input, outcome));
+        long reply = Core.step(core, timeOf(nanoTime), number, token, caller(), input, outcome);
+        while (reply < 0) {
+            makeRoom(reply, input);
+            reply = Core.step(core, timeOf(nanoTime), number, token, caller(), input, outcome);
         }
         note(reply);
         return reply;
     }
 
-    private void makeRoom(long status) {
-        if (status != Core.JOURNAL_FULL) {
-            checked(status);
+    /** Takes a step of a borrow that concerns no object, and waits for room in the journal no longer than the borrow waits for an object. */
+    private long stepWithin(long first, long longestNanos, int input) throws InterruptedException {
+        long now = System.nanoTime();
+        long reply = Core.step(core, timeOf(now), 0, 0, caller(), input, 0);
+        while (reply < 0) {
+            makeRoomWithin(reply, input, left(first, longestNanos));
+            reply = Core.step(core, timeOf(now), 0, 0, caller(), input, 0);
         }
-        journal.makeRoom();
+        note(reply);
+        return reply;
+    }
+
+    /** Makes room in a full journal for an input, as {@link #makeRoomWithin}, as long as that takes. */
+    private void makeRoom(long status, int input) {
+        boolean isInterrupted = false;
+        try {
+            for (;;) {
+                try {
+                    makeRoomWithin(status, input, Long.MAX_VALUE);
+                    return;
+                } catch (InterruptedException e) {
+                    isInterrupted = true;
+                }
+            }
+        } finally {
+            if (isInterrupted) {
+                Thread.currentThread().interrupt();
+            }
+        }
+    }
+
+    /**
+     * Makes room in a full journal for an input, so that it can be tried again; without the lock while a segment is stored. It waits for another
+     * thread that stores one for some nanoseconds.
+     *
+     * @throws IllegalStateException if there is no room, or the pool is closed
+     */
+    private void makeRoomWithin(long status, int input, long nanos) throws InterruptedException {
+        if (isClosed && needsOpenPool(input)) {
+            throw closed();
+        }
+        checked(journal.isKept() || status != Core.JOURNAL_FULL ? status : 0);
+        long before = journal.cuts();
+        if (journal.isPending()) {
+            lock.unlock();
+            try {
+                storeWithin(nanos);
+            } finally {
+                acquire();
+            }
+            members.reserve(); // other threads may have made objects
+        }
+        if (journal.cuts() == before) {
+            journal.cutFull();
+        }
+    }
+
+    private void storeWithin(long nanos) throws InterruptedException {
+        boolean hasTurn;
+        try {
+            hasTurn = journal.storePending(nanos);
+        } catch (IOException | RuntimeException e) {
+            throw new IllegalStateException("Journal full", e);
+        }
+        if (!hasTurn) {
+            throw new IllegalStateException("Journal full");
+        }
+    }
+
+    /** Returns whether a closed pool refuses an input, whatever its journal has room for. */
+    private static boolean needsOpenPool(int input) {
+        return input == Core.BORROW || input == Core.ADD || input == Core.EVICT || input == Core.RECLAIM_ON_BORROW;
+    }
+
+    private static IllegalStateException closed() {
+        return new IllegalStateException("Pool not open");
     }
 
     private static long checked(long reply) {
@@ -146,6 +206,18 @@ final class Sections<T> {
         wakeOne();
     }
 
+    /**
+     * Takes the lock for a section that begins a call. The other sections of the call complete work on an object, and take it by {@link #acquire}.
+     *
+     * @throws StackOverflowError if the stack is too full for the sections of a call, which would end in one with the lock, or without an object
+     */
+    private void begin() {
+        if (!Core.hasStack()) {
+            throw new StackOverflowError("zuphinka: too little stack");
+        }
+        acquire();
+    }
+
     /** Takes the lock. It is held for a fraction of a microsecond, while it takes some to wake a thread: so a thread pauses before it sleeps. */
     private void acquire() {
         if (lock.tryLock()) {
@@ -174,9 +246,12 @@ final class Sections<T> {
     }
 
     private void release() {
-        journal.cutIfLow(members.size());
-        lock.unlock();
-        Reference.reachabilityFence(this);
+        try {
+            journal.cutIfLow(members.size());
+        } finally {
+            lock.unlock();
+            Reference.reachabilityFence(this);
+        }
     }
 
     // Waits.
@@ -189,35 +264,59 @@ final class Sections<T> {
 
     /** Wakes a thread that waits, if there is something to find that no other thread is on its way to. */
     private void wakeOne() {
-        if (waiters > signalled && signalled < available()) {
-            signalled++;
-            changed.signal();
+        if (!waiters.isEmpty()) {
+            waiters.wakeOne(available());
         }
     }
 
-    /** Waits until there may be something to find or the time is over, and returns whether the core is to be asked again. */
-    private boolean await(long first, long began, long longestNanos) throws InterruptedException {
-        boolean hasOwnLimit = longestNanos >= 0;
+    /** Returns whether a borrow has to leave what there is to older waiters. It does not wait yet if its waiter is null. */
+    private boolean isBehind(Waiters.Waiter waiter) {
+        if (waiters.isEmpty() || isClosed) {
+            return false;
+        }
+        long available = available();
+        return available > 0 && waiters.areServedBefore(waiter, available);
+    }
+
+    /**
+     * Sleeps until there may be something to find, or the time is over. A thread that is woken for nothing sleeps on, and makes no entry.
+     *
+     * @throws NoSuchElementException if the borrow has a limit of its own, which is over
+     */
+    private void sleep(Waiters.Waiter waiter, long first, long longestNanos) throws InterruptedException {
         for (;;) {
-            long left = hasOwnLimit ? longestNanos - (System.nanoTime() - first) : left(began);
-            if (hasOwnLimit && left <= 0) {
-                return false;
+            long left = left(first, longestNanos);
+            if (left <= 0 && longestNanos >= 0) {
+                throw refusal(Core.TIMED_OUT);
             }
-            waiters++;
-            try {
-                if (left > ENDLESS) {
-                    changed.await();
-                } else if (left > 0) {
-                    changed.awaitNanos(left);
-                }
-            } finally {
-                waiters--;
-                signalled = Math.max(0, signalled - 1);
+            waiters.sleepOn(waiter);
+            if (isBehind(waiter)) {
+                wakeOne(); // what this thread was woken for is there for an older one
             }
-            if (isClosed || available() > 0 || (!hasOwnLimit && left(began) <= 0)) {
-                return true;
+            if (left > 0) {
+                waiter.sleep(left);
+            }
+            boolean isOver = longestNanos < 0 && left(first, longestNanos) <= 0;
+            if (isClosed || isOver || (available() > 0 && !isBehind(waiter))) {
+                return;
             }
         }
+    }
+
+    /** A waiter waits no longer. If it was woken and has nothing, another one may have what it was woken for. */
+    private void leave(Waiters.Waiter waiter, boolean hasObject) {
+        if (hasObject) {
+            waiters.noteTaken(waiter, available());
+        }
+        waiters.leave(waiter);
+        if (waiter.isWoken() && !hasObject) {
+            wakeOne();
+        }
+    }
+
+    /** Returns for how many nanoseconds a borrow may wait yet, by its own limit or the settings. */
+    private long left(long first, long longestNanos) {
+        return longestNanos >= 0 ? Math.max(0, longestNanos - (System.nanoTime() - first)) : left(millis(first));
     }
 
     /** Returns for how many nanoseconds a thread may wait yet by the settings, if it has waited since this millisecond. */
@@ -241,49 +340,74 @@ final class Sections<T> {
      * @throws IllegalStateException if the pool is closed, or its journal is full
      */
     Member<T> borrow(long first, long longestNanos, boolean isBare) throws InterruptedException {
-        acquire();
+        begin();
         try {
-            long reply = ask(first, longestNanos, isBare);
-            switch (Core.answer(reply)) {
-                case Core.LENT:
-                    journal.count();
-                    idle--;
-                    return lent(members.at(Core.value(reply)), asked, asked - first);
-                case Core.TAKE:
-                    return members.at(Core.value(reply));
-                case Core.MAKE:
-                    return members.add(Core.value(reply));
-                default:
-                    wakeOne();
-                    throw refusal(reply);
+            asked = first;
+            long reply = isBehind(null) ? Core.WAIT : ask(first, longestNanos, isBare);
+            if (waits(reply, longestNanos)) {
+                return find(first, longestNanos, isBare);
             }
+            Member<T> found = found(reply, first);
+            if (!waiters.isEmpty()) {
+                waiters.noteTaken(null, available());
+            }
+            return found;
         } finally {
             release();
         }
     }
 
+    /** Returns whether a borrow waits after an answer. One with a limit of its own waits on if the time of the settings is over. */
+    private static boolean waits(long reply, long longestNanos) {
+        int answer = Core.answer(reply);
+        return answer == Core.WAIT || (answer == Core.TIMED_OUT && longestNanos >= 0);
+    }
+
+    /** Waits until there is an object or a place for a borrow, behind those that wait. */
+    private Member<T> find(long first, long longestNanos, boolean isBare) throws InterruptedException {
+        Waiters.Waiter waiter = waiters.join();
+        Member<T> found = null;
+        try {
+            long reply;
+            do {
+                sleep(waiter, first, longestNanos);
+                asked = System.nanoTime();
+                reply = isBehind(waiter) ? Core.TIMED_OUT : ask(first, longestNanos, isBare);
+            } while (waits(reply, longestNanos));
+            found = found(reply, first);
+            return found;
+        } finally {
+            leave(waiter, found != null);
+        }
+    }
+
+    private Member<T> found(long reply, long first) {
+        switch (Core.answer(reply)) {
+            case Core.LENT:
+                journal.count();
+                idle--;
+                return lent(members.at(Core.value(reply)), asked, asked - first);
+            case Core.TAKE:
+                return members.at(Core.value(reply));
+            case Core.MAKE:
+                return members.add(Core.value(reply));
+            default:
+                throw refusal(reply);
+        }
+    }
+
+    /** Asks the core for an object, and makes room for that in a full journal. */
     private long ask(long first, long longestNanos, boolean isBare) throws InterruptedException {
         long began = millis(first);
-        asked = first;
-        for (;;) {
-            members.reserve(); // each time, since other threads may make objects while this one waits
-            long at = timeOf(asked);
-            long reply = askOnce(at, began, isBare);
-            if (reply < 0) {
-                makeRoom(reply);
-                reply = checked(askOnce(at, began, isBare));
-            }
-            note(reply);
-            int answer = Core.answer(reply);
-            boolean waits = answer == Core.WAIT || (answer == Core.TIMED_OUT && longestNanos >= 0);
-            if (!waits) {
-                return reply;
-            }
-            if (!await(first, began, longestNanos)) {
-                return reply;
-            }
+        members.reserve(); // each time, since other threads may make objects while this one waits
+        long reply = askOnce(timeOf(asked), began, isBare);
+        while (reply < 0) {
+            makeRoomWithin(reply, Core.BORROW, left(first, longestNanos));
             asked = System.nanoTime();
+            reply = askOnce(timeOf(asked), began, isBare);
         }
+        note(reply);
+        return reply;
     }
 
     private long askOnce(long at, long began, boolean isBare) {
@@ -300,7 +424,7 @@ final class Sections<T> {
                 return new NoSuchElementException("Timeout waiting for idle object");
             case Core.REFUSED:
                 if (Core.cause(reply) == Core.CLOSED) {
-                    return new IllegalStateException("Pool not open");
+                    return closed();
                 }
                 return new IllegalStateException("Object is not lent");
             default:
@@ -344,13 +468,12 @@ final class Sections<T> {
     /** Returns an object that needs no test and no passivation, and parks it. Returns the answer. */
     long giveBackBare(Member<T> member) {
         long now = System.nanoTime();
-        acquire();
+        begin();
         try {
-            long at = timeOf(now);
-            long reply = Core.giveBack(core, at, member.id, member.slot, caller());
-            if (reply < 0) {
-                makeRoom(reply);
-                reply = checked(Core.giveBack(core, at, member.id, member.slot, caller()));
+            long reply = Core.giveBack(core, timeOf(now), member.id, member.slot, caller());
+            while (reply < 0) {
+                makeRoom(reply, Core.RETURN);
+                reply = Core.giveBack(core, timeOf(now), member.id, member.slot, caller());
             }
             note(reply);
             journal.count();
@@ -363,7 +486,7 @@ final class Sections<T> {
     /** Returns an object to be tested or passivated. Returns the answer. */
     long giveBack(Member<T> member) {
         long now = System.nanoTime();
-        acquire();
+        begin();
         try {
             return noteReturn(step(now, Core.RETURN, member.id, 0, 0), member, now);
         } finally {
@@ -378,6 +501,17 @@ final class Sections<T> {
             member.giveBack(now);
         }
         return reply;
+    }
+
+    /** Invalidates an object, or notes a use of it. Returns the answer. */
+    long ask(int input, Member<T> member) {
+        long now = System.nanoTime();
+        begin();
+        try {
+            return step(now, input, member.id, 0, 0);
+        } finally {
+            release();
+        }
     }
 
     /** Reports on an object that stays present. Returns the answer. */
@@ -402,13 +536,18 @@ final class Sections<T> {
         }
     }
 
-    /** Notes that the holder of an object last used it so many nanoseconds ago. */
-    void noteUse(Member<T> member, long nanosAgo) {
+    /** Notes that the holder of an object last used it so many nanoseconds ago, for a call that waits for room in the journal for some. */
+    void noteUse(Member<T> member, long nanosAgo, long first, long longestNanos) throws InterruptedException {
         long now = System.nanoTime();
-        long used = now - Math.min(nanosAgo, now - start);
-        acquire();
+        long used = millis(now - Math.min(nanosAgo, now - start));
+        begin();
         try {
-            stepAt(millis(used), Core.USE, member.id, 0, 0);
+            long reply = Core.step(core, used, member.id, 0, caller(), Core.USE, 0);
+            while (reply < 0) {
+                makeRoomWithin(reply, Core.USE, left(first, longestNanos));
+                reply = Core.step(core, used, member.id, 0, caller(), Core.USE, 0);
+            }
+            note(reply);
         } finally {
             release();
         }
@@ -418,7 +557,7 @@ final class Sections<T> {
 
     /** Asks for something that concerns no object. Returns the answer. */
     long ask(int input) {
-        acquire();
+        begin();
         try {
             return step(input, 0, 0, 0);
         } finally {
@@ -426,10 +565,23 @@ final class Sections<T> {
         }
     }
 
-    /** Asks for a place for a new object. Returns the object; null if there is none or there are enough, or for a fill of a closed pool. */
-    Member<T> place(int input) {
-        acquire();
+    /** Asks how many objects a reclaim is for that belongs to a call. The call waits for room in the journal for some nanoseconds. */
+    long askReclaim(int input, long first, long longestNanos) throws InterruptedException {
+        begin();
         try {
+            return Core.value(stepWithin(first, longestNanos, input));
+        } finally {
+            release();
+        }
+    }
+
+    /** Asks for a place for a new object. Returns the object; null if there is none or there are enough. A fill of a closed pool does nothing. */
+    Member<T> place(int input) {
+        begin();
+        try {
+            if (isClosed && input == Core.FILL) {
+                return null;
+            }
             members.reserve();
             long reply = step(input, 0, 0, 0);
             switch (Core.answer(reply)) {
@@ -439,9 +591,6 @@ final class Sections<T> {
                 case Core.ENOUGH:
                     return null;
                 default:
-                    if (input == Core.FILL) {
-                        return null;
-                    }
                     throw refusal(reply);
             }
         } finally {
@@ -452,7 +601,7 @@ final class Sections<T> {
     /** Examines the next idle object, or takes it for a clear. */
     Found<T> next(int input) {
         Found<T> found = new Found<>(); // here, since an object whose answer is lost would lose its place
-        acquire();
+        begin();
         try {
             long reply = step(input, 0, 0, 0);
             found.answer = Core.answer(reply);
@@ -466,10 +615,10 @@ final class Sections<T> {
     }
 
     /** Takes the next abandoned object from its holder: its place is free. Returns it, or null if none is left. */
-    Member<T> reclaimNext() {
+    Member<T> reclaimNext(long first, long longestNanos) throws InterruptedException {
         acquire();
         try {
-            long reply = step(Core.RECLAIM_NEXT, 0, 0, 0);
+            long reply = stepWithin(first, longestNanos, Core.RECLAIM_NEXT);
             if (Core.answer(reply) != Core.RECLAIMED) {
                 return null;
             }
@@ -483,15 +632,14 @@ final class Sections<T> {
 
     /** Closes the pool and wakes all threads that wait. Returns how many idle objects are to be destroyed, 0 if it was closed before. */
     long close() {
-        acquire();
+        begin();
         try {
             if (isClosed) {
                 return 0;
             }
             long reply = step(Core.CLOSE, 0, 0, 0);
             isClosed = true;
-            signalled = waiters;
-            changed.signalAll();
+            waiters.wakeAll();
             return Core.answer(reply) == Core.COUNT ? Core.value(reply) : 0;
         } finally {
             release();
@@ -500,9 +648,9 @@ final class Sections<T> {
 
     // The journal.
 
-    /** Returns whether a segment waits to be stored. */
-    boolean hasPendingSegment() {
-        return journal.isPending();
+    /** Stores the segment that waits, without the lock, if it is due. */
+    void storeDue() throws IOException {
+        journal.storeDue();
     }
 
     /** Stores the segment that waits, without the lock. */
@@ -510,20 +658,29 @@ final class Sections<T> {
         journal.storePending();
     }
 
-    /** Cuts and stores the rest of a journal that is stored. */
+    /** Cuts and stores the rest of a journal that is stored. It has no effect in a sink. */
     void storeRest() throws IOException {
-        acquire();
+        if (journal.isInSink()) {
+            return;
+        }
+        do {
+            journal.storePending();
+        } while (!isRestCut());
+        journal.storePending();
+    }
+
+    private boolean isRestCut() {
+        begin();
         try {
-            journal.cutRest();
+            return journal.isRestCut();
         } finally {
             release();
         }
-        journal.storePending();
     }
 
     /** Returns the journal since it was last cut. */
     Segment segment() {
-        acquire();
+        begin();
         try {
             Segment segment = journal.segment();
             if (segment == null) {
@@ -537,7 +694,7 @@ final class Sections<T> {
 
     /** Cuts the journal, and returns what was cut. */
     Segment cut() {
-        acquire();
+        begin();
         try {
             return journal.cutNow();
         } finally {
@@ -549,7 +706,7 @@ final class Sections<T> {
 
     /** Returns the counts of the core. */
     Counts counts() {
-        acquire();
+        begin();
         try {
             return journal.counts();
         } finally {
@@ -559,7 +716,7 @@ final class Sections<T> {
 
     /** Returns the loans of an object. */
     Loans loansOf(Member<?> member) {
-        acquire();
+        begin();
         try {
             return member.loans();
         } finally {
@@ -569,9 +726,28 @@ final class Sections<T> {
 
     /** Returns what the pool counts besides. */
     Usage usage() {
-        acquire();
+        begin();
         try {
-            return new Usage(borrowed, returned, failedOnBorrow, waitedNanos, longestWaitNanos, waiters);
+            return new Usage(borrowed, returned, failedOnBorrow, waitedNanos, longestWaitNanos, waiters.size());
+        } finally {
+            release();
+        }
+    }
+
+    /** Returns how often a thread that waits may be overtaken. */
+    int maxOvertakes() {
+        begin();
+        try {
+            return waiters.maxOvertakes();
+        } finally {
+            release();
+        }
+    }
+
+    void setMaxOvertakes(int times) {
+        begin();
+        try {
+            waiters.setMaxOvertakes(times);
         } finally {
             release();
         }
@@ -579,7 +755,7 @@ final class Sections<T> {
 
     /** Returns whether the pool was closed. */
     boolean isClosed() {
-        acquire();
+        begin();
         try {
             return isClosed;
         } finally {

@@ -1,6 +1,9 @@
 package zuphinka;
 
 import java.io.IOException;
+import java.util.ArrayList;
+import java.util.List;
+import java.util.concurrent.TimeUnit;
 import java.util.concurrent.locks.ReentrantLock;
 
 /** Cuts the journal of a core in time, and stores what is cut. Where nothing else is said, the caller holds the lock of the pool. */
@@ -15,11 +18,15 @@ final class StoredJournal {
     private final String settings;
     /** How many entries were stored since the last cut, or more: a return that is refused may count as two. */
     private long entries;
+    /** How often it was cut. */
+    private long cuts;
     /** At how many entries it is looked at again. */
     private long threshold;
     /** A segment that is cut and not yet stored. */
     private volatile Segment pending;
-    /** Held while a segment is stored, so that segments are stored one at a time. */
+    /** Whether the next call stores that segment. After a failure it is due again once half of the room that was left is used up. */
+    private volatile boolean isDue;
+    /** Held while a segment is stored, so that segments are stored one at a time. The lock of the pool is not held meanwhile. */
     private final ReentrantLock storing = new ReentrantLock();
 
     StoredJournal(long core, Journal journal, String settings) {
@@ -40,13 +47,22 @@ final class StoredJournal {
         entries++;
     }
 
-    /** Cuts the journal if it has enough entries, and no segment waits to be stored. So many objects are present. */
+    /** Returns whether the journal is kept: nothing but a call of the user's cuts it. */
+    boolean isKept() {
+        return journal.sink == null && !journal.isDropped;
+    }
+
+    /** Cuts the journal if it has enough entries, unless a segment waits to be stored, which is due then. So many objects are present. */
     void cutIfLow(int present) {
-        if (entries < threshold || (journal.sink == null && !journal.isDropped)) {
+        if (entries < threshold || isKept()) {
             return;
         }
         threshold = enough(present);
-        if (entries >= threshold && (pending != null || !cut())) {
+        if (entries < threshold) {
+            return;
+        }
+        isDue |= pending != null;
+        if (pending != null || !cut()) {
             threshold = entries + Math.max(1, Math.min(entries, (journal.limit - entries) / 2));
         }
     }
@@ -66,6 +82,7 @@ final class StoredJournal {
             return false;
         }
         pending = segment;
+        isDue = true;
         return true;
     }
 
@@ -74,18 +91,25 @@ final class StoredJournal {
             return false;
         }
         entries = 0;
+        cuts++;
         threshold = enough(0);
         return true;
     }
 
     /** Returns the journal since it was last cut; null if there is no memory. */
     Segment segment() {
-        byte[] text = Core.segment(core);
-        if (text == null) {
+        List<byte[]> parts = new ArrayList<>();
+        long[] numbers = new long[2];
+        byte[] part = Core.part(core, numbers);
+        while (part != null && part.length > 0) {
+            parts.add(part);
+            part = Core.part(core, numbers);
+        }
+        if (part == null) {
             return null;
         }
         Counts counts = counts();
-        return new Segment(counts.steps() - counts.entries(), counts.entries(), text, settings);
+        return new Segment(counts.steps() - counts.entries(), counts.entries(), parts, settings);
     }
 
     Counts counts() {
@@ -104,22 +128,27 @@ final class StoredJournal {
     }
 
     /**
-     * Makes room in a full journal.
+     * Cuts a full journal. No segment waits to be stored.
      *
-     * @throws IllegalStateException if it is kept, or a segment cannot be stored
+     * @throws IllegalStateException if there is nothing to cut
      */
-    void makeRoom() {
-        if (journal.sink == null && !journal.isDropped) {
+    void cutFull() {
+        if (counts().entries() == 0) {
             throw new IllegalStateException("Journal full");
-        }
-        try {
-            storePending();
-        } catch (IOException | RuntimeException e) {
-            throw new IllegalStateException("Journal full", e);
         }
         if (!cut()) {
             throw new OutOfMemoryError("zuphinka: no memory to cut the journal");
         }
+    }
+
+    /** Returns how often the journal was cut. */
+    long cuts() {
+        return cuts;
+    }
+
+    /** Returns whether this thread stores a segment. The caller needs no lock. */
+    boolean isInSink() {
+        return storing.isHeldByCurrentThread();
     }
 
     /** Returns whether a segment waits to be stored. The caller needs no lock. */
@@ -128,31 +157,60 @@ final class StoredJournal {
     }
 
     /**
-     * Stores the segment that waits, if there is one. The caller needs no lock.
+     * Stores the segment that waits, if it is due and no other thread does. The caller needs no lock.
      *
      * @throws IOException if the sink fails. The segment still waits.
+     * @throws RuntimeException the same; with an error of the sink as its cause
+     */
+    void storeDue() throws IOException {
+        while (isDue && !storing.isHeldByCurrentThread() && storing.tryLock()) {
+            storeAndUnlock();
+        }
+    }
+
+    /**
+     * Stores the segment that waits, if there is one, once other threads have stored theirs; otherwise as {@link #storeDue}. It has no effect in a
+     * sink, which would wait for itself.
      */
     void storePending() throws IOException {
-        storing.lock();
+        if (!storing.isHeldByCurrentThread()) {
+            storing.lock();
+            storeAndUnlock();
+        }
+    }
+
+    /** Does the same, unless another thread stores one for longer than some nanoseconds: then it returns false. */
+    boolean storePending(long nanos) throws IOException, InterruptedException {
+        if (storing.isHeldByCurrentThread() || !(storing.tryLock() || storing.tryLock(nanos, TimeUnit.NANOSECONDS))) {
+            return false;
+        }
+        storeAndUnlock();
+        return true;
+    }
+
+    private void storeAndUnlock() throws IOException {
         try {
+            isDue = false;
             Segment segment = pending;
             if (segment != null) {
                 journal.sink.store(segment);
                 pending = null;
             }
+        } catch (Error e) {
+            throw new IllegalStateException("The sink failed", e);
         } finally {
             storing.unlock();
         }
     }
 
-    /** Cuts the rest of a journal that is stored, once the segment before it is stored. */
-    void cutRest() throws IOException {
-        if (journal.sink == null) {
-            return;
+    /** Cuts the rest of a journal that is stored, and returns true; or false if a segment waits to be stored before. */
+    boolean isRestCut() {
+        if (pending != null) {
+            return false;
         }
-        storePending();
-        if (counts().entries() > 0 && !cut()) {
+        if (journal.sink != null && counts().entries() > 0 && !cut()) {
             throw new OutOfMemoryError("zuphinka: no memory to cut the journal");
         }
+        return true;
     }
 }

@@ -7,6 +7,7 @@ import java.util.ArrayList;
 import java.util.List;
 import java.util.NoSuchElementException;
 import java.util.Set;
+import java.util.concurrent.ConcurrentHashMap;
 import java.util.concurrent.TimeUnit;
 import java.util.stream.Collectors;
 import javax.management.ObjectName;
@@ -32,16 +33,19 @@ import org.apache.commons.pool2.impl.GenericObjectPoolConfig;
  *
  * <p>The configurations are copied, and later changes to them have no effect. Any number of threads may use a pool.
  *
- * <p>Each call that takes a step may throw two exceptions that it does not list. They leave the pool as it was before the step:
+ * <p>Each call that takes a step may throw three exceptions that it does not list. They leave the pool as it was before the step:
  * <ul>
  * <li>an {@link IllegalStateException} with the message "Journal full", if the journal has no room: a kept one until it is cut, a stored one until
- * its sink stores the segment that waits. The failure of the sink is its cause;
- * <li>an {@link OutOfMemoryError}, if there is no memory. The call may be tried again.
+ * its sink stores the segment that waits. The failure of the sink is its cause, if it failed. Otherwise another thread stores that segment for longer
+ * than a borrow waits;
+ * <li>an {@link OutOfMemoryError}, if there is no memory. The call may be tried again;
+ * <li>a {@link StackOverflowError}, if the thread has less than 120 KiB of its stack left.
  * </ul>
- * The return and the invalidation of a lent object never throw these, nor does the close of an open pool before it has closed and cleared it. Work
- * begun on an object is always completed.
+ * The return and the invalidation of a lent object never throw the first two, nor does the close of an open pool before it has closed and cleared
+ * it. Work begun on an object is always completed.
  *
- * <p>An {@link Error} that the factory throws is thrown by each call, once the place of its object is free.
+ * <p>An {@link Error} that the factory throws is thrown by each call, once the place of its object is free. So is one of a wrapper. Of several, as of
+ * a close, the first is thrown once all objects are destroyed.
  *
  * @param <T> the type of the objects
  */
@@ -59,8 +63,13 @@ public class ZuphinkaPool<T> implements ObjectPool<T>, UsageTracking<T> {
     /** Whether no method of the factory sees a wrapper after the object's first loan. */
     private final boolean isWrapperUnseen;
     private final Duration evictorShutdown;
+    private final Construction construction = new Construction(this, ZuphinkaPool.class);
+    /** The threads that are in {@link #swallowed}. */
+    private final Set<Thread> reporting = ConcurrentHashMap.newKeySet();
     private final Maintenance maintenance;
     private final ObjectName beanName;
+    /** Set before a close stores the rest of the journal: what is freed later is to be stored by whoever frees it. */
+    private volatile boolean isEnding;
 
     private static final class InvalidObject extends Exception {
         private static final long serialVersionUID = 1;
@@ -111,8 +120,9 @@ public class ZuphinkaPool<T> implements ObjectPool<T>, UsageTracking<T> {
      * @param config the settings; not null
      * @param abandoned when objects are abandoned; null: never
      * @param journal what becomes of the journal; not null. A stored one is for one pool
-     * @throws IllegalArgumentException if the factory is null, the limit of the journal is out of its range, or the configuration asks for what the
-     *     pool does not have: {@code fairness}, or an {@code evictionPolicy} other than the default one
+     * @throws IllegalArgumentException if the factory is null, the limit of the journal is out of its range, or is reached before {@code maxTotal}
+     *     objects are lent; if another pool has the journal of this folder; or if the configuration asks for what the pool does not have: an {@code
+     *     evictionPolicy} other than the default one
      * @throws OutOfMemoryError if there is no memory for the pool
      * @throws LinkageError if the native library is not found or cannot be loaded
      */
@@ -128,11 +138,21 @@ public class ZuphinkaPool<T> implements ObjectPool<T>, UsageTracking<T> {
         isWrapperUnseen = isBorrowedBare && isReturnedBare && abandoned == null
                 && (!settings.testWhileIdle || inherits("validateObject", PooledObject.class))
                 && inherits("destroyObject", PooledObject.class) && inherits("destroyObject", PooledObject.class, DestroyMode.class);
-        sections = new Sections<>(settings, journal);
+        sections = open(settings, journal);
         evictorShutdown = config.getEvictorShutdownTimeoutDuration();
         Duration pause = config.getDurationBetweenEvictionRuns();
         beanName = config.getJmxEnabled() ? PoolBean.register(this, config.clone(), this.abandoned, factory.getClass().getName()) : null;
         maintenance = pause.isNegative() || pause.isZero() ? null : Maintenance.start(this, pause);
+    }
+
+    private static <T> Sections<T> open(CoreSettings settings, Journal journal) {
+        journal.take();
+        try {
+            return new Sections<>(settings, journal);
+        } catch (Throwable e) {
+            journal.leave();
+            throw e;
+        }
     }
 
     /** Returns whether a method of the factory is the one of {@link BasePooledObjectFactory}, which does nothing. */
@@ -150,7 +170,8 @@ public class ZuphinkaPool<T> implements ObjectPool<T>, UsageTracking<T> {
     /**
      * Lends an object: an idle one, or a new one if there is a free place. Otherwise it waits, as long as the configuration says. Idle objects that
      * fail their activation or their test are destroyed, and the next one is tried. If the configuration says so, it first takes abandoned objects
-     * from their holders.
+     * from their holders. Once the thread that has waited longest was overtaken as often as {@link #setMaxOvertakes} allows, it queues behind that
+     * one, and makes no entry meanwhile.
      *
      * @return an object that no other caller has, until it is returned, invalidated or abandoned
      * @throws NoSuchElementException if no object and no place is free, and the configuration says not to wait or the time is over; or if a new
@@ -188,10 +209,48 @@ public class ZuphinkaPool<T> implements ObjectPool<T>, UsageTracking<T> {
         return borrowObject(Duration.ofMillis(longestMillis));
     }
 
+    /**
+     * Sets how often a waiting borrow is overtaken at most: 16 by default, and 0 if the configuration has {@code fairness}. With 0 the pool is
+     * fair. {@code GenericObjectPool} has no limit unless {@code fairness} is set.
+     *
+     * <p>A later borrow overtakes the oldest waiter if it takes an object or a place, and leaves too few for those who wait. Once the oldest was
+     * overtaken so often, or was woken and found nothing, later borrows queue behind it until it has its object or leaves. A borrow that does not
+     * wait then fails as if nothing were there.
+     *
+     * <p>Overtaking costs no sleep, so a high number lends more objects per second where many wait. A low one makes the longest wait shorter.
+     *
+     * @param times a number from 0
+     * @throws IllegalArgumentException if it is negative
+     */
+    public void setMaxOvertakes(int times) {
+        if (times < 0) {
+            throw new IllegalArgumentException("maxOvertakes: " + times + " is negative");
+        }
+        sections.setMaxOvertakes(times);
+    }
+
+    /**
+     * Returns how often a waiting borrow is overtaken at most.
+     *
+     * @return a number from 0
+     */
+    public int getMaxOvertakes() {
+        return sections.maxOvertakes();
+    }
+
+    /**
+     * Returns whether the pool is fair: no borrow overtakes one that waits.
+     *
+     * @return whether {@link #getMaxOvertakes} is 0
+     */
+    public boolean getFairness() {
+        return getMaxOvertakes() == 0;
+    }
+
     private T borrow(long longestNanos) throws Exception {
         long first = System.nanoTime();
         if (settings.reclaimsOnBorrow) {
-            reclaim(Core.RECLAIM_ON_BORROW);
+            reclaim(Core.RECLAIM_ON_BORROW, first, longestNanos);
         }
         for (;;) {
             Member<T> member = sections.borrow(first, longestNanos, isBorrowedBare);
@@ -202,13 +261,21 @@ public class ZuphinkaPool<T> implements ObjectPool<T>, UsageTracking<T> {
                 makeReady(member, true, first);
                 return member.pooled.getObject();
             }
-            if (isBorrowedBare) {
-                tellLoan(member);
+            if (isBorrowedBare ? isTold(member) : makeReady(member, false, first)) {
                 return member.pooled.getObject();
             }
-            if (makeReady(member, false, first)) {
-                return member.pooled.getObject();
-            }
+        }
+    }
+
+    /** Tells the wrapper of an object that it is lent. If that fails the object is destroyed, and this returns false. */
+    private boolean isTold(Member<T> member) {
+        try {
+            tellLoan(member);
+            return true;
+        } catch (Throwable e) {
+            destroyLent(member);
+            rethrow(e);
+            return false;
         }
     }
 
@@ -219,17 +286,36 @@ public class ZuphinkaPool<T> implements ObjectPool<T>, UsageTracking<T> {
             if (member.pooled == null) {
                 throw new NullPointerException("makeObject() returned null");
             }
-            member.isWrapperTold = !isWrapperUnseen || member.pooled.getClass() != DefaultPooledObject.class;
-            if (!objects.add(member)) {
+            if (!hasAdded(member)) {
                 throw new IllegalStateException("makeObject() returned an object that the pool has");
             }
         } catch (Throwable e) {
-            sections.end(report, member, Core.MAKE_FAILED);
+            end(report, member, Core.MAKE_FAILED);
             throw e;
         }
-        if (abandoned != null && abandoned.getLogAbandoned()) {
-            member.pooled.setLogAbandoned(true);
-            member.pooled.setRequireFullStackTrace(abandoned.getRequireFullStackTrace());
+    }
+
+    /** Adds a new object to those of the pool, and returns whether it was not there. If that fails it is destroyed. */
+    private boolean hasAdded(Member<T> member) {
+        try {
+            if (abandoned != null && abandoned.getLogAbandoned()) {
+                member.pooled.setLogAbandoned(true);
+                member.pooled.setRequireFullStackTrace(abandoned.getRequireFullStackTrace());
+            }
+            member.isWrapperTold = !isWrapperUnseen || member.pooled.getClass() != DefaultPooledObject.class;
+            return objects.add(member);
+        } catch (Throwable e) {
+            discardQuietly(member);
+            throw e;
+        }
+    }
+
+    /** Destroys an object that has no place, whatever the factory throws. */
+    private void discardQuietly(Member<T> member) {
+        try {
+            discard(member, DestroyMode.NORMAL);
+        } catch (Throwable e) {
+            swallow(e);
         }
     }
 
@@ -252,8 +338,8 @@ public class ZuphinkaPool<T> implements ObjectPool<T>, UsageTracking<T> {
 
     /** Activates and tests an object, and lends it. If that fails it is destroyed: returns false, or throws for a new one. */
     private boolean makeReady(Member<T> member, boolean isNew, long first) {
-        tellLoan(member);
         try {
+            tellLoan(member);
             factory.activateObject(member.pooled);
         } catch (Throwable e) {
             destroyFailed(member, Core.READY, Core.ACTIVATE_FAILED, e);
@@ -308,6 +394,15 @@ public class ZuphinkaPool<T> implements ObjectPool<T>, UsageTracking<T> {
         }
     }
 
+    /** Destroys a lent object whose wrapper failed, and returns the answer: it may not be lent. */
+    private int destroyLent(Member<T> member) {
+        int answer = Core.answer(sections.report(Core.INVALIDATE, member, 0));
+        if (answer == Core.DESTROY) {
+            destroyQuietly(member);
+        }
+        return answer;
+    }
+
     private void destroyQuietly(Member<T> member) {
         try {
             destroy(member, DestroyMode.NORMAL);
@@ -321,14 +416,38 @@ public class ZuphinkaPool<T> implements ObjectPool<T>, UsageTracking<T> {
         try {
             discard(member, mode);
         } finally {
-            sections.end(Core.DESTROYED, member, 0);
+            end(Core.DESTROYED, member, 0);
+        }
+    }
+
+    /** Reports that an object was destroyed, or could not be made: its place is free. Once the pool is closed, the entries of that are stored. */
+    private void end(int report, Member<T> member, int outcome) {
+        sections.end(report, member, outcome);
+        if (isEnding) {
+            storeLast();
+        }
+    }
+
+    /** Stores the rest of the journal of a closed pool, once it has as many entries as objects are left: a segment has a line for each of these. */
+    private void storeLast() {
+        Counts counts = sections.counts();
+        if (counts.entries() < counts.lent() + counts.reserved()) {
+            return;
+        }
+        try {
+            flushJournal();
+        } catch (OutOfMemoryError e) {
+            swallow(new IllegalStateException(e));
         }
     }
 
     private void discard(Member<T> member, DestroyMode mode) throws Exception {
-        objects.remove(member);
-        member.pooled.invalidate();
-        factory.destroyObject(member.pooled, mode);
+        try {
+            objects.remove(member);
+            member.pooled.invalidate();
+        } finally {
+            factory.destroyObject(member.pooled, mode);
+        }
     }
 
     // Returns.
@@ -348,10 +467,7 @@ public class ZuphinkaPool<T> implements ObjectPool<T>, UsageTracking<T> {
             missing("Returned object not currently part of this pool");
             return;
         }
-        if (isReturnedBare) {
-            tellReturn(member); // before another thread may have it
-        }
-        long reply = isReturnedBare ? sections.giveBackBare(member) : sections.giveBack(member);
+        long reply = isReturnedBare ? giveBackBare(member) : sections.giveBack(member);
         switch (Core.answer(reply)) {
             case Core.PARKED:
             case Core.GONE:
@@ -368,6 +484,19 @@ public class ZuphinkaPool<T> implements ObjectPool<T>, UsageTracking<T> {
         storeSegment();
     }
 
+    /** Returns an object that needs no test and no passivation. Returns the answer: Gone, too, if its wrapper failed and it is destroyed. */
+    private long giveBackBare(Member<T> member) {
+        try {
+            tellReturn(member); // before another thread may have it
+        } catch (Throwable e) {
+            int answer = destroyLent(member);
+            rethrow(e);
+            swallow(e);
+            return answer == Core.DESTROY ? Core.GONE : answer;
+        }
+        return sections.giveBackBare(member);
+    }
+
     private void missing(String message) {
         if (abandoned == null) {
             throw new IllegalStateException(message);
@@ -379,18 +508,18 @@ public class ZuphinkaPool<T> implements ObjectPool<T>, UsageTracking<T> {
         if (fault != null) {
             destroyFailed(member, Core.PARK, Core.TEST_FAILED, fault);
             if (fault != INVALID) {
-                swallow((Exception) fault);
+                swallow(fault);
             }
             return;
         }
         try {
             factory.passivateObject(member.pooled);
+            tellReturn(member);
         } catch (Throwable e) {
             destroyFailed(member, Core.PARK, Core.PASSIVATE_FAILED, e);
-            swallow((Exception) e);
+            swallow(e);
             return;
         }
-        tellReturn(member);
         if (Core.answer(sections.report(Core.PARK, member, Core.GOOD)) == Core.DESTROY) {
             destroyQuietly(member);
         }
@@ -416,7 +545,7 @@ public class ZuphinkaPool<T> implements ObjectPool<T>, UsageTracking<T> {
             missing("Invalidated object not currently part of this pool");
             return;
         }
-        long reply = sections.report(Core.INVALIDATE, member, 0);
+        long reply = sections.ask(Core.INVALIDATE, member);
         switch (Core.answer(reply)) {
             case Core.DESTROY:
                 destroy(member, mode);
@@ -430,22 +559,21 @@ public class ZuphinkaPool<T> implements ObjectPool<T>, UsageTracking<T> {
     }
 
     /**
-     * Notes that its holder uses a lent object now: the time until it is abandoned begins again. If the configuration tracks usage, it records the
-     * stack of the call. It has no effect on an object that is not of this pool.
+     * Notes that its holder uses a lent object now, if the configuration tracks usage: the time until it is abandoned begins again, and its wrapper
+     * records the stack of the call. Otherwise it has no effect, nor on an object that is not of this pool.
      *
      * @param object a lent object
      */
     @Override
     public void use(T object) {
-        Member<T> member = objects.find(object);
+        Member<T> member = settings.isUsageTracked ? objects.find(object) : null;
         if (member == null) {
             return;
         }
-        if (abandoned != null && abandoned.getUseUsageTracking()) {
-            member.pooled.use();
-        }
-        member.used = Instant.now();
-        sections.report(Core.USE, member, 0);
+        Instant now = Instant.now();
+        member.pooled.use();
+        sections.ask(Core.USE, member);
+        member.used = now;
         storeSegment();
     }
 
@@ -506,7 +634,8 @@ public class ZuphinkaPool<T> implements ObjectPool<T>, UsageTracking<T> {
     }
 
     /**
-     * Maintains the pool: {@link #evict}, then {@link #preparePool}. The maintenance thread calls it.
+     * Maintains the pool: {@link #evict}, then {@link #preparePool}. It stores a segment that a sink did not store before. The maintenance thread
+     * calls it.
      *
      * @throws IllegalStateException if the pool is closed
      * @throws Exception as {@link #preparePool}
@@ -514,6 +643,7 @@ public class ZuphinkaPool<T> implements ObjectPool<T>, UsageTracking<T> {
     public void maintain() throws Exception {
         evict();
         preparePool();
+        storeSegmentAgain();
     }
 
     /**
@@ -534,7 +664,7 @@ public class ZuphinkaPool<T> implements ObjectPool<T>, UsageTracking<T> {
             left--;
         }
         if (settings.reclaimsOnMaintenance) {
-            reclaim(Core.RECLAIM_FOR_MAINTENANCE);
+            reclaim(Core.RECLAIM_FOR_MAINTENANCE, System.nanoTime(), Long.MAX_VALUE);
         }
         storeSegment();
     }
@@ -574,46 +704,72 @@ public class ZuphinkaPool<T> implements ObjectPool<T>, UsageTracking<T> {
         }
         rethrow(fault);
         if (fault != null) {
-            swallow((Exception) fault);
+            swallow(fault);
         }
     }
 
-    /** Takes abandoned objects from their holders, and destroys them. */
-    private void reclaim(int input) {
-        long left = Core.value(sections.ask(input));
-        if (left > 0 && noteTrackedUses()) {
-            left = Core.value(sections.ask(input));
+    /** Takes abandoned objects from their holders, and destroys them. It waits for room in the journal as the call does that it belongs to. */
+    private void reclaim(int input, long first, long longestNanos) throws InterruptedException {
+        long left = sections.askReclaim(input, first, longestNanos);
+        if (left > 0 && noteTrackedUses(first, longestNanos)) {
+            left = sections.askReclaim(input, first, longestNanos);
         }
-        List<Member<T>> reclaimed = new ArrayList<>();
-        for (; left > 0; left--) {
-            Member<T> member = sections.reclaimNext();
-            if (member == null) {
-                break;
+        List<Member<T>> reclaimed = new ArrayList<>((int) left); // before one is reclaimed, so that it is destroyed too
+        try {
+            for (; left > 0; left--) {
+                Member<T> member = sections.reclaimNext(first, longestNanos);
+                if (member == null) {
+                    return;
+                }
+                reclaimed.add(member);
             }
-            reclaimed.add(member);
+        } finally {
+            discardAbandoned(reclaimed);
         }
-        for (Member<T> member : reclaimed) {
+    }
+
+    private void discardAbandoned(List<Member<T>> members) {
+        Error first = null;
+        for (Member<T> member : members) {
+            try {
+                discardAbandoned(member);
+            } catch (Throwable e) {
+                first = firstError(first, e);
+            }
+        }
+        rethrow(first);
+    }
+
+    private void discardAbandoned(Member<T> member) throws Exception {
+        try {
             if (abandoned.getLogAbandoned()) {
                 member.pooled.printStackTrace(abandoned.getLogWriter());
             }
-            try {
-                discard(member, DestroyMode.ABANDONED);
-            } catch (Exception e) {
-                swallow(e);
-            }
+        } finally {
+            discard(member, DestroyMode.ABANDONED);
         }
     }
 
+    /** Returns the first error of several calls, all of which are made. Another failure is swallowed. */
+    private Error firstError(Error first, Throwable fault) {
+        if (first == null && fault instanceof Error) {
+            return (Error) fault;
+        }
+        swallow(fault);
+        return first;
+    }
+
     /** Notes when lent objects were last used that know it themselves, and returns whether there was a use of which the core did not know. */
-    private boolean noteTrackedUses() {
+    private boolean noteTrackedUses(long first, long longestNanos) throws InterruptedException {
         boolean isNoted = false;
         for (Member<T> member : objects.all()) {
             if (member.pooled.getObject() instanceof TrackedUse && member.pooled.getState() == PooledObjectState.ALLOCATED) {
                 Instant used = ((TrackedUse) member.pooled.getObject()).getLastUsedInstant();
                 if (used.isAfter(member.pooled.getLastBorrowInstant()) && (member.used == null || used.isAfter(member.used))) {
-                    member.used = used;
                     Instant now = Instant.now();
-                    sections.noteUse(member, used.isBefore(now) ? Duration.between(used, now).toNanos() : 0);
+                    long ago = used.isBefore(now) ? Duration.between(used, now).toNanos() : 0;
+                    sections.noteUse(member, ago, first, longestNanos);
+                    member.used = used;
                     isNoted = true;
                 }
             }
@@ -629,33 +785,49 @@ public class ZuphinkaPool<T> implements ObjectPool<T>, UsageTracking<T> {
     }
 
     private void destroyIdle(long count) {
+        Error first = null;
         for (long left = count; left > 0; left--) {
             Sections.Found<T> found = sections.next(Core.CLEAR_NEXT);
             if (found.answer != Core.DESTROY_IDLE) {
-                return;
+                break;
             }
-            destroyQuietly(found.member);
+            try {
+                destroy(found.member, DestroyMode.NORMAL);
+            } catch (Throwable e) {
+                first = firstError(first, e);
+            }
         }
+        rethrow(first);
     }
 
     /**
      * Closes the pool: nothing is lent any more, threads that wait get an {@link IllegalStateException}, and idle objects are destroyed. Lent ones
      * are destroyed when they are returned. It ends the maintenance thread, for which it waits as long as {@code evictorShutdownTimeout} says,
-     * unregisters the MBean, and stores the rest of a journal that is stored. What the factory and the sink throw is passed to {@link #swallowed}. A
-     * second close destroys nothing.
+     * unregisters the MBean, and stores the rest of a journal that is stored, also if the factory throws an {@link Error}. The entries of later
+     * returns are stored by these, each time that there are as many as objects that are still lent. What the factory and the sink throw otherwise is
+     * passed to {@link #swallowed}. A second close destroys nothing.
      *
      * @throws OutOfMemoryError if there is no memory to cut the rest of a journal that is stored; the pool is closed, and {@link #flushJournal} may
      *     be tried again
      */
     @Override
     public void close() {
-        destroyIdle(sections.close());
+        try {
+            destroyIdle(sections.close());
+        } finally {
+            end();
+        }
+    }
+
+    /** Ends what a pool has besides its objects. */
+    private void end() {
         if (maintenance != null) {
             maintenance.stop(evictorShutdown);
         }
         if (beanName != null) {
             PoolBean.unregister(beanName);
         }
+        isEnding = true;
         flushJournal();
     }
 
@@ -820,7 +992,7 @@ public class ZuphinkaPool<T> implements ObjectPool<T>, UsageTracking<T> {
      * Returns the journal since it was last cut. The pool is unchanged.
      *
      * @return the entries, with the base that they continue
-     * @throws OutOfMemoryError if there is no memory for the text, or it has 2 GiB or more
+     * @throws OutOfMemoryError if there is no memory for the text
      */
     public Segment getJournal() {
         return sections.segment();
@@ -851,13 +1023,20 @@ public class ZuphinkaPool<T> implements ObjectPool<T>, UsageTracking<T> {
         }
     }
 
+    /** Stores a segment that is due, unless another thread does. */
     private void storeSegment() {
-        if (!sections.hasPendingSegment()) {
-            return;
+        try {
+            sections.storeDue();
+        } catch (Throwable e) {
+            swallow(e);
         }
+    }
+
+    /** Stores a segment that waits, also if that failed before. */
+    private void storeSegmentAgain() {
         try {
             sections.storePending();
-        } catch (IOException | RuntimeException e) {
+        } catch (Throwable e) {
             swallow(e);
         }
     }
@@ -865,18 +1044,30 @@ public class ZuphinkaPool<T> implements ObjectPool<T>, UsageTracking<T> {
     /**
      * Receives each failure that no call throws: those of destructions, passivations and tests of returned or idle objects, of the maintenance
      * thread, and of a sink. It does nothing. Override it to log them. It runs without the pool's lock, in the thread whose call failed, and so in
-     * several threads at once. A {@link RuntimeException} that it throws is ignored, since the call that failed has to be completed.
+     * several threads at once. It may call the pool: in a thread that is in it, it is not called again. Nor is it before the constructor of a
+     * subclass has ended, except by calls in that. What it throws is ignored, since the call that failed has to be completed.
      *
-     * @param failure what the factory or the sink threw
+     * @param failure what the factory or the sink threw; an {@link Error} as the cause of an {@link IllegalStateException}
      */
     protected void swallowed(Exception failure) {}
 
-    /** Passes a failure to {@link #swallowed}. */
-    final void swallow(Exception failure) {
+    /** Passes a failure to {@link #swallowed}, unless this thread is in it. */
+    final void swallow(Throwable failure) {
         try {
-            swallowed(failure);
-        } catch (RuntimeException e) {
+            construction.await();
+            if (reporting.add(Thread.currentThread())) {
+                report(failure);
+            }
+        } catch (Throwable e) {
             // No object may lose its place by that.
+        }
+    }
+
+    private void report(Throwable failure) {
+        try {
+            swallowed(failure instanceof Exception ? (Exception) failure : new IllegalStateException(failure));
+        } finally {
+            reporting.remove(Thread.currentThread());
         }
     }
 }

@@ -1,0 +1,254 @@
+import java.io.IOException;
+import java.nio.charset.StandardCharsets;
+import java.time.Duration;
+import java.util.ArrayList;
+import java.util.Collections;
+import java.util.List;
+import java.util.concurrent.CountDownLatch;
+import java.util.concurrent.FutureTask;
+import java.util.concurrent.atomic.AtomicBoolean;
+import java.util.concurrent.atomic.AtomicInteger;
+import org.apache.commons.pool2.BasePooledObjectFactory;
+import org.apache.commons.pool2.PooledObject;
+import org.apache.commons.pool2.impl.AbandonedConfig;
+import org.apache.commons.pool2.impl.DefaultPooledObject;
+import org.apache.commons.pool2.impl.GenericObjectPoolConfig;
+import zuphinka.Journal;
+import zuphinka.Queueing;
+import zuphinka.Segment;
+import zuphinka.SegmentSink;
+import zuphinka.ZuphinkaPool;
+
+/** Threads that wait for an object: which one is woken, and in what order they are served. */
+public final class Waits extends Expectations {
+    /** How often a thread waits beside one that borrows again at once. */
+    private static final int ROUNDS = 50;
+
+    private Waits() {}
+
+    /** Makes plain objects. */
+    private static final class Plain extends BasePooledObjectFactory<Object> {
+        @Override
+        public Object create() {
+            return new Object();
+        }
+
+        @Override
+        public PooledObject<Object> wrap(Object object) {
+            return new DefaultPooledObject<>(object);
+        }
+    }
+
+    private static ZuphinkaPool<Object> pool(int maxTotal, Journal journal) {
+        GenericObjectPoolConfig<Object> config = new GenericObjectPoolConfig<>();
+        config.setJmxEnabled(false);
+        config.setMaxTotal(maxTotal);
+        return new ZuphinkaPool<>(new Plain(), config, null, journal);
+    }
+
+    /** A thread that is woken and finds no room in the journal wakes the next one. */
+    private static void fullJournal() throws Exception {
+        ZuphinkaPool<Object> pool = pool(1, Journal.kept().limit(100));
+        Object lent = pool.borrowObject();
+        List<Object> got = whileWaiting(pool, 3, pool::borrowObject, () -> {
+            while (ending(pool::addObject).equals("done")) {
+                // One more entry, since no place is free.
+            }
+            pool.returnObject(lent);
+        });
+        String full = "IllegalStateException: Journal full";
+        expect("threads that find a full journal", List.of(full, full, full), got);
+        pool.cut();
+        expect("a borrow after a cut", lent, result(pool::borrowObject));
+    }
+
+    /** A sink that is slow: it stores nothing until it is told to. */
+    private static final class SlowSink implements SegmentSink {
+        private final CountDownLatch entered = new CountDownLatch(1);
+        private final CountDownLatch told = new CountDownLatch(1);
+
+        @Override
+        public void store(Segment segment) throws IOException {
+            entered.countDown();
+            try {
+                told.await();
+            } catch (InterruptedException e) {
+                throw new IOException(e);
+            }
+        }
+    }
+
+    private static Object loans(ZuphinkaPool<Object> pool, int number) {
+        return ending(() -> {
+            for (int loan = 0; loan < number; loan++) {
+                pool.returnObject(pool.borrowObject());
+            }
+        });
+    }
+
+    /** Borrows and returns until the journal is full, and returns how that ended. */
+    private static Object untilFull(ZuphinkaPool<Object> pool) {
+        Object ending;
+        do {
+            ending = ending(() -> pool.returnObject(pool.borrowObject(1)));
+        } while (ending.equals("done"));
+        return ending;
+    }
+
+    /** While a thread stores a segment the others lend as long as there is room. Then they wait for it as long as for an object. */
+    private static void slowSink() throws Exception {
+        AbandonedConfig abandoned = new AbandonedConfig();
+        abandoned.setRemoveAbandonedOnBorrow(true);
+        abandoned.setRemoveAbandonedTimeout(Duration.ofHours(1));
+        for (AbandonedConfig some : new AbandonedConfig[] {null, abandoned}) {
+            SlowSink sink = new SlowSink();
+            GenericObjectPoolConfig<Object> config = new GenericObjectPoolConfig<>();
+            config.setJmxEnabled(false);
+            ZuphinkaPool<Object> pool = new ZuphinkaPool<>(new Plain(), config, some, Journal.storedBy(sink).limit(100));
+            FutureTask<Object> storing = begun(() -> loans(pool, 20));
+            sink.entered.await();
+            expect("loans beside a store", "done", within(begun(() -> loans(pool, 5))));
+            String full = "IllegalStateException: Journal full";
+            expect("a borrow that waits for a millisecond", full, within(begun(() -> untilFull(pool))));
+            expect("a borrow that does not wait", full, within(begun(() -> pool.borrowObject(0))));
+            FutureTask<Object> waiting = begun(() -> loans(pool, 5));
+            Thread[] interrupted = new Thread[1];
+            FutureTask<Object> ending = begun(() -> {
+                interrupted[0] = Thread.currentThread();
+                return pool.borrowObject();
+            });
+            while (interrupted[0] == null || interrupted[0].getState() == Thread.State.RUNNABLE) {
+                Thread.sleep(1);
+            }
+            expect("the pool beside them", 0, within(begun(pool::getNumWaiters)));
+            interrupted[0].interrupt();
+            expect("a borrow that is interrupted", "InterruptedException: null", within(ending));
+            sink.told.countDown();
+            expect("loans after the store", List.of("done", "done"), List.of(within(storing), within(waiting)));
+            pool.close();
+        }
+    }
+
+    /** A sink that fails is tried again each time that half of the room that was left is used up, and at each borrow once there is none. */
+    private static void failingSink() throws Exception {
+        AtomicInteger tries = new AtomicInteger();
+        boolean[] isBroken = {true};
+        ZuphinkaPool<Object> pool = pool(1, Journal.storedBy(segment -> {
+            tries.incrementAndGet();
+            if (isBroken[0]) {
+                throw new IOException("sink");
+            }
+        }).limit(10_000));
+        expect("many loans over a sink that fails", "done", loans(pool, 3_000));
+        expect("its tries", 2, tries.get());
+        pool.maintain();
+        expect("a maintenance tries it again", 3, tries.get());
+        expect("a full journal", "IllegalStateException: Journal full from sink", untilFull(pool));
+        int before = tries.get();
+        expect("a borrow after it", "IllegalStateException: Journal full from sink", result(pool::borrowObject));
+        expect("it tries the sink", before + 1, tries.get());
+        isBroken[0] = false;
+        expect("once the sink is repaired", "done", loans(pool, 1));
+        pool.close();
+    }
+
+    /** Returns how often at most a thread got an object between the wait and the loan of another one. */
+    private static int mostOvertakes(ZuphinkaPool<Object> pool, long other) {
+        String name = Long.toString(other);
+        String[] lines = new String(pool.getJournal().text(), StandardCharsets.US_ASCII).split("\n");
+        int overtakes = 0;
+        int most = 0;
+        boolean isWaiting = false;
+        for (String line : lines) {
+            List<String> words = List.of(line.split(" "));
+            boolean gets = words.contains("take") || words.contains("make");
+            if (words.get(0).equals(name) && words.contains("borrow")) {
+                isWaiting = words.contains("wait");
+                most = Math.max(most, overtakes);
+                overtakes = 0;
+            } else if (gets && isWaiting) {
+                overtakes++;
+            }
+        }
+        return most;
+    }
+
+    /** One thread borrows again as soon as it has returned, and another one borrows between. Returns how often that one is overtaken at most. */
+    private static int overtakesOf(ZuphinkaPool<Object> pool) throws Exception {
+        AtomicBoolean isOver = new AtomicBoolean();
+        long[] id = new long[1];
+        FutureTask<Object> waiting = begun(() -> {
+            id[0] = Thread.currentThread().getId();
+            for (int round = 0; round < ROUNDS; round++) {
+                pool.returnObject(pool.borrowObject());
+                Thread.sleep(1);
+            }
+            isOver.set(true);
+            return "served";
+        });
+        while (!isOver.get() && !waiting.isDone()) {
+            pool.returnObject(pool.borrowObject());
+        }
+        expect("the thread that waits", "served", within(waiting));
+        return mostOvertakes(pool, id[0]);
+    }
+
+    private static void overtaking() throws Exception {
+        GenericObjectPoolConfig<Object> config = new GenericObjectPoolConfig<>();
+        config.setJmxEnabled(false);
+        config.setMaxTotal(1);
+        for (int most : new int[] {16, 3, 0}) {
+            config.setFairness(most == 0);
+            ZuphinkaPool<Object> pool = new ZuphinkaPool<>(new Plain(), config, null, Journal.kept().limit(50_000_000));
+            if (most == 3) {
+                pool.setMaxOvertakes(most);
+            }
+            expect("the number of overtakes", most, pool.getMaxOvertakes());
+            expect("the fairness", most == 0, pool.getFairness());
+            int overtakes = overtakesOf(pool);
+            expect("overtaken " + overtakes + " times, " + most + " at most", true, overtakes <= most);
+            expect("a negative number", "IllegalArgumentException: maxOvertakes: -1 is negative", ending(() -> pool.setMaxOvertakes(-1)));
+            pool.close();
+        }
+    }
+
+    /** Threads of a fair pool that come one after the other are served in that order. */
+    private static void arrival() throws Exception {
+        GenericObjectPoolConfig<Object> config = new GenericObjectPoolConfig<>();
+        config.setJmxEnabled(false);
+        config.setMaxTotal(1);
+        config.setFairness(true);
+        ZuphinkaPool<Object> pool = new ZuphinkaPool<>(new Plain(), config);
+        Object lent = pool.borrowObject();
+        List<Object> order = Collections.synchronizedList(new ArrayList<>());
+        List<FutureTask<Object>> waiting = new ArrayList<>();
+        for (int number = 0; number < 6; number++) {
+            int own = number;
+            waiting.add(begun(() -> {
+                Object object = pool.borrowObject();
+                order.add(own);
+                pool.returnObject(object);
+                return own;
+            }));
+            while (pool.getNumWaiters() <= number) {
+                Thread.sleep(1);
+            }
+        }
+        pool.returnObject(lent);
+        for (FutureTask<Object> task : waiting) {
+            within(task);
+        }
+        expect("in the order of arrival", List.of(0, 1, 2, 3, 4, 5), List.copyOf(order));
+        pool.close();
+    }
+
+    public static void main(String[] words) throws Exception {
+        expect("the queue", List.of(), Queueing.faults());
+        overtaking();
+        arrival();
+        fullJournal();
+        slowSink();
+        failingSink();
+        printCounts();
+    }
+}

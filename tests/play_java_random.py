@@ -1,0 +1,81 @@
+#!/usr/bin/env python3
+"""Makes random calls of the pool for Java and of Commons Pool 2, by tests/java/Promises.java, and compares what they promise with what they do.
+
+    play_java_random.py LIBRARY
+
+LIBRARY is libzuphinka.a. In each run six threads call one pool with random settings, over a factory that fails at random, and are interrupted at
+random. Each run has a fixed seed, though what happens depends on the threads too. A run of the pool for Java that breaks a promise counts as failed.
+What Commons Pool 2 does is printed and not tested. If there is no JDK or no Commons Pool 2, all of it is left out.
+
+Prints a line for each of the two, what fails, and in the end the line 'N passed, M failed'.
+"""
+
+import pathlib
+import re
+import subprocess
+import sys
+import tempfile
+import zipfile
+
+from playing import play_checks
+
+TOP = pathlib.Path(__file__).resolve().parent.parent
+sys.path.append(str(TOP / "tools"))
+
+import java
+from install import heap_of_kit
+from play_java import COUNT
+
+SOURCES = [TOP / f"tests/java/{name}.java" for name in ("Promises", "EitherPool", "Expectations")]
+# How many runs each pool gets, and for how many milliseconds each run calls.
+RUNS, MILLIS = 150, 120
+# For how many milliseconds a run waits for what may never end: by then the pool for Java has failed, and of Commons Pool that is noted.
+LONGEST = {"zuphinka": 60_000, "commons-pool": 250}
+# A run of all takes longer than that only if it hangs, in seconds.
+LONGEST_IN_ALL = 600
+
+
+def commons_pool_version():
+    """The version of Commons Pool 2."""
+    with zipfile.ZipFile(java.commons_pool()) as packed:
+        texts = [packed.read(name).decode() for name in packed.namelist() if name.endswith("/commons-pool2/pom.properties")]
+    return next((found[1] for text in texts if (found := re.search(r"^version=(.+)$", text, flags=re.MULTILINE))), "of an unknown version")
+
+
+def played(pool, path):
+    """Plays all runs of a pool, and returns how that ended, and what was written."""
+    words = [java.jdk() / "bin/java", "-XX:-UsePerfData", "-cp", path, "Promises", pool, str(RUNS), str(MILLIS), str(LONGEST[pool])]
+    done = subprocess.run(words, stdout=subprocess.PIPE, stderr=subprocess.STDOUT, text=True, timeout=LONGEST_IN_ALL)
+    return done.returncode, done.stdout
+
+
+def checks(library):
+    print(f"commons-pool is version {commons_pool_version()}")
+    with tempfile.TemporaryDirectory() as name:
+        folder = pathlib.Path(name)
+        jar, classes = java.build(library, heap_of_kit(), folder / "out"), folder / "classes"
+        java.compile_classes(SOURCES, classes, jar, java.commons_pool())
+        path = ":".join(map(str, (classes, jar, java.commons_pool())))
+        print(played("commons-pool", path)[1], end="")
+        status, text = played("zuphinka", path)
+        print(text, end="")
+    passed, failed = map(int, COUNT.findall(text)[-1]) if COUNT.search(text) else (0, 1)
+    yield "the status", 0, status
+    yield "runs that broke a promise", 0, failed
+    yield from ((f"run {number}", True, True) for number in range(passed))
+    yield "runs", RUNS, passed + failed
+
+
+def main():
+    if len(sys.argv) != 2:
+        sys.exit(__doc__)
+    try:
+        java.jdk(), java.commons_pool()
+    except java.Missing as missing:
+        print(f"left out: {missing}\n0 passed, 0 failed")
+        return 0
+    return play_checks(checks(pathlib.Path(sys.argv[1])))
+
+
+if __name__ == "__main__":
+    sys.exit(main())
