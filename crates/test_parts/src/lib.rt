@@ -10,3 +10,5 @@ mod journal;
 mod places;
 #[cfg(test)]
 mod settings;
+#[cfg(test)]
+mod waiters;

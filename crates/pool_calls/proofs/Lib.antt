@@ -1,0 +1,5 @@
+pub mod Dropped
+pub mod Found
+pub mod Marked
+pub mod There
+pub mod Orders
