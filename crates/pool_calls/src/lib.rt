@@ -2,11 +2,19 @@
 //! it.
 #![tactic(auto)]
 
+mod action;
+mod borrowing;
 mod line;
 mod place;
+mod plan;
 mod positions;
+mod returning;
 mod stored;
 mod sweeping;
 mod waiters;
 
+pub use action::{Action, End, Event, StepFailure};
+pub use borrowing::{BorrowCall, BorrowState, FirstStep};
+pub use plan::Plan;
+pub use returning::{ReturnCall, ReturnState};
 pub use waiters::Waiters;
