@@ -3,6 +3,8 @@
 #![tactic(auto)]
 
 #[cfg(test)]
+mod calls;
+#[cfg(test)]
 mod checks;
 #[cfg(test)]
 mod journal;
@@ -10,3 +12,5 @@ mod journal;
 mod places;
 #[cfg(test)]
 mod settings;
+#[cfg(test)]
+mod waiters;

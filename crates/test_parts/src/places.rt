@@ -2,6 +2,6 @@
 mod calls;
 mod index;
 mod lives;
-mod numbers;
+pub(crate) mod numbers;
 mod restores;
 mod slots;

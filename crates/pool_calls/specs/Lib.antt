@@ -1,0 +1,7 @@
+pub mod BorrowRules
+pub mod Lines
+pub mod Order
+pub mod Places
+pub mod ReturnRules
+pub mod Turns
+pub mod Waiting

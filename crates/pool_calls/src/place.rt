@@ -1,0 +1,7 @@
+/// The place of a ticket in the order of arrival.
+#[derive(Clone, Copy)]
+pub(crate) struct Place {
+    pub ticket: u64,
+    /// The number of overtakes before it.
+    pub before: u64,
+}

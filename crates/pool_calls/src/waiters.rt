@@ -1,0 +1,248 @@
+ghost use Rattle.std.specs.Prelude.{◌≡◌, ◌≤◌, ◌<◌, ◌+◌, ◌-◌, ◌^◌, ◌++◌, ◌∷◌, [], true, min, if◌then◌else◌, map, length, slice_get, IfOk, IfSome, IfNone, OnOk, OnErr, IsOk};
+ghost use Rattle.std.specs.Option.{option_map};
+ghost use Rattle.std.specs.List.{AllByRecursion};
+ghost use Rattle.pool_journal.specs.Queue.{first_of};
+ghost use Rattle.pool_calls.specs.Waiting as spec;
+ghost use Rattle.pool_calls.specs.Waiting.{is_in, without, signalled_of, newest, overtaken_once, takes_from_waiters, IsByArrival, IsFair, IsSettled, Signals};
+
+use crate::line::Line;
+use crate::place::Place;
+use std::alloc::{AllocError, Global};
+use std::marker::Model;
+
+/// The tickets of the borrows that wait, in the order of arrival.
+///
+/// The first of them are signalled: one for each idle object and each free place. A host wakes the borrows whose
+/// tickets `wake_next` returns. A borrow that is woken looks only if its ticket is still signalled; otherwise it sleeps
+/// on, at its position.
+///
+/// A ticket is found by a binary search, and memory is kept. So each call takes at most logarithmic time, on average
+/// over all calls, and `wait` allocates nothing within the memory that was reserved.
+#[derive(Drop)]
+pub struct Waiters {
+    signalled: Line,
+    asleep: Line,
+    // The number of tickets that were drawn, which is the next one.
+    drawn: u64,
+    overtakes: u64,
+    max_overtakes: u64,
+}
+
+impl Model for Waiters {
+    ghost use Rattle.std.specs.Prelude.{◌++◌, ◌-◌, length, map, min};
+    ghost use Rattle.pool_calls.specs.Waiting.{Queue};
+
+    ghost Value = { Queue };
+
+    ghost use Rattle.pool_calls.specs.Order.{waiter_of, IsQueue};
+
+    ghost view = { λ a. record {
+      waiting = map (waiter_of a.overtakes) (a.signalled.places ++ a.asleep.places);
+      signalled = length a.signalled.places;
+      spare = min a.signalled.capacity a.asleep.capacity - length (a.signalled.places ++ a.asleep.places);
+      drawn = a.drawn;
+      overtakes = a.overtakes;
+      most = a.max_overtakes;
+    } };
+
+    ghost invariant = { λ a. IsQueue a.signalled a.asleep a.drawn a.overtakes a.max_overtakes };
+}
+
+// The first of the places of two lines.
+fn oldest(signalled: &mut Line, asleep: &mut Line) -> Option<Place>
+    ensures first { result ≡ first_of (signalled.old.places ++ asleep.old.places) }
+    ensures signalled { signalled.new ≡ signalled.old }
+    ensures asleep { asleep.new ≡ asleep.old }
+{
+    match signalled.first() {
+        Some(place) => Some(place),
+        None => asleep.first(),
+    }
+}
+
+impl Waiters {
+    /// Returns waiters without a ticket. A ticket is overtaken at most `max_overtakes` times; at 0 never.
+    pub fn new(alloc: Global, max_overtakes: u64) -> Waiters
+        ensures waiting { result.waiting ≡ [] }
+        ensures signalled { result.signalled ≡ 0 }
+        ensures most { result.most ≡ max_overtakes }
+    {
+        Waiters {
+            signalled: Line::new(alloc),
+            asleep: Line::new(alloc),
+            drawn: 0,
+            overtakes: 0,
+            max_overtakes,
+        }
+    }
+
+    /// Returns the number of tickets that wait.
+    pub fn len(&self) -> usize
+        ensures value { result ≡ length self.now.waiting }
+        ensures arrival { IsByArrival self.now.waiting }
+        ensures fair { IsFair self.now }
+        ensures within { self.now.signalled ≤ length self.now.waiting }
+        ensures few { length self.now.waiting + self.now.spare < 2 ^ 63 }
+    {
+        self.signalled.len() + self.asleep.len()
+    }
+
+    /// Reserves memory for `count` more tickets. If there is no memory, nothing changes.
+    ///
+    /// # Errors
+    ///
+    /// The allocation failed.
+    pub fn reserve(&mut self, count: usize) -> Result<(), AllocError>
+        ensures ok { OnOk result (count ≤ self.new.spare) }
+        ensures full { OnErr result (self.old.spare < count) }
+        ensures spare { self.old.spare ≤ self.new.spare }
+        ensures rest { self.new ≡ record self.old { spare = self.new.spare } }
+    {
+        let all = self.len().checked_add(count).ok_or(AllocError)?;
+        self.signalled.reserve(all)?;
+        self.asleep.reserve(all)
+    }
+
+    /// Returns whether a ticket waits and is signalled.
+    pub fn is_signalled(&self, ticket: u64) -> bool
+        ensures { result ≡ is_in ticket (signalled_of self.now) }
+    {
+        self.signalled.contains(ticket)
+    }
+
+    /// Draws a ticket, which waits behind all others, not signalled.
+    ///
+    /// # Errors
+    ///
+    /// There is no memory, or 2^64 - 1 tickets were drawn. Nothing changes.
+    pub fn wait(&mut self) -> Result<u64, AllocError>
+        ensures waits { IfOk result (λ ticket. self.new.waiting
+            ≡ self.old.waiting ++ newest ticket ∷ []) }
+        ensures next { IfOk result (λ ticket. (ticket ≡ self.old.drawn)
+            × (self.new.drawn ≡ self.old.drawn + 1)) }
+        ensures unchanged { OnErr result ((self.new.waiting ≡ self.old.waiting)
+            × (self.new.drawn ≡ self.old.drawn)) }
+        ensures reserved { 1 ≤ self.old.spare → self.old.drawn < 2 ^ 64 - 1 → IsOk result }
+        ensures spare { self.old.spare ≤ self.new.spare + 1 }
+        ensures rest { self.new ≡ record self.old {
+          waiting = self.new.waiting;
+          spare = self.new.spare;
+          drawn = self.new.drawn;
+        } }
+    {
+        let next = self.drawn.checked_add(1).ok_or(AllocError)?;
+        self.reserve(1)?;
+        let ticket = self.drawn;
+        self.asleep.push_back(Place {
+            ticket,
+            before: self.overtakes,
+        });
+        self.drawn = next;
+        Ok(ticket)
+    }
+
+    /// Removes a ticket: its borrow found something, or it waits no longer. Returns whether it waited. If it was
+    /// signalled, `wake_next` signals another one for what it leaves.
+    pub fn leave(&mut self, ticket: u64) -> bool
+        ensures waited { result ≡ is_in ticket self.old.waiting }
+        ensures waiting { self.new.waiting ≡ without ticket self.old.waiting }
+        ensures signalled { self.new.signalled ≡ length (without ticket (signalled_of self.old)) }
+        ensures spare { self.old.spare ≤ self.new.spare }
+        ensures rest { self.new ≡ record self.old {
+          waiting = self.new.waiting;
+          signalled = self.new.signalled;
+          spare = self.new.spare;
+        } }
+    {
+        let was_signalled = self.signalled.remove(ticket);
+        let was_asleep = self.asleep.remove(ticket);
+        was_signalled | was_asleep
+    }
+
+    // The youngest of the signalled tickets sleeps again.
+    fn calm_youngest(&mut self)
+        requires { 0 < self.old.signalled }
+        ensures { self.new ≡ record self.old { signalled = self.old.signalled - 1 } }
+    {
+        match self.signalled.pop_back() {
+            Some(place) => self.asleep.push_front(place),
+            None => unreachable!(),
+        }
+    }
+
+    // Only as many tickets stay signalled as there are objects and places.
+    fn calm(&mut self, available: u64)
+        ensures { self.new ≡ record self.old { signalled = min available self.old.signalled } }
+    {
+        while self.signalled.len() as u64 > available {
+            self.calm_youngest();
+        }
+    }
+
+    // Signals the oldest ticket that sleeps.
+    fn signal_oldest(&mut self) -> Option<u64>
+        ensures oldest { result ≡ option_map (λ w. w.ticket)
+            (slice_get self.old.waiting self.old.signalled) }
+        ensures some { IfSome result (λ _. self.new
+            ≡ record self.old { signalled = self.old.signalled + 1 }) }
+        ensures none { IfNone result ((self.new ≡ self.old)
+            × (self.old.signalled ≡ length self.old.waiting)) }
+    {
+        let place = self.asleep.pop_front()?;
+        self.signalled.push_back(place);
+        Some(place.ticket)
+    }
+
+    /// Returns the next ticket to wake, while `available` idle objects and free places are there: the oldest that
+    /// sleeps, which is signalled from now on. Call it until it returns `None`, after each step of the pool and each
+    /// change of the waiters. Then as many tickets are signalled as objects and places are available, or all that wait.
+    ///
+    /// If fewer are available than before, the youngest of the signalled tickets are signalled no longer. Of a pool
+    /// that is closed pass 2^64 - 1: all tickets are signalled.
+    pub fn wake_next(&mut self, available: u64) -> Option<u64>
+        ensures signals { IfSome result (Signals available self.old self.new) }
+        ensures settled { IfNone result (IsSettled available self.new) }
+        ensures rest { self.new ≡ record self.old { signalled = self.new.signalled } }
+    {
+        self.calm(available);
+        if self.signalled.len() as u64 >= available {
+            return None;
+        }
+        self.signal_oldest()
+    }
+
+    /// Returns whether a borrow without a ticket may look for an object, while `available` idle objects and free places
+    /// are there: if more are there than tickets wait, or the oldest ticket was overtaken fewer than `max_overtakes`
+    /// times. Otherwise it waits behind the others.
+    pub fn may_lend(&mut self, available: u64) -> bool
+        ensures value { result ≡ spec.may_lend available self.old }
+        ensures kept { self.new ≡ self.old }
+    {
+        if (self.len() as u64) < available {
+            return true;
+        }
+        match oldest(&mut self.signalled, &mut self.asleep) {
+            None => true,
+            Some(place) => {
+                self.overtakes - place.before < self.max_overtakes && self.overtakes < u64::MAX
+            }
+        }
+    }
+
+    /// Notes that a borrow without a ticket took one of `available` idle objects and free places. It overtook all
+    /// tickets that wait, unless more were there than tickets wait.
+    pub fn note_lent(&mut self, available: u64)
+        requires { spec.may_lend available self.old ≡ true }
+        ensures waiting { self.new.waiting ≡ (if takes_from_waiters available self.old
+            then map overtaken_once self.old.waiting else self.old.waiting) }
+        ensures rest { self.new ≡ record self.old {
+          waiting = self.new.waiting;
+          overtakes = self.new.overtakes;
+        } }
+    {
+        let count = self.len() as u64;
+        if count > 0 && count >= available {
+            self.overtakes += 1;
+        }
+    }
+}

@@ -1,0 +1,175 @@
+// The tickets of the borrows that wait: each call once, and random calls beside a plain list.
+use crate::checks::expect_equal;
+use crate::places::numbers::next_number;
+use pool_calls::Waiters;
+use std::alloc::Global;
+use std::process::Abort;
+
+fn wait(rt: &impl Abort, waiters: &mut Waiters) -> u64 {
+    waiters.wait().expect(rt, "memory")
+}
+
+fn wake(waiters: &mut Waiters, available: u64) -> Option<u64> {
+    waiters.wake_next(available)
+}
+
+fn leave(waiters: &mut Waiters, ticket: u64) -> bool {
+    waiters.leave(ticket)
+}
+
+fn are_signalled(waiters: &Waiters) -> [bool; 3] {
+    [0, 1, 2].map(|ticket| waiters.is_signalled(ticket))
+}
+
+// Whether a newcomer lends one of the available objects.
+fn lend(waiters: &mut Waiters, available: u64) -> bool {
+    if !waiters.may_lend(available) {
+        return false;
+    }
+    waiters.note_lent(available);
+    true
+}
+
+// Three tickets, each of which is overtaken once at most.
+fn three(rt: &impl Abort, alloc: Global) -> Waiters {
+    let mut waiters = Waiters::new(alloc, 1);
+    waiters.reserve(3).expect(rt, "memory");
+    let tickets = [
+        wait(rt, &mut waiters),
+        wait(rt, &mut waiters),
+        wait(rt, &mut waiters),
+    ];
+    expect_equal(rt, tickets, [0, 1, 2]);
+    waiters
+}
+
+#[test]
+fn the_oldest_is_woken_for_each_object(rt: HostRuntime) {
+    let mut waiters = three(&rt, rt.alloc());
+    let none = wake(&mut waiters, 0);
+    let one = [wake(&mut waiters, 1), wake(&mut waiters, 1)];
+    let two = [wake(&mut waiters, 2), wake(&mut waiters, 2)];
+    expect_equal(&rt, [none, one[0], one[1]], [None, Some(0), None]);
+    expect_equal(&rt, two, [Some(1), None]);
+    expect_equal(&rt, are_signalled(&waiters), [true, true, false]);
+    expect_equal(&rt, waiters.len(), 3);
+}
+
+#[test]
+fn one_that_leaves_hands_its_signal_on(rt: HostRuntime) {
+    let mut waiters = three(&rt, rt.alloc());
+    expect_equal(&rt, wake(&mut waiters, 1), Some(0));
+    let left = [leave(&mut waiters, 0), leave(&mut waiters, 0)];
+    expect_equal(&rt, left, [true, false]);
+    expect_equal(&rt, wake(&mut waiters, 1), Some(1));
+    expect_equal(&rt, leave(&mut waiters, 2), true);
+    expect_equal(&rt, wake(&mut waiters, 2), None);
+    expect_equal(&rt, waiters.len(), 1);
+}
+
+#[test]
+fn all_are_woken_at_the_end(rt: HostRuntime) {
+    let mut waiters = three(&rt, rt.alloc());
+    let woken = [
+        wake(&mut waiters, u64::MAX),
+        wake(&mut waiters, u64::MAX),
+        wake(&mut waiters, u64::MAX),
+        wake(&mut waiters, u64::MAX),
+    ];
+    expect_equal(&rt, woken, [Some(0), Some(1), Some(2), None]);
+}
+
+#[test]
+fn newcomers_overtake_each_ticket_once(rt: HostRuntime) {
+    let mut waiters = three(&rt, rt.alloc());
+    expect_equal(&rt, wake(&mut waiters, 1), Some(0));
+    expect_equal(&rt, lend(&mut waiters, 4), true);
+    expect_equal(&rt, lend(&mut waiters, 1), true);
+    expect_equal(&rt, wake(&mut waiters, 0), None);
+    expect_equal(&rt, are_signalled(&waiters), [false; 3]);
+    let later = wait(&rt, &mut waiters);
+    expect_equal(&rt, wake(&mut waiters, 1), Some(0));
+    expect_equal(&rt, lend(&mut waiters, 1), false);
+    let left = [0, 1, 2].map(|ticket| leave(&mut waiters, ticket));
+    expect_equal(&rt, left, [true; 3]);
+    expect_equal(&rt, lend(&mut waiters, 1), true);
+    expect_equal(&rt, lend(&mut waiters, 1), false);
+    expect_equal(&rt, leave(&mut waiters, later), true);
+    expect_equal(&rt, lend(&mut waiters, 1), true);
+}
+
+// A ticket as a plain list has it.
+#[derive(Clone, Copy)]
+struct Plain {
+    ticket: u64,
+    overtaken: u64,
+}
+
+const MOST: u64 = 3;
+
+fn plain_leave(plain: &mut Vec<Plain>, ticket: u64) -> bool {
+    for position in 0..plain.len() {
+        if plain[position].ticket == ticket {
+            let _ = plain.remove(position);
+            return true;
+        }
+    }
+    false
+}
+
+fn plain_lend(plain: &mut Vec<Plain>, available: u64) -> bool {
+    let count = plain.len() as u64;
+    if count < available {
+        return true;
+    }
+    if count > 0 && plain[0].overtaken >= MOST {
+        return false;
+    }
+    for waiter in plain.iter_mut() {
+        waiter.overtaken = waiter.overtaken.saturating_add(1);
+    }
+    true
+}
+
+// Wakes all that are to be woken, and compares who is signalled.
+fn settle(rt: &impl Abort, waiters: &mut Waiters, plain: &[Plain], available: u64) {
+    for _ in 0..plain.len() {
+        let _ = waiters.wake_next(available);
+    }
+    expect_equal(rt, waiters.wake_next(available), None);
+    expect_equal(rt, waiters.len(), plain.len());
+    for (rank, waiter) in plain.iter().enumerate() {
+        let is_signalled = waiters.is_signalled(waiter.ticket);
+        expect_equal(rt, is_signalled, (rank as u64) < available);
+    }
+}
+
+// One random call.
+fn play(rt: &impl Abort, waiters: &mut Waiters, plain: &mut Vec<Plain>, number: u64, kind: u64) {
+    match kind % 8 {
+        0..4 => {
+            let ticket = wait(rt, waiters);
+            let waiter = Plain {
+                ticket,
+                overtaken: 0,
+            };
+            plain.push(waiter).expect(rt, "memory");
+        }
+        4 => expect_equal(rt, lend(waiters, number % 4), plain_lend(plain, number % 4)),
+        _ => expect_equal(rt, leave(waiters, number), plain_leave(plain, number)),
+    }
+}
+
+#[test]
+fn as_a_plain_list_of_tickets(rt: HostRuntime) {
+    let mut waiters = Waiters::new(rt.alloc(), MOST);
+    let mut plain = Vec::new(rt.alloc());
+    let mut state = 1;
+    for round in 0..600 {
+        let number = next_number(&mut state) % (round + 1);
+        let kind = next_number(&mut state);
+        play(&rt, &mut waiters, &mut plain, number, kind);
+        settle(&rt, &mut waiters, &plain, next_number(&mut state) % 6);
+    }
+    expect_equal(&rt, waiters.len() > 20, true);
+}
