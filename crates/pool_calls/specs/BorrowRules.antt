@@ -310,10 +310,13 @@ fits cancelled s events.Failed = has_work s
 fits cancelled s events.Woken = is_waiting s
 fits cancelled s events.Cancelled = is_going cancelled s
 
--- a full journal ends no call: the host is asked to make room, and the step is asked for again
+-- a full journal ends no call: the host is asked to make room, and the step is asked for again. The call ends if there is no
+-- memory for a step, or the journal could not be cut
 abbrev pub Pauses : Event → BorrowState → Type 0
 Pauses (events.NotTaken failures.JournalFull) after = lacks_room after ≡ true
+Pauses (events.NotTaken failures.OutOfMemory) after = after ≡ states.Ended (ends.NotTaken failures.OutOfMemory)
 Pauses events.RoomMade after = has_first_step after ≡ true
+Pauses events.NoRoom after = after ≡ states.Ended (ends.NotTaken failures.JournalFull)
 Pauses _ after = Unit {0}
 
 -- ---- borrows that are given up

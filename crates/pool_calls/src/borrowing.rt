@@ -323,6 +323,7 @@ impl BorrowCall {
         ensures goes { IfSome result (GoesOn self.now.plan self.now.began events.NoRoom
             self.now.state) }
         ensures works { IfSome result (λ s. work_left self.now.plan s ≡ []) }
+        ensures room { IfSome result (spec.Pauses events.NoRoom) }
         ensures fits { is_some result ≡ lacks_room self.now.state }
         ensures ends { self.now.cancelled ≡ true → IfSome result (λ s. events_left s
             < events_left self.now.state) }

@@ -192,6 +192,7 @@ impl ReturnCall {
         ensures goes { IfSome result (GoesOn self.now.plan self.now.id events.NoRoom
             self.now.state) }
         ensures works { IfSome result (λ s. work_left self.now.plan self.now.id s ≡ []) }
+        ensures room { IfSome result (spec.Pauses events.NoRoom) }
         ensures fits { is_some result ≡ lacks_room self.now.state }
     {
         match self.state {
