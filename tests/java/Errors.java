@@ -4,7 +4,6 @@ import java.io.StringWriter;
 import java.time.Duration;
 import java.util.ArrayList;
 import java.util.List;
-import org.apache.commons.pool2.BasePooledObjectFactory;
 import org.apache.commons.pool2.DestroyMode;
 import org.apache.commons.pool2.PooledObject;
 import org.apache.commons.pool2.impl.AbandonedConfig;
@@ -21,19 +20,6 @@ public final class Errors extends Expectations {
     private static final int CALLS = 400;
 
     private Errors() {}
-
-    /** Makes plain objects. */
-    private static class Plain extends BasePooledObjectFactory<Object> {
-        @Override
-        public Object create() {
-            return new Object();
-        }
-
-        @Override
-        public PooledObject<Object> wrap(Object object) {
-            return new DefaultPooledObject<>(object);
-        }
-    }
 
     private static GenericObjectPoolConfig<Object> config(int maxTotal) {
         GenericObjectPoolConfig<Object> config = new GenericObjectPoolConfig<>();

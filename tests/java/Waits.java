@@ -8,10 +8,7 @@ import java.util.concurrent.CountDownLatch;
 import java.util.concurrent.FutureTask;
 import java.util.concurrent.atomic.AtomicBoolean;
 import java.util.concurrent.atomic.AtomicInteger;
-import org.apache.commons.pool2.BasePooledObjectFactory;
-import org.apache.commons.pool2.PooledObject;
 import org.apache.commons.pool2.impl.AbandonedConfig;
-import org.apache.commons.pool2.impl.DefaultPooledObject;
 import org.apache.commons.pool2.impl.GenericObjectPoolConfig;
 import zuphinka.Journal;
 import zuphinka.Queueing;
@@ -25,19 +22,6 @@ public final class Waits extends Expectations {
     private static final int ROUNDS = 50;
 
     private Waits() {}
-
-    /** Makes plain objects. */
-    private static final class Plain extends BasePooledObjectFactory<Object> {
-        @Override
-        public Object create() {
-            return new Object();
-        }
-
-        @Override
-        public PooledObject<Object> wrap(Object object) {
-            return new DefaultPooledObject<>(object);
-        }
-    }
 
     private static ZuphinkaPool<Object> pool(int maxTotal, Journal journal) {
         GenericObjectPoolConfig<Object> config = new GenericObjectPoolConfig<>();
