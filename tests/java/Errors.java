@@ -4,6 +4,9 @@ import java.io.StringWriter;
 import java.time.Duration;
 import java.util.ArrayList;
 import java.util.List;
+import java.util.concurrent.BlockingQueue;
+import java.util.concurrent.LinkedBlockingQueue;
+import java.util.concurrent.atomic.AtomicInteger;
 import org.apache.commons.pool2.DestroyMode;
 import org.apache.commons.pool2.PooledObject;
 import org.apache.commons.pool2.impl.AbandonedConfig;
@@ -349,6 +352,53 @@ public final class Errors extends Expectations {
         expect("its thread has ended", true, isOver);
     }
 
+    /** Cannot make the first object, for an error that is no exception. */
+    private static final class LinkedLate extends Plain {
+        private final AtomicInteger made = new AtomicInteger();
+
+        @Override
+        public Object create() {
+            if (made.getAndIncrement() == 0) {
+                throw new LinkageError("make");
+            }
+            return super.create();
+        }
+    }
+
+    /** Keeps what the maintenance thread reports. */
+    private static final class Maintained extends ZuphinkaPool<Object> {
+        private final BlockingQueue<Exception> told = new LinkedBlockingQueue<>();
+
+        Maintained(GenericObjectPoolConfig<Object> config) {
+            super(new LinkedLate(), config);
+        }
+
+        @Override
+        protected void swallowed(Exception failure) {
+            told.add(failure);
+        }
+    }
+
+    /** An error of the factory ends a round of the maintenance thread, and not the thread. */
+    private static void maintained() throws Exception {
+        GenericObjectPoolConfig<Object> config = config(1);
+        config.setMinIdle(1);
+        config.setTimeBetweenEvictionRuns(Duration.ofMillis(1));
+        Maintained pool = new Maintained(config);
+        expect("an error of a round is told", "IllegalStateException: java.lang.LinkageError: make", within(begun(() -> said(pool.told.take()))));
+        expect("the next round makes the object", 1, within(begun(() -> {
+            while (pool.getNumIdle() == 0) {
+                Thread.sleep(1);
+            }
+            return pool.getNumIdle();
+        })));
+        pool.close();
+    }
+
+    private static String said(Throwable failure) {
+        return failure.getClass().getSimpleName() + ": " + failure.getMessage();
+    }
+
     public static void main(String[] words) throws Exception {
         fullStacks();
         sinks();
@@ -359,6 +409,7 @@ public final class Errors extends Expectations {
             many(error);
         }
         closes();
+        maintained();
         printCounts();
     }
 }

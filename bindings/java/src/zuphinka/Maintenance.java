@@ -45,7 +45,7 @@ final class Maintenance implements Runnable {
         }
     }
 
-    /** Maintains the pool, and returns whether it is still open. What the factory throws is passed to the pool. */
+    /** Maintains the pool, and returns whether it is still open. What the factory throws, an error too, is passed to the pool and ends the round alone. */
     private boolean maintainOnce() {
         ZuphinkaPool<?> kept = pool.get();
         if (kept == null || kept.isClosed()) {
@@ -53,12 +53,10 @@ final class Maintenance implements Runnable {
         }
         try {
             kept.maintain();
-        } catch (Exception e) {
+        } catch (Exception | Error e) {
             if (!kept.isClosed()) {
                 kept.swallow(e);
             }
-        } catch (OutOfMemoryError e) {
-            kept.swallow(new IllegalStateException(e));
         }
         return true;
     }
