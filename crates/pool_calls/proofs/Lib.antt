@@ -1,8 +1,11 @@
 pub mod BorrowSteps
+pub mod ClearSteps
 pub mod Dropped
 pub mod Found
+pub mod InvalidateSteps
 pub mod Marked
 pub mod Orders
 pub mod ReturnSteps
 pub mod Rules
 pub mod There
+pub mod TouchSteps

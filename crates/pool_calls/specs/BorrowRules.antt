@@ -131,12 +131,18 @@ HoldsNothing (removes n) = Unit {0}
 HoldsNothing asks = Unit {0}
 HoldsNothing _ = ⊥
 
+-- the pool said that the time is over, or it was over while the borrow waited
+abbrev pub IsTimedOut : Stage → Type 0
+IsTimedOut asks = Unit {0}
+IsTimedOut (refused answers.TimedOut) = Unit {0}
+IsTimedOut _ = ⊥
+
 -- the possible ends at a stage: none of them leaves an object in progress
 abbrev pub BorrowEnds : Stage → End → Type 0
 BorrowEnds stage (ends.Lent i) = stage ≡ lent i
 BorrowEnds stage ends.Closed = stage ≡ refused (answers.Refused causes.Closed)
 BorrowEnds stage ends.Exhausted = stage ≡ refused answers.Exhausted
-BorrowEnds stage ends.TimedOut = stage ≡ refused answers.TimedOut
+BorrowEnds stage ends.TimedOut = IsTimedOut stage
 BorrowEnds stage ends.MakeFailed = stage ≡ failed outcomes.MakeFailed
 BorrowEnds stage ends.CreateTestFailed = stage ≡ failed outcomes.CreateTestFailed
 BorrowEnds stage ends.ActivateFailed = stage ≡ failed outcomes.ActivateFailed
@@ -308,15 +314,17 @@ fits cancelled s events.NoRoom = lacks_room s
 fits cancelled s events.Succeeded = has_work s
 fits cancelled s events.Failed = has_work s
 fits cancelled s events.Woken = is_waiting s
+fits cancelled s events.TimeOver = is_waiting s
 fits cancelled s events.Cancelled = is_going cancelled s
 
 -- a full journal ends no call: the host is asked to make room, and the step is asked for again. The call ends if there is no
--- memory for a step, or the journal could not be cut
+-- memory for a step, or the journal could not be cut. A wait whose time is over has timed out
 abbrev pub Pauses : Event → BorrowState → Type 0
 Pauses (events.NotTaken failures.JournalFull) after = lacks_room after ≡ true
 Pauses (events.NotTaken failures.OutOfMemory) after = after ≡ states.Ended (ends.NotTaken failures.OutOfMemory)
 Pauses events.RoomMade after = has_first_step after ≡ true
 Pauses events.NoRoom after = after ≡ states.Ended (ends.NotTaken failures.JournalFull)
+Pauses events.TimeOver after = after ≡ states.Ended ends.TimedOut
 Pauses _ after = Unit {0}
 
 -- ---- borrows that are given up

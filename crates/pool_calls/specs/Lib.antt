@@ -1,7 +1,11 @@
 pub mod BorrowRules
+pub mod ClearRules
+pub mod InvalidateRules
 pub mod Lines
 pub mod Order
 pub mod Places
+pub mod Refusals
 pub mod ReturnRules
+pub mod TouchRules
 pub mod Turns
 pub mod Waiting

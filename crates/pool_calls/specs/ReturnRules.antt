@@ -215,6 +215,7 @@ fits s events.NoRoom = lacks_room s
 fits s events.Succeeded = has_work s
 fits s events.Failed = has_work s
 fits s events.Woken = false
+fits s events.TimeOver = false
 fits s events.Cancelled = is_going s
 
 -- a full journal ends no call: the host is asked to make room, and the step is asked for again. The call ends if there is no

@@ -40,6 +40,8 @@ pub enum Event {
     Failed,
     /// The sleep is over, and the borrow may look.
     Woken,
+    /// The time for the wait is over, and what is there is for others.
+    TimeOver,
     /// The host gives the call up, and has stopped what was under way.
     Cancelled,
 }
@@ -70,6 +72,8 @@ pub enum End {
     ActivateFailed,
     /// A new object failed the test of a borrow.
     BorrowTestFailed,
+    /// A new object was not passivated.
+    PassivateFailed,
     /// The object was returned, and is idle.
     Parked,
     /// The object was returned, and destroyed.
@@ -78,6 +82,12 @@ pub enum End {
     Gone,
     /// The object is not lent.
     NotLent,
+    /// The use of the object is noted.
+    Noted,
+    /// No place is free for one more object.
+    NoPlace,
+    /// The call did all that it was to do. Its counts are with the call.
+    Complete,
     /// A step was not taken, and the call holds nothing.
     NotTaken(StepFailure),
     /// The host gave the call up, and it holds nothing.

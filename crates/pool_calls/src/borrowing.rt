@@ -1,6 +1,8 @@
 ghost use Rattle.std.specs.Prelude.{◌≡◌, ◌<◌, ◌≤◌, ℕ, Bool, true, false, List, [], IfSome, IfNone};
 ghost use Rattle.std.specs.Option.{is_some};
 ghost use Rattle.pool_calls.specs.declared.action.Event.TheVariants as events;
+ghost use Rattle.pool_calls.specs.declared.action.End.TheVariants as ends;
+ghost use Rattle.pool_calls.specs.declared.borrowing.BorrowState.TheVariants as states;
 ghost use Rattle.pool_calls.specs.BorrowRules as spec;
 ghost use Rattle.pool_calls.specs.BorrowRules.{Stage, IsAt, GoesOn, ComesOn, HasCome, IsRight, IsPossibleOutcome, IsFailure, BorrowEnds, Works, first_stage, readies, failed, step_at, work_left, to_hold, to_ready, to_make, work_due, fits, has_step, has_first_step, lacks_room, has_work, is_waiting, is_going, events_left};
 ghost use Rattle.pool_calls.specs.Turns.{but_first, step_of, IsFirst};
@@ -403,6 +405,19 @@ impl BorrowCall {
         }
     }
 
+    // The state after the time for the wait is over; `None` if it does not wait.
+    fn after_time(&self) -> Option<BorrowState>
+        ensures goes { IfSome result (GoesOn self.now.plan self.now.began events.TimeOver
+            self.now.state) }
+        ensures over { IfSome result (λ s. s ≡ states.Ended ends.TimedOut) }
+        ensures fits { is_some result ≡ is_waiting self.now.state }
+    {
+        match self.state {
+            BorrowState::Waits => Some(BorrowState::Ended(End::TimedOut)),
+            _ => None,
+        }
+    }
+
     // The state of a borrow that is given up; `None` if it has ended or was given up before.
     fn after_cancelling(&self) -> Option<BorrowState>
         ensures goes { IfSome result (GoesOn self.now.plan self.now.began events.Cancelled
@@ -446,6 +461,7 @@ impl BorrowCall {
             Event::Succeeded => self.after_success(),
             Event::Failed => self.after_failure(),
             Event::Woken => self.after_waking(),
+            Event::TimeOver => self.after_time(),
             Event::Cancelled => self.after_cancelling(),
         }
     }

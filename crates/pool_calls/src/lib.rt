@@ -4,17 +4,24 @@
 
 mod action;
 mod borrowing;
+mod clearing;
+mod invalidating;
 mod line;
 mod place;
 mod plan;
 mod positions;
+mod refusals;
 mod returning;
 mod stored;
 mod sweeping;
+mod touching;
 mod waiters;
 
 pub use action::{Action, End, Event, StepFailure};
 pub use borrowing::{BorrowCall, BorrowState, FirstStep};
+pub use clearing::{ClearCall, ClearState};
+pub use invalidating::{InvalidateCall, InvalidateState};
 pub use plan::Plan;
 pub use returning::{ReturnCall, ReturnState};
+pub use touching::{TouchCall, TouchState};
 pub use waiters::Waiters;
