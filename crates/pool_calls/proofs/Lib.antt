@@ -1,5 +1,7 @@
+pub mod AddSteps
 pub mod BorrowSteps
 pub mod Dropped
+pub mod FillSteps
 pub mod Found
 pub mod Marked
 pub mod Orders

@@ -1,4 +1,6 @@
+pub mod AddRules
 pub mod BorrowRules
+pub mod FillRules
 pub mod Lines
 pub mod Order
 pub mod Places

@@ -3,7 +3,9 @@
 #![tactic(auto)]
 
 mod action;
+mod adding;
 mod borrowing;
+mod filling;
 mod line;
 mod place;
 mod plan;
@@ -14,7 +16,9 @@ mod sweeping;
 mod waiters;
 
 pub use action::{Action, End, Event, StepFailure};
+pub use adding::{AddCall, AddState};
 pub use borrowing::{BorrowCall, BorrowState, FirstStep};
+pub use filling::{FillCall, FillState};
 pub use plan::Plan;
 pub use returning::{ReturnCall, ReturnState};
 pub use waiters::Waiters;
