@@ -1,6 +1,8 @@
+pub mod AddSteps
 pub mod BorrowSteps
 pub mod ClearSteps
 pub mod Dropped
+pub mod FillSteps
 pub mod Found
 pub mod InvalidateSteps
 pub mod Marked

@@ -1,5 +1,7 @@
+pub mod AddRules
 pub mod BorrowRules
 pub mod ClearRules
+pub mod FillRules
 pub mod InvalidateRules
 pub mod Lines
 pub mod Order

@@ -3,8 +3,10 @@
 #![tactic(auto)]
 
 mod action;
+mod adding;
 mod borrowing;
 mod clearing;
+mod filling;
 mod invalidating;
 mod line;
 mod place;
@@ -18,8 +20,10 @@ mod touching;
 mod waiters;
 
 pub use action::{Action, End, Event, StepFailure};
+pub use adding::{AddCall, AddState};
 pub use borrowing::{BorrowCall, BorrowState, FirstStep};
 pub use clearing::{ClearCall, ClearState};
+pub use filling::{FillCall, FillState};
 pub use invalidating::{InvalidateCall, InvalidateState};
 pub use plan::Plan;
 pub use returning::{ReturnCall, ReturnState};
