@@ -1,8 +1,10 @@
 pub mod BorrowSteps
 pub mod Dropped
+pub mod EvictSteps
 pub mod Found
 pub mod Marked
 pub mod Orders
+pub mod ReclaimSteps
 pub mod ReturnSteps
 pub mod Rules
 pub mod There

@@ -1,7 +1,9 @@
 pub mod BorrowRules
+pub mod EvictRules
 pub mod Lines
 pub mod Order
 pub mod Places
+pub mod ReclaimRules
 pub mod ReturnRules
 pub mod Turns
 pub mod Waiting
