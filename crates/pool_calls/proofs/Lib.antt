@@ -2,11 +2,13 @@ pub mod AddSteps
 pub mod BorrowSteps
 pub mod ClearSteps
 pub mod Dropped
+pub mod EvictSteps
 pub mod FillSteps
 pub mod Found
 pub mod InvalidateSteps
 pub mod Marked
 pub mod Orders
+pub mod ReclaimSteps
 pub mod ReturnSteps
 pub mod Rules
 pub mod There

@@ -1,11 +1,13 @@
 pub mod AddRules
 pub mod BorrowRules
 pub mod ClearRules
+pub mod EvictRules
 pub mod FillRules
 pub mod InvalidateRules
 pub mod Lines
 pub mod Order
 pub mod Places
+pub mod ReclaimRules
 pub mod Refusals
 pub mod ReturnRules
 pub mod TouchRules
