@@ -277,7 +277,7 @@ impl ReturnCall {
             Event::NoRoom => self.after_no_room(),
             Event::Succeeded => self.after_success(),
             Event::Failed => self.after_failure(),
-            Event::Woken | Event::TimeOver => None,
+            Event::Queued | Event::Woken | Event::TimeOver => None,
             Event::Cancelled => self.after_cancelling(),
         }
     }
