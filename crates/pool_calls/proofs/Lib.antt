@@ -1,7 +1,9 @@
 pub mod BorrowSteps
 pub mod Dropped
+pub mod Fitting
 pub mod Found
 pub mod Marked
+pub mod OperationSteps
 pub mod Orders
 pub mod ReturnSteps
 pub mod Rules

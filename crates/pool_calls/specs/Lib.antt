@@ -1,5 +1,6 @@
 pub mod BorrowRules
 pub mod Lines
+pub mod Operations
 pub mod Order
 pub mod Places
 pub mod ReturnRules

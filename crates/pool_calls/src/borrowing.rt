@@ -237,6 +237,13 @@ impl BorrowCall {
         }
     }
 
+    /// Returns the time at which the borrow began, in milliseconds.
+    pub fn began(&self) -> u64
+        ensures { result ≡ self.now.began }
+    {
+        self.began
+    }
+
     /// Returns what the host does next.
     pub fn action(&self) -> Action
         ensures right { (stage : Stage) → IsAt self.now.plan self.now.state stage

@@ -5,6 +5,7 @@
 mod action;
 mod borrowing;
 mod line;
+mod operation;
 mod place;
 mod plan;
 mod positions;
@@ -15,6 +16,7 @@ mod waiters;
 
 pub use action::{Action, End, Event, StepFailure};
 pub use borrowing::{BorrowCall, BorrowState, FirstStep};
+pub use operation::Operation;
 pub use plan::Plan;
 pub use returning::{ReturnCall, ReturnState};
 pub use waiters::Waiters;

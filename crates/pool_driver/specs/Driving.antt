@@ -1,0 +1,87 @@
+-- The pool that a host drives, and the steps of its calls.
+use Rattle.std.specs.Prelude.{◌≡◌, ℕ, ◌+◌, ◌-◌, ◌^◌, if◌then◌else◌, Bool, true, false, List, [], ◌∷◌, ◌++◌, map, Option, Some, None, unwrap_or, ℤ, pos, negsuc}
+use Rattle.pool_journal.specs.declared.answer.Answer.{Answer}
+use Rattle.pool_journal.specs.declared.answer.Answer.TheVariants as answers
+use Rattle.pool_journal.specs.declared.input.Input.{Input}
+use Rattle.pool_journal.specs.declared.entry.Entry.{Entry}
+use Rattle.pool_journal.specs.Base.{empty_base, closed_from}
+use Rattle.pool_journal.specs.Carrying.{carries}
+use Rattle.pool_settings.specs.declared.settings.Settings.{Settings}
+use Rattle.pool_stats.specs.Counts.{counts_from}
+use Rattle.pool_core.specs.Core.{Answered}
+use Rattle.pool_core.specs.Legal.{entry_of}
+use Rattle.pool_core.specs.Pool.{CoreModel}
+use Rattle.pool_calls.specs.Operations.{HasCome}
+use Rattle.pool_calls.specs.Turns.{Turn}
+use Rattle.pool_calls.specs.Waiting.{Queue}
+use Rattle.pool_driver.specs.declared.call.Call.{Call}
+use Rattle.pool_driver.specs.declared.report.Report.{Report}
+use Rattle.pool_driver.specs.declared.report.Report.TheVariants as reports
+use Rattle.pool_driver.specs.declared.waiting.Waking.{Waking}
+use Rattle.pool_driver.specs.declared.waiting.Waking.TheVariants as wakings
+
+-- the model of a pool with the calls that wait for it
+pub record DrivenModel : Type 0 where
+  pub core : CoreModel ℕ
+  pub queue : Queue
+
+-- the pool is new
+pub record Opened (s : Settings) (most : ℕ) (d : DrivenModel) : Type 0 where
+  pub settings : d.core.settings ≡ s
+  pub base : d.core.base ≡ empty_base
+  pub journal : d.core.journal ≡ []
+  pub places : d.core.places ≡ []
+  pub waiting : d.queue.waiting ≡ []
+  pub signalled : d.queue.signalled ≡ 0
+  pub most_overtakes : d.queue.most ≡ most
+
+-- ---- steps
+-- the token that is handed in with an input
+abbrev pub handed : Input → ℕ → Option ℕ
+handed input token = if carries input then Some token else None
+
+-- the entries of turns
+abbrev pub entries_of : ℕ → ℕ → List Turn → List Entry
+entries_of caller at turns = map (λ t. entry_of caller at t.input t.answer) turns
+
+-- the pool takes these steps, one after the other. The token of the call is handed in with an input that carries one; a token
+-- that the pool hands out is the call's from then on
+abbrev pub Runs : ℕ → ℕ → List Turn → CoreModel ℕ → ℕ → CoreModel ℕ → ℕ → Type 0
+Runs caller at [] old token new after = (new ≡ old) × (after ≡ token)
+Runs caller at (t ∷ ts) old token new after =
+    (mid : CoreModel ℕ) × (out : Option ℕ) × Answered caller at t.input (handed t.input token) old mid t.answer out × Runs caller at ts mid (unwrap_or out token) new after
+
+-- the pool takes steps that a call asks for: the journal has one entry more for each, and the call has come on by them
+pub record Advances (caller at : ℕ) (old new : CoreModel ℕ) (before after : Call) : Type 0 where
+  pub turns : List Turn
+  pub runs : Runs caller at turns old before.token new after.token
+  pub appended : new.journal ≡ old.journal ++ entries_of caller at turns
+  pub comes : (earlier : List Turn) → HasCome before.operation earlier → HasCome after.operation (earlier ++ turns)
+
+-- the call, with the token that a report tells
+abbrev pub told : Report → Call → Call
+told (reports.Made t) c = record c { token = t }
+told _ c = c
+
+-- the call took no step
+pub record Accepts (report : Report) (before after : Call) : Type 0 where
+  pub token : after.token ≡ (told report before).token
+  pub comes : (turns : List Turn) → HasCome before.operation turns → HasCome after.operation turns
+
+-- ---- waits
+abbrev pub less_used : ℤ → ℕ → ℕ
+less_used (pos most) used = most - used
+less_used (negsuc n) used = 2 ^ 64 - 1
+
+-- the number of idle objects and free places; 2^64 - 1 if there is no limit, or if the pool is closed
+abbrev pub available_in : CoreModel ℕ → ℕ
+available_in c =
+    if closed_from c.base c.journal then 2 ^ 64 - 1
+    else less_used c.settings.max_total ((counts_from c.base c.journal).lent + (counts_from c.base c.journal).reserved)
+
+-- what a borrow that sleeps does when it wakes up
+abbrev pub waking_of : Bool → Bool → Answer → Waking
+waking_of signalled over answers.Wait = wakings.SleepsOn
+waking_of signalled over (answers.Take i) = if signalled then wakings.Asks else (if over then wakings.TimesOut else wakings.SleepsOn)
+waking_of signalled over (answers.Make i) = if signalled then wakings.Asks else (if over then wakings.TimesOut else wakings.SleepsOn)
+waking_of signalled over _ = wakings.Asks
