@@ -3,6 +3,7 @@ use Rattle.std.specs.Prelude.{◌≡◌, ℕ, Bool, List, Option, Some, None}
 use Rattle.pool_journal.specs.declared.input.Input.{Input}
 use Rattle.pool_calls.specs.declared.action.Action.{Action}
 use Rattle.pool_calls.specs.declared.action.Event.{Event}
+use Rattle.pool_calls.specs.declared.plan.Plan.{Plan}
 use Rattle.pool_calls.specs.declared.operation.Operation.{Operation}
 use Rattle.pool_calls.specs.declared.operation.Operation.TheVariants as kinds
 use Rattle.pool_calls.specs.BorrowRules as borrows
@@ -37,6 +38,11 @@ fits (kinds.Return c) event = returns.fits c.state event
 abbrev pub began_of : Operation → Option ℕ
 began_of (kinds.Borrow c) = Some c.began
 began_of (kinds.Return c) = None
+
+-- the plan that it follows
+abbrev pub plan_in : Operation → Plan
+plan_in (kinds.Borrow c) = c.plan
+plan_in (kinds.Return c) = c.plan
 
 -- what an event changes, and what it leaves
 abbrev pub Proceeds : Event → Operation → Operation → Type 0

@@ -1,5 +1,5 @@
 -- The pool that a host drives, and the steps of its calls.
-use Rattle.std.specs.Prelude.{◌≡◌, ℕ, ◌+◌, ◌-◌, ◌^◌, if◌then◌else◌, Bool, true, false, List, [], ◌∷◌, ◌++◌, map, Option, Some, None, unwrap_or, ℤ, pos, negsuc}
+use Rattle.std.specs.Prelude.{◌≡◌, ℕ, ◌+◌, ◌-◌, ◌^◌, ◌/◌, ◌&&◌, nat_lt, min, if◌then◌else◌, Bool, true, false, List, [], ◌∷◌, ◌++◌, map, Option, Some, None, unwrap_or, option_and_then, length, ℤ, pos, negsuc, ◌⊎◌}
 use Rattle.pool_journal.specs.declared.answer.Answer.{Answer}
 use Rattle.pool_journal.specs.declared.answer.Answer.TheVariants as answers
 use Rattle.pool_journal.specs.declared.input.Input.{Input}
@@ -9,12 +9,16 @@ use Rattle.pool_journal.specs.Carrying.{carries}
 use Rattle.pool_settings.specs.declared.settings.Settings.{Settings}
 use Rattle.pool_stats.specs.Counts.{counts_from}
 use Rattle.pool_core.specs.Core.{Answered}
+use Rattle.pool_core.specs.Fits.{limit_from, owed_from}
 use Rattle.pool_core.specs.Legal.{entry_of}
 use Rattle.pool_core.specs.Pool.{CoreModel}
-use Rattle.pool_calls.specs.Operations.{HasCome}
+use Rattle.pool_calls.specs.Operations.{HasCome, plan_in, began_of}
 use Rattle.pool_calls.specs.Turns.{Turn}
 use Rattle.pool_calls.specs.Waiting.{Queue}
+use Rattle.pool_calls.specs.declared.plan.Plan.{Plan}
+use Rattle.pool_calls.specs.declared.operation.Operation.{Operation}
 use Rattle.pool_driver.specs.declared.call.Call.{Call}
+use Rattle.pool_driver.specs.declared.hooks.Hooks.{Hooks}
 use Rattle.pool_driver.specs.declared.report.Report.{Report}
 use Rattle.pool_driver.specs.declared.report.Report.TheVariants as reports
 use Rattle.pool_driver.specs.declared.waiting.Waking.{Waking}
@@ -24,9 +28,23 @@ use Rattle.pool_driver.specs.declared.waiting.Waking.TheVariants as wakings
 pub record DrivenModel : Type 0 where
   pub core : CoreModel ℕ
   pub queue : Queue
+  pub plan : Plan  -- what each call has to know
+  pub last : ℕ  -- the greatest time so far
+
+-- what the calls have to know of the settings and the hooks of the factory: a test that the factory doesn't have is not made
+abbrev pub plan_of : Settings → Hooks → Plan
+plan_of s h =
+    record {
+      remove_abandoned_on_borrow = s.remove_abandoned_on_borrow;
+      test_on_create = s.test_on_create && h.validates;
+      test_on_borrow = s.test_on_borrow && h.validates;
+      test_on_return = s.test_on_return && h.validates;
+      activates = h.activates;
+      passivates = h.passivates;
+    }
 
 -- the pool is new
-pub record Opened (s : Settings) (most : ℕ) (d : DrivenModel) : Type 0 where
+pub record Opened (s : Settings) (h : Hooks) (most : ℕ) (d : DrivenModel) : Type 0 where
   pub settings : d.core.settings ≡ s
   pub base : d.core.base ≡ empty_base
   pub journal : d.core.journal ≡ []
@@ -34,6 +52,19 @@ pub record Opened (s : Settings) (most : ℕ) (d : DrivenModel) : Type 0 where
   pub waiting : d.queue.waiting ≡ []
   pub signalled : d.queue.signalled ≡ 0
   pub most_overtakes : d.queue.most ≡ most
+  pub plan : d.plan ≡ plan_of s h
+
+-- the call has taken no step, holds no ticket, and follows this plan
+pub record Begins (p : Plan) (c : Call) : Type 0 where
+  pub first : HasCome c.operation []
+  pub follows : plan_in c.operation ≡ p
+  pub alone : c.ticket ≡ None
+
+-- nothing changes but the steps that were taken, and the queue
+pub record KeepsRest (old new : DrivenModel) : Type 0 where
+  pub settings : new.core.settings ≡ old.core.settings
+  pub plan : new.plan ≡ old.plan
+  pub last : new.last ≡ old.last
 
 -- ---- steps
 -- the token that is handed in with an input
@@ -78,6 +109,22 @@ abbrev pub available_in : CoreModel ℕ → ℕ
 available_in c =
     if closed_from c.base c.journal then 2 ^ 64 - 1
     else less_used c.settings.max_total ((counts_from c.base c.journal).lent + (counts_from c.base c.journal).reserved)
+
+-- no call waits, or this is the number
+abbrev pub IsAvailable : DrivenModel → ℕ → Type 0
+IsAvailable d n = (length d.queue.waiting ≡ 0) ⊎ (n ≡ available_in d.core)
+
+abbrev pub later_by : ℤ → ℕ → Option ℕ
+later_by (pos most) began = Some (min (began + most) (2 ^ 64 - 1))
+later_by (negsuc n) began = None
+
+-- the time at which the wait of a borrow is over, by the settings
+abbrev pub until_of : Settings → Operation → Option ℕ
+until_of s op = option_and_then (later_by s.max_wait_millis) (began_of op)
+
+-- the entries that still fit besides the outstanding ones are fewer than a quarter of the limit
+abbrev pub is_low_in : CoreModel ℕ → Bool
+is_low_in c = nat_lt (limit_from c.settings c.base - (length c.journal + owed_from c.base c.journal)) (c.settings.journal_limit / 4)
 
 -- what a borrow that sleeps does when it wakes up
 abbrev pub waking_of : Bool → Bool → Answer → Waking

@@ -4,6 +4,7 @@
 
 mod call;
 mod effects;
+mod hooks;
 mod pool;
 mod report;
 mod stepping;
@@ -11,5 +12,6 @@ mod waiting;
 
 pub use call::Call;
 pub use effects::Effects;
+pub use hooks::Hooks;
 pub use pool::DrivenPool;
 pub use report::Report;

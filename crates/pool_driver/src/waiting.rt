@@ -1,10 +1,11 @@
 // The waits of borrows.
-ghost use Rattle.std.specs.Prelude.{◌≡◌, ◌×◌, ◌⊎◌, Some, None, Bool, true, false, length};
+ghost use Rattle.std.specs.Prelude.{◌≡◌, ◌-◌, Some, None, true, false, length};
 ghost use Rattle.pool_calls.specs.Operations.{step_at};
-ghost use Rattle.pool_calls.specs.Waiting.{is_in, without, signalled_of};
-ghost use Rattle.pool_core.specs.Reply.{has_reached, reply_from};
+ghost use Rattle.pool_calls.specs.Waiting.{may_lend};
+ghost use Rattle.pool_core.specs.Reply.{has_reached};
 ghost use Rattle.pool_journal.specs.Base.{closed_from};
-ghost use Rattle.pool_driver.specs.Driving.{Accepts, Advances, available_in, waking_of};
+ghost use Rattle.pool_driver.specs.declared.report.Report.TheVariants as reports;
+ghost use Rattle.pool_driver.specs.Driving.{Accepts, Advances, IsAvailable, KeepsRest, available_in, is_low_in, until_of, waking_of};
 
 use crate::call::Call;
 use crate::pool::DrivenPool;
@@ -69,9 +70,27 @@ impl DrivenPool {
         }
     }
 
+    /// Returns the time at which the wait of a borrow is over by the settings, in milliseconds.
+    pub(crate) fn until(&self, call: &Call) -> Option<u64>
+        ensures { result ≡ until_of self.now.core.settings call.now.operation }
+    {
+        let began = call.operation.began()?;
+        match u64::try_from(self.settings.max_wait_millis) {
+            Ok(most) => Some(began.saturating_add(most)),
+            Err(_) => None,
+        }
+    }
+
+    /// Returns whether the room of the journal is less than a quarter of its limit.
+    pub(crate) fn is_low(&self) -> bool
+        ensures { result ≡ is_low_in self.now.core }
+    {
+        self.core.room() < self.settings.journal_limit / 4
+    }
+
     // A call waits no longer: its ticket leaves.
     fn leave(&mut self, call: &mut Call)
-        ensures core { self.new.core ≡ self.old.core }
+        ensures rest { self.new ≡ record self.old { queue = self.new.queue } }
         ensures call { call.new ≡ record call.old { ticket = None } }
         ensures other { call.old.ticket ≡ None → self.new ≡ self.old }
     {
@@ -84,7 +103,7 @@ impl DrivenPool {
     /// Wakes a call up. Returns whether it sleeps; otherwise nothing changes. It sleeps on if it would only wait again,
     /// or if what is there is for others.
     pub(crate) fn wake_up(&mut self, call: &mut Call, at: u64) -> bool
-        ensures core { self.new.core ≡ self.old.core }
+        ensures rest { self.new ≡ record self.old { queue = self.new.queue } }
         ensures accepted { result ≡ true → Accepts reports.Woken call.old call.new }
         ensures unfit { result ≡ false → (self.new ≡ self.old) × (call.new ≡ call.old) }
     {
@@ -114,7 +133,7 @@ impl DrivenPool {
 
     /// Gives a call up. Returns whether that fits; otherwise nothing changes.
     pub(crate) fn give_up(&mut self, call: &mut Call) -> bool
-        ensures core { self.new.core ≡ self.old.core }
+        ensures rest { self.new ≡ record self.old { queue = self.new.queue } }
         ensures accepted { result ≡ true → Accepts reports.GivenUp call.old call.new }
         ensures unfit { result ≡ false → (self.new ≡ self.old) × (call.new ≡ call.old) }
     {
@@ -127,7 +146,7 @@ impl DrivenPool {
 
     // The number of idle objects and free places, as far as it matters to a newcomer: 0 if no call waits.
     fn available_to_newcomer(&self) -> u64
-        ensures { (length self.now.queue.waiting ≡ 0) ⊎ (result ≡ available_in self.now.core) }
+        ensures { IsAvailable self.now result }
     {
         if self.waiters.len() == 0 {
             0
@@ -138,7 +157,7 @@ impl DrivenPool {
 
     // A borrow that has no ticket draws one.
     fn draw_ticket(&mut self, call: &mut Call)
-        ensures core { self.new.core ≡ self.old.core }
+        ensures rest { self.new ≡ record self.old { queue = self.new.queue } }
         ensures call { Accepts reports.GoOn call.old call.new }
     {
         if call.ticket.is_some() {
@@ -155,7 +174,7 @@ impl DrivenPool {
     // A borrow has asked: it waits, or it waits no longer. One that found something overtook those that wait.
     fn note_answer(&mut self, call: &mut Call, available: u64)
         requires { call.old.ticket ≡ None → may_lend available self.old.queue ≡ true }
-        ensures core { self.new.core ≡ self.old.core }
+        ensures rest { self.new ≡ record self.old { queue = self.new.queue } }
         ensures call { Accepts reports.GoOn call.old call.new }
     {
         match call.operation.action() {
@@ -173,7 +192,7 @@ impl DrivenPool {
 
     // A borrow has to wait behind others: it draws a ticket.
     fn queue_up(&mut self, call: &mut Call)
-        ensures core { self.new.core ≡ self.old.core }
+        ensures rest { self.new ≡ record self.old { queue = self.new.queue } }
         ensures call { Accepts reports.GoOn call.old call.new }
     {
         if call.operation.tell(Event::Queued) {
@@ -184,7 +203,8 @@ impl DrivenPool {
     /// A borrow asks for an object, or waits behind those that come first.
     pub(crate) fn ask(&mut self, call: &mut Call, caller: u32, at: u64, input: Input)
         requires asked { step_at call.old.operation ≡ Some input }
-        ensures { Advances caller at self.old.core self.new.core call.old call.new }
+        ensures advances { Advances caller at self.old.core self.new.core call.old call.new }
+        ensures rest { KeepsRest self.old self.new }
     {
         if self.waiters.reserve(1).is_err() {
             let _ = call
