@@ -1,1 +1,3 @@
+pub mod Moving
+pub mod Queueing
 pub mod Running

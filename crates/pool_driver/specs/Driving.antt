@@ -17,6 +17,7 @@ use Rattle.pool_calls.specs.Turns.{Turn}
 use Rattle.pool_calls.specs.Waiting.{Queue}
 use Rattle.pool_calls.specs.declared.plan.Plan.{Plan}
 use Rattle.pool_calls.specs.declared.operation.Operation.{Operation}
+use Rattle.pool_driver.specs.Queueing.{Queues}
 use Rattle.pool_driver.specs.declared.call.Call.{Call}
 use Rattle.pool_driver.specs.declared.hooks.Hooks.{Hooks}
 use Rattle.pool_driver.specs.declared.report.Report.{Report}
@@ -94,10 +95,19 @@ abbrev pub told : Report → Call → Call
 told (reports.Made t) c = record c { token = t }
 told _ c = c
 
--- the call took no step
-pub record Accepts (report : Report) (before after : Call) : Type 0 where
+-- the pool takes steps that a call asks for, and the queue changes by the ticket of the call alone
+pub record Moves (caller at : ℕ) (old new : DrivenModel) (before after : Call) : Type 0 where
+  pub advances : Advances caller at old.core new.core before after
+  pub rest : KeepsRest old new
+  pub queue : Queues before.ticket after.ticket old.queue new.queue
+
+-- the call has been told a report, and no step was taken
+pub record Accepts (report : Report) (old new : DrivenModel) (before after : Call) : Type 0 where
+  pub core : new.core ≡ old.core
+  pub rest : KeepsRest old new
   pub token : after.token ≡ (told report before).token
   pub comes : (turns : List Turn) → HasCome before.operation turns → HasCome after.operation turns
+  pub queue : Queues before.ticket after.ticket old.queue new.queue
 
 -- ---- waits
 abbrev pub less_used : ℤ → ℕ → ℕ

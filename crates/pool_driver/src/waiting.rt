@@ -5,7 +5,8 @@ ghost use Rattle.pool_calls.specs.Waiting.{may_lend};
 ghost use Rattle.pool_core.specs.Reply.{has_reached};
 ghost use Rattle.pool_journal.specs.Base.{closed_from};
 ghost use Rattle.pool_driver.specs.declared.report.Report.TheVariants as reports;
-ghost use Rattle.pool_driver.specs.Driving.{Accepts, Advances, IsAvailable, KeepsRest, available_in, is_low_in, until_of, waking_of};
+ghost use Rattle.pool_driver.specs.Queueing.{Queues};
+ghost use Rattle.pool_driver.specs.Driving.{Accepts, IsAvailable, Moves, available_in, is_low_in, until_of, waking_of};
 
 use crate::call::Call;
 use crate::pool::DrivenPool;
@@ -92,7 +93,7 @@ impl DrivenPool {
     fn leave(&mut self, call: &mut Call)
         ensures rest { self.new ≡ record self.old { queue = self.new.queue } }
         ensures call { call.new ≡ record call.old { ticket = None } }
-        ensures other { call.old.ticket ≡ None → self.new ≡ self.old }
+        ensures queue { Queues call.old.ticket None self.old.queue self.new.queue }
     {
         if let Some(ticket) = call.ticket {
             let _ = self.waiters.leave(ticket);
@@ -103,8 +104,8 @@ impl DrivenPool {
     /// Wakes a call up. Returns whether it sleeps; otherwise nothing changes. It sleeps on if it would only wait again,
     /// or if what is there is for others.
     pub(crate) fn wake_up(&mut self, call: &mut Call, at: u64) -> bool
-        ensures rest { self.new ≡ record self.old { queue = self.new.queue } }
-        ensures accepted { result ≡ true → Accepts reports.Woken call.old call.new }
+        ensures accepted { result ≡ true
+            → Accepts reports.Woken self.old self.new call.old call.new }
         ensures unfit { result ≡ false → (self.new ≡ self.old) × (call.new ≡ call.old) }
     {
         let Some(began) = call.operation.began() else {
@@ -133,8 +134,8 @@ impl DrivenPool {
 
     /// Gives a call up. Returns whether that fits; otherwise nothing changes.
     pub(crate) fn give_up(&mut self, call: &mut Call) -> bool
-        ensures rest { self.new ≡ record self.old { queue = self.new.queue } }
-        ensures accepted { result ≡ true → Accepts reports.GivenUp call.old call.new }
+        ensures accepted { result ≡ true
+            → Accepts reports.GivenUp self.old self.new call.old call.new }
         ensures unfit { result ≡ false → (self.new ≡ self.old) × (call.new ≡ call.old) }
     {
         if !call.operation.tell(Event::Cancelled) {
@@ -157,8 +158,7 @@ impl DrivenPool {
 
     // A borrow that has no ticket draws one.
     fn draw_ticket(&mut self, call: &mut Call)
-        ensures rest { self.new ≡ record self.old { queue = self.new.queue } }
-        ensures call { Accepts reports.GoOn call.old call.new }
+        ensures { Accepts reports.GoOn self.old self.new call.old call.new }
     {
         if call.ticket.is_some() {
             return;
@@ -174,8 +174,7 @@ impl DrivenPool {
     // A borrow has asked: it waits, or it waits no longer. One that found something overtook those that wait.
     fn note_answer(&mut self, call: &mut Call, available: u64)
         requires { call.old.ticket ≡ None → may_lend available self.old.queue ≡ true }
-        ensures rest { self.new ≡ record self.old { queue = self.new.queue } }
-        ensures call { Accepts reports.GoOn call.old call.new }
+        ensures { Accepts reports.GoOn self.old self.new call.old call.new }
     {
         match call.operation.action() {
             Action::Wait => self.draw_ticket(call),
@@ -192,8 +191,7 @@ impl DrivenPool {
 
     // A borrow has to wait behind others: it draws a ticket.
     fn queue_up(&mut self, call: &mut Call)
-        ensures rest { self.new ≡ record self.old { queue = self.new.queue } }
-        ensures call { Accepts reports.GoOn call.old call.new }
+        ensures { Accepts reports.GoOn self.old self.new call.old call.new }
     {
         if call.operation.tell(Event::Queued) {
             self.draw_ticket(call);
@@ -203,8 +201,7 @@ impl DrivenPool {
     /// A borrow asks for an object, or waits behind those that come first.
     pub(crate) fn ask(&mut self, call: &mut Call, caller: u32, at: u64, input: Input)
         requires asked { step_at call.old.operation ≡ Some input }
-        ensures advances { Advances caller at self.old.core self.new.core call.old call.new }
-        ensures rest { KeepsRest self.old self.new }
+        ensures { Moves caller at self.old self.new call.old call.new }
     {
         if self.waiters.reserve(1).is_err() {
             let _ = call
