@@ -11,10 +11,10 @@ use Rattle.pool_driver.proofs.Running.{advances_none, advances_on}
 use Rattle.pool_driver.proofs.Queueing.{queues_on}
 
 rest_on : (a b c : DrivenModel) → KeepsRest a b → KeepsRest b c → KeepsRest a c
-rest_on a b c p q = record { settings = q.settings ∙ p.settings; plan = q.plan ∙ p.plan; last = q.last ∙ p.last }
+rest_on a b c p q = record { settings = q.settings ∙ p.settings; plan = q.plan ∙ p.plan }
 
-pub rest_same : (a b : DrivenModel) → b.core ≡ a.core → b.plan ≡ a.plan → b.last ≡ a.last → KeepsRest a b
-rest_same a b core plan last = record { settings = ap (λ c. c.settings) core; plan = plan; last = last }
+pub rest_same : (a b : DrivenModel) → b.core ≡ a.core → b.plan ≡ a.plan → KeepsRest a b
+rest_same a b core plan = record { settings = ap (λ c. c.settings) core; plan = plan }
 
 pub moves_on : (caller at : ℕ) (a b c : DrivenModel) (first mid last : Call) → Moves caller at a b first mid → Moves caller at b c mid last → Moves caller at a c first last
 moves_on caller at a b c first mid last p q = record {
@@ -54,6 +54,14 @@ told_moves reports.RoomMade caller at old new before after p = record { advances
 told_moves reports.NoRoom caller at old new before after p = record { advances = advances_none caller at old.core new.core before after p.core p.token p.comes; rest = p.rest; queue = p.queue }
 told_moves reports.GivenUp caller at old new before after p = record { advances = advances_none caller at old.core new.core before after p.core p.token p.comes; rest = p.rest; queue = p.queue }
 
--- a report, and the steps after it, at a later time
+-- the greatest time says nothing of the calls
+pub moves_later : (time caller at : ℕ) (old new : DrivenModel) (before after : Call) → Moves caller at old new before after → Moves caller at old (record new { last = time }) before after
+moves_later time caller at old new before after p = record {
+  advances = p.advances;
+  rest = record { settings = p.rest.settings; plan = p.rest.plan };
+  queue = p.queue;
+}
+
+-- a report, and the steps after it
 pub moves_told : (report : Report) (caller at : ℕ) (a b c : DrivenModel) (first mid last : Call) → Accepts report a b first mid → Moves caller at b c mid last → Moves caller at a c (told report first) last
 moves_told report caller at a b c first mid last p q = moves_on caller at a b c (told report first) mid last (told_moves report caller at a b first mid p) q

@@ -61,11 +61,10 @@ pub record Begins (p : Plan) (c : Call) : Type 0 where
   pub follows : plan_in c.operation ≡ p
   pub alone : c.ticket ≡ None
 
--- nothing changes but the steps that were taken, and the queue
+-- the settings stay, and what the calls have to know
 pub record KeepsRest (old new : DrivenModel) : Type 0 where
   pub settings : new.core.settings ≡ old.core.settings
   pub plan : new.plan ≡ old.plan
-  pub last : new.last ≡ old.last
 
 -- ---- steps
 -- the token that is handed in with an input
