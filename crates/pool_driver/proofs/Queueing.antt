@@ -101,8 +101,8 @@ pub queues_on : (p q r : Option ℕ) (a b c : Queue) → Queues p q a b → Queu
 queues_on p q r a b c first second = record {
   most = second.most ∙ first.most;
   waits = λ holds t.
-    second.waits (holds_after p q a b first holds) t ∙ ap (λ x. is_ticket t r || (not (is_ticket t q) && x)) (first.waits holds t)
-    ∙ joined (is_ticket t p) (is_ticket t q) (is_ticket t r) (is_in t a.waiting) (first.fresh holds t);
+      second.waits (holds_after p q a b first holds) t ∙ ap (λ x. is_ticket t r || (not (is_ticket t q) && x)) (first.waits holds t)
+      ∙ joined (is_ticket t p) (is_ticket t q) (is_ticket t r) (is_in t a.waiting) (first.fresh holds t);
   fresh = λ holds t before after. by_mid (is_ticket t q) holds t before after refl;
 }
   where
