@@ -1,9 +1,9 @@
 -- The tickets after a call has waited, left, or overtaken the others.
-use Rattle.std.proofs.Common.{◌≡◌, ℕ, eqb, ◌&&◌, ◌||◌, not, cond, Bool, true, false, List, [], ◌∷◌, ◌++◌, Option, Some, None, refl, sym, ap, ◌∙◌, subst}
+use Rattle.std.proofs.Common.{◌≡◌, ℕ, eqb, ◌&&◌, ◌||◌, not, cond, if◌then◌else◌, Bool, true, false, List, [], ◌∷◌, ◌++◌, Option, Some, None, refl, sym, ap, ◌∙◌, subst}
 use Rattle.std.specs.Prelude.{map}
 use Rattle.std.proofs.lemmas.Bool.{eqb-true, eq-eqb, both_ways}
 use Rattle.std.proofs.lemmas.List.Folds.{list_any-append}
-use Rattle.pool_calls.specs.Waiting.{Queue, Waiter, is_in, without, newest, overtaken_once}
+use Rattle.pool_calls.specs.Waiting.{Queue, Waiter, is_in, without, newest, overtaken_once, takes_from_waiters}
 use Rattle.pool_driver.specs.Queueing.{HoldsTicket, Queues, is_ticket}
 
 -- ---- which tickets are in a list
@@ -50,21 +50,24 @@ own_waits q (Some s) holds t = by_test (eqb t s) (λ same. ap (λ n. is_in n q.w
     by_test false is = refl
 
 none_fresh : (b : Bool) (A : Type 0) → b ≡ false → b ≡ true → A
-none_fresh b A no yes = absurd (both_ways b no yes)
+none_fresh b A at_false at_true = absurd (both_ways b at_false at_true)
 
-pub queues_same : (ticket : Option ℕ) (old new : Queue) → new.most ≡ old.most → new.waiting ≡ old.waiting → Queues ticket ticket old new
-queues_same ticket old new most same = record {
+pub queues_kept : (ticket : Option ℕ) (old new : Queue) → new.most ≡ old.most → ((t : ℕ) → is_in t new.waiting ≡ is_in t old.waiting) → Queues ticket ticket old new
+queues_kept ticket old new most same = record {
   most = most;
-  waits = λ holds t. ap (is_in t) same ∙ own_waits old ticket holds t;
+  waits = λ holds t. same t ∙ own_waits old ticket holds t;
   fresh = λ holds t before after. none_fresh (is_ticket t ticket) (is_in t old.waiting ≡ false) before after;
 }
 
-pub queues_overtaken : (old new : Queue) → new.most ≡ old.most → new.waiting ≡ map overtaken_once old.waiting → Queues None None old new
-queues_overtaken old new most is = record {
-  most = most;
-  waits = λ holds t. ap (is_in t) is ∙ in_overtaken t old.waiting;
-  fresh = λ holds t before after. none_fresh false (is_in t old.waiting ≡ false) before after;
-}
+pub queues_same : (ticket : Option ℕ) (old new : Queue) → new.most ≡ old.most → new.waiting ≡ old.waiting → Queues ticket ticket old new
+queues_same ticket old new most same = queues_kept ticket old new most (λ t. ap (is_in t) same)
+
+pub queues_lent : (available : ℕ) (ticket : Option ℕ) (old new : Queue) → new.most ≡ old.most → new.waiting ≡ (if takes_from_waiters available old then map overtaken_once old.waiting else old.waiting) → Queues ticket ticket old new
+queues_lent available ticket old new most is = by_test (takes_from_waiters available old) is
+  where
+    by_test : (b : Bool) → new.waiting ≡ (if b then map overtaken_once old.waiting else old.waiting) → Queues ticket ticket old new
+    by_test true is = queues_kept ticket old new most (λ t. ap (is_in t) is ∙ in_overtaken t old.waiting)
+    by_test false is = queues_same ticket old new most is
 
 pub queues_left : (s : ℕ) (old new : Queue) → new.most ≡ old.most → new.waiting ≡ without s old.waiting → Queues (Some s) None old new
 queues_left s old new most is = record {
@@ -79,6 +82,15 @@ queues_drawn d old new most is fresh = record {
   waits = λ holds t. ap (is_in t) is ∙ in_pushed t d old.waiting;
   fresh = λ holds t before after. ap (λ n. is_in n old.waiting) (eqb-true t d after) ∙ fresh;
 }
+
+pub queues_leave : (ticket : Option ℕ) (s : ℕ) (old new : Queue) → ticket ≡ Some s → new.most ≡ old.most → new.waiting ≡ without s old.waiting → Queues ticket None old new
+queues_leave ticket s old new is most left = let P : Option ℕ → Type 0 = λ t. Queues t None old new in subst P (sym is) (queues_left s old new most left)
+
+pub queues_draw : (ticket after : Option ℕ) (d : ℕ) (old new : Queue) → ticket ≡ None → after ≡ Some d → new.most ≡ old.most → new.waiting ≡ old.waiting ++ newest d ∷ [] → is_in d old.waiting ≡ false → Queues ticket after old new
+queues_draw ticket after d old new none some most drawn fresh =
+    let P : Option ℕ → Type 0 = λ t. Queues t after old new in
+    let Q : Option ℕ → Type 0 = λ t. Queues None t old new in
+    subst P (sym none) (subst Q (sym some) (queues_drawn d old new most drawn fresh))
 
 -- ---- one change after the other
 true_or : (b c : Bool) → b ≡ true → (b || c) ≡ true

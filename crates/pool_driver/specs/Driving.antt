@@ -1,5 +1,5 @@
 -- The pool that a host drives, and the steps of its calls.
-use Rattle.std.specs.Prelude.{◌≡◌, ℕ, ◌+◌, ◌-◌, ◌^◌, ◌/◌, ◌&&◌, nat_lt, min, if◌then◌else◌, Bool, true, false, List, [], ◌∷◌, ◌++◌, map, Option, Some, None, unwrap_or, option_and_then, length, ℤ, pos, negsuc, ◌⊎◌}
+use Rattle.std.specs.Prelude.{◌≡◌, ℕ, ◌+◌, ◌-◌, ◌^◌, ◌/◌, ◌&&◌, nat_lt, min, if◌then◌else◌, Bool, true, false, List, [], ◌∷◌, ◌++◌, map, Option, Some, None, unwrap_or, option_and_then, length, Result, Ok, Err, ℤ, pos, negsuc, ◌⊎◌}
 use Rattle.pool_journal.specs.declared.answer.Answer.{Answer}
 use Rattle.pool_journal.specs.declared.answer.Answer.TheVariants as answers
 use Rattle.pool_journal.specs.declared.input.Input.{Input}
@@ -9,12 +9,16 @@ use Rattle.pool_journal.specs.Carrying.{carries}
 use Rattle.pool_settings.specs.declared.settings.Settings.{Settings}
 use Rattle.pool_stats.specs.Counts.{counts_from}
 use Rattle.pool_core.specs.Core.{Answered}
+use Rattle.pool_core.specs.declared.step_fault.StepFault.{StepFault}
+use Rattle.pool_core.specs.declared.step_fault.StepFault.TheVariants as faults
 use Rattle.pool_core.specs.Fits.{limit_from, owed_from}
 use Rattle.pool_core.specs.Legal.{entry_of}
 use Rattle.pool_core.specs.Pool.{CoreModel}
 use Rattle.pool_calls.specs.Operations.{HasCome, plan_in, began_of}
 use Rattle.pool_calls.specs.Turns.{Turn}
 use Rattle.pool_calls.specs.Waiting.{Queue}
+use Rattle.pool_calls.specs.declared.action.StepFailure.{StepFailure}
+use Rattle.pool_calls.specs.declared.action.StepFailure.TheVariants as failures
 use Rattle.pool_calls.specs.declared.plan.Plan.{Plan}
 use Rattle.pool_calls.specs.declared.operation.Operation.{Operation}
 use Rattle.pool_driver.specs.Queueing.{Queues}
@@ -70,6 +74,12 @@ pub record KeepsRest (old new : DrivenModel) : Type 0 where
 -- the token that is handed in with an input
 abbrev pub handed : Input → ℕ → Option ℕ
 handed input token = if carries input then Some token else None
+
+-- the result of a step, without the token that an error returns
+abbrev pub outcome_of : Result (Answer × Option ℕ) (StepFault ℕ) → Result (Answer × Option ℕ) StepFailure
+outcome_of (Ok r) = Ok r
+outcome_of (Err (faults.JournalFull v)) = Err failures.JournalFull
+outcome_of (Err (faults.OutOfMemory v)) = Err failures.OutOfMemory
 
 -- the entries of turns
 abbrev pub entries_of : ℕ → ℕ → List Turn → List Entry

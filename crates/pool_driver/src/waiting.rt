@@ -25,7 +25,7 @@ pub(crate) enum Waking {
 }
 
 // What a borrow does whose expected answer is this.
-fn waking(is_signalled: bool, is_over: bool, expected: Answer) -> Waking
+fn decide(is_signalled: bool, is_over: bool, expected: Answer) -> Waking
     ensures { result ≡ waking_of is_signalled is_over expected }
 {
     match expected {
@@ -119,7 +119,7 @@ impl DrivenPool {
             None => true,
         };
         let expected = self.core.due(at, Input::Borrow { began });
-        match waking(is_signalled, self.is_over(began, at), expected) {
+        match decide(is_signalled, self.is_over(began, at), expected) {
             Waking::Asks => {
                 let _ = call.operation.tell(Event::Woken);
             }
@@ -171,6 +171,17 @@ impl DrivenPool {
         }
     }
 
+    // A borrow took something. If it had no ticket, it overtook those that wait.
+    fn count_overtake(&mut self, call: &Call, available: u64)
+        requires { call.now.ticket ≡ None → may_lend available self.old.queue ≡ true }
+        ensures rest { self.new ≡ record self.old { queue = self.new.queue } }
+        ensures queue { Queues call.now.ticket call.now.ticket self.old.queue self.new.queue }
+    {
+        if call.ticket.is_none() {
+            self.waiters.note_lent(available);
+        }
+    }
+
     // A borrow has asked: it waits, or it waits no longer. One that found something overtook those that wait.
     fn note_answer(&mut self, call: &mut Call, available: u64)
         requires { call.old.ticket ≡ None → may_lend available self.old.queue ≡ true }
@@ -181,9 +192,7 @@ impl DrivenPool {
             Action::MakeRoom => {}
             Action::Done(_) => self.leave(call),
             _ => {
-                if call.ticket.is_none() {
-                    self.waiters.note_lent(available);
-                }
+                self.count_overtake(call, available);
                 self.leave(call);
             }
         }
