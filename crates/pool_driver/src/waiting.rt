@@ -145,6 +145,20 @@ impl DrivenPool {
         true
     }
 
+    /// Ends a call for whose step the journal could not be cut. Returns whether that fits; otherwise nothing changes. A
+    /// borrow that was woken before leaves the queue.
+    pub(crate) fn end_without_room(&mut self, call: &mut Call) -> bool
+        ensures accepted { result ≡ true
+            → Accepts reports.NoRoom self.old self.new call.old call.new }
+        ensures unfit { result ≡ false → (self.new ≡ self.old) × (call.new ≡ call.old) }
+    {
+        if !call.operation.tell(Event::NoRoom) {
+            return false;
+        }
+        self.leave(call);
+        true
+    }
+
     // The number of idle objects and free places, as far as it matters to a newcomer: 0 if no call waits.
     fn available_to_newcomer(&self) -> u64
         ensures { IsAvailable self.now result }
