@@ -4,9 +4,11 @@ pub mod ClearSteps
 pub mod Dropped
 pub mod EvictSteps
 pub mod FillSteps
+pub mod Fitting
 pub mod Found
 pub mod InvalidateSteps
 pub mod Marked
+pub mod OperationSteps
 pub mod Orders
 pub mod ReclaimSteps
 pub mod ReturnSteps

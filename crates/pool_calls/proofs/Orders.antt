@@ -4,6 +4,7 @@ use Rattle.std.specs.Prelude.{map, filter, slice_get, nat_lt}
 use Rattle.std.specs.List.{AllByRecursion}
 use Rattle.std.specs.Option.{option_map}
 use Rattle.std.proofs.Math.Seq.{take-append_seam, get_or-append_seam}
+use Rattle.std.proofs.lemmas.Bool.{ne_eqb}
 use Rattle.std.proofs.lemmas.Bool.Decides.{nat_tests}
 use Rattle.std.proofs.lemmas.List.{map-append, length-map}
 use Rattle.std.proofs.lemmas.List.Elements.{filter-append}
@@ -49,6 +50,13 @@ asleep_below n ps qs all = all_back (λ p. p.ticket < n) ps qs all
 below_next : (n : ℕ) (ps : List Place) → IsBelow n ps → IsBelow (n + 1) ps
 below_next n [] all = tt
 below_next n (p ∷ ps) all = (omega (arith, all.0), below_next n ps all.1)
+
+-- a ticket above all others is none of them
+pub below_out : (n o : ℕ) (ps : List Place) → IsBelow n ps → is_in n (map (waiter_of o) ps) ≡ false
+below_out n o [] all = refl
+below_out n o (p ∷ ps) all =
+    let other : eqb n p.ticket ≡ false = ne_eqb n p.ticket (λ same. grind (arith, all.0, same)) in
+    ap (λ b. b || is_in n (map (waiter_of o) ps)) other ∙ below_out n o ps all.1
 
 -- ---- fairness
 befores : (overtakes most : ℕ) (ps : List Place) → AreFair overtakes most ps → AllByRecursion (λ p. p.before ≤ overtakes) ps

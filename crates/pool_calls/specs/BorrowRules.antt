@@ -300,6 +300,10 @@ abbrev pub is_waiting : BorrowState → Bool
 is_waiting states.Waits = true
 is_waiting _ = false
 
+abbrev pub is_asking : BorrowState → Bool
+is_asking (states.Steps firsts.Ask) = true
+is_asking _ = false
+
 -- the borrow may be given up
 abbrev pub is_going : Bool → BorrowState → Bool
 is_going cancelled (states.Ended e) = false
@@ -313,17 +317,20 @@ fits cancelled s events.RoomMade = lacks_room s
 fits cancelled s events.NoRoom = lacks_room s
 fits cancelled s events.Succeeded = has_work s
 fits cancelled s events.Failed = has_work s
+fits cancelled s events.Queued = is_asking s
 fits cancelled s events.Woken = is_waiting s
 fits cancelled s events.TimeOver = is_waiting s
 fits cancelled s events.Cancelled = is_going cancelled s
 
 -- a full journal ends no call: the host is asked to make room, and the step is asked for again. The call ends if there is no
--- memory for a step, or the journal could not be cut. A wait whose time is over has timed out
+-- memory for a step, or the journal could not be cut. A borrow that others come
+-- before waits, and a wait whose time is over has timed out
 abbrev pub Pauses : Event → BorrowState → Type 0
 Pauses (events.NotTaken failures.JournalFull) after = lacks_room after ≡ true
 Pauses (events.NotTaken failures.OutOfMemory) after = after ≡ states.Ended (ends.NotTaken failures.OutOfMemory)
 Pauses events.RoomMade after = has_first_step after ≡ true
 Pauses events.NoRoom after = after ≡ states.Ended (ends.NotTaken failures.JournalFull)
+Pauses events.Queued after = after ≡ states.Waits
 Pauses events.TimeOver after = after ≡ states.Ended ends.TimedOut
 Pauses _ after = Unit {0}
 

@@ -38,6 +38,8 @@ pub enum Event {
     Succeeded,
     /// The factory's call failed: it refused, or ended with an error.
     Failed,
+    /// Others that wait come first: the borrow waits behind them, and takes no step.
+    Queued,
     /// The sleep is over, and the borrow may look.
     Woken,
     /// The time for the wait is over, and what is there is for others.

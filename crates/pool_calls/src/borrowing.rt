@@ -4,7 +4,7 @@ ghost use Rattle.pool_calls.specs.declared.action.Event.TheVariants as events;
 ghost use Rattle.pool_calls.specs.declared.action.End.TheVariants as ends;
 ghost use Rattle.pool_calls.specs.declared.borrowing.BorrowState.TheVariants as states;
 ghost use Rattle.pool_calls.specs.BorrowRules as spec;
-ghost use Rattle.pool_calls.specs.BorrowRules.{Stage, IsAt, GoesOn, ComesOn, HasCome, IsRight, IsPossibleOutcome, IsFailure, BorrowEnds, Works, first_stage, readies, failed, step_at, work_left, to_hold, to_ready, to_make, work_due, fits, has_step, has_first_step, lacks_room, has_work, is_waiting, is_going, events_left};
+ghost use Rattle.pool_calls.specs.BorrowRules.{Stage, IsAt, GoesOn, ComesOn, HasCome, IsRight, IsPossibleOutcome, IsFailure, BorrowEnds, Works, first_stage, readies, failed, step_at, work_left, to_hold, to_ready, to_make, work_due, fits, has_step, has_first_step, lacks_room, has_work, is_waiting, is_asking, is_going, events_left};
 ghost use Rattle.pool_calls.specs.Turns.{but_first, step_of, IsFirst};
 
 use crate::action::{Action, End, Event, StepFailure};
@@ -237,6 +237,13 @@ impl BorrowCall {
         }
     }
 
+    /// Returns the time at which the borrow began, in milliseconds.
+    pub fn began(&self) -> u64
+        ensures { result ≡ self.now.began }
+    {
+        self.began
+    }
+
     /// Returns what the host does next.
     pub fn action(&self) -> Action
         ensures right { (stage : Stage) → IsAt self.now.plan self.now.state stage
@@ -390,6 +397,21 @@ impl BorrowCall {
         }
     }
 
+    // The state of a borrow that waits behind others; `None` if it does not ask.
+    fn after_queueing(&self) -> Option<BorrowState>
+        ensures goes { IfSome result (GoesOn self.now.plan self.now.began events.Queued
+            self.now.state) }
+        ensures waits { IfSome result (λ s. s ≡ states.Waits) }
+        ensures fits { is_some result ≡ is_asking self.now.state }
+        ensures ends { self.now.cancelled ≡ true → IfSome result (λ s. events_left s
+            < events_left self.now.state) }
+    {
+        match self.state {
+            BorrowState::Steps(FirstStep::Ask) => Some(BorrowState::Waits),
+            _ => None,
+        }
+    }
+
     // The state after the wait; `None` if it does not wait.
     fn after_waking(&self) -> Option<BorrowState>
         ensures goes { IfSome result (GoesOn self.now.plan self.now.began events.Woken
@@ -411,6 +433,8 @@ impl BorrowCall {
             self.now.state) }
         ensures over { IfSome result (λ s. s ≡ states.Ended ends.TimedOut) }
         ensures fits { is_some result ≡ is_waiting self.now.state }
+        ensures ends { self.now.cancelled ≡ true → IfSome result (λ s. events_left s
+            < events_left self.now.state) }
     {
         match self.state {
             BorrowState::Waits => Some(BorrowState::Ended(End::TimedOut)),
@@ -460,6 +484,7 @@ impl BorrowCall {
             Event::NoRoom => self.after_no_room(),
             Event::Succeeded => self.after_success(),
             Event::Failed => self.after_failure(),
+            Event::Queued => self.after_queueing(),
             Event::Woken => self.after_waking(),
             Event::TimeOver => self.after_time(),
             Event::Cancelled => self.after_cancelling(),

@@ -1,5 +1,6 @@
-ghost use Rattle.std.specs.Prelude.{◌≡◌, ◌<◌, ◌≤◌, ℕ, Bool, true, false, List, [], IfSome};
+ghost use Rattle.std.specs.Prelude.{◌≡◌, ◌<◌, ◌≤◌, ℕ, Bool, true, false, List, [], Some, IfSome};
 ghost use Rattle.std.specs.Option.{is_some};
+ghost use Rattle.pool_journal.specs.declared.input.Input.TheVariants as inputs;
 ghost use Rattle.pool_calls.specs.declared.action.Event.TheVariants as events;
 ghost use Rattle.pool_calls.specs.ReturnRules as spec;
 ghost use Rattle.pool_calls.specs.ReturnRules.{Stage, IsAt, GoesOn, ComesOn, HasCome, IsRight, IsPossibleOutcome, Works, checks, step_at, work_left, work_due, to_check, to_passivate, fits, has_step, has_first_step, lacks_room, has_work, is_going, events_left};
@@ -109,6 +110,7 @@ impl ReturnCall {
     /// Returns a return of the object with this id.
     pub fn new(plan: Plan, id: u64) -> ReturnCall
         ensures given { (result.plan ≡ plan) × (result.id ≡ id) }
+        ensures first { step_at id result.state ≡ Some (inputs.GiveBack id) }
         ensures come { HasCome plan id result.state [] }
     {
         ReturnCall {
@@ -277,7 +279,7 @@ impl ReturnCall {
             Event::NoRoom => self.after_no_room(),
             Event::Succeeded => self.after_success(),
             Event::Failed => self.after_failure(),
-            Event::Woken | Event::TimeOver => None,
+            Event::Queued | Event::Woken | Event::TimeOver => None,
             Event::Cancelled => self.after_cancelling(),
         }
     }

@@ -1,4 +1,4 @@
-ghost use Rattle.std.specs.Prelude.{◌≡◌, ◌≤◌, ◌<◌, ◌+◌, ◌-◌, ◌^◌, ◌++◌, ◌∷◌, [], true, min, if◌then◌else◌, map, length, slice_get, IfOk, IfSome, IfNone, OnOk, OnErr, IsOk};
+ghost use Rattle.std.specs.Prelude.{◌≡◌, ◌≤◌, ◌<◌, ◌+◌, ◌-◌, ◌^◌, ◌++◌, ◌∷◌, [], true, false, min, if◌then◌else◌, map, length, slice_get, IfOk, IfSome, IfNone, OnOk, OnErr, IsOk};
 ghost use Rattle.std.specs.Option.{option_map};
 ghost use Rattle.std.specs.List.{AllByRecursion};
 ghost use Rattle.pool_journal.specs.Queue.{first_of};
@@ -120,6 +120,7 @@ impl Waiters {
             ≡ self.old.waiting ++ newest ticket ∷ []) }
         ensures next { IfOk result (λ ticket. (ticket ≡ self.old.drawn)
             × (self.new.drawn ≡ self.old.drawn + 1)) }
+        ensures fresh { IfOk result (λ ticket. is_in ticket self.old.waiting ≡ false) }
         ensures unchanged { OnErr result ((self.new.waiting ≡ self.old.waiting)
             × (self.new.drawn ≡ self.old.drawn)) }
         ensures reserved { 1 ≤ self.old.spare → self.old.drawn < 2 ^ 64 - 1 → IsOk result }

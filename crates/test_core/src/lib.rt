@@ -1,8 +1,10 @@
-//! Tests of the core and of the engines.
+//! Tests of the core, of the calls over it, and of the engines.
 #![tactic(auto)]
 
 #[cfg(test)]
 mod cutting;
+#[cfg(test)]
+mod driving;
 #[cfg(test)]
 mod engines;
 #[cfg(test)]

@@ -1,0 +1,10 @@
+use Rattle.std.proofs.Common.{◌≡◌, ap, subst}
+use Rattle.pool_driver.specs.Driving.{DrivenModel}
+use Rattle.pool_driver.specs.Queueing.{Queues}
+use Rattle.pool_driver.proofs.Queueing.{queues_lent}
+use Rattle.pool_driver.proofs.pool.DrivenPool.count_overtake.Goals as goal
+
+pub returns-then-is_none-clause-queue : goal.returns-then-is_none-clause-queue
+returns-then-is_none-clause-queue c =
+    let P : DrivenModel → Type 0 = λ d. Queues c.args.call.now.ticket c.args.call.now.ticket d.queue c.note_lent.new.self in
+    subst P c.self.view_is (queues_lent c.args.available c.args.call.now.ticket c.self.inside.waiters c.note_lent.new.self (ap (λ q. q.most) c.note_lent.ensures.rest) c.note_lent.ensures.waiting)

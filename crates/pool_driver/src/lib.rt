@@ -1,0 +1,17 @@
+//! A pool whose calls a host drives: the host holds a lock, sleeps, and asks the factory; what comes next is decided
+//! here.
+#![tactic(auto)]
+
+mod call;
+mod effects;
+mod hooks;
+mod pool;
+mod report;
+mod stepping;
+mod waiting;
+
+pub use call::Call;
+pub use effects::Effects;
+pub use hooks::Hooks;
+pub use pool::DrivenPool;
+pub use report::Report;

@@ -1,0 +1,216 @@
+// A pool whose calls a host drives: whole calls, waits, and a journal without room.
+use pool_calls::{Action, End, StepFailure};
+use pool_driver::{Call, DrivenPool, Effects, Hooks, Report};
+use pool_settings::Settings;
+use std::alloc::Global;
+use std::fmt::Debug;
+use std::process::Abort;
+
+fn expect_equal<T: Copy + PartialEq + Debug>(rt: &impl Abort, found: T, wanted: T) {
+    assert_eq!(rt; found, wanted);
+}
+
+// A pool of one object, whose borrows wait for up to 100 milliseconds, and are overtaken at most once.
+fn opened(rt: &impl Abort, alloc: Global, all_hooks: bool, journal_limit: u64) -> DrivenPool {
+    let settings = Settings {
+        max_total: 1,
+        max_wait_millis: 100,
+        journal_limit,
+        test_on_borrow: true,
+        test_on_create: true,
+        test_on_return: true,
+        ..Settings::default()
+    };
+    let hooks = Hooks {
+        activates: all_hooks,
+        validates: all_hooks,
+        passivates: all_hooks,
+    };
+    DrivenPool::open(alloc, settings, hooks, 1).expect(rt, "memory")
+}
+
+fn advance(
+    rt: &impl Abort,
+    pool: &mut DrivenPool,
+    call: &mut Call,
+    at: u64,
+    report: Report,
+) -> Effects {
+    pool.advance(call, 0, at, report).expect(rt, "a report that fits")
+}
+
+fn misfits(rt: &impl Abort, pool: &mut DrivenPool, call: &mut Call, report: Report) {
+    let before = *call;
+    expect_equal(rt, pool.advance(call, 0, 0, report), None);
+    expect_equal(rt, *call, before);
+}
+
+// Wakes calls until none is left. Returns the first two tickets, and whether there were no more.
+fn wake(pool: &mut DrivenPool) -> (Option<u64>, Option<u64>, bool) {
+    let first = pool.next_wake();
+    let second = pool.next_wake();
+    (first, second, pool.next_wake().is_none())
+}
+
+// Reports an event, and compares the action that follows.
+fn goes_on(
+    rt: &impl Abort,
+    pool: &mut DrivenPool,
+    call: &mut Call,
+    at: u64,
+    report: Report,
+    action: Action,
+) {
+    expect_equal(rt, advance(rt, pool, call, at, report).action, action);
+}
+
+// Lends the object that is made with this token.
+fn lend_new(rt: &impl Abort, pool: &mut DrivenPool, at: u64, token: u64) -> Call {
+    let mut call = pool.borrow(at);
+    goes_on(rt, pool, &mut call, at, Report::GoOn, Action::Make(0));
+    let lent = advance(rt, pool, &mut call, at, Report::Made(token));
+    expect_equal(rt, (lent.action, lent.token), (Action::Done(End::Lent(0)), token));
+    call
+}
+
+fn give_back(rt: &impl Abort, pool: &mut DrivenPool, at: u64, token: u64) {
+    let mut call = pool.give_back(0, token);
+    goes_on(rt, pool, &mut call, at, Report::GoOn, Action::Done(End::Parked));
+}
+
+// A borrow that waits with this ticket.
+fn wait(rt: &impl Abort, pool: &mut DrivenPool, at: u64, ticket: u64) -> Call {
+    let mut call = pool.borrow(at);
+    let sleeps = advance(rt, pool, &mut call, at, Report::GoOn);
+    expect_equal(rt, (sleeps.action, sleeps.ticket), (Action::Wait, Some(ticket)));
+    expect_equal(rt, sleeps.until, Some(at.saturating_add(100)));
+    call
+}
+
+#[test]
+fn an_idle_object_is_lent_and_returned_by_one_report_each(rt: HostRuntime) {
+    let mut pool = opened(&rt, rt.alloc(), false, 1_000);
+    let _ = lend_new(&rt, &mut pool, 5, 77);
+    expect_equal(&rt, pool.core().journal().len(), 2);
+    give_back(&rt, &mut pool, 6, 77);
+    expect_equal(&rt, pool.core().journal().len(), 4);
+    let mut call = pool.borrow(7);
+    let lent = advance(&rt, &mut pool, &mut call, 7, Report::GoOn);
+    expect_equal(&rt, (lent.action, lent.token), (Action::Done(End::Lent(0)), 77));
+    expect_equal(&rt, pool.core().journal().len(), 6);
+    expect_equal(&rt, lent.is_low, false);
+}
+
+#[test]
+fn the_factory_is_asked_for_all_that_it_has(rt: HostRuntime) {
+    let mut pool = opened(&rt, rt.alloc(), true, 1_000);
+    let mut call = pool.borrow(0);
+    goes_on(&rt, &mut pool, &mut call, 0, Report::GoOn, Action::Make(0));
+    misfits(&rt, &mut pool, &mut call, Report::Succeeded);
+    misfits(&rt, &mut pool, &mut call, Report::GoOn);
+    goes_on(&rt, &mut pool, &mut call, 0, Report::Made(9), Action::Validate(0));
+    misfits(&rt, &mut pool, &mut call, Report::Made(8));
+    goes_on(&rt, &mut pool, &mut call, 0, Report::Succeeded, Action::Activate(0));
+    let failed = advance(&rt, &mut pool, &mut call, 0, Report::Failed);
+    expect_equal(&rt, (failed.action, failed.token), (Action::Destroy(0), 9));
+    let end = Action::Done(End::ActivateFailed);
+    goes_on(&rt, &mut pool, &mut call, 0, Report::Succeeded, end);
+    expect_equal(&rt, pool.core().counts().destroyed, 1);
+    misfits(&rt, &mut pool, &mut call, Report::GivenUp);
+}
+
+#[test]
+fn a_return_wakes_the_oldest(rt: HostRuntime) {
+    let mut pool = opened(&rt, rt.alloc(), false, 1_000);
+    let _ = lend_new(&rt, &mut pool, 0, 7);
+    let mut first = wait(&rt, &mut pool, 1, 0);
+    let mut second = wait(&rt, &mut pool, 2, 1);
+    expect_equal(&rt, wake(&mut pool), (None, None, true));
+    give_back(&rt, &mut pool, 3, 7);
+    expect_equal(&rt, wake(&mut pool), (Some(0), None, true));
+    // The second sleeps on, and makes no entry.
+    let entries = pool.core().journal().len();
+    goes_on(&rt, &mut pool, &mut second, 4, Report::Woken, Action::Wait);
+    expect_equal(&rt, pool.core().journal().len(), entries);
+    let lent = Action::Done(End::Lent(0));
+    goes_on(&rt, &mut pool, &mut first, 4, Report::Woken, lent);
+    expect_equal(&rt, (wake(&mut pool), pool.waiting()), ((None, None, true), 1));
+}
+
+#[test]
+fn one_that_is_given_up_hands_its_signal_on(rt: HostRuntime) {
+    let mut pool = opened(&rt, rt.alloc(), false, 1_000);
+    let _ = lend_new(&rt, &mut pool, 0, 7);
+    let mut first = wait(&rt, &mut pool, 1, 0);
+    let mut second = wait(&rt, &mut pool, 2, 1);
+    give_back(&rt, &mut pool, 3, 7);
+    expect_equal(&rt, wake(&mut pool), (Some(0), None, true));
+    let end = Action::Done(End::Cancelled);
+    goes_on(&rt, &mut pool, &mut first, 4, Report::GivenUp, end);
+    expect_equal(&rt, wake(&mut pool), (Some(1), None, true));
+    let lent = Action::Done(End::Lent(0));
+    goes_on(&rt, &mut pool, &mut second, 5, Report::Woken, lent);
+    expect_equal(&rt, pool.waiting(), 0);
+}
+
+// A newcomer overtakes the one that waits once, and the next newcomer waits behind it.
+#[test]
+fn a_waiter_is_overtaken_once(rt: HostRuntime) {
+    let mut pool = opened(&rt, rt.alloc(), false, 1_000);
+    let _ = lend_new(&rt, &mut pool, 0, 7);
+    let mut first = wait(&rt, &mut pool, 1, 0);
+    give_back(&rt, &mut pool, 2, 7);
+    expect_equal(&rt, wake(&mut pool), (Some(0), None, true));
+    let lent = Action::Done(End::Lent(0));
+    let mut newcomer = pool.borrow(3);
+    goes_on(&rt, &mut pool, &mut newcomer, 3, Report::GoOn, lent);
+    expect_equal(&rt, wake(&mut pool), (None, None, true));
+    goes_on(&rt, &mut pool, &mut first, 4, Report::Woken, Action::Wait);
+    give_back(&rt, &mut pool, 5, 7);
+    expect_equal(&rt, wake(&mut pool), (Some(0), None, true));
+    let mut next = wait(&rt, &mut pool, 6, 1);
+    goes_on(&rt, &mut pool, &mut first, 7, Report::Woken, lent);
+    goes_on(&rt, &mut pool, &mut next, 8, Report::Woken, Action::Wait);
+}
+
+#[test]
+fn a_wait_ends_with_its_time(rt: HostRuntime) {
+    let mut pool = opened(&rt, rt.alloc(), false, 1_000);
+    let _ = lend_new(&rt, &mut pool, 0, 7);
+    let mut first = wait(&rt, &mut pool, 10, 0);
+    let mut second = wait(&rt, &mut pool, 20, 1);
+    let end = Action::Done(End::TimedOut);
+    goes_on(&rt, &mut pool, &mut first, 109, Report::Woken, Action::Wait);
+    goes_on(&rt, &mut pool, &mut first, 110, Report::Woken, end);
+    let mut third = wait(&rt, &mut pool, 110, 2);
+    give_back(&rt, &mut pool, 111, 7);
+    expect_equal(&rt, wake(&mut pool), (Some(1), None, true));
+    // What is there is for the second, whatever the time.
+    let entries = pool.core().journal().len();
+    goes_on(&rt, &mut pool, &mut third, 210, Report::Woken, end);
+    expect_equal(&rt, pool.core().journal().len(), entries);
+    let lent = Action::Done(End::Lent(0));
+    goes_on(&rt, &mut pool, &mut second, 200, Report::Woken, lent);
+    // The times of entries never decrease.
+    let last = pool.core().journal().last().expect(&rt, "an entry");
+    expect_equal(&rt, last.at, 210);
+}
+
+// The journal has room for the borrow and the return of one object, and for the close.
+#[test]
+fn a_full_journal_is_cut(rt: HostRuntime) {
+    let mut pool = opened(&rt, rt.alloc(), false, 8);
+    let _ = lend_new(&rt, &mut pool, 0, 7);
+    give_back(&rt, &mut pool, 1, 7);
+    let mut call = pool.borrow(2);
+    let full = advance(&rt, &mut pool, &mut call, 2, Report::GoOn);
+    expect_equal(&rt, (full.action, full.is_low), (Action::MakeRoom, true));
+    let mut refused = call;
+    let end = Action::Done(End::NotTaken(StepFailure::JournalFull));
+    goes_on(&rt, &mut pool, &mut refused, 2, Report::NoRoom, end);
+    let segment = pool.cut(rt.alloc()).expect(&rt, "memory");
+    expect_equal(&rt, segment.entries.as_slice().len(), 4);
+    let lent = Action::Done(End::Lent(0));
+    goes_on(&rt, &mut pool, &mut call, 3, Report::RoomMade, lent);
+    expect_equal(&rt, pool.core().journal().len(), 2);
+}
