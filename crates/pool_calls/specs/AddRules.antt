@@ -267,6 +267,7 @@ fits s events.RoomMade = lacks_room s
 fits s events.NoRoom = lacks_room s
 fits s events.Succeeded = has_work s
 fits s events.Failed = has_work s
+fits s events.Queued = false
 fits s events.Woken = false
 fits s events.TimeOver = false
 fits s events.Cancelled = is_going s

@@ -310,6 +310,7 @@ fits cancelled s events.RoomMade = lacks_room s
 fits cancelled s events.NoRoom = lacks_room s
 fits cancelled s events.Succeeded = has_work s
 fits cancelled s events.Failed = has_work s
+fits cancelled s events.Queued = false
 fits cancelled s events.Woken = false
 fits cancelled s events.TimeOver = false
 fits cancelled s events.Cancelled = is_going cancelled s

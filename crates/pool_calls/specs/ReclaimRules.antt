@@ -145,6 +145,7 @@ fits s events.RoomMade = lacks_room s
 fits s events.NoRoom = lacks_room s
 fits s events.Succeeded = false
 fits s events.Failed = false
+fits s events.Queued = false
 fits s events.Woken = false
 fits s events.TimeOver = false
 fits s events.Cancelled = is_going s

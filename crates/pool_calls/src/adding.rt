@@ -349,7 +349,7 @@ impl AddCall {
             Event::NoRoom => self.state.after_no_room(),
             Event::Succeeded => self.state.after_success(&self.plan),
             Event::Failed => self.state.after_failure(),
-            Event::Woken | Event::TimeOver => None,
+            Event::Queued | Event::Woken | Event::TimeOver => None,
             Event::Cancelled => self.state.after_cancelling(),
         }
     }

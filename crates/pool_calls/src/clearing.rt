@@ -401,7 +401,7 @@ impl ClearCall {
             Event::NoRoom => self.after_no_room(),
             Event::Succeeded => self.after_work(),
             Event::Failed => self.after_work(),
-            Event::Woken | Event::TimeOver => None,
+            Event::Queued | Event::Woken | Event::TimeOver => None,
             Event::Cancelled => self.after_cancelling(),
         }
     }

@@ -477,7 +477,7 @@ impl EvictCall {
             Event::NoRoom => self.after_no_room(),
             Event::Succeeded => self.after_success(),
             Event::Failed => self.after_failure(),
-            Event::Woken | Event::TimeOver => None,
+            Event::Queued | Event::Woken | Event::TimeOver => None,
             Event::Cancelled => self.after_cancelling(),
         }
     }

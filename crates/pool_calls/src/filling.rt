@@ -222,7 +222,7 @@ impl FillCall {
             Event::NoRoom => Some(self.moved(addition.after_no_room()?)),
             Event::Succeeded => Some(self.moved(addition.after_success(&self.plan)?)),
             Event::Failed => Some(self.moved(addition.after_failure()?)),
-            Event::Woken | Event::TimeOver => None,
+            Event::Queued | Event::Woken | Event::TimeOver => None,
             Event::Cancelled => self.after_cancelling(),
         }
     }

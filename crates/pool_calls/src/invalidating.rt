@@ -250,7 +250,7 @@ impl InvalidateCall {
             Event::NoRoom => self.after_no_room(),
             Event::Succeeded => self.after_work(),
             Event::Failed => self.after_work(),
-            Event::Woken | Event::TimeOver => None,
+            Event::Queued | Event::Woken | Event::TimeOver => None,
             Event::Cancelled => self.after_cancelling(),
         }
     }
