@@ -17,6 +17,8 @@ use Rattle.pool_core.specs.Pool.{CoreModel}
 use Rattle.pool_calls.specs.Operations.{HasCome, plan_in, began_of}
 use Rattle.pool_calls.specs.Turns.{Turn}
 use Rattle.pool_calls.specs.Waiting.{Queue}
+use Rattle.pool_calls.specs.declared.action.Action.{Action}
+use Rattle.pool_calls.specs.declared.action.Action.TheVariants as actions
 use Rattle.pool_calls.specs.declared.action.StepFailure.{StepFailure}
 use Rattle.pool_calls.specs.declared.action.StepFailure.TheVariants as failures
 use Rattle.pool_calls.specs.declared.plan.Plan.{Plan}
@@ -98,6 +100,11 @@ pub record Advances (caller at : ℕ) (old new : CoreModel ℕ) (before after : 
   pub runs : Runs caller at turns old before.token new after.token
   pub appended : new.journal ≡ old.journal ++ entries_of caller at turns
   pub comes : (earlier : List Turn) → HasCome before.operation earlier → HasCome after.operation (earlier ++ turns)
+
+-- the call is over
+abbrev pub is_done : Action → Bool
+is_done (actions.Done e) = true
+is_done _ = false
 
 -- the call, with the token that a report tells
 abbrev pub told : Report → Call → Call

@@ -6,7 +6,7 @@ ghost use Rattle.pool_core.specs.Reply.{has_reached};
 ghost use Rattle.pool_journal.specs.Base.{closed_from};
 ghost use Rattle.pool_driver.specs.declared.report.Report.TheVariants as reports;
 ghost use Rattle.pool_driver.specs.Queueing.{Queues};
-ghost use Rattle.pool_driver.specs.Driving.{Accepts, IsAvailable, Moves, available_in, is_low_in, until_of, waking_of};
+ghost use Rattle.pool_driver.specs.Driving.{Accepts, IsAvailable, Moves, available_in, is_low_in, until_of, is_done, waking_of};
 
 use crate::call::Call;
 use crate::pool::DrivenPool;
@@ -145,18 +145,16 @@ impl DrivenPool {
         true
     }
 
-    /// Ends a call for whose step the journal could not be cut. Returns whether that fits; otherwise nothing changes. A
-    /// borrow that was woken before leaves the queue.
-    pub(crate) fn end_without_room(&mut self, call: &mut Call) -> bool
-        ensures accepted { result ≡ true
-            → Accepts reports.NoRoom self.old self.new call.old call.new }
-        ensures unfit { result ≡ false → (self.new ≡ self.old) × (call.new ≡ call.old) }
+    /// A call whose action is its end leaves the queue.
+    pub(crate) fn leave_at_end(&mut self, call: &mut Call, action: Action)
+        ensures accepts { Accepts reports.GoOn self.old self.new call.old call.new }
+        ensures rest { self.new ≡ record self.old { queue = self.new.queue } }
+        ensures operation { call.new.operation ≡ call.old.operation }
+        ensures ended { is_done action ≡ true → call.new.ticket ≡ None }
     {
-        if !call.operation.tell(Event::NoRoom) {
-            return false;
+        if matches!(action, Action::Done(_)) {
+            self.leave(call);
         }
-        self.leave(call);
-        true
     }
 
     // The number of idle objects and free places, as far as it matters to a newcomer: 0 if no call waits.
