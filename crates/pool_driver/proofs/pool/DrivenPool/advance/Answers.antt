@@ -1,4 +1,4 @@
-use Rattle.std.proofs.Common.{◌≡◌, ℕ, true, sym, subst}
+use Rattle.std.proofs.Common.{◌≡◌, ℕ, true, max, sym, subst}
 use Rattle.pool_driver.specs.Driving.{DrivenModel, Moves, told}
 use Rattle.pool_driver.proofs.Moving.{moves_accepted, moves_later, moves_on, moves_told}
 use Rattle.pool_driver.proofs.pool.DrivenPool.advance.Goals as goal
@@ -14,4 +14,5 @@ returns-clause-moves c =
     let later = moves_later time c.args.caller time c.args.self.now c.leave_at_end.new.self first last left in
     let P : DrivenModel → Type 0 = λ d. Moves c.args.caller time c.args.self.now (record d { last = time }) first last in
     let Q : ℕ → Type 0 = λ n. Moves c.args.caller n c.args.self.now (record { core = c.self-2.inside.core; queue = c.self-2.inside.waiters; plan = c.self-2.inside.plan; last = time }) first last in
-    subst Q c.max-at.ensures (subst P (sym c.self-2.view_is) later)
+    let R : DrivenModel → Type 0 = λ d. Moves c.args.caller (max c.args.at d.last) c.args.self.now (record { core = c.self-2.inside.core; queue = c.self-2.inside.waiters; plan = c.self-2.inside.plan; last = time }) first last in
+    subst R c.self.view_is (subst Q c.max-at.ensures (subst P (sym c.self-2.view_is) later))
