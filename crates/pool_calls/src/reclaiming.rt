@@ -221,7 +221,8 @@ impl ReclaimCall {
             Event::RoomMade => self.after_room(),
             Event::NoRoom => self.after_no_room(),
             Event::Cancelled => self.after_cancelling(),
-            Event::Succeeded | Event::Failed | Event::Queued | Event::Woken | Event::TimeOver => None,
+            Event::Succeeded | Event::Failed | Event::Queued | Event::Woken | Event::TimeOver =>
+                None,
         }
     }
 
