@@ -3,14 +3,30 @@ ghost use Rattle.pool_calls.specs.Operations.{HasCome, ComesOn, Proceeds, IsRigh
 ghost use Rattle.pool_calls.specs.Turns.{Turn, step_of};
 
 use crate::action::{Action, Event};
+use crate::adding::AddCall;
 use crate::borrowing::BorrowCall;
+use crate::clearing::ClearCall;
+use crate::evicting::EvictCall;
+use crate::filling::FillCall;
+use crate::invalidating::InvalidateCall;
+use crate::reclaiming::ReclaimCall;
 use crate::returning::ReturnCall;
+use crate::touching::TouchCall;
 
 /// A call of any kind.
 #[derive(Clone, Copy, Debug, PartialEq, Eq)]
 pub enum Operation {
     Borrow(BorrowCall),
     Return(ReturnCall),
+    /// An invalidation, or a detachment.
+    Invalidate(InvalidateCall),
+    Touch(TouchCall),
+    Add(AddCall),
+    Fill(FillCall),
+    Evict(EvictCall),
+    Reclaim(ReclaimCall),
+    /// A clear, or a close.
+    Clear(ClearCall),
 }
 
 impl Operation {
@@ -20,7 +36,7 @@ impl Operation {
     {
         match self {
             Operation::Borrow(call) => Some(call.began()),
-            Operation::Return(_) => None,
+            _ => None,
         }
     }
 
@@ -33,6 +49,13 @@ impl Operation {
         match self {
             Operation::Borrow(call) => call.action(),
             Operation::Return(call) => call.action(),
+            Operation::Invalidate(call) => call.action(),
+            Operation::Touch(call) => call.action(),
+            Operation::Add(call) => call.action(),
+            Operation::Fill(call) => call.action(),
+            Operation::Evict(call) => call.action(),
+            Operation::Reclaim(call) => call.action(),
+            Operation::Clear(call) => call.action(),
         }
     }
 
@@ -46,6 +69,13 @@ impl Operation {
         match self {
             Operation::Borrow(call) => call.tell(event),
             Operation::Return(call) => call.tell(event),
+            Operation::Invalidate(call) => call.tell(event),
+            Operation::Touch(call) => call.tell(event),
+            Operation::Add(call) => call.tell(event),
+            Operation::Fill(call) => call.tell(event),
+            Operation::Evict(call) => call.tell(event),
+            Operation::Reclaim(call) => call.tell(event),
+            Operation::Clear(call) => call.tell(event),
         }
     }
 }

@@ -14,7 +14,7 @@ use Rattle.pool_core.specs.declared.step_fault.StepFault.TheVariants as faults
 use Rattle.pool_core.specs.Fits.{limit_from, owed_from}
 use Rattle.pool_core.specs.Legal.{entry_of}
 use Rattle.pool_core.specs.Pool.{CoreModel}
-use Rattle.pool_calls.specs.Operations.{HasCome, plan_in, began_of}
+use Rattle.pool_calls.specs.Operations.{HasCome, Follows, began_of}
 use Rattle.pool_calls.specs.Turns.{Turn}
 use Rattle.pool_calls.specs.Waiting.{Queue}
 use Rattle.pool_calls.specs.declared.action.Action.{Action}
@@ -64,7 +64,7 @@ pub record Opened (s : Settings) (h : Hooks) (most : ℕ) (d : DrivenModel) : Ty
 -- the call has taken no step, holds no ticket, and follows this plan
 pub record Begins (p : Plan) (c : Call) : Type 0 where
   pub first : HasCome c.operation []
-  pub follows : plan_in c.operation ≡ p
+  pub follows : Follows p c.operation
   pub alone : c.ticket ≡ None
 
 -- the settings stay, and what the calls have to know
