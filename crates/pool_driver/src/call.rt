@@ -25,4 +25,11 @@ impl Call {
             ticket: None,
         }
     }
+
+    /// Returns what kind of call it is, and what it has come to: its counts, after a call over several objects.
+    pub fn operation(&self) -> Operation
+        ensures { result ≡ self.now.operation }
+    {
+        self.operation
+    }
 }

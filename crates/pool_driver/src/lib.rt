@@ -2,6 +2,7 @@
 //! here.
 #![tactic(auto)]
 
+mod beginning;
 mod call;
 mod effects;
 mod hooks;

@@ -1,0 +1,104 @@
+// The calls of a pool, before their first step.
+ghost use Rattle.std.specs.Prelude.{◌≡◌, max, Some};
+ghost use Rattle.pool_journal.specs.declared.input.Input.TheVariants as inputs;
+ghost use Rattle.pool_calls.specs.Operations.{began_of, step_at};
+ghost use Rattle.pool_driver.specs.Driving.{Begins};
+
+use crate::call::Call;
+use crate::pool::DrivenPool;
+use pool_calls::{
+    AddCall, BorrowCall, ClearCall, EvictCall, FillCall, InvalidateCall, Operation, ReclaimCall,
+    ReturnCall, TouchCall,
+};
+
+impl DrivenPool {
+    /// Returns a borrow that begins at time `at` (milliseconds). If a greater time was passed in before, it begins then.
+    pub fn borrow(&self, at: u64) -> Call
+        ensures begins { Begins self.now.plan result }
+        ensures began { began_of result.operation ≡ Some (max at self.now.last) }
+    {
+        let began = at.max(self.last);
+        Call::new(Operation::Borrow(BorrowCall::new(self.plan, began)), 0)
+    }
+
+    /// Returns a return of the object with this id and token.
+    pub fn give_back(&self, id: u64, token: u64) -> Call
+        ensures begins { Begins self.now.plan result }
+        ensures first { step_at result.operation ≡ Some (inputs.GiveBack id) }
+        ensures token { result.token ≡ token }
+    {
+        Call::new(Operation::Return(ReturnCall::new(self.plan, id)), token)
+    }
+
+    /// Returns an invalidation of the object with this id and token, which is destroyed.
+    pub fn invalidate(&self, id: u64, token: u64) -> Call
+        ensures begins { Begins self.now.plan result }
+        ensures first { step_at result.operation ≡ Some (inputs.Invalidate id) }
+        ensures token { result.token ≡ token }
+    {
+        Call::new(Operation::Invalidate(InvalidateCall::new(id)), token)
+    }
+
+    /// Returns a detachment of the object with this id and token, which the caller keeps.
+    pub fn detach(&self, id: u64, token: u64) -> Call
+        ensures begins { Begins self.now.plan result }
+        ensures first { step_at result.operation ≡ Some (inputs.Invalidate id) }
+        ensures token { result.token ≡ token }
+    {
+        Call::new(Operation::Invalidate(InvalidateCall::detach(id)), token)
+    }
+
+    /// Returns a note that the object with this id is used.
+    pub fn touch(&self, id: u64) -> Call
+        ensures begins { Begins self.now.plan result }
+        ensures first { step_at result.operation ≡ Some (inputs.Use id) }
+    {
+        Call::new(Operation::Touch(TouchCall::new(id)), 0)
+    }
+
+    /// Returns an addition of one object.
+    pub fn add(&self) -> Call
+        ensures begins { Begins self.now.plan result }
+        ensures first { step_at result.operation ≡ Some inputs.Add }
+    {
+        Call::new(Operation::Add(AddCall::new(self.plan)), 0)
+    }
+
+    /// Returns a fill up to the least number of idle objects.
+    pub fn fill(&self) -> Call
+        ensures begins { Begins self.now.plan result }
+        ensures first { step_at result.operation ≡ Some inputs.Fill }
+    {
+        Call::new(Operation::Fill(FillCall::new(self.plan)), 0)
+    }
+
+    /// Returns an eviction run.
+    pub fn evict(&self) -> Call
+        ensures begins { Begins self.now.plan result }
+    {
+        Call::new(Operation::Evict(EvictCall::new(self.plan)), 0)
+    }
+
+    /// Returns a removal of abandoned objects, for maintenance.
+    pub fn reclaim(&self) -> Call
+        ensures begins { Begins self.now.plan result }
+    {
+        Call::new(Operation::Reclaim(ReclaimCall::new()), 0)
+    }
+
+    /// Returns a clear: the idle objects are destroyed.
+    pub fn clear(&self) -> Call
+        ensures begins { Begins self.now.plan result }
+        ensures first { step_at result.operation ≡ Some inputs.Clear }
+    {
+        Call::new(Operation::Clear(ClearCall::clear()), 0)
+    }
+
+    /// Returns a close: the pool lends no more, and the idle objects are destroyed.
+    pub fn close(&self) -> Call
+        ensures begins { Begins self.now.plan result }
+        ensures first { step_at result.operation ≡ Some inputs.Close }
+    {
+        Call::new(Operation::Clear(ClearCall::close()), 0)
+    }
+}
