@@ -3,6 +3,8 @@
 #![tactic(auto)]
 
 #[cfg(test)]
+mod add_calls;
+#[cfg(test)]
 mod calls;
 #[cfg(test)]
 mod checks;
