@@ -7,6 +7,8 @@ mod calls;
 #[cfg(test)]
 mod checks;
 #[cfg(test)]
+mod evict_calls;
+#[cfg(test)]
 mod journal;
 #[cfg(test)]
 mod places;
