@@ -11,6 +11,8 @@ mod checks;
 #[cfg(test)]
 mod clear_calls;
 #[cfg(test)]
+mod evict_calls;
+#[cfg(test)]
 mod journal;
 #[cfg(test)]
 mod places;
