@@ -23,7 +23,9 @@ COMMONS, R2D2, PLAIN = "Commons Pool 2", "r2d2", "plain Rust"
 COMMONS_HOOKS = "Commons Pool 2, hooks"
 JAVA, JAVA_HOOKS = "Java", "Java, hooks"
 COUNTER, CLOCK, HOOKS = "crate, counter", "crate, clock", "crate, clock, hooks"
+C = "C"
 LOAD, THREADS_OF_LOAD = "load", "load, threads alone"
+COLUMNS = [COMMONS, JAVA, COMMONS_HOOKS, JAVA_HOOKS, R2D2, PLAIN, COUNTER, CLOCK, HOOKS, C, LOAD, THREADS_OF_LOAD]
 JOURNAL_LIMIT = 1 << 32
 # A run that takes longer hangs, in seconds.
 LONGEST = 600
@@ -142,16 +144,23 @@ def runs_cargo():
 
 
 class Entrants:
-    """The programs, built in a folder; the versions of what they use; and why others are left out, as lines."""
+    """The programs, built in a folder; the versions of what they use; and why others are left out, as lines.
 
-    def __init__(self, folder, pool, jar, library, registry):
-        self.folder, self.pool, self.jar, self.library, self.registry = folder, pool, jar, library, registry
+    `wanted` has the columns for which programs are built. `pool` is the program `pool`; if it is `None`, it is built where `load` is wanted."""
+
+    def __init__(self, folder, pool, jar, library, registry, wanted=COLUMNS):
+        self.folder, self.pool, self.jar, self.library, self.registry, self.wanted = folder, pool, jar, library, registry, wanted
         self.programs, self.versions, self.left_out = [], [], []
         self.enter_java()
         self.enter_r2d2()
         self.enter_plain()
         self.enter_crate()
+        self.enter_c()
         self.enter_load()
+
+    def wants(self, *columns):
+        """Whether one of some columns is wanted."""
+        return not set(columns).isdisjoint(self.wanted)
 
     def has(self, column, *needs):
         """Whether all is there that a pool needs. Each need is what was found, if anything was, and its name."""
@@ -161,6 +170,10 @@ class Entrants:
 
     def enter_java(self):
         """Enters Commons Pool 2 and the pool for Java, which take turns in one virtual machine; and both once more with hooks."""
+        factories = ("bare", (COMMONS, JAVA)), ("hooked", (COMMONS_HOOKS, JAVA_HOOKS))
+        factories = [(factory, columns) for factory, columns in factories if self.wants(*columns)]
+        if not factories:
+            return
         runs = version_of("javac", "-version") and version_of("java", "-version")
         needs = [(runs, "JDK"), (self.jar.exists(), f"libcommons-pool2-java ({self.jar})")]
         has_library = (self.library.exists(), f"libzuphinka.a ({self.library})"), (shutil.which(os.environ.get("CC", "cc")), "C compiler")
@@ -171,7 +184,7 @@ class Entrants:
         self.versions += [*named[-1:], runs]
         kinds = ["Commons", "Zuphinka"] if has_java else ["Commons"]
         program = self.built_java(kinds)
-        for factory, columns in ("bare", (COMMONS, JAVA)), ("hooked", (COMMONS_HOOKS, JAVA_HOOKS)):
+        for factory, columns in factories:
             self.enter_contestants(program, factory, dict(zip(kinds, columns)))
 
     def built_java(self, kinds):
@@ -194,7 +207,7 @@ class Entrants:
 
     def enter_r2d2(self):
         found = sorted(self.registry.glob("r2d2-[0-9]*"))
-        if not self.has(R2D2, (runs_cargo(), "cargo"), (found, f"librust-r2d2-dev ({self.registry})")):
+        if not self.wants(R2D2) or not self.has(R2D2, (runs_cargo(), "cargo"), (found, f"librust-r2d2-dev ({self.registry})")):
             return
         source = ["--config", 'source.crates-io.replace-with="peers"', "--config", f'source.peers.directory="{self.registry.resolve()}"']
         self.versions.append(found[-1].name)
@@ -202,7 +215,7 @@ class Entrants:
 
     def enter_plain(self):
         rustc = version_of("rustc", "--version")
-        if self.has(PLAIN, (rustc, "rustc")):
+        if self.wants(PLAIN) and self.has(PLAIN, (rustc, "rustc")):
             program = self.folder / "plain_pool"
             build("rustc", "-O", "--edition", "2021", RUST / "plain_pool.rs", "-o", program)
             self.versions.append(rustc)
@@ -212,16 +225,29 @@ class Entrants:
         self.programs.append(Entrant(lambda row: [program, row.objects, row.threads, row.each], is_right_peer, whole(column)))
 
     def enter_crate(self):
-        if not self.has("crate", (runs_cargo(), "cargo")):
+        columns = [(COUNTER, []), (CLOCK, ["instant"]), (HOOKS, ["instant", "hooks"])]
+        columns = [(column, words) for column, words in columns if self.wants(column)]
+        if not columns or not self.has("crate", (runs_cargo(), "cargo")):
             return
         program = built_by_cargo(CRATE, "--example", "pairs") / "examples/pairs"
-        for column, words in (COUNTER, []), (CLOCK, ["instant"]), (HOOKS, ["instant", "hooks"]):
+        for column, words in columns:
             self.enter_pairs(column, program, words)
 
     def enter_pairs(self, column, program, words):
         self.programs.append(Entrant(lambda row: [program, self.settings(row), row.threads, row.each, *words], is_right_crate, whole(column)))
 
+    def enter_c(self):
+        compiler, pool, program = os.environ.get("CC", "cc"), TOP / "bindings/c", self.folder / "pairs_c"
+        needs = [(shutil.which(compiler), "C compiler"), (self.library.exists(), f"libzuphinka.a ({self.library})")]
+        if self.wants(C) and self.has(C, *needs):
+            sources = TOP / "bench/pairs_c.c", pool / "zuphinka_pool.c", self.library, heap_of_kit()
+            build(compiler, "-std=c11", "-O2", "-pthread", "-I", pool, "-o", program, *sources)
+            self.enter_peer(C, program)
+
     def enter_load(self):
+        if not self.wants(LOAD, THREADS_OF_LOAD):
+            return
+        self.pool = self.pool or built_pool()
         compiler = os.environ.get("CC", "cc")
         if not self.has(THREADS_OF_LOAD, (shutil.which(compiler), "C compiler")):
             self.programs.append(Entrant(self.load, is_right_load, whole(LOAD)))

@@ -3,8 +3,9 @@
 
     play_bench.py POOL
 
-POOL is the program. bench/peers must end with an error after a run with a pair too few or of a pool for Java with a wrong report, and name and leave
-out the pools whose packages are missing. Where all packages are installed, all its columns must come, in both tables. bench/longest_waits must end with
+POOL is the program. bench/peers must end with an error after a run with a pair too few or of a pool for Java with a wrong report, name and leave
+out the pools whose packages are missing, and show the columns alone that it is asked for. Where all packages are installed, all its columns must come,
+in both tables. bench/longest_waits must end with
 an error after a report with a wait too few, name what it leaves out, and tell the waits that are too long. bench/soak must fail each report in which one
 number is wrong.
 
@@ -22,14 +23,21 @@ TOP = pathlib.Path(__file__).resolve().parent.parent
 sys.path.append(str(TOP / "bench"))
 
 from entrants import (
-    CLOCK, COMMONS, COMMONS_HOOKS, COUNTER, HOOKS, JAR, JAVA, JAVA_HOOKS, LOAD, PLAIN, R2D2, REGISTRY, Row, is_right_contestant, runs_cargo
+    C, CLOCK, COMMONS, COMMONS_HOOKS, COUNTER, HOOKS, JAR, JAVA, JAVA_HOOKS, LOAD, PLAIN, R2D2, REGISTRY, Row, is_right_contestant, runs_cargo
 )
 from soaking import ROUNDS, THREADS, Length, fault_of_load, faults_of
-from waiting import C, JAVA as JAVA_WAITS, TASKS, THREADS as THREAD_WAITS, Miscounted, looked_at, waited, waits_of
+from waiting import C as C_WAITS, JAVA as JAVA_WAITS, TASKS, THREADS as THREAD_WAITS, Miscounted, looked_at, waited, waits_of
 
 LONGEST = 600
 PAIRS = 4_000
 ROWS = ["4 objects, 1 thread", "4 objects, 2 threads", "4 objects, 4 threads", "1 object, 2 threads", "1 object, 4 threads"]
+# The least ratios of columns, by the number of threads.
+BESIDE_COMMONS, BESIDE_R2D2, BESIDE_HOOKS = {1: 1.2, 2: 1.2, 4: 1.1}, {1: 0.6, 4: 1.1}, {1: 1.0, 2: 1.0, 4: 0.9}
+TARGETS = {
+    (JAVA, COMMONS): {1: 1.0, 2: 1.0, 4: 1.0}, (JAVA_HOOKS, COMMONS_HOOKS): BESIDE_HOOKS, (HOOKS, COMMONS_HOOKS): BESIDE_HOOKS,
+    (CLOCK, COMMONS): BESIDE_COMMONS, (C, COMMONS): BESIDE_COMMONS, (CLOCK, R2D2): BESIDE_R2D2, (C, R2D2): BESIDE_R2D2,
+    (LOAD, COMMONS): {1: 0.7, 2: 0.7, 4: 0.7},
+}
 ABSENT = ["--jar", "/nowhere/commons-pool2.jar", "--registry", "/nowhere"]
 NO_LIBRARY = ["--library", "/nowhere/libzuphinka.a"]
 # A program in the place of POOL that makes one pair less than it is asked for.
@@ -83,13 +91,14 @@ def fault_of_tables(done, columns, peers_there):
     return None if ratios == set(peers_there) else f"ratios to {ratios}"
 
 
-def fault_of_target(done, our, peer, least):
+def fault_of_target(done, our, peer, targets):
     """Why the lines of missed targets do not agree with the table of ratios, if they don't. A ratio that rounds to the target may miss it."""
     head, *rows = (tables(done.stdout) or [[[]]])[-1]
     if f"{our} / {peer}" not in head:
         return f"no ratio {our} / {peer}"
     column = head.index(f"{our} / {peer}")
     for row in rows:
+        least = targets.get(int(row[0].split()[2]), 0.0)
         is_short = f"short: {row[0]}: {our} / {peer} is " in done.stdout
         if is_short != (float(row[column]) < least) and float(row[column]) != least:
             return f"{row[0]}: {our} / {peer}: the target {least} is {'missed' if is_short else 'reached'} with {row[column]}"
@@ -105,7 +114,7 @@ def check_missing(pool):
     done = peers("--pool", pool, *ABSENT)
     for line in f"left out: {COMMONS}: no ", f"left out: {JAVA}: no ", f"left out: {R2D2}: no ":
         yield None if line in done.stdout else f"{line!r} isn't said: {done.stdout}{done.stderr}"
-    yield fault_of_tables(done, [PLAIN, COUNTER, CLOCK, HOOKS, LOAD], [PLAIN])
+    yield fault_of_tables(done, [PLAIN, COUNTER, CLOCK, HOOKS, C, LOAD], [PLAIN])
     heads = [line for table in tables(done.stdout) for line in table[:1]]
     yield f"{heads} have a pool that is left out" if {COMMONS, COMMONS_HOOKS, JAVA, JAVA_HOOKS, R2D2} & set(sum(heads, [])) else None
     yield None if (done.returncode, last_line(done)) == (0, "0 rows, 0 short") else f"status {done.returncode}: {last_line(done)}"
@@ -121,11 +130,21 @@ def check_present(pool):
         print("r2d2 is left out: `bench/peers --help` says what it needs")
     others = [R2D2, PLAIN] if has_r2d2 else [PLAIN]
     done = peers("--pool", pool)
-    yield fault_of_tables(done, [*in_java, *others, COUNTER, CLOCK, HOOKS, LOAD], [COMMONS, COMMONS_HOOKS, *others])
-    yield from (fault_of_target(done, our, COMMONS, 1.0) for our in (JAVA, CLOCK))
+    yield fault_of_tables(done, [*in_java, *others, COUNTER, CLOCK, HOOKS, C, LOAD], [COMMONS, COMMONS_HOOKS, *others])
+    yield from (fault_of_target(done, our, peer, least) for (our, peer), least in TARGETS.items() if has_r2d2 or peer != R2D2)
     short = {line.split(": ")[1] for line in done.stdout.splitlines() if line.startswith("short: ")}
     is_told = done.returncode == bool(short) and last_line(done) == f"5 rows, {len(short)} short" and short <= set(ROWS)
     yield None if is_told else f"status {done.returncode}: {done.stdout}{done.stderr}"
+
+
+def check_only():
+    """With --only there are the named columns alone. A name that is no column is an error."""
+    done = peers("--only", PLAIN, "--only", CLOCK)
+    yield fault_of_tables(done, [PLAIN, CLOCK], [PLAIN])
+    head = (tables(done.stdout) or [[[]]])[0][0]
+    yield None if head[1:] == [PLAIN, CLOCK] else f"--only shows {head}"
+    done = peers("--only", "crate")
+    yield None if done.returncode == 2 and "invalid choice: 'crate'" in done.stderr else f"--only crate: {done.returncode}: {done.stderr}"
 
 
 def check_java():
@@ -162,7 +181,7 @@ def check_waits():
             yield f"{command} passes: {waited(command, 10, 200)}"
         except Miscounted:
             yield None
-    row = {R2D2: (30, 4), THREAD_WAITS: (90, 4), TASKS: (91, 4), C: (0, 0), COMMONS: (1_000, 4)}
+    row = {R2D2: (30, 4), THREAD_WAITS: (90, 4), TASKS: (91, 4), C_WAITS: (0, 0), COMMONS: (1_000, 4)}
     looked = list(looked_at(10, row))
     yield None if looked == ["", f"long: held for 10 µs: {TASKS}: 91 µs, r2d2 30", ""] else f"other waits are too long: {looked}"
     yield "a wait without r2d2's beside it is looked at" if list(looked_at(10, {JAVA_WAITS: (1, 1)})) else None
@@ -197,7 +216,7 @@ def check_soak():
 def main(pool):
     checks = [*check_soak(), *check_java(), *check_waits()]
     if runs_cargo():
-        checks += [*check_missing_waits(), *check_missing(pool), *check_counting(), *check_present(pool)]
+        checks += [*check_missing_waits(), *check_missing(pool), *check_counting(), *check_only(), *check_present(pool)]
     else:
         print("bench/peers and bench/longest_waits are left out, since no cargo runs here")
     faults = [fault for fault in checks if fault]

@@ -1337,6 +1337,40 @@ static void test_served_in_order(void) {
   end_pool(maker.pool);
 }
 
+enum { TAKERS = 6, TURNS = 200, TURNS_OF_A_SLEEP = 50 };
+
+/* Borrows and returns again and again, and keeps the object now and then for so long that others sleep. */
+static void *take_turns(void *argument) {
+  struct waiter *waiter = argument;
+  waiter->error = ZUPHINKA_POOL_ERROR_NONE;
+  for (int turn = 0; turn < TURNS; turn++) {
+    struct zuphinka_pool_loan loan;
+    waiter->error = zuphinka_pool_get_timed(waiter->pool, LONG, &loan);
+    if (waiter->error) break;
+    check(atomic_fetch_add(&((struct thing *)loan.object)->holders, 1) == 0);
+    if (turn % TURNS_OF_A_SLEEP == 0) sleep_for(1);
+    give_back(waiter->pool, &loan);
+  }
+  return NULL;
+}
+
+/* Each of the threads that borrow again and again has all its turns, whether it finds an object while it pauses or while it sleeps. */
+static void test_threads_take_turns(void) {
+  for (int choice = 0; choice < CHOICES; choice++) {
+    struct waiter waiters[TAKERS];
+    maker.is_fair = overtaking[choice].is_fair;
+    maker.max_overtakes = overtaking[choice].max_overtakes;
+    struct zuphinka_pool *pool = open_kept("maxTotal = 2\n", 2);
+    for (int n = 0; n < TAKERS; n++) {
+      waiters[n].pool = pool;
+      check(pthread_create(&waiters[n].thread, NULL, take_turns, &waiters[n]) == 0);
+    }
+    join(waiters, TAKERS, ZUPHINKA_POOL_ERROR_NONE);
+    check(counts_of(pool).lent == 0);
+    end_pool(pool);
+  }
+}
+
 /* What no thread that waits could have is no overtaking: a borrow takes it, also if the pool is fair. */
 static void test_something_is_left(void) {
   maker.is_fair = true;
@@ -1957,6 +1991,7 @@ static const struct {
     TEST(no_thread_starves),
     TEST(woken_for_nothing_once),
     TEST(served_in_order),
+    TEST(threads_take_turns),
     TEST(something_is_left),
     TEST(times_out_beside_an_object),
     TEST(failed_object_keeps_the_turn),

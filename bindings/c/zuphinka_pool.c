@@ -1,9 +1,12 @@
 /* A pool of objects for threads over the proved core. zuphinka_pool.h explains its calls; docs/guide/concepts.md has the life of an object. */
-#define _POSIX_C_SOURCE 200809L
+#ifndef _GNU_SOURCE
+#define _GNU_SOURCE
+#endif
 
 #include "zuphinka_pool.h"
 
 #include <pthread.h>
+#include <sched.h>
 #include <stdatomic.h>
 #include <stdio.h>
 #include <stdlib.h>
@@ -18,6 +21,9 @@ enum {
   TRIES = 16,           /* allocations that fail one after the other before a copy gives up */
   SMALLEST_TEXT = 4096, /* bytes */
 };
+
+/* How long a thread pauses before it looks again, at first and at most, and in all before it sleeps; in nanoseconds. */
+enum { FIRST_PAUSE = 250, LONGEST_PAUSE = 5000, ALL_PAUSES = 25000 };
 
 /* No wait is longer, in milliseconds: 285,000 years. */
 static const uint64_t LONGEST_WAIT = UINT64_C(1) << 53;
@@ -47,8 +53,9 @@ static const uint64_t FREE = UINT64_C(1) << 63;
 struct waiter {
   struct waiter *older, *younger; /* a spare one has the next spare one in `older` */
   pthread_cond_t changed;
-  bool is_woken;  /* an object or a place is set aside for it, or the pool is closed */
-  bool is_calmed; /* it was woken, and others took what was set aside */
+  atomic_bool was_woken; /* since it last looked; it reads this without the lock */
+  bool is_woken;         /* an object or a place is set aside for it, or the pool is closed */
+  bool is_calmed;        /* it was woken, and others took what was set aside */
 };
 
 /* The threads that wait, in the order of arrival. Those that were woken come first. */
@@ -70,6 +77,7 @@ struct zuphinka_pool {
   struct timespec opened;
   bool works_on_borrow; /* a callback runs between the take of an idle object and its loan */
   bool works_on_return; /* a callback runs between the return of an object and its parking */
+  uint64_t processors;  /* how many the process may use */
 
   struct segment unstored; /* of the thread that cuts; without bytes: none */
 
@@ -111,15 +119,20 @@ static struct timespec monotonic(void) {
   return now;
 }
 
-/* Returns the time some milliseconds after another. */
-static struct timespec later(struct timespec time, uint64_t milliseconds) {
-  if (milliseconds > LONGEST_WAIT) milliseconds = LONGEST_WAIT;
-  time.tv_sec += (time_t)(milliseconds / 1000);
-  time.tv_nsec += (long)(milliseconds % 1000) * 1000000;
+/* Returns the time some nanoseconds after another, less than a second. */
+static struct timespec soon_after(struct timespec time, long nanoseconds) {
+  time.tv_nsec += nanoseconds;
   if (time.tv_nsec < 1000000000) return time;
   time.tv_sec++;
   time.tv_nsec -= 1000000000;
   return time;
+}
+
+/* Returns the time some milliseconds after another. */
+static struct timespec later(struct timespec time, uint64_t milliseconds) {
+  if (milliseconds > LONGEST_WAIT) milliseconds = LONGEST_WAIT;
+  time.tv_sec += (time_t)(milliseconds / 1000);
+  return soon_after(time, (long)(milliseconds % 1000) * 1000000);
 }
 
 static bool is_before(struct timespec one, struct timespec other) {
@@ -134,15 +147,6 @@ static uint64_t time_of(const struct zuphinka_pool *pool) {
   return (uint64_t)(nanoseconds / 1000000);
 }
 
-/* Reads the clock while the lock is held. A clock of the host's runs without it. */
-static uint64_t time_under_lock(struct zuphinka_pool *pool) {
-  if (!pool->host.now) return time_of(pool);
-  pthread_mutex_unlock(&pool->lock);
-  uint64_t at = time_of(pool);
-  pthread_mutex_lock(&pool->lock);
-  return at;
-}
-
 uint32_t zuphinka_pool_caller(void) {
   static atomic_uint_least32_t numbered;
   static _Thread_local uint32_t number;
@@ -152,6 +156,72 @@ uint32_t zuphinka_pool_caller(void) {
     has_number = true;
   }
   return number;
+}
+
+/* ---- pauses and the lock */
+
+/* The pauses of a thread before it sleeps, by CLOCK_MONOTONIC. After each it looks whether it has to wait any longer. A thread that did not run for a
+ * time pauses no longer for that. */
+struct pauses {
+  struct timespec now, end;
+  long next; /* nanoseconds */
+};
+
+/* Returns how many processors the calling thread may run on, or the most that a set has if that is not known. */
+static uint64_t count_processors(void) {
+  cpu_set_t processors;
+  return sched_getaffinity(0, sizeof processors, &processors) == 0 ? (uint64_t)CPU_COUNT(&processors) : CPU_SETSIZE;
+}
+
+/* Begins the pauses of a thread. If `end` is not null they end then at the latest. There are none if the other threads, for which this one waits, need
+ * all processors: a pause would keep one of them from running. */
+static struct pauses begin_pauses(const struct zuphinka_pool *pool, uint64_t threads, const struct timespec *end) {
+  struct pauses pauses = {.now = monotonic(), .next = FIRST_PAUSE};
+  pauses.end = soon_after(pauses.now, threads < pool->processors ? ALL_PAUSES : 0);
+  if (end && is_before(*end, pauses.end)) pauses.end = *end;
+  return pauses;
+}
+
+/* Tells the processor that a thread looks at something again and again. */
+static void relax(void) {
+#ifdef __x86_64__
+  __builtin_ia32_pause();
+#endif
+}
+
+/* Pauses. Returns false, without a pause, if the time for the pauses is over. */
+static bool pause_once(struct pauses *pauses) {
+  if (!is_before(pauses->now, pauses->end)) return false;
+  struct timespec until = soon_after(pauses->now, pauses->next);
+  if (is_before(pauses->end, until)) until = pauses->end;
+  pauses->next = 2 * pauses->next < LONGEST_PAUSE ? 2 * pauses->next : LONGEST_PAUSE;
+  while (is_before(pauses->now, until)) {
+    relax();
+    pauses->now = monotonic();
+  }
+  return true;
+}
+
+/* Takes the lock once it is free. It is held for less than a microsecond, while it takes some to wake a thread: so a thread pauses before it sleeps. */
+static void wait_for_lock(struct zuphinka_pool *pool) {
+  struct pauses pauses = begin_pauses(pool, 1, NULL);
+  while (pause_once(&pauses)) {
+    if (pthread_mutex_trylock(&pool->lock) == 0) return;
+  }
+  pthread_mutex_lock(&pool->lock);
+}
+
+static void lock(struct zuphinka_pool *pool) {
+  if (pthread_mutex_trylock(&pool->lock) != 0) wait_for_lock(pool);
+}
+
+/* Reads the clock while the lock is held. A clock of the host's runs without it. */
+static uint64_t time_under_lock(struct zuphinka_pool *pool) {
+  if (!pool->host.now) return time_of(pool);
+  pthread_mutex_unlock(&pool->lock);
+  uint64_t at = time_of(pool);
+  lock(pool);
+  return at;
 }
 
 /* ---- loans */
@@ -259,6 +329,7 @@ static uint64_t available(const struct zuphinka_pool *pool) {
 /* Sets something aside for the oldest waiter that sleeps, which is then to be woken. */
 static struct waiter *serve_oldest(struct queue *queue) {
   struct waiter *waiter = queue->asleep;
+  atomic_store_explicit(&waiter->was_woken, true, memory_order_relaxed);
   waiter->is_woken = true;
   waiter->is_calmed = false;
   queue->asleep = waiter->younger;
@@ -425,7 +496,7 @@ static uint32_t copy_lines(struct zuphinka_pool *pool, line_function *line_at, u
 /* Copies lines in one critical section, the base's or the journal's. Cuts the journal after the last of its lines. */
 static uint32_t copy_part(struct zuphinka_pool *pool, bool is_base, uint64_t *position, struct text *text) {
   if (!reserve(text, (size_t)AT_ONCE * ZUPHINKA_LONGEST_LINE)) return ZUPHINKA_STATUS_OUT_OF_MEMORY;
-  pthread_mutex_lock(&pool->lock);
+  lock(pool);
   uint32_t status = copy_lines(pool, is_base ? zuphinka_base : zuphinka_line, position, text);
   if (status == ZUPHINKA_STATUS_NO_ENTRY && !is_base) {
     drop_entries(pool);
@@ -450,7 +521,7 @@ static uint32_t copy_all(struct zuphinka_pool *pool, bool is_base, uint64_t *pos
 static enum zuphinka_pool_error copy_segment(struct zuphinka_pool *pool) {
   struct segment segment = {.first = 0};
   uint64_t lines = 0;
-  pthread_mutex_lock(&pool->lock);
+  lock(pool);
   segment.first = pool->dropped;
   bool is_empty = pool->stored == 0;
   pthread_mutex_unlock(&pool->lock);
@@ -483,7 +554,7 @@ static enum zuphinka_pool_error store_all(struct zuphinka_pool *pool, zuphinka_p
   if (!error) error = copy_segment(pool);
   if (!error) error = store_unstored(pool, store, context, entries);
   uint64_t room = 0;
-  pthread_mutex_lock(&pool->lock);
+  lock(pool);
   zuphinka_room(&pool->core, &room);
   pool->low = pool->settings.journal_limit / 4;
   if (error && room / 2 < pool->low) pool->low = room / 2;
@@ -526,7 +597,7 @@ static enum zuphinka_pool_error cut_and_store(struct zuphinka_pool *pool, zuphin
   begin_cut(pool);
   pthread_mutex_unlock(&pool->lock);
   enum zuphinka_pool_error error = store_all(pool, store, context, entries);
-  pthread_mutex_lock(&pool->lock);
+  lock(pool);
   end_cut(pool);
   return error;
 }
@@ -593,7 +664,7 @@ static enum zuphinka_pool_error error_of_step(const struct zuphinka_pool *pool, 
 static enum zuphinka_pool_error ask_for(struct zuphinka_pool *pool, struct wait *wait, struct zuphinka_request request,
                                         struct zuphinka_reply *reply) {
   request.at = time_of(pool);
-  pthread_mutex_lock(&pool->lock);
+  lock(pool);
   enum zuphinka_pool_error error = error_of_step(pool, &request, step_with_room(pool, wait, &request, reply));
   unlock(pool);
   return error;
@@ -663,12 +734,37 @@ static enum zuphinka_pool_error error_of_outcome(uint32_t outcome) {
 
 /* ---- borrows */
 
+/* Returns whether a waiter was woken since it last began to pause. */
+static bool was_woken(struct waiter *waiter) { return atomic_load_explicit(&waiter->was_woken, memory_order_relaxed); }
+
 static bool is_found(uint32_t answer) { return answer == ZUPHINKA_ANSWER_TAKE || answer == ZUPHINKA_ANSWER_MAKE; }
 
-/* Sleeps once, with the lock held before and after. */
+/* Returns how many threads a waiter waits for, up to the number of processors: those that have an object, and those that wait before it. */
+static uint64_t threads_before(const struct zuphinka_pool *pool, const struct waiter *waiter) {
+  uint64_t threads = pool->present - pool->idle;
+  for (const struct waiter *older = waiter->older; older && threads < pool->processors; older = older->older) threads++;
+  return threads;
+}
+
+/* Pauses until a waiter is woken, or the time for the pauses is over; with the lock held before and after, and not meanwhile. A short loan ends in
+ * that time. Returns whether it was woken. */
+static bool pause_until_woken(struct zuphinka_pool *pool, struct waiter *waiter, const struct timespec *end) {
+  uint64_t threads = threads_before(pool, waiter);
+  if (threads >= pool->processors) return false;
+  struct pauses pauses = begin_pauses(pool, threads, end);
+  atomic_store_explicit(&waiter->was_woken, false, memory_order_relaxed);
+  pthread_mutex_unlock(&pool->lock);
+  while (!was_woken(waiter) && pause_once(&pauses)) continue;
+  lock(pool);
+  return was_woken(waiter);
+}
+
+/* Pauses, and then sleeps once if the thread was not woken meanwhile; with the lock held before and after. */
 static void sleep_once(struct zuphinka_pool *pool, struct wait *wait) {
   struct timespec end;
-  if (has_end(pool, wait, &end)) {
+  bool is_limited = has_end(pool, wait, &end);
+  if (pause_until_woken(pool, wait->waiter, is_limited ? &end : NULL)) return;
+  if (is_limited) {
     pthread_cond_timedwait(&wait->waiter->changed, &pool->lock, &end);
   } else {
     pthread_cond_wait(&wait->waiter->changed, &pool->lock);
@@ -724,7 +820,7 @@ static void lend_at_once(struct zuphinka_pool *pool, const struct wait *wait, st
 /* Looks for an object or a place, and begins its loan. What a thread that fails was woken for is there for the next one. */
 static enum zuphinka_pool_error look(struct zuphinka_pool *pool, struct wait *wait, struct zuphinka_reply *reply,
                                      struct zuphinka_pool_loan *loan) {
-  pthread_mutex_lock(&pool->lock);
+  lock(pool);
   keep_room(pool, pool->low, false);
   if (!wait->is_back && wait->began < pool->last) wait->began = pool->last; /* the times of entries never decrease */
   enum zuphinka_pool_error error = wait_for_object(pool, wait, reply);
@@ -739,7 +835,7 @@ static enum zuphinka_pool_error look(struct zuphinka_pool *pool, struct wait *wa
 /* Reports the object of a loan as ready, or not. Returns whether it is lent; else it is destroyed, and its loan has ended. */
 static bool lend(struct zuphinka_pool *pool, const struct zuphinka_pool_loan *loan, uint32_t outcome) {
   if (report(pool, ZUPHINKA_INPUT_READY, loan->id, outcome, loan->object) == ZUPHINKA_ANSWER_LENT) return true;
-  pthread_mutex_lock(&pool->lock);
+  lock(pool);
   free_place(&pool->loans, loan);
   pthread_mutex_unlock(&pool->lock);
   return false;
@@ -830,7 +926,7 @@ static void park_at_once(struct zuphinka_pool *pool, const struct zuphinka_reque
 static enum zuphinka_pool_error take_back(struct zuphinka_pool *pool, uint32_t input, const struct zuphinka_pool_loan *loan,
                                           struct zuphinka_reply *reply) {
   struct zuphinka_request request = {.at = time_of(pool), .number = loan->id, .input = input};
-  pthread_mutex_lock(&pool->lock);
+  lock(pool);
   enum zuphinka_pool_error error = error_of_loan(pool, loan);
   if (!error) error = error_of_step(pool, &request, step_with_room(pool, NULL, &request, reply));
   if (!error) {
@@ -873,7 +969,7 @@ enum zuphinka_pool_error zuphinka_pool_invalidate(struct zuphinka_pool *pool, st
 enum zuphinka_pool_error zuphinka_pool_touch(struct zuphinka_pool *pool, const struct zuphinka_pool_loan *loan) {
   struct zuphinka_request request = {.at = time_of(pool), .number = loan->id, .input = ZUPHINKA_INPUT_USE};
   struct zuphinka_reply reply = {0};
-  pthread_mutex_lock(&pool->lock);
+  lock(pool);
   enum zuphinka_pool_error error = error_of_loan(pool, loan);
   if (!error) error = error_of_step(pool, &request, step_with_room(pool, NULL, &request, &reply));
   pthread_mutex_unlock(&pool->lock);
@@ -973,7 +1069,7 @@ enum zuphinka_pool_error zuphinka_pool_reclaim(struct zuphinka_pool *pool, uint6
 
 enum zuphinka_pool_error zuphinka_pool_maintain(struct zuphinka_pool *pool, struct zuphinka_pool_maintenance *done) {
   struct zuphinka_pool_maintenance all = {0};
-  pthread_mutex_lock(&pool->lock);
+  lock(pool);
   keep_room(pool, 2 * pool->low, pool->has_unstored);
   pthread_mutex_unlock(&pool->lock);
   enum zuphinka_pool_error error = evict(pool, &all.eviction);
@@ -1020,20 +1116,20 @@ uint64_t zuphinka_pool_close(struct zuphinka_pool *pool) {
 /* ---- looks at a pool */
 
 bool zuphinka_pool_is_closed(struct zuphinka_pool *pool) {
-  pthread_mutex_lock(&pool->lock);
+  lock(pool);
   bool is_closed = pool->is_closed;
   pthread_mutex_unlock(&pool->lock);
   return is_closed;
 }
 
 void zuphinka_pool_counts(struct zuphinka_pool *pool, struct zuphinka_tally *counts) {
-  pthread_mutex_lock(&pool->lock);
+  lock(pool);
   zuphinka_counts(&pool->core, counts);
   pthread_mutex_unlock(&pool->lock);
 }
 
 bool zuphinka_pool_is_low(struct zuphinka_pool *pool) {
-  pthread_mutex_lock(&pool->lock);
+  lock(pool);
   bool is_low = zuphinka_is_low(&pool->core, pool->settings.journal_limit / 4);
   pthread_mutex_unlock(&pool->lock);
   return is_low;
@@ -1042,7 +1138,7 @@ bool zuphinka_pool_is_low(struct zuphinka_pool *pool) {
 enum zuphinka_pool_error zuphinka_pool_cut(struct zuphinka_pool *pool, zuphinka_pool_store *store, void *context, uint64_t *entries) {
   uint64_t count = 0;
   enum zuphinka_pool_error error = ZUPHINKA_POOL_ERROR_IN_USE;
-  pthread_mutex_lock(&pool->lock);
+  lock(pool);
   if (wait_for_cut(pool, NULL)) error = cut_and_store(pool, store, context, &count);
   pthread_mutex_unlock(&pool->lock);
   if (entries) *entries = count;
@@ -1106,6 +1202,7 @@ static enum zuphinka_pool_error open_parts(struct zuphinka_pool *pool, const cha
   pool->works_on_return = pool->host.passivate || tests_on_return;
   pool->queue.most_overtaken = most_overtakes(&pool->host);
   pool->low = pool->settings.journal_limit / 4;
+  pool->processors = count_processors();
   pool->most = KEPT;
   pool->opened = monotonic();
   return error;

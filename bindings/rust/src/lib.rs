@@ -42,6 +42,8 @@
 //! A borrow that finds nothing waits. Threads and tasks wait in one order, that of arrival, and are woken in it, one for each object or place.
 //! But a borrow that finds an idle object takes it at once, even if others wait: this costs no sleep. One that finds its object taken keeps
 //! its turn and waits again. The oldest waiter is overtaken 16 times at most ([`Builder::max_overtakes`]); then later borrows queue behind it.
+//! A thread that waits, for an object or for the pool's lock, pauses for up to 25 µs before it sleeps, if a processor is left for it beside the
+//! threads that it waits for.
 //!
 //! A pool lends for ever: by default it drops the entries of its journal, a thousand or more at a time. [`Builder::journal`] keeps them in memory
 //! ([`Journal::Memory`]), or stores them in segments ([`Journal::Segments`]), which `pool check` checks as one journal. The call that finds
@@ -78,6 +80,7 @@ mod locked_pool;
 mod maintenance;
 mod manager;
 mod panics;
+mod pauses;
 mod pool;
 mod pooled;
 mod proved_core;

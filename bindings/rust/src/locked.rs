@@ -1,29 +1,16 @@
 //! A mutex with a hint that says whether it is held.
 
-use std::hint::spin_loop;
+use crate::pauses::Pauses;
 use std::ops::{Deref, DerefMut};
 use std::sync::atomic::{AtomicBool, Ordering};
 use std::sync::{Condvar, Mutex, MutexGuard, PoisonError, TryLockError};
-use std::time::{Duration, Instant};
-
-/// How many times a thread looks at the hint before it sleeps.
-const ROUNDS: u32 = 16;
-
-/// The pauses before the first look and before the last ones, in turns of a loop: each is twice the one before.
-const FIRST_PAUSE: u32 = 4;
-const LONGEST_PAUSE: u32 = 256;
-
-/// How long a thread spins at most. A turn takes 4 ns on one processor and 50 ns on another.
-pub(crate) const LONGEST_SPIN: Duration = Duration::from_micros(10);
-
-/// The rounds that take so little time that the clock is not read.
-const ROUNDS_BEFORE_CLOCK: u32 = 4;
+use std::time::Duration;
 
 /// Whether the mutex is held, in a cache line of its own: threads that look at it leave the holder's data alone.
 #[repr(align(64))]
 struct Hint(AtomicBool);
 
-/// A mutex. A thread that waits looks at the hint before it tries the mutex, spins for a short time, and then sleeps in the mutex.
+/// A mutex. A thread that waits looks at the hint before it tries the mutex, pauses for a short time, and then sleeps in the mutex.
 ///
 /// The mutex alone decides who holds it. A hint that is wrong costs time and nothing else.
 pub(crate) struct Locked<T> {
@@ -108,21 +95,13 @@ impl<T> Locked<T> {
         })
     }
 
-    /// Looks at the hint again and again, with growing pauses, until the mutex is locked or the time for it is over.
+    /// Looks at the hint after each of some pauses, until the mutex is locked or the time for them is over. While a thread pauses, another one
+    /// keeps what it needs for many critical sections in its processor's cache.
     fn spin(&self) -> Option<Guard<'_, T>> {
-        let mut pause = FIRST_PAUSE;
-        let mut end = None;
-        for round in 1..=ROUNDS {
-            pause_for(pause);
+        let mut pauses = Pauses::begin_beside(1, None);
+        while pauses.pause() {
             if let Some(guard) = self.try_lock() {
                 return Some(guard);
-            }
-            pause = (2 * pause).min(LONGEST_PAUSE);
-            if round >= ROUNDS_BEFORE_CLOCK {
-                let now = Instant::now();
-                if now > *end.get_or_insert(now + LONGEST_SPIN) {
-                    break;
-                }
             }
         }
         None
@@ -147,13 +126,6 @@ impl<T> Locked<T> {
                 .unwrap_or_else(PoisonError::into_inner),
         };
         self.guard(value)
-    }
-}
-
-/// Does nothing for some turns of a loop.
-pub(crate) fn pause_for(turns: u32) {
-    for _ in 0..turns {
-        spin_loop();
     }
 }
 
@@ -230,7 +202,7 @@ mod tests {
         let guard = locked.lock();
         assert!(locked.spin().is_none());
         drop(guard);
-        assert_eq!(locked.spin().map(|value| *value), Some(1));
+        assert_eq!(*locked.wait_for_lock(), 1);
     }
 
     #[test]

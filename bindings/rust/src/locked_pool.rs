@@ -256,6 +256,13 @@ impl<T> LockedPool<T> {
         available > 0 && self.waiters.are_served_before(ticket, available)
     }
 
+    /// Returns the number of threads that a borrow, with its ticket if it waits, waits for at most: those that have an object, and those that wait
+    /// before it.
+    pub fn threads_before(&self, ticket: Option<Ticket>) -> usize {
+        let lent = self.present.saturating_sub(self.idle.len());
+        lent + self.waiters.older(ticket)
+    }
+
     /// A borrow, with its ticket if it waited, got an object or a place.
     pub fn note_taken(&mut self, ticket: Option<Ticket>, max_total: i64) {
         let left = self.available(max_total);
@@ -369,6 +376,18 @@ mod tests {
         assert!(wakes_one(&mut pool));
         assert!(!wakes_one(&mut pool));
         assert_eq!(pool.waiters.asleep_and_woken(), (0, 2));
+    }
+
+    #[test]
+    fn holders_and_older_waiters_are_waited_for() {
+        let (mut pool, tickets) = exhausted();
+        let before = tickets.map(|ticket| pool.threads_before(Some(ticket)));
+        assert_eq!((before, pool.threads_before(None)), ([2, 3, 4], 5));
+        take(&mut pool, &give_back(0));
+        assert!(wakes_one(&mut pool));
+        assert_eq!(pool.threads_before(Some(tickets[1])), 2);
+        pool.waiters.leave(tickets[0]);
+        assert_eq!(pool.threads_before(Some(tickets[1])), 1);
     }
 
     #[test]

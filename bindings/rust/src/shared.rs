@@ -4,22 +4,20 @@
 use crate::clock::{Aged, Began, Clock, Stamp};
 use crate::error::Error;
 use crate::failure::Failure;
-use crate::locked::{pause_for, Guard, Locked, LONGEST_SPIN};
+use crate::locked::{Guard, Locked};
 use crate::locked_pool::{Borrowed, LockedPool, TakenBack};
 use crate::maintenance::Maintainer;
 use crate::manager::Manager;
 use crate::panics::unless_it_panics;
+use crate::pauses::{count_processors, Pauses};
 use crate::reports::Reports;
 use crate::settings::Settings;
 use crate::step::{Answer, Cause, Input, StepFault, When};
-use crate::waiters::{Alarm, Ticket};
+use crate::waiters::{Alarm, OldestSleeper, Ticket};
 use crate::writing::Outlet;
-use std::sync::{Condvar, Mutex, MutexGuard, PoisonError};
+use std::sync::{Arc, Condvar, Mutex, MutexGuard, PoisonError};
 use std::time::{Duration, Instant};
 use std::{mem, process, thread};
-
-/// The pause between two looks of a thread that slept and found nothing, in turns of a loop.
-const PAUSE: u32 = 16;
 
 /// For how long a borrow waits.
 #[derive(Clone, Copy)]
@@ -44,6 +42,7 @@ pub(crate) struct Policy<M: Manager> {
 /// A pool. The manager is called without the lock.
 pub(crate) struct Shared<M: Manager> {
     state: Locked<LockedPool<Item<M>>>,
+    oldest_asleep: Arc<OldestSleeper>,
     clock: Clock,
     /// A thread that cut the journal is done.
     pub written: Condvar,
@@ -111,7 +110,10 @@ impl<M: Manager> Shared<M> {
         settings: Settings,
         policy: Policy<M>,
     ) -> Shared<M> {
+        // Here, since a call that waits can do without its allocations.
+        count_processors();
         Shared {
+            oldest_asleep: state.waiters.oldest_asleep(),
             state: Locked::new(state),
             clock,
             written: Condvar::new(),
@@ -380,7 +382,6 @@ impl<M: Manager> Shared<M> {
         limit: WaitLimit,
         ticket: &mut Option<Ticket>,
     ) -> Result<Held<'a, M>, Error<M::Error>> {
-        let mut has_slept = false;
         loop {
             let longest = match self.longest_sleep(&state, began, limit) {
                 Ok(longest) => longest,
@@ -389,13 +390,12 @@ impl<M: Manager> Shared<M> {
                     return Err(error);
                 }
             };
-            self.wait(state, ticket, Alarm::Thread(thread::current()))
+            let threads = state.threads_before(*ticket);
+            let own = self
+                .wait(state, ticket, Alarm::Thread(thread::current()))
                 .map_err(|_| Error::OutOfMemory)?;
-            state = match has_slept {
-                true => self.spin_and_sleep(*ticket, longest),
-                false => self.sleep_until_woken(longest),
-            };
-            has_slept = true;
+            let pauses = Pauses::begin_beside(threads, longest);
+            state = self.sleep_until_woken(own, pauses, longest);
             let is_over = self.time_left(&state, began) == Some(Duration::ZERO);
             if is_over || !self.has_nothing_for(&state, *ticket) {
                 return Ok(state);
@@ -403,26 +403,24 @@ impl<M: Manager> Shared<M> {
         }
     }
 
-    /// Sleeps until this thread is woken or the time is over.
-    fn sleep_until_woken(&self, longest: Option<Duration>) -> Held<'_, M> {
-        match longest {
-            Some(time) => thread::park_timeout(time),
-            None => thread::park(),
-        }
-        self.lock()
-    }
-
-    /// Looks again and again for a short time, and then sleeps. A short loan ends meanwhile, so that the thread need not be woken again.
-    fn spin_and_sleep(&self, ticket: Option<Ticket>, longest: Option<Duration>) -> Held<'_, M> {
-        let start = Instant::now();
-        while start.elapsed() < LONGEST_SPIN {
-            pause_for(PAUSE);
-            let state = self.lock();
-            if !self.has_nothing_for(&state, ticket) {
-                return state;
+    /// Sleeps until the waiter with a ticket, this thread, is woken or the time is over. It pauses before, in which a short loan ends: then nobody
+    /// has to ask the system to wake it. Such a wake may end its next sleep at once, which begins again then.
+    fn sleep_until_woken(
+        &self,
+        ticket: Ticket,
+        mut pauses: Pauses,
+        longest: Option<Duration>,
+    ) -> Held<'_, M> {
+        while !self.oldest_asleep.is_after(ticket) {
+            if !pauses.pause() {
+                match longest {
+                    Some(time) => thread::park_timeout(time.saturating_sub(pauses.passed())),
+                    None => thread::park(),
+                }
+                break;
             }
         }
-        self.sleep_until_woken(longest)
+        self.lock()
     }
 
     /// Returns whether a borrow finds nothing that it may take now.

@@ -2,12 +2,35 @@
 
 use std::collections::{TryReserveError, VecDeque};
 use std::mem;
+use std::sync::atomic::{AtomicU64, Ordering};
+use std::sync::Arc;
 use std::task::Waker;
 use std::thread::Thread;
 
 /// The place of a waiter in the order of arrival. A waiter that finds nothing keeps it.
 #[derive(Clone, Copy, Debug, PartialEq, Eq, PartialOrd, Ord)]
 pub(crate) struct Ticket(u64);
+
+/// The ticket of the oldest waiter that sleeps, or the greatest number, for threads that do not have the lock. It is in a cache line of its own,
+/// which changes only if another waiter is the oldest one: so a thread that looks again and again disturbs nobody.
+#[derive(Debug)]
+#[repr(align(64))]
+pub(crate) struct OldestSleeper(AtomicU64);
+
+impl OldestSleeper {
+    /// Returns whether a waiter that slept with this ticket sleeps no longer: sleepers are woken in ascending order of their tickets. It does not see
+    /// that if an older one, which was woken before, sleeps again.
+    #[inline]
+    pub fn is_after(&self, ticket: Ticket) -> bool {
+        self.0.load(Ordering::Relaxed) > ticket.0
+    }
+
+    fn set(&self, oldest: u64) {
+        if self.0.load(Ordering::Relaxed) != oldest {
+            self.0.store(oldest, Ordering::Relaxed);
+        }
+    }
+}
 
 /// What wakes a waiter.
 #[derive(Debug)]
@@ -38,6 +61,8 @@ impl WakeAll {
 pub(crate) struct Waiters {
     /// Those that sleep, in ascending order of their tickets.
     asleep: VecDeque<(Ticket, Alarm)>,
+    /// The first of them.
+    oldest_asleep: Arc<OldestSleeper>,
     /// Those that were woken and have not looked yet, in ascending order.
     woken: VecDeque<Ticket>,
     next_ticket: u64,
@@ -50,6 +75,7 @@ impl Waiters {
     pub fn new(max_overtakes: u32) -> Waiters {
         Waiters {
             asleep: VecDeque::new(),
+            oldest_asleep: Arc::new(OldestSleeper(AtomicU64::new(u64::MAX))),
             woken: VecDeque::new(),
             next_ticket: 0,
             max_overtakes,
@@ -68,6 +94,18 @@ impl Waiters {
         self.asleep.len() + self.woken.len()
     }
 
+    /// Returns where the oldest waiter that sleeps is seen without the lock.
+    pub fn oldest_asleep(&self) -> Arc<OldestSleeper> {
+        Arc::clone(&self.oldest_asleep)
+    }
+
+    /// Shows which waiter is the oldest that sleeps.
+    fn show_oldest_asleep(&self) {
+        let oldest = self.asleep.front();
+        self.oldest_asleep
+            .set(oldest.map_or(u64::MAX, |waiter| waiter.0 .0));
+    }
+
     /// Returns whether a waiter sleeps.
     #[inline]
     pub fn has_sleeper(&self) -> bool {
@@ -75,7 +113,7 @@ impl Waiters {
     }
 
     /// Returns the number of waiters that came before the holder of a ticket, or of all before one that has none.
-    fn older(&self, ticket: Option<Ticket>) -> usize {
+    pub fn older(&self, ticket: Option<Ticket>) -> usize {
         let Some(ticket) = ticket else {
             return self.len();
         };
@@ -129,6 +167,7 @@ impl Waiters {
         }
         let position = self.position(ticket).unwrap_or_else(|position| position);
         self.asleep.insert(position, (ticket, alarm));
+        self.show_oldest_asleep();
         Ok(None)
     }
 
@@ -140,6 +179,7 @@ impl Waiters {
         };
         self.begin_count_if_oldest(ticket);
         let left = self.asleep.remove(position);
+        self.show_oldest_asleep();
         (false, left.map(|waiter| waiter.1))
     }
 
@@ -179,6 +219,7 @@ impl Waiters {
             return None;
         }
         let (ticket, alarm) = self.asleep.pop_front()?;
+        self.show_oldest_asleep();
         let position = self.woken.partition_point(|&woken| woken < ticket);
         self.woken.insert(position, ticket);
         Some(Wake { ticket, alarm })
@@ -187,7 +228,9 @@ impl Waiters {
     /// Returns the waiters to wake when the pool closes: all. None of them waits again.
     pub fn wake_all(&mut self) -> WakeAll {
         self.woken.clear();
-        WakeAll(mem::take(&mut self.asleep))
+        let all = mem::take(&mut self.asleep);
+        self.show_oldest_asleep();
+        WakeAll(all)
     }
 }
 
@@ -310,6 +353,26 @@ mod tests {
         assert!(!waiters.forget(first));
         assert_eq!(woken(&mut waiters, 1), Some(second));
         assert!(!waiters.forget(first));
+    }
+
+    #[test]
+    fn who_sleeps_no_longer_is_seen_without_the_lock() {
+        let (mut waiters, [first, second, third]) = waiting();
+        let oldest_asleep = waiters.oldest_asleep();
+        assert!(!oldest_asleep.is_after(first));
+        assert_eq!(woken(&mut waiters, 1), Some(first));
+        assert!(oldest_asleep.is_after(first) && !oldest_asleep.is_after(second));
+        waiters.sleep(first, alarm()).unwrap();
+        assert!(!oldest_asleep.is_after(first));
+        waiters.leave(first);
+        assert!(oldest_asleep.is_after(first) && !oldest_asleep.is_after(second));
+        waiters.leave(third);
+        assert!(!oldest_asleep.is_after(second));
+        waiters.wake_all();
+        assert!(oldest_asleep.is_after(second));
+        let fourth = waiters.draw_ticket();
+        assert!(waiters.sleep(fourth, alarm()).unwrap().is_none());
+        assert!(!oldest_asleep.is_after(fourth));
     }
 
     #[test]

@@ -113,12 +113,13 @@ impl<M: Manager> Shared<M> {
         waker: Waker,
     ) -> Poll<Result<R, Error<M::Error>>> {
         match self.wait(state, ticket, Alarm::Task(waker)) {
-            Ok(()) => Poll::Pending,
+            Ok(_) => Poll::Pending,
             Err(_) => Poll::Ready(Err(Error::OutOfMemory)),
         }
     }
 
-    /// A borrow waits with its ticket, or draws one. If it was woken for what older waiters come before it for, the oldest sleeper is woken.
+    /// A borrow waits with its ticket, or draws one. Returns the ticket. If it was woken for what older waiters come before it for, the oldest
+    /// sleeper is woken.
     ///
     /// # Errors
     ///
@@ -128,7 +129,7 @@ impl<M: Manager> Shared<M> {
         mut state: Held<'_, M>,
         ticket: &mut Option<Ticket>,
         alarm: Alarm,
-    ) -> Result<(), NoMemory> {
+    ) -> Result<Ticket, NoMemory> {
         let own = *ticket.get_or_insert_with(|| state.waiters.draw_ticket());
         let before = state.waiters.sleep(own, alarm);
         let wakes = match state.is_behind(*ticket, self.settings.max_total) {
@@ -139,7 +140,7 @@ impl<M: Manager> Shared<M> {
         match before {
             Ok(before) => {
                 drop_quietly(before);
-                Ok(())
+                Ok(own)
             }
             Err(alarm) => {
                 *ticket = None;

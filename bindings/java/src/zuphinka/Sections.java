@@ -15,10 +15,11 @@ final class Sections<T> {
     private static final Cleaner CLEANER = Cleaner.create();
     /** A wait that may take longer, in nanoseconds, has no limit. */
     static final long ENDLESS = TimeUnit.DAYS.toNanos(10_000);
-    /** How long a thread pauses before it looks at the lock again: at first, at most, and in all before it sleeps, in nanoseconds. */
+    /** How long a thread pauses before it looks again: at first, at most, and in all before it sleeps, in nanoseconds. */
     private static final long FIRST_PAUSE = 250;
     private static final long LONGEST_PAUSE = 10_000;
     private static final long ALL_PAUSES = 50_000;
+    private static final int PROCESSORS = Runtime.getRuntime().availableProcessors();
 
     private final CoreSettings settings;
     private final long start = System.nanoTime();
@@ -224,7 +225,7 @@ final class Sections<T> {
             return;
         }
         long now = System.nanoTime();
-        long end = now + ALL_PAUSES;
+        long end = now + (PROCESSORS > 1 ? ALL_PAUSES : 0);
         for (long pause = FIRST_PAUSE; now - end < 0; pause = Math.min(2 * pause, LONGEST_PAUSE)) {
             now = pauseUntil(now + pause);
             if (!lock.isLocked() && lock.tryLock()) {
@@ -294,13 +295,50 @@ final class Sections<T> {
                 wakeOne(); // what this thread was woken for is there for an older one
             }
             if (left > 0) {
-                waiter.sleep(left);
+                sleepOnce(waiter, left);
             }
             boolean isOver = longestNanos < 0 && left(first, longestNanos) <= 0;
             if (isClosed || isOver || (available() > 0 && !isBehind(waiter))) {
                 return;
             }
         }
+    }
+
+    /** Sleeps until a waiter is woken or the time is over, or for some other reason. Before that it pauses: a short loan ends meanwhile. */
+    private void sleepOnce(Waiters.Waiter waiter, long nanos) throws InterruptedException {
+        long left = hasProcessorFor(waiter) ? nanos - pauseUntilWoken(waiter, Math.min(nanos, ALL_PAUSES)) : nanos;
+        if (!waiter.isWoken() && left > 0) {
+            waiter.sleep(left);
+        }
+    }
+
+    /**
+     * Returns whether a processor is left for a waiter that pauses. Those that have an object and those that wait before it need one each: a pause
+     * would keep one of them from running.
+     */
+    private boolean hasProcessorFor(Waiters.Waiter waiter) {
+        long left = (long) PROCESSORS - (members.size() - idle);
+        return left > 0 && waiters.older(waiter, left) < left;
+    }
+
+    /** Pauses without the lock until a waiter is woken, its thread is interrupted, or some nanoseconds are over. Returns for how long. */
+    private long pauseUntilWoken(Waiters.Waiter waiter, long longestNanos) {
+        long begun = System.nanoTime();
+        long passed = 0;
+        lock.unlock();
+        try {
+            for (long pause = FIRST_PAUSE; passed < longestNanos && hasToWait(waiter); pause = Math.min(2 * pause, LONGEST_PAUSE)) {
+                passed = pauseUntil(begun + Math.min(passed + pause, longestNanos)) - begun;
+            }
+        } finally {
+            acquire();
+        }
+        return passed;
+    }
+
+    /** Returns whether a waiter was neither woken nor interrupted. */
+    private static boolean hasToWait(Waiters.Waiter waiter) {
+        return !waiter.isWoken() && !Thread.currentThread().isInterrupted();
     }
 
     /** A waiter waits no longer. If it was woken and has nothing, another one may have what it was woken for. */

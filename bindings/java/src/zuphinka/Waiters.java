@@ -24,7 +24,8 @@ final class Waiters {
     /** A thread that waits. */
     static final class Waiter {
         private final Condition changed;
-        private boolean isWoken;
+        /** The thread that waits looks at it without the lock, too. */
+        private volatile boolean isWoken;
 
         private Waiter(Condition changed) {
             this.changed = changed;
@@ -75,7 +76,7 @@ final class Waiters {
     }
 
     /** Returns the number of waiters that came before one, or of all before a borrow that does not wait; no more than a number. */
-    private long older(Waiter waiter, long most) {
+    long older(Waiter waiter, long most) {
         long older = 0;
         for (Waiter other : waiters) {
             if (other == waiter || older == most) {
