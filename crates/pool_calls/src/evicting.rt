@@ -1,5 +1,6 @@
-ghost use Rattle.std.specs.Prelude.{◌≡◌, ◌<◌, ◌≤◌, ◌+◌, ◌*◌, ◌^◌, suc, Bool, true, false, [], IfSome};
+ghost use Rattle.std.specs.Prelude.{◌≡◌, ◌<◌, ◌≤◌, ◌+◌, ◌*◌, ◌^◌, suc, Bool, true, false, [], IfSome, Some};
 ghost use Rattle.std.specs.Option.{is_some};
+ghost use Rattle.pool_journal.specs.declared.input.Input.TheVariants as inputs;
 ghost use Rattle.pool_calls.specs.declared.action.Event.TheVariants as events;
 ghost use Rattle.pool_calls.specs.EvictRules as spec;
 ghost use Rattle.pool_calls.specs.EvictRules.{Stage, IsAt, IsAtFirst, HasRange, IsCounted, GoesOn, ComesOn, HasCome, HoldsNothing, IsRight, Works, Pauses, Ends, EndsByAnswer, Proceeds, examines, tests, none_yet, one_more, one_gone, run_of, step_at, work_left, work_due, to_test, to_passivate, fits, has_step, has_first_step, lacks_room, has_work, is_going, more_left, first_left, events_left, first_steps_left, steps_left};
@@ -220,6 +221,7 @@ impl EvictCall {
     pub fn new(plan: Plan) -> EvictCall
         ensures given { (result.plan ≡ plan) × (result.cancelled ≡ false) }
         ensures come { HasCome plan result.state [] }
+        ensures first { step_at result.state ≡ Some inputs.Evict }
     {
         EvictCall {
             plan,

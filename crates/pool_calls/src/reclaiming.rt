@@ -1,5 +1,7 @@
-ghost use Rattle.std.specs.Prelude.{◌≡◌, ◌<◌, ◌≤◌, ◌+◌, ◌^◌, suc, true, false, [], IfSome};
+ghost use Rattle.std.specs.Prelude.{◌≡◌, ◌<◌, ◌≤◌, ◌+◌, ◌^◌, suc, true, false, [], IfSome, Some};
 ghost use Rattle.std.specs.Option.{is_some};
+ghost use Rattle.pool_journal.specs.declared.input.Input.TheVariants as inputs;
+ghost use Rattle.pool_journal.specs.declared.input.When.TheVariants as times;
 ghost use Rattle.pool_calls.specs.declared.action.Event.TheVariants as events;
 ghost use Rattle.pool_calls.specs.ReclaimRules as spec;
 ghost use Rattle.pool_calls.specs.ReclaimRules.{Stage, IsAt, IsAtFirst, IsGoing, GoesOn, ComesOn, HasCome, IsRight, Pauses, Ends, EndsByAnswer, Proceeds, reclaims, taken_of, step_at, fits, has_step, lacks_room, is_going, first_steps_left, steps_left};
@@ -102,6 +104,7 @@ impl ReclaimCall {
     /// Returns a removal of abandoned objects.
     pub fn new() -> ReclaimCall
         ensures come { HasCome result.state [] }
+        ensures first { step_at result.state ≡ Some (inputs.Reclaim times.Maintain) }
     {
         ReclaimCall {
             state: ReclaimState::Steps(ReclaimStep::Begin),

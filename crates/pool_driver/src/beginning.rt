@@ -1,6 +1,7 @@
 // The calls of a pool, before their first step.
 ghost use Rattle.std.specs.Prelude.{◌≡◌, max, Some};
 ghost use Rattle.pool_journal.specs.declared.input.Input.TheVariants as inputs;
+ghost use Rattle.pool_journal.specs.declared.input.When.TheVariants as times;
 ghost use Rattle.pool_calls.specs.Operations.{began_of, step_at};
 ghost use Rattle.pool_driver.specs.Driving.{Begins};
 
@@ -75,6 +76,7 @@ impl DrivenPool {
     /// Returns an eviction run.
     pub fn evict(&self) -> Call
         ensures begins { Begins self.now.plan result }
+        ensures first { step_at result.operation ≡ Some inputs.Evict }
     {
         Call::new(Operation::Evict(EvictCall::new(self.plan)), 0)
     }
@@ -82,6 +84,7 @@ impl DrivenPool {
     /// Returns a removal of abandoned objects, for maintenance.
     pub fn reclaim(&self) -> Call
         ensures begins { Begins self.now.plan result }
+        ensures first { step_at result.operation ≡ Some (inputs.Reclaim times.Maintain) }
     {
         Call::new(Operation::Reclaim(ReclaimCall::new()), 0)
     }
