@@ -36,7 +36,8 @@ fn advance(
     at: u64,
     report: Report,
 ) -> Effects {
-    pool.advance(call, 0, at, report).expect(rt, "a report that fits")
+    pool.advance(call, 0, at, report)
+        .expect(rt, "a report that fits")
 }
 
 fn misfits(rt: &impl Abort, pool: &mut DrivenPool, call: &mut Call, report: Report) {
@@ -69,20 +70,35 @@ fn lend_new(rt: &impl Abort, pool: &mut DrivenPool, at: u64, token: u64) -> Call
     let mut call = pool.borrow(at);
     goes_on(rt, pool, &mut call, at, Report::GoOn, Action::Make(0));
     let lent = advance(rt, pool, &mut call, at, Report::Made(token));
-    expect_equal(rt, (lent.action, lent.token), (Action::Done(End::Lent(0)), token));
+    expect_equal(
+        rt,
+        (lent.action, lent.token),
+        (Action::Done(End::Lent(0)), token),
+    );
     call
 }
 
 fn give_back(rt: &impl Abort, pool: &mut DrivenPool, at: u64, token: u64) {
     let mut call = pool.give_back(0, token);
-    goes_on(rt, pool, &mut call, at, Report::GoOn, Action::Done(End::Parked));
+    goes_on(
+        rt,
+        pool,
+        &mut call,
+        at,
+        Report::GoOn,
+        Action::Done(End::Parked),
+    );
 }
 
 // A borrow that waits with this ticket.
 fn wait(rt: &impl Abort, pool: &mut DrivenPool, at: u64, ticket: u64) -> Call {
     let mut call = pool.borrow(at);
     let sleeps = advance(rt, pool, &mut call, at, Report::GoOn);
-    expect_equal(rt, (sleeps.action, sleeps.ticket), (Action::Wait, Some(ticket)));
+    expect_equal(
+        rt,
+        (sleeps.action, sleeps.ticket),
+        (Action::Wait, Some(ticket)),
+    );
     expect_equal(rt, sleeps.until, Some(at.saturating_add(100)));
     call
 }
@@ -96,7 +112,11 @@ fn an_idle_object_is_lent_and_returned_by_one_report_each(rt: HostRuntime) {
     expect_equal(&rt, pool.core().journal().len(), 4);
     let mut call = pool.borrow(7);
     let lent = advance(&rt, &mut pool, &mut call, 7, Report::GoOn);
-    expect_equal(&rt, (lent.action, lent.token), (Action::Done(End::Lent(0)), 77));
+    expect_equal(
+        &rt,
+        (lent.action, lent.token),
+        (Action::Done(End::Lent(0)), 77),
+    );
     expect_equal(&rt, pool.core().journal().len(), 6);
     expect_equal(&rt, lent.is_low, false);
 }
@@ -108,9 +128,23 @@ fn the_factory_is_asked_for_all_that_it_has(rt: HostRuntime) {
     goes_on(&rt, &mut pool, &mut call, 0, Report::GoOn, Action::Make(0));
     misfits(&rt, &mut pool, &mut call, Report::Succeeded);
     misfits(&rt, &mut pool, &mut call, Report::GoOn);
-    goes_on(&rt, &mut pool, &mut call, 0, Report::Made(9), Action::Validate(0));
+    goes_on(
+        &rt,
+        &mut pool,
+        &mut call,
+        0,
+        Report::Made(9),
+        Action::Validate(0),
+    );
     misfits(&rt, &mut pool, &mut call, Report::Made(8));
-    goes_on(&rt, &mut pool, &mut call, 0, Report::Succeeded, Action::Activate(0));
+    goes_on(
+        &rt,
+        &mut pool,
+        &mut call,
+        0,
+        Report::Succeeded,
+        Action::Activate(0),
+    );
     let failed = advance(&rt, &mut pool, &mut call, 0, Report::Failed);
     expect_equal(&rt, (failed.action, failed.token), (Action::Destroy(0), 9));
     let end = Action::Done(End::ActivateFailed);
@@ -134,7 +168,11 @@ fn a_return_wakes_the_oldest(rt: HostRuntime) {
     expect_equal(&rt, pool.core().journal().len(), entries);
     let lent = Action::Done(End::Lent(0));
     goes_on(&rt, &mut pool, &mut first, 4, Report::Woken, lent);
-    expect_equal(&rt, (wake(&mut pool), pool.waiting()), ((None, None, true), 1));
+    expect_equal(
+        &rt,
+        (wake(&mut pool), pool.waiting()),
+        ((None, None, true), 1),
+    );
 }
 
 #[test]
