@@ -1,0 +1,104 @@
+//! A test program: plays calls of a pool, of which the script on standard input tells, and prints what their hosts do
+//! next.
+//!
+//! The script begins with a settings text up to an empty line. The line after it is `pool OVERTAKES ACTIVATES VALIDATES
+//! PASSIVATES`: how often a call that waits is overtaken at most, and `yes` or `no` for each hook of the factory. Each
+//! further line is a command:
+//!
+//! - `borrow SLOT CALLER AT` and `return SLOT CALLER AT ID TOKEN` begin a call in one of the slots 0 to 15.
+//! - `report SLOT CALLER AT REPORT` goes on with it. The report is `go-on`, `made TOKEN`, `succeeded`, `failed`,
+//!   `woken`, `room-made`, `no-room` or `given-up`.
+//! - `cut` cuts the journal, and `journal` shows it.
+//!
+//! The answer to a call begins with the action: `step`, `make-room`, `make ID`, one of `activate`, `validate`,
+//! `passivate` and `destroy` with `ID TOKEN`, `sleep TICKET UNTIL`, `done lent ID TOKEN` or `done END`; or with `misfit`
+//! for a report that does not fit. A line `low` follows if the journal is to be cut soon. To the other commands it
+//! begins with `cut` or `journal` and the number of entries; those of the journal follow. Each answer then has a line
+//! `wake TICKET` for each call to wake, and ends with `counts IDLE LENT RESERVED WAITING`.
+//!
+//! The status is 0. It is 2 for a script with an error, and 3 for an error of a stream or of memory, which one line on
+//! standard error reports.
+#![tactic(auto)]
+
+mod command;
+mod fault;
+mod player;
+mod printing;
+mod script;
+
+use command::Command;
+use fault::Fault;
+use player::Player;
+use printing::{write_counts, write_cut, write_effects, write_journal, write_wakes};
+use script::Script;
+use std::alloc::Global;
+use std::io::{self, BufWriter, Read, Write};
+use std::process::ExitCode;
+
+fn main(rt: HostRuntime) -> ExitCode {
+    match play(&rt) {
+        Ok(()) => ExitCode::SUCCESS,
+        Err(fault) => {
+            let _ = eprintln!(rt; "test_calls: {fault}");
+            ExitCode::from(fault.status())
+        }
+    }
+}
+
+/// Plays the script on standard input.
+fn play(rt: &HostRuntime) -> Result<(), Fault> {
+    let alloc = rt.alloc();
+    let mut script = Script::new(alloc, rt.stdin())?;
+    let mut player = open(alloc, &mut script)?;
+    let mut out = BufWriter::new(alloc, io::writer(rt))?;
+    play_commands(alloc, &mut script, &mut player, &mut out)
+}
+
+/// Opens the pool of which the first lines of a script tell.
+fn open<R: Read + Drop>(alloc: Global, script: &mut Script<R>) -> Result<Player, Fault> {
+    let settings = script.settings(alloc)?;
+    let setup = script.setup(alloc)?;
+    Ok(Player::open(alloc, settings, &setup)?)
+}
+
+/// Plays the commands of a script, and answers each before the next is read.
+fn play_commands<R: Read + Drop, W: Write>(
+    alloc: Global,
+    script: &mut Script<R>,
+    player: &mut Player,
+    out: &mut W,
+) -> Result<(), Fault> {
+    for _ in 0..u64::MAX {
+        let Some(command) = script.command(alloc)? else {
+            break;
+        };
+        play_one(alloc, script, player, command, out)?;
+        write_counts(out, &player.pool)?;
+        out.flush()?;
+    }
+    Ok(())
+}
+
+/// Plays a command, and writes its answer up to the calls to wake.
+fn play_one<R: Read + Drop, W: Write>(
+    alloc: Global,
+    script: &Script<R>,
+    player: &mut Player,
+    command: Command,
+    out: &mut W,
+) -> Result<(), Fault> {
+    match command {
+        Command::Begin(turn, start) => match player.begin(&turn, &start) {
+            Ok(effects) => write_effects(out, effects)?,
+            Err(fault) => return Err(script.fault(fault)),
+        },
+        Command::Report(turn, report) => match player.report(&turn, report) {
+            Ok(effects) => write_effects(out, effects)?,
+            Err(fault) => return Err(script.fault(fault)),
+        },
+        Command::Cut => write_cut(out, player.cut(alloc)?)?,
+        Command::Journal => write_journal(alloc, out, player.pool.core().journal())?,
+    }
+    write_wakes(out, &mut player.pool)?;
+    Ok(())
+}

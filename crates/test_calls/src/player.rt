@@ -1,0 +1,109 @@
+//! A pool, and the calls that a script plays.
+
+use crate::command::{Setup, Start, Turn};
+use crate::fault::LineFault;
+use pool_calls::Action;
+use pool_driver::{Call, DrivenPool, Effects, Report};
+use pool_settings::Settings;
+use std::alloc::{AllocError, Global};
+
+/// The number of slots.
+const SLOTS: usize = 16;
+
+/// A call that was begun.
+#[derive(Clone, Copy)]
+struct Begun {
+    call: Call,
+    is_over: bool,
+}
+
+/// A pool with its calls, at most one in a slot.
+#[derive(Drop)]
+pub(crate) struct Player {
+    pub(crate) pool: DrivenPool,
+    slots: [Option<Begun>; SLOTS],
+}
+
+impl Player {
+    pub(crate) fn open(
+        alloc: Global,
+        settings: Settings,
+        setup: &Setup,
+    ) -> Result<Player, AllocError> {
+        Ok(Player {
+            pool: DrivenPool::open(alloc, settings, setup.hooks, setup.max_overtakes)?,
+            slots: [None; SLOTS],
+        })
+    }
+
+    /// Begins a call, and goes on with it.
+    pub(crate) fn begin(
+        &mut self,
+        turn: &Turn,
+        start: &Start,
+    ) -> Result<Option<Effects>, LineFault> {
+        self.check_free(turn.slot)?;
+        let call = self.call_of(turn, start);
+        self.put(
+            turn.slot,
+            Begun {
+                call,
+                is_over: false,
+            },
+        );
+        self.report(turn, Report::GoOn)
+    }
+
+    /// Returns a call that has taken no step.
+    fn call_of(&self, turn: &Turn, start: &Start) -> Call {
+        match *start {
+            Start::Borrow => self.pool.borrow(turn.at),
+            Start::Return { id, token } => self.pool.give_back(id, token),
+        }
+    }
+
+    /// Checks that there is such a slot, without a call that is not over.
+    fn check_free(&self, slot: usize) -> Result<(), LineFault> {
+        match self.slots.get(slot) {
+            Some(Some(begun)) if !begun.is_over => Err(LineFault::SlotTaken),
+            Some(_) => Ok(()),
+            None => Err(LineFault::NoSlot),
+        }
+    }
+
+    /// Goes on with the call in a slot, unless the report does not fit.
+    pub(crate) fn report(
+        &mut self,
+        turn: &Turn,
+        report: Report,
+    ) -> Result<Option<Effects>, LineFault> {
+        let mut begun = self.begun_in(turn.slot)?;
+        let effects = self
+            .pool
+            .advance(&mut begun.call, turn.caller, turn.at, report);
+        if let Some(effects) = effects {
+            begun.is_over = matches!(effects.action, Action::Done(_));
+        }
+        self.put(turn.slot, begun);
+        Ok(effects)
+    }
+
+    fn begun_in(&self, slot: usize) -> Result<Begun, LineFault> {
+        match self.slots.get(slot) {
+            Some(Some(begun)) => Ok(*begun),
+            _ => Err(LineFault::NoCall),
+        }
+    }
+
+    fn put(&mut self, slot: usize, begun: Begun) {
+        if let Some(place) = self.slots.get_mut(slot) {
+            *place = Some(begun);
+        }
+    }
+
+    /// Cuts the journal. Returns the number of its entries.
+    pub(crate) fn cut(&mut self, alloc: Global) -> Result<usize, AllocError> {
+        let segment = self.pool.cut(alloc)?;
+        Ok(segment.entries.as_slice().len())
+    }
+}
