@@ -112,6 +112,12 @@ PARTS = (
     Part("c-pool", "the C pool for threads, also with failing allocations", "python3 tests/play_c_pool.py {zuphinka} {pool}", ("pool", "zuphinka")),
     Part("benchmarks", "bench/peers, bench/longest_waits and bench/soak notice what is wrong", "python3 tests/play_bench.py {pool}", ("pool", "zuphinka"), CARGO),
     Part("soak", "ten seconds of bench/soak", "python3 bench/soak --seconds 10 --pool {pool}", ("pool", "zuphinka"), CARGO),
+    Part(
+        "calls",
+        "calls of many callers, event by event at random, against a model of their rules",
+        "python3 tests/play_calls.py {test_calls}",
+        ("test_calls",),
+    ),
     Part("killed", "runs of the program that are killed", "python3 tests/play_killed.py {pool}", ("pool",)),
     Part(
         "cases",
