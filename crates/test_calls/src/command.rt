@@ -21,7 +21,7 @@ pub(crate) enum Command {
     Journal,
 }
 
-/// Whose turn it is.
+/// The call that a command is for, and who goes on with it when.
 #[derive(Clone, Copy, Debug)]
 pub(crate) struct Turn {
     /// The slot of the call.
@@ -39,7 +39,7 @@ pub(crate) enum Start {
     Return { id: u64, token: u64 },
 }
 
-/// Returns what the words of the line of a pool tell.
+/// Reads the words of a pool's line.
 pub(crate) fn setup_of(words: &[&str]) -> Result<Setup, LineFault> {
     match *words {
         ["pool", overtakes, activates, validates, passivates] => Ok(Setup {
@@ -54,7 +54,7 @@ pub(crate) fn setup_of(words: &[&str]) -> Result<Setup, LineFault> {
     }
 }
 
-/// Returns whether a word is `yes` or `no`.
+/// Reads the word `yes` or `no`.
 fn flag_of(word: &str) -> Result<bool, LineFault> {
     match word {
         "yes" => Ok(true),
@@ -63,7 +63,7 @@ fn flag_of(word: &str) -> Result<bool, LineFault> {
     }
 }
 
-/// Returns the command that the words of a line tell.
+/// Reads the words of a command.
 pub(crate) fn command_of(words: &[&str]) -> Result<Command, LineFault> {
     match *words {
         ["report", slot, caller, at, report] => Ok(Command::Report(
@@ -98,7 +98,7 @@ fn turn_of(slot: &str, caller: &str, at: &str) -> Result<Turn, LineFault> {
     })
 }
 
-/// Returns the report of one word.
+/// Reads a report of one word.
 fn report_of(word: &str) -> Result<Report, LineFault> {
     match word {
         "go-on" => Ok(Report::GoOn),

@@ -1,23 +1,22 @@
-//! A test program: plays calls of a pool, of which the script on standard input tells, and prints what their hosts do
-//! next.
+//! A test program: it plays the calls of a script on a pool that a host drives, and prints what the host does next.
 //!
-//! The script begins with a settings text up to an empty line. The line after it is `pool OVERTAKES ACTIVATES VALIDATES
-//! PASSIVATES`: how often a call that waits is overtaken at most, and `yes` or `no` for each hook of the factory. Each
-//! further line is a command:
+//! Standard input begins with a settings text up to an empty line. The next line is `pool OVERTAKES ACTIVATES VALIDATES
+//! PASSIVATES`: the number of times that a call that waits is overtaken at most, and `yes` or `no` for each hook of the
+//! factory. Each further line is a command:
 //!
 //! - `borrow SLOT CALLER AT` and `return SLOT CALLER AT ID TOKEN` begin a call in one of the slots 0 to 15.
 //! - `report SLOT CALLER AT REPORT` goes on with it. The report is `go-on`, `made TOKEN`, `succeeded`, `failed`,
 //!   `woken`, `room-made`, `no-room` or `given-up`.
-//! - `cut` cuts the journal, and `journal` shows it.
+//! - `cut` cuts the journal, and `journal` prints it.
 //!
-//! The answer to a call begins with the action: `step`, `make-room`, `make ID`, one of `activate`, `validate`,
-//! `passivate` and `destroy` with `ID TOKEN`, `sleep TICKET UNTIL`, `done lent ID TOKEN` or `done END`; or with `misfit`
-//! for a report that does not fit. A line `low` follows if the journal is to be cut soon. To the other commands it
-//! begins with `cut` or `journal` and the number of entries; those of the journal follow. Each answer then has a line
-//! `wake TICKET` for each call to wake, and ends with `counts IDLE LENT RESERVED WAITING`.
+//! The answer to a call begins with its next action: `step`, `make-room`, `make ID`, one of `activate`, `validate`,
+//! `passivate` and `destroy` with `ID TOKEN`, `sleep TICKET UNTIL`, `done lent ID TOKEN` or `done END`. It begins with
+//! `misfit` if the report does not fit. A line `low` follows if the journal is to be cut soon. The answer to `cut` and
+//! `journal` begins with that word and the number of entries; the entries of the journal follow. Each answer then has a
+//! line `wake TICKET` for each call to wake, and ends with `counts IDLE LENT RESERVED WAITING`.
 //!
-//! The status is 0. It is 2 for a script with an error, and 3 for an error of a stream or of memory, which one line on
-//! standard error reports.
+//! The status is 0. It is 2 for an error of the script, and 3 for an error of a stream or of memory. One line on
+//! standard error reports the error.
 #![tactic(auto)]
 
 mod command;
@@ -54,7 +53,7 @@ fn play(rt: &HostRuntime) -> Result<(), Fault> {
     play_commands(alloc, &mut script, &mut player, &mut out)
 }
 
-/// Opens the pool of which the first lines of a script tell.
+/// Opens the pool of the first lines of a script.
 fn open<R: Read + Drop>(alloc: Global, script: &mut Script<R>) -> Result<Player, Fault> {
     let settings = script.settings(alloc)?;
     let setup = script.setup(alloc)?;
