@@ -517,7 +517,7 @@ def arguments():
     words.add_argument("program", metavar="PROGRAM")
     words.add_argument("--seeds", metavar="N", type=int, default=32, help="how many seeds are played")
     words.add_argument("--seed", metavar="SEED", type=int, help="play this seed alone")
-    words.add_argument("--commands", metavar="N", type=int, default=2_000, help="how many commands each seed has, at least")
+    words.add_argument("--commands", metavar="N", type=int, default=1_500, help="how many commands each seed has, at least")
     return words.parse_args()
 
 

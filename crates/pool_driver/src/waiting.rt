@@ -132,6 +132,29 @@ impl DrivenPool {
         true
     }
 
+    /// Tells a call that the journal was cut. Returns whether that fits; otherwise nothing changes. A borrow that waited
+    /// before looks as one that wakes up.
+    pub(crate) fn room_made(&mut self, call: &mut Call, at: u64) -> bool
+        ensures accepted { result ≡ true
+            → Accepts reports.RoomMade self.old self.new call.old call.new }
+        ensures unfit { result ≡ false → (self.new ≡ self.old) × (call.new ≡ call.old) }
+    {
+        if !call.operation.tell(Event::RoomMade) {
+            return false;
+        }
+        self.look_again(call, at);
+        true
+    }
+
+    // A borrow that has a ticket, and is to ask, looks as one that wakes up.
+    fn look_again(&mut self, call: &mut Call, at: u64)
+        ensures { Accepts reports.GoOn self.old self.new call.old call.new }
+    {
+        if call.ticket.is_some() && call.operation.tell(Event::Queued) {
+            let _ = self.wake_up(call, at);
+        }
+    }
+
     /// Gives a call up. Returns whether that fits; otherwise nothing changes.
     pub(crate) fn give_up(&mut self, call: &mut Call) -> bool
         ensures accepted { result ≡ true
