@@ -4,9 +4,9 @@ ghost use Rattle.pool_journal.specs.declared.input.Input.TheVariants as inputs;
 ghost use Rattle.pool_calls.specs.declared.action.Event.TheVariants as events;
 ghost use Rattle.pool_calls.specs.declared.adding.AddState.TheVariants as states;
 ghost use Rattle.pool_calls.specs.AddRules as add_rules;
-ghost use Rattle.pool_calls.specs.AddRules.{IsAfter, IsPossibleOutcome, GivesUp, Works, gone, work_left, work_due, work_found, work_after, has_step, has_first_step, events_left, progress_left, steps_left};
+ghost use Rattle.pool_calls.specs.AddRules.{IsAfter, IsPossibleOutcome, GivesUp, Works, gone, work_left, work_due, work_found, work_after, has_step, events_left, progress_left, steps_left};
 ghost use Rattle.pool_calls.specs.FillRules as spec;
-ghost use Rattle.pool_calls.specs.FillRules.{Stage, IsAt, GoesOn, ComesOn, HasCome, IsRight, HasFewer, IsAnswered, asks, adding, one_more, parked_of, step_at, fits, is_given_up};
+ghost use Rattle.pool_calls.specs.FillRules.{Stage, IsAt, GoesOn, ComesOn, HasCome, IsRight, HasFewer, IsAnswered, asks, adding, parked_of, step_at, fits, is_given_up};
 ghost use Rattle.pool_calls.specs.Turns.{step_of, IsFirst};
 
 use crate::action::{Action, End, Event};
