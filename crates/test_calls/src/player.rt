@@ -64,10 +64,13 @@ impl Player {
 
     /// Checks that there is such a slot, without a call that is not over.
     fn check_free(&self, slot: usize) -> Result<(), LineFault> {
-        match self.slots.get(slot) {
-            Some(Some(begun)) if !begun.is_over => Err(LineFault::SlotTaken),
-            Some(_) => Ok(()),
-            None => Err(LineFault::NoSlot),
+        let Some(place) = self.slots.get(slot) else {
+            return Err(LineFault::NoSlot);
+        };
+        let before = *place;
+        match before {
+            Some(begun) if !begun.is_over => Err(LineFault::SlotTaken),
+            _ => Ok(()),
         }
     }
 
@@ -89,10 +92,11 @@ impl Player {
     }
 
     fn begun_in(&self, slot: usize) -> Result<Begun, LineFault> {
-        match self.slots.get(slot) {
-            Some(Some(begun)) => Ok(*begun),
-            _ => Err(LineFault::NoCall),
-        }
+        let Some(place) = self.slots.get(slot) else {
+            return Err(LineFault::NoCall);
+        };
+        let begun = *place;
+        begun.ok_or(LineFault::NoCall)
     }
 
     fn put(&mut self, slot: usize, begun: Begun) {
