@@ -21,7 +21,7 @@ use Rattle.pool_journal.specs.declared.answer.Cause.TheVariants as causes
 use Rattle.pool_journal.specs.declared.record.Phase.{Phase}
 use Rattle.pool_journal.specs.declared.record.Phase.TheVariants as phases
 use Rattle.pool_journal.specs.Base.{empty_base, records_from, drawn_from, closed_from, cursor_from}
-use Rattle.pool_journal.specs.Queue.{idle_queue, first_of, last_of, queue_length, record_in}
+use Rattle.pool_journal.specs.Queue.{is_idle, idle_queue, first_of, last_of, queue_length, record_in}
 use Rattle.pool_places.specs.After.{is_after}
 use Rattle.pool_places.specs.Counts.{is_adding}
 use Rattle.pool_places.specs.Overdue.{overdue}
@@ -230,3 +230,7 @@ reply_from S b J at input = reply_from_records S (records_from b J) (drawn_from 
 -- the expected answer after a whole journal
 abbrev pub reply : Settings → List Entry → ℕ → Input → Answer
 reply S J at input = reply_from S empty_base J at input
+
+-- the number of objects that a borrow may take, after a base and entries: those that are idle, and not under a test
+abbrev pub takeable_from : Base → List Entry → ℕ
+takeable_from b J = count_by (λ r. is_idle r.phase) (records_from b J)
