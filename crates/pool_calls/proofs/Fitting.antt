@@ -1,5 +1,5 @@
 -- An answer fits each call that asks for a step.
-use Rattle.std.proofs.Common.{◌≡◌, ℕ, true, Option, Some, refl, ap, ◌∙◌}
+use Rattle.std.proofs.Common.{◌≡◌, ℕ, true, Some, refl, ap, ◌∙◌}
 use Rattle.std.specs.Option.{is_some}
 use Rattle.pool_journal.specs.declared.input.Input.{Input}
 use Rattle.pool_journal.specs.declared.input.Input.TheVariants as inputs

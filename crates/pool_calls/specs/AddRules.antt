@@ -13,7 +13,6 @@ use Rattle.pool_calls.specs.declared.action.Action.{Action}
 use Rattle.pool_calls.specs.declared.action.Action.TheVariants as actions
 use Rattle.pool_calls.specs.declared.action.Event.{Event}
 use Rattle.pool_calls.specs.declared.action.Event.TheVariants as events
-use Rattle.pool_calls.specs.declared.action.StepFailure.TheVariants as failures
 use Rattle.pool_calls.specs.declared.action.End.{End}
 use Rattle.pool_calls.specs.declared.action.End.TheVariants as ends
 use Rattle.pool_calls.specs.declared.adding.AddState.{AddState}
@@ -244,6 +243,10 @@ abbrev pub has_first_step : AddState → Bool
 has_first_step states.Asks = true
 has_first_step _ = false
 
+abbrev pub is_making : AddState → Bool
+is_making (states.Makes i) = true
+is_making _ = false
+
 abbrev pub lacks_room : AddState → Bool
 lacks_room states.LacksRoom = true
 lacks_room _ = false
@@ -272,14 +275,9 @@ fits s events.Woken = false
 fits s events.TimeOver = false
 fits s events.Cancelled = is_going s
 
--- a full journal ends no call: the host is asked to make room, and the step is asked for again. The call ends if there is no
--- memory for a step, or the journal could not be cut
+-- when an addition lacks room, and how it goes on
 abbrev pub Pauses : Event → AddState → Type 0
-Pauses (events.NotTaken failures.JournalFull) after = lacks_room after ≡ true
-Pauses (events.NotTaken failures.OutOfMemory) after = after ≡ states.Ended (ends.NotTaken failures.OutOfMemory)
-Pauses events.RoomMade after = has_first_step after ≡ true
-Pauses events.NoRoom after = after ≡ states.Ended (ends.NotTaken failures.JournalFull)
-Pauses _ after = Unit {0}
+Pauses = turns.Pauses lacks_room has_first_step (λ e s. s ≡ states.Ended e)
 
 -- ---- the end
 -- the answers and reports of the factory that are left at most until the end, or until a fill asks again

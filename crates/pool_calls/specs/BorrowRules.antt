@@ -1,5 +1,5 @@
 -- The rules of a borrow: its stages, the steps that are expected at each, its possible ends, and the work of the factory.
-use Rattle.std.specs.Prelude.{◌≡◌, ◌≢◌, ℕ, zero, suc, ◌-◌, ◌<◌, ◌≤◌, if◌then◌else◌, Bool, true, false, not, List, [], ◌∷◌, Option, Some, None}
+use Rattle.std.specs.Prelude.{◌≡◌, ℕ, zero, suc, ◌-◌, ◌<◌, ◌≤◌, if◌then◌else◌, Bool, true, false, not, List, [], ◌∷◌, Option, Some, None}
 use Rattle.pool_journal.specs.declared.input.Input.{Input}
 use Rattle.pool_journal.specs.declared.input.Input.TheVariants as inputs
 use Rattle.pool_journal.specs.declared.input.When.TheVariants as times
@@ -7,13 +7,13 @@ use Rattle.pool_journal.specs.declared.input.Outcome.{Outcome}
 use Rattle.pool_journal.specs.declared.input.Outcome.TheVariants as outcomes
 use Rattle.pool_journal.specs.declared.answer.Answer.{Answer}
 use Rattle.pool_journal.specs.declared.answer.Answer.TheVariants as answers
+use Rattle.pool_journal.specs.declared.answer.Cause.{Cause}
 use Rattle.pool_journal.specs.declared.answer.Cause.TheVariants as causes
 use Rattle.pool_calls.specs.declared.plan.Plan.{Plan}
 use Rattle.pool_calls.specs.declared.action.Action.{Action}
 use Rattle.pool_calls.specs.declared.action.Action.TheVariants as actions
 use Rattle.pool_calls.specs.declared.action.Event.{Event}
 use Rattle.pool_calls.specs.declared.action.Event.TheVariants as events
-use Rattle.pool_calls.specs.declared.action.StepFailure.TheVariants as failures
 use Rattle.pool_calls.specs.declared.action.End.{End}
 use Rattle.pool_calls.specs.declared.action.End.TheVariants as ends
 use Rattle.pool_calls.specs.declared.borrowing.FirstStep.{FirstStep}
@@ -24,7 +24,8 @@ use Rattle.pool_calls.specs.Turns as turns
 use Rattle.pool_calls.specs.Turns.{Turn, but_first}
 
 -- the stage of a borrow: it begins to remove abandoned objects; it removes up to this many more; it asks; it makes an object
--- ready, a new one or one that it took; it destroys one, with this outcome; it has lent one; it failed; it ended with this answer
+-- ready, a new one or one that it took; it destroys one, with this outcome; it has lent one; it failed; it ended with this answer, or
+-- with one that the pool gives to no borrow
 pub data Stage : Type 0 where
   begins : Stage
   removes : ℕ → Stage
@@ -34,6 +35,7 @@ pub data Stage : Type 0 where
   lent : ℕ → Stage
   failed : Outcome → Stage
   refused : Answer → Stage
+  contradicted : Answer → Stage
 
 -- it asks when the removal is complete
 abbrev pub remove_more : ℕ → Stage
@@ -42,30 +44,37 @@ remove_more (suc n) = removes (suc n)
 
 abbrev pub after_beginning : Answer → Stage
 after_beginning (answers.Count n) = remove_more n
-after_beginning a = refused a
+after_beginning a = contradicted a
 
 abbrev pub after_removing : ℕ → Answer → Stage
 after_removing n (answers.Reclaimed i) = remove_more (n - 1)
 after_removing n answers.Nothing = asks
-after_removing n a = refused a
+after_removing n a = contradicted a
+
+abbrev pub after_refusal : Cause → Stage
+after_refusal causes.Closed = refused (answers.Refused causes.Closed)
+after_refusal c = contradicted (answers.Refused c)
 
 abbrev pub after_asking : Answer → Stage
 after_asking (answers.Take i) = readies i false
 after_asking (answers.Make i) = readies i true
 after_asking answers.Wait = asks
-after_asking a = refused a
+after_asking answers.Exhausted = refused answers.Exhausted
+after_asking answers.TimedOut = refused answers.TimedOut
+after_asking (answers.Refused c) = after_refusal c
+after_asking a = contradicted a
 
 abbrev pub after_readying : ℕ → Bool → Outcome → Answer → Stage
 after_readying i new outcomes.Good answers.Lent = lent i
-after_readying i new outcomes.Good a = refused a
+after_readying i new outcomes.Good a = contradicted a
 after_readying i new outcomes.MakeFailed answers.Freed = failed outcomes.MakeFailed
-after_readying i new outcomes.MakeFailed a = refused a
+after_readying i new outcomes.MakeFailed a = contradicted a
 after_readying i new o answers.Destroy = destroys i new o
-after_readying i new o a = refused a
+after_readying i new o a = contradicted a
 
 abbrev pub after_report : ℕ → Bool → Input → Answer → Stage
 after_report i new (inputs.Ready j o) a = after_readying i new o a
-after_report i new input a = refused a
+after_report i new input a = contradicted a
 
 -- a borrow that took the object asks again
 abbrev pub after_freeing : Bool → Outcome → Stage
@@ -74,7 +83,7 @@ after_freeing false o = asks
 
 abbrev pub after_destroying : Bool → Outcome → Answer → Stage
 after_destroying new o answers.Freed = after_freeing new o
-after_destroying new o a = refused a
+after_destroying new o a = contradicted a
 
 -- the stage after the answer to a step that a borrow takes while it holds no object
 abbrev pub after_first : Stage → Answer → Stage
@@ -149,7 +158,7 @@ BorrowEnds stage ends.ActivateFailed = stage ≡ failed outcomes.ActivateFailed
 BorrowEnds stage ends.BorrowTestFailed = stage ≡ failed outcomes.TestFailed
 BorrowEnds stage (ends.NotTaken f) = HoldsNothing stage
 BorrowEnds stage ends.Cancelled = HoldsNothing stage
-BorrowEnds stage (ends.Contradicted a) = stage ≡ refused a
+BorrowEnds stage (ends.Contradicted a) = stage ≡ contradicted a
 BorrowEnds stage _ = ⊥
 
 -- ---- states
@@ -252,25 +261,37 @@ work_due p (states.Steps first) a = work_begun p first a
 work_due p (states.Reports i new o) a = work_lost i o a
 work_due p _ a = []
 
--- the state reports no object as good
-abbrev pub IsNotGood : BorrowState → Type 0
-IsNotGood (states.Reports i new o) = o ≢ outcomes.Good
-IsNotGood _ = Unit {0}
+-- what the state reports is good
+abbrev pub IsGood : BorrowState → Type 0
+IsGood (states.Reports i new o) = o ≡ outcomes.Good
+IsGood _ = Unit {0}
 
--- what is left to do for a borrow that is given up: what had begun to make an object ready has failed
-abbrev pub WorksCancelled : Plan → BorrowState → BorrowState → Type 0
-WorksCancelled p (states.Reports i new o) after = after ≡ states.Reports i new o
-WorksCancelled p (states.Destroys i new o) after = after ≡ states.Destroys i new o
-WorksCancelled p (states.Frees i new o) after = after ≡ states.Frees i new o
-WorksCancelled p before after = (work_left p after ≡ []) × IsNotGood after
+-- work that failed is reported as what it was, without further work; an object that the factory failed to destroy is destroyed
+abbrev pub Fails : BorrowState → BorrowState → Type 0
+Fails (states.Makes i) after = after ≡ states.Reports i true outcomes.MakeFailed
+Fails (states.Tests i) after = after ≡ states.Reports i true outcomes.CreateTestFailed
+Fails (states.Activates i new) after = after ≡ states.Reports i new outcomes.ActivateFailed
+Fails (states.Validates i new) after = after ≡ states.Reports i new outcomes.TestFailed
+Fails (states.Destroys i new o) after = after ≡ states.Frees i new o
+Fails _ after = ⊥
 
--- an answer begins the work that is due; a success does the first of it; after a failure nothing is left to do and no object is
--- reported as good
+-- a borrow that is given up ends if it has no object; what had begun to make one ready has failed
+abbrev pub GivesUp : BorrowState → BorrowState → Type 0
+GivesUp (states.Steps first) after = after ≡ states.Ended ends.Cancelled
+GivesUp (states.LacksRoom first) after = after ≡ states.Ended ends.Cancelled
+GivesUp states.Waits after = after ≡ states.Ended ends.Cancelled
+GivesUp (states.Reports i new o) after = after ≡ states.Reports i new o
+GivesUp (states.Destroys i new o) after = after ≡ states.Destroys i new o
+GivesUp (states.Frees i new o) after = after ≡ states.Frees i new o
+GivesUp before after = Fails before after
+
+-- an answer begins the work that is due; a success does the first of it, and only a good object is left without work. The rest
+-- begins no work
 abbrev pub Works : Plan → Event → BorrowState → BorrowState → Type 0
 Works p (events.Answered a) before after = work_left p after ≡ work_due p before a
-Works p events.Succeeded before after = work_left p after ≡ but_first (work_left p before)
-Works p events.Failed before after = (work_left p after ≡ []) × IsNotGood after
-Works p events.Cancelled before after = WorksCancelled p before after
+Works p events.Succeeded before after = (work_left p after ≡ but_first (work_left p before)) × IsGood after
+Works p events.Failed before after = Fails before after
+Works p events.Cancelled before after = GivesUp before after
 Works p _ before after = work_left p after ≡ []
 
 -- ---- the events that fit
@@ -295,6 +316,10 @@ has_work (states.Activates i new) = true
 has_work (states.Validates i new) = true
 has_work (states.Destroys i new o) = true
 has_work _ = false
+
+abbrev pub is_making : BorrowState → Bool
+is_making (states.Makes i) = true
+is_making _ = false
 
 abbrev pub is_waiting : BorrowState → Bool
 is_waiting states.Waits = true
@@ -322,17 +347,30 @@ fits cancelled s events.Woken = is_waiting s
 fits cancelled s events.TimeOver = is_waiting s
 fits cancelled s events.Cancelled = is_going cancelled s
 
--- a full journal ends no call: the host is asked to make room, and the step is asked for again. The call ends if there is no
--- memory for a step, or the journal could not be cut. A borrow that others come
--- before waits, and a wait whose time is over has timed out
-abbrev pub Pauses : Event → BorrowState → Type 0
-Pauses (events.NotTaken failures.JournalFull) after = lacks_room after ≡ true
-Pauses (events.NotTaken failures.OutOfMemory) after = after ≡ states.Ended (ends.NotTaken failures.OutOfMemory)
-Pauses events.RoomMade after = has_first_step after ≡ true
-Pauses events.NoRoom after = after ≡ states.Ended (ends.NotTaken failures.JournalFull)
-Pauses events.Queued after = after ≡ states.Waits
-Pauses events.TimeOver after = after ≡ states.Ended ends.TimedOut
-Pauses _ after = Unit {0}
+abbrev pub is_wait : Answer → Bool
+is_wait answers.Wait = true
+is_wait _ = false
+
+-- an answer makes a borrow wait: it asked, and the pool has nothing for it yet
+abbrev pub waits_by : BorrowState → Answer → Bool
+waits_by (states.Steps firsts.Ask) a = is_wait a
+waits_by _ a = false
+
+-- a borrow comes to wait by such an answer, or if others come first
+abbrev pub comes_to_wait : Event → BorrowState → Bool
+comes_to_wait (events.Answered a) before = waits_by before a
+comes_to_wait events.Queued before = is_asking before
+comes_to_wait _ before = false
+
+-- how a wait ends: the borrow asks again, or its time is over
+abbrev pub Wakes : Event → BorrowState → Type 0
+Wakes events.Woken after = after ≡ states.Steps firsts.Ask
+Wakes events.TimeOver after = after ≡ states.Ended ends.TimedOut
+Wakes _ after = Unit {0}
+
+-- when a borrow lacks room or waits, and how it goes on
+abbrev pub Pauses : Event → BorrowState → BorrowState → Type 0
+Pauses event before after = turns.Pauses lacks_room has_first_step (λ e s. s ≡ states.Ended e) event after × (is_waiting after ≡ comes_to_wait event before) × Wakes event after
 
 -- ---- borrows that are given up
 abbrev pub is_given_up : Bool → Event → Bool
@@ -347,7 +385,20 @@ events_left (states.Destroys i new o) = 2
 events_left (states.Reports i new o) = 3
 events_left _ = 4
 
+-- an answer ends a borrow as given up only if it is, as timed out only if the pool says so, and never as one whose step was not
+-- taken
+abbrev pub EndsByAnswer : Bool → Answer → BorrowState → Type 0
+EndsByAnswer cancelled a (states.Ended ends.Cancelled) = cancelled ≡ true
+EndsByAnswer cancelled a (states.Ended ends.TimedOut) = a ≡ answers.TimedOut
+EndsByAnswer cancelled a (states.Ended (ends.NotTaken f)) = ⊥
+EndsByAnswer cancelled a _ = Unit {0}
+
 -- a borrow that is given up ends after three more events at most
 abbrev pub Ends : Bool → Event → BorrowState → BorrowState → Type 0
 Ends cancelled events.Cancelled before after = events_left after ≤ 3
+Ends cancelled (events.Answered a) before after = (cancelled ≡ true → events_left after < events_left before) × EndsByAnswer cancelled a after
 Ends cancelled _ before after = cancelled ≡ true → events_left after < events_left before
+
+-- what an event does to a borrow
+abbrev pub Takes : Plan → ℕ → Bool → Event → BorrowState → BorrowState → Type 0
+Takes p began cancelled event before after = GoesOn p began event before after × Works p event before after × Ends cancelled event before after × Pauses event before after

@@ -9,7 +9,6 @@ use Rattle.pool_calls.specs.declared.action.Action.{Action}
 use Rattle.pool_calls.specs.declared.action.Action.TheVariants as actions
 use Rattle.pool_calls.specs.declared.action.Event.{Event}
 use Rattle.pool_calls.specs.declared.action.Event.TheVariants as events
-use Rattle.pool_calls.specs.declared.action.StepFailure.TheVariants as failures
 use Rattle.pool_calls.specs.declared.action.End.{End}
 use Rattle.pool_calls.specs.declared.action.End.TheVariants as ends
 use Rattle.pool_calls.specs.declared.clearing.ClearState.{ClearState}
@@ -215,23 +214,20 @@ fits s events.Woken = false
 fits s events.TimeOver = false
 fits s events.Cancelled = is_going s
 
--- a clear that lacks room, or ended before it was complete
+-- a clear that ended before it was complete
 abbrev pub is_early : ClearState → Bool
-is_early states.LacksRoomToBegin = true
-is_early (states.LacksRoom left taken) = true
 is_early (states.Ended (ends.NotTaken f) taken) = true
 is_early (states.Ended ends.Cancelled taken) = true
 is_early _ = false
 
--- an answer ends a clear early only if it is given up. A full journal ends none: the host is asked to make room, and the step is
--- asked for again. It ends if there is no memory for a step, or the journal could not be cut
+-- an answer ends a clear early only if it is given up
+abbrev pub EndsEarly : Event → ClearState → ClearState → Type 0
+EndsEarly (events.Answered a) before after = is_early after ≡ true → is_given_up before ≡ true
+EndsEarly _ before after = Unit {0}
+
+-- when a clear lacks room, and how it goes on
 abbrev pub Pauses : Event → ClearState → ClearState → Type 0
-Pauses (events.Answered a) before after = is_early after ≡ true → is_given_up before ≡ true
-Pauses (events.NotTaken failures.JournalFull) before after = lacks_room after ≡ true
-Pauses (events.NotTaken failures.OutOfMemory) before after = HasEnded (ends.NotTaken failures.OutOfMemory) after
-Pauses events.RoomMade before after = has_first_step after ≡ true
-Pauses events.NoRoom before after = HasEnded (ends.NotTaken failures.JournalFull) after
-Pauses _ before after = Unit {0}
+Pauses event before after = turns.Pauses lacks_room has_first_step HasEnded event after × EndsEarly event before after
 
 -- ---- the end
 -- the answers and reports of the factory after an object was destroyed, with up to this many more: none if the clear is given up
@@ -269,3 +265,7 @@ steps_left _ = 0
 abbrev pub Proceeds : Event → ClearState → ClearState → Type 0
 Proceeds (events.Answered a) before after = steps_left after < steps_left before
 Proceeds _ before after = Unit {0}
+
+-- what an event does to a clear
+abbrev pub Takes : Input → Event → ClearState → ClearState → Type 0
+Takes first event before after = GoesOn first event before after × Works event before after × Ends event before after × Proceeds event before after × Pauses event before after

@@ -1,5 +1,5 @@
 -- The rules of an eviction run: its stages, the steps that are expected at each, its possible ends, and the work of the factory.
-use Rattle.std.specs.Prelude.{◌≡◌, ◌≢◌, ℕ, zero, suc, ◌+◌, ◌*◌, ◌^◌, ◌<◌, ◌≤◌, if◌then◌else◌, Bool, true, false, not, List, [], ◌∷◌, Option, Some, None}
+use Rattle.std.specs.Prelude.{◌≡◌, ℕ, zero, suc, ◌+◌, ◌*◌, ◌^◌, ◌<◌, ◌≤◌, if◌then◌else◌, Bool, true, false, not, List, [], ◌∷◌, Option, Some, None}
 use Rattle.pool_journal.specs.declared.input.Input.{Input}
 use Rattle.pool_journal.specs.declared.input.Input.TheVariants as inputs
 use Rattle.pool_journal.specs.declared.input.Outcome.{Outcome}
@@ -12,7 +12,6 @@ use Rattle.pool_calls.specs.declared.action.Action.{Action}
 use Rattle.pool_calls.specs.declared.action.Action.TheVariants as actions
 use Rattle.pool_calls.specs.declared.action.Event.{Event}
 use Rattle.pool_calls.specs.declared.action.Event.TheVariants as events
-use Rattle.pool_calls.specs.declared.action.StepFailure.TheVariants as failures
 use Rattle.pool_calls.specs.declared.action.End.{End}
 use Rattle.pool_calls.specs.declared.action.End.TheVariants as ends
 use Rattle.pool_calls.specs.declared.evicting.EvictRun.{EvictRun}
@@ -254,25 +253,39 @@ work_due p (states.Steps first) a = work_begun p first a
 work_due p (states.Reports object o) a = work_lost object.id a
 work_due p _ a = []
 
--- the state reports no object as good
-abbrev pub IsNotGood : EvictState → Type 0
-IsNotGood (states.Reports object o) = o ≢ outcomes.Good
-IsNotGood _ = Unit {0}
+-- what the state reports is good
+abbrev pub IsGood : EvictState → Type 0
+IsGood (states.Reports object o) = o ≡ outcomes.Good
+IsGood _ = Unit {0}
 
--- what is left to do for a run that is given up: what had begun to test an object has failed
-abbrev pub WorksCancelled : Plan → EvictState → EvictState → Type 0
-WorksCancelled p (states.Reports object o) after = after ≡ states.Reports object o
-WorksCancelled p (states.Destroys object) after = after ≡ states.Destroys object
-WorksCancelled p (states.Frees object) after = after ≡ states.Frees object
-WorksCancelled p before after = (work_left p after ≡ []) × IsNotGood after
+abbrev pub HasEnded : End → EvictState → Type 0
+HasEnded e (states.Ended f run) = f ≡ e
+HasEnded e _ = ⊥
 
--- an answer begins the work that is due; a success does the first of it; after a failure nothing is left to do and no object is
--- reported as good
+-- work that failed is reported as what it was, without further work; an object that the factory failed to destroy is destroyed
+abbrev pub Fails : EvictState → EvictState → Type 0
+Fails (states.Activates object) after = after ≡ states.Reports object outcomes.ActivateFailed
+Fails (states.Validates object) after = after ≡ states.Reports object outcomes.TestFailed
+Fails (states.Passivates object) after = after ≡ states.Reports object outcomes.PassivateFailed
+Fails (states.Destroys object) after = after ≡ states.Frees object
+Fails _ after = ⊥
+
+-- a run that is given up ends if it holds no object; what had begun to test one has failed
+abbrev pub GivesUp : EvictState → EvictState → Type 0
+GivesUp (states.Steps first) after = HasEnded ends.Cancelled after
+GivesUp (states.LacksRoom first) after = HasEnded ends.Cancelled after
+GivesUp (states.Reports object o) after = after ≡ states.Reports object o
+GivesUp (states.Destroys object) after = after ≡ states.Destroys object
+GivesUp (states.Frees object) after = after ≡ states.Frees object
+GivesUp before after = Fails before after
+
+-- an answer begins the work that is due; a success does the first of it, and only a good object is left without work. The rest
+-- begins no work
 abbrev pub Works : Plan → Event → EvictState → EvictState → Type 0
 Works p (events.Answered a) before after = work_left p after ≡ work_due p before a
-Works p events.Succeeded before after = work_left p after ≡ but_first (work_left p before)
-Works p events.Failed before after = (work_left p after ≡ []) × IsNotGood after
-Works p events.Cancelled before after = WorksCancelled p before after
+Works p events.Succeeded before after = (work_left p after ≡ but_first (work_left p before)) × IsGood after
+Works p events.Failed before after = Fails before after
+Works p events.Cancelled before after = GivesUp before after
 Works p _ before after = work_left p after ≡ []
 
 -- ---- the events that fit
@@ -315,18 +328,9 @@ fits cancelled s events.Woken = false
 fits cancelled s events.TimeOver = false
 fits cancelled s events.Cancelled = is_going cancelled s
 
-abbrev pub HasEnded : End → EvictState → Type 0
-HasEnded e (states.Ended f run) = f ≡ e
-HasEnded e _ = ⊥
-
--- a full journal ends no run: the host is asked to make room, and the step is asked for again. The run ends if there is no
--- memory for a step, or the journal could not be cut
+-- when a run lacks room, and how it goes on
 abbrev pub Pauses : Event → EvictState → Type 0
-Pauses (events.NotTaken failures.JournalFull) after = lacks_room after ≡ true
-Pauses (events.NotTaken failures.OutOfMemory) after = HasEnded (ends.NotTaken failures.OutOfMemory) after
-Pauses events.RoomMade after = has_first_step after ≡ true
-Pauses events.NoRoom after = HasEnded (ends.NotTaken failures.JournalFull) after
-Pauses _ after = Unit {0}
+Pauses = turns.Pauses lacks_room has_first_step HasEnded
 
 -- ---- the end
 -- the answers and reports of the factory that are left at most for this many more objects: none in a run that is given up
@@ -356,17 +360,12 @@ EndsByAnswer cancelled (states.Ended ends.Cancelled run) = cancelled ≡ true
 EndsByAnswer cancelled (states.Ended (ends.NotTaken f) run) = ⊥
 EndsByAnswer cancelled _ = Unit {0}
 
--- a run that is given up while it holds no object ends so
-abbrev pub EndsGivenUp : EvictState → Type 0
-EndsGivenUp (states.Ended e run) = e ≡ ends.Cancelled
-EndsGivenUp _ = Unit {0}
-
 -- each answer and each report of the factory brings the end nearer; a run that is given up ends after three more at most
 abbrev pub Ends : Bool → Event → EvictState → EvictState → Type 0
 Ends cancelled (events.Answered a) before after = (events_left cancelled after < events_left cancelled before) × EndsByAnswer cancelled after
 Ends cancelled events.Succeeded before after = events_left cancelled after < events_left cancelled before
 Ends cancelled events.Failed before after = events_left cancelled after < events_left cancelled before
-Ends cancelled events.Cancelled before after = (events_left true after ≤ 3) × EndsGivenUp after
+Ends cancelled events.Cancelled before after = events_left true after ≤ 3
 Ends cancelled _ before after = Unit {0}
 
 abbrev pub is_given_up : Bool → Event → Bool
@@ -389,3 +388,7 @@ steps_left _ = 0
 abbrev pub Proceeds : Event → EvictState → EvictState → Type 0
 Proceeds (events.Answered a) before after = steps_left after < steps_left before
 Proceeds _ before after = Unit {0}
+
+-- what an event does to a run
+abbrev pub Takes : Plan → Bool → Event → EvictState → EvictState → Type 0
+Takes p cancelled event before after = GoesOn p event before after × Works p event before after × Ends cancelled event before after × Proceeds event before after × Pauses event after

@@ -126,9 +126,8 @@ fits cancelled s event = add_rules.fits s event
 abbrev pub HasFewer : Bool → ℕ → AddState → Type 0
 HasFewer cancelled n s = (has_first_step s ≡ false → events_left s < n) × (cancelled ≡ true → events_left s < n)
 
--- after an answer a fill lacks no room and no memory, and ends as given up only if it is
+-- an answer ends a fill as given up only if it is, and never as one whose step was not taken
 abbrev pub IsAnswered : Bool → AddState → Type 0
-IsAnswered cancelled states.LacksRoom = ⊥
 IsAnswered cancelled (states.Ended (ends.NotTaken f)) = ⊥
 IsAnswered cancelled (states.Ended ends.Cancelled) = cancelled ≡ true
 IsAnswered cancelled _ = Unit {0}

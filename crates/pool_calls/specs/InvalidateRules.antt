@@ -9,7 +9,6 @@ use Rattle.pool_calls.specs.declared.action.Action.{Action}
 use Rattle.pool_calls.specs.declared.action.Action.TheVariants as actions
 use Rattle.pool_calls.specs.declared.action.Event.{Event}
 use Rattle.pool_calls.specs.declared.action.Event.TheVariants as events
-use Rattle.pool_calls.specs.declared.action.StepFailure.TheVariants as failures
 use Rattle.pool_calls.specs.declared.action.End.{End}
 use Rattle.pool_calls.specs.declared.action.End.TheVariants as ends
 use Rattle.pool_calls.specs.declared.invalidating.InvalidateState.{InvalidateState}
@@ -177,14 +176,9 @@ fits s events.Woken = false
 fits s events.TimeOver = false
 fits s events.Cancelled = is_going s
 
--- a full journal ends no call: the host is asked to make room, and the step is asked for again. The call ends if there is no
--- memory for a step, or the journal could not be cut
+-- when an invalidation lacks room, and how it goes on
 abbrev pub Pauses : Event → InvalidateState → Type 0
-Pauses (events.NotTaken failures.JournalFull) after = lacks_room after ≡ true
-Pauses (events.NotTaken failures.OutOfMemory) after = after ≡ states.Ended (ends.NotTaken failures.OutOfMemory)
-Pauses events.RoomMade after = has_first_step after ≡ true
-Pauses events.NoRoom after = after ≡ states.Ended (ends.NotTaken failures.JournalFull)
-Pauses _ after = Unit {0}
+Pauses = turns.Pauses lacks_room has_first_step (λ e s. s ≡ states.Ended e)
 
 -- ---- the end
 -- the answers and reports of the factory that are left at most
@@ -214,3 +208,7 @@ steps_left _ = 0
 abbrev pub Proceeds : Event → InvalidateState → InvalidateState → Type 0
 Proceeds (events.Answered a) before after = steps_left after < steps_left before
 Proceeds _ before after = Unit {0}
+
+-- what an event does to an invalidation
+abbrev pub Takes : Bool → ℕ → Event → InvalidateState → InvalidateState → Type 0
+Takes d i event before after = GoesOn d i event before after × Works d i event before after × Ends event before after × Proceeds event before after × Pauses event after

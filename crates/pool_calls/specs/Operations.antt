@@ -1,5 +1,5 @@
 -- The rules of a call of any kind: those of its kind.
-use Rattle.std.specs.Prelude.{◌≡◌, ℕ, Bool, List, Option, Some, None}
+use Rattle.std.specs.Prelude.{◌≡◌, ℕ, Bool, false, List, Option, Some, None}
 use Rattle.pool_journal.specs.declared.input.Input.{Input}
 use Rattle.pool_calls.specs.declared.plan.Plan.{Plan}
 use Rattle.pool_calls.specs.declared.action.Action.{Action}
@@ -69,6 +69,35 @@ fits (kinds.Evict c) event = evicts.fits c.cancelled c.state event
 fits (kinds.Reclaim c) event = reclaims.fits c.state event
 fits (kinds.Clear c) event = clears.fits c.state event
 
+-- the journal has no room for its step
+abbrev pub lacks_room : Operation → Bool
+lacks_room (kinds.Borrow c) = borrows.lacks_room c.state
+lacks_room (kinds.Return c) = returns.lacks_room c.state
+lacks_room (kinds.Invalidate c) = invalidates.lacks_room c.state
+lacks_room (kinds.Touch c) = touches.lacks_room c.state
+lacks_room (kinds.Add c) = adds.lacks_room c.state
+lacks_room (kinds.Fill c) = adds.lacks_room c.state.addition
+lacks_room (kinds.Evict c) = evicts.lacks_room c.state
+lacks_room (kinds.Reclaim c) = reclaims.lacks_room c.state
+lacks_room (kinds.Clear c) = clears.lacks_room c.state
+
+-- it has an object made
+abbrev pub is_making : Operation → Bool
+is_making (kinds.Borrow c) = borrows.is_making c.state
+is_making (kinds.Add c) = adds.is_making c.state
+is_making (kinds.Fill c) = adds.is_making c.state.addition
+is_making _ = false
+
+-- it waits, as only a borrow does
+abbrev pub is_waiting : Operation → Bool
+is_waiting (kinds.Borrow c) = borrows.is_waiting c.state
+is_waiting _ = false
+
+-- it comes to wait with this event
+abbrev pub comes_to_wait : Event → Operation → Bool
+comes_to_wait event (kinds.Borrow c) = borrows.comes_to_wait event c.state
+comes_to_wait event _ = false
+
 -- the time at which a borrow began
 abbrev pub began_of : Operation → Option ℕ
 began_of (kinds.Borrow c) = Some c.began
@@ -89,7 +118,7 @@ Follows p (kinds.Clear c) = Unit {0}
 -- what an event changes, and what it leaves
 abbrev pub Proceeds : Event → Operation → Operation → Type 0
 Proceeds event (kinds.Borrow b) (kinds.Borrow c) =
-    (c.plan ≡ b.plan) × (c.began ≡ b.began) × (c.cancelled ≡ borrows.is_given_up b.cancelled event) × borrows.Works b.plan event b.state c.state × borrows.Ends b.cancelled event b.state c.state × borrows.Pauses event c.state
+    (c.plan ≡ b.plan) × (c.began ≡ b.began) × (c.cancelled ≡ borrows.is_given_up b.cancelled event) × borrows.Works b.plan event b.state c.state × borrows.Ends b.cancelled event b.state c.state × borrows.Pauses event b.state c.state
 Proceeds event (kinds.Return b) (kinds.Return c) =
     (c.plan ≡ b.plan) × (c.id ≡ b.id) × returns.Works b.plan b.id event b.state c.state × returns.Ends event b.state c.state × returns.Pauses event c.state
 Proceeds event (kinds.Invalidate b) (kinds.Invalidate c) =

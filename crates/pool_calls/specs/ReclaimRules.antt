@@ -10,7 +10,6 @@ use Rattle.pool_calls.specs.declared.action.Action.{Action}
 use Rattle.pool_calls.specs.declared.action.Action.TheVariants as actions
 use Rattle.pool_calls.specs.declared.action.Event.{Event}
 use Rattle.pool_calls.specs.declared.action.Event.TheVariants as events
-use Rattle.pool_calls.specs.declared.action.StepFailure.TheVariants as failures
 use Rattle.pool_calls.specs.declared.action.End.{End}
 use Rattle.pool_calls.specs.declared.action.End.TheVariants as ends
 use Rattle.pool_calls.specs.declared.reclaiming.ReclaimStep.{ReclaimStep}
@@ -154,14 +153,9 @@ abbrev pub HasEnded : End → ReclaimState → Type 0
 HasEnded e (states.Ended f taken) = f ≡ e
 HasEnded e _ = ⊥
 
--- a full journal ends no removal: the host is asked to make room, and the step is asked for again. The removal ends if there is
--- no memory for a step, or the journal could not be cut
+-- when a removal lacks room, and how it goes on
 abbrev pub Pauses : Event → ReclaimState → Type 0
-Pauses (events.NotTaken failures.JournalFull) after = lacks_room after ≡ true
-Pauses (events.NotTaken failures.OutOfMemory) after = HasEnded (ends.NotTaken failures.OutOfMemory) after
-Pauses events.RoomMade after = has_step after ≡ true
-Pauses events.NoRoom after = HasEnded (ends.NotTaken failures.JournalFull) after
-Pauses _ after = Unit {0}
+Pauses = turns.Pauses lacks_room has_step HasEnded
 
 -- ---- the end
 abbrev pub first_steps_left : ReclaimStep → ℕ
@@ -190,3 +184,7 @@ Ends _ after = Unit {0}
 abbrev pub Proceeds : Event → ReclaimState → ReclaimState → Type 0
 Proceeds (events.Answered a) before after = steps_left after < steps_left before
 Proceeds _ before after = Unit {0}
+
+-- what an event does to a removal
+abbrev pub Takes : Event → ReclaimState → ReclaimState → Type 0
+Takes event before after = GoesOn event before after × Ends event after × Proceeds event before after × Pauses event after

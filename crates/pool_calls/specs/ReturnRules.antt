@@ -1,18 +1,18 @@
 -- The rules of a return: its stages, the steps that are expected at each, its possible ends, and the work of the factory.
-use Rattle.std.specs.Prelude.{◌≡◌, ◌≢◌, ℕ, ◌<◌, ◌≤◌, if◌then◌else◌, Bool, true, false, List, [], ◌∷◌, Option, Some, None}
+use Rattle.std.specs.Prelude.{◌≡◌, ℕ, ◌<◌, ◌≤◌, if◌then◌else◌, Bool, true, false, List, [], ◌∷◌, Option, Some, None}
 use Rattle.pool_journal.specs.declared.input.Input.{Input}
 use Rattle.pool_journal.specs.declared.input.Input.TheVariants as inputs
 use Rattle.pool_journal.specs.declared.input.Outcome.{Outcome}
 use Rattle.pool_journal.specs.declared.input.Outcome.TheVariants as outcomes
 use Rattle.pool_journal.specs.declared.answer.Answer.{Answer}
 use Rattle.pool_journal.specs.declared.answer.Answer.TheVariants as answers
+use Rattle.pool_journal.specs.declared.answer.Cause.{Cause}
 use Rattle.pool_journal.specs.declared.answer.Cause.TheVariants as causes
 use Rattle.pool_calls.specs.declared.plan.Plan.{Plan}
 use Rattle.pool_calls.specs.declared.action.Action.{Action}
 use Rattle.pool_calls.specs.declared.action.Action.TheVariants as actions
 use Rattle.pool_calls.specs.declared.action.Event.{Event}
 use Rattle.pool_calls.specs.declared.action.Event.TheVariants as events
-use Rattle.pool_calls.specs.declared.action.StepFailure.TheVariants as failures
 use Rattle.pool_calls.specs.declared.action.End.{End}
 use Rattle.pool_calls.specs.declared.action.End.TheVariants as ends
 use Rattle.pool_calls.specs.declared.returning.ReturnState.{ReturnState}
@@ -20,7 +20,8 @@ use Rattle.pool_calls.specs.declared.returning.ReturnState.TheVariants as states
 use Rattle.pool_calls.specs.Turns as turns
 use Rattle.pool_calls.specs.Turns.{Turn, but_first}
 
--- the stage of a return: it returns the object; it checks it; it destroys it; it is complete; it ended with this answer
+-- the stage of a return: it returns the object; it checks it; it destroys it; it is complete; the object is not lent; the pool gave
+-- an answer that it gives to no return
 pub data Stage : Type 0 where
   gives : Stage
   checks : Stage
@@ -28,25 +29,31 @@ pub data Stage : Type 0 where
   parked : Stage
   destroyed : Stage
   gone : Stage
-  refused : Answer → Stage
+  not_lent : Stage
+  contradicted : Answer → Stage
+
+abbrev pub after_refusal : Cause → Stage
+after_refusal causes.NotLent = not_lent
+after_refusal c = contradicted (answers.Refused c)
 
 abbrev pub after_giving : Answer → Stage
 after_giving answers.Check = checks
 after_giving answers.Gone = gone
-after_giving a = refused a
+after_giving (answers.Refused c) = after_refusal c
+after_giving a = contradicted a
 
 abbrev pub after_checking : Outcome → Answer → Stage
 after_checking outcomes.Good answers.Parked = parked
 after_checking o answers.Destroy = destroys
-after_checking o a = refused a
+after_checking o a = contradicted a
 
 abbrev pub after_parking : Input → Answer → Stage
 after_parking (inputs.Park j o) a = after_checking o a
-after_parking input a = refused a
+after_parking input a = contradicted a
 
 abbrev pub after_destroying : Answer → Stage
 after_destroying answers.Freed = destroyed
-after_destroying a = refused a
+after_destroying a = contradicted a
 
 abbrev pub next : Stage → Turn → Stage
 next gives t = after_giving t.answer
@@ -77,10 +84,10 @@ abbrev pub ReturnEnds : Stage → End → Type 0
 ReturnEnds stage ends.Parked = stage ≡ parked
 ReturnEnds stage ends.Destroyed = stage ≡ destroyed
 ReturnEnds stage ends.Gone = stage ≡ gone
-ReturnEnds stage ends.NotLent = stage ≡ refused (answers.Refused causes.NotLent)
+ReturnEnds stage ends.NotLent = stage ≡ not_lent
 ReturnEnds stage (ends.NotTaken f) = stage ≡ gives
 ReturnEnds stage ends.Cancelled = stage ≡ gives
-ReturnEnds stage (ends.Contradicted a) = stage ≡ refused a
+ReturnEnds stage (ends.Contradicted a) = stage ≡ contradicted a
 ReturnEnds stage _ = ⊥
 
 -- ---- states
@@ -115,13 +122,19 @@ GoesOn p i = turns.GoesOn next (IsAt p) (step_at i)
 abbrev pub ComesOn : Plan → ℕ → Event → ReturnState → ReturnState → Type 0
 ComesOn p i = turns.ComesOn (IsExpected p i) next gives (IsAt p) (step_at i)
 
+-- the factory may destroy the object at this stage
+abbrev pub MayDestroy : Stage → Type 0
+MayDestroy destroys = Unit {0}
+MayDestroy gone = Unit {0}
+MayDestroy _ = ⊥
+
 -- an action is right at a stage
 abbrev pub IsRight : Plan → ℕ → Stage → Action → Type 0
 IsRight p i stage (actions.Step input) = IsExpected p i stage input
 IsRight p i stage actions.MakeRoom = stage ≡ gives
 IsRight p i stage (actions.Validate j) = (j ≡ i) × (stage ≡ checks)
 IsRight p i stage (actions.Passivate j) = (j ≡ i) × (stage ≡ checks)
-IsRight p i stage (actions.Destroy j) = (j ≡ i) × (stage ≢ gives) × (stage ≢ checks) × (stage ≢ parked)
+IsRight p i stage (actions.Destroy j) = (j ≡ i) × MayDestroy stage
 IsRight p i stage (actions.Done e) = ReturnEnds stage e
 IsRight p i stage _ = ⊥
 
@@ -158,26 +171,36 @@ work_due p i states.Gives a = work_given p i a
 work_due p i (states.Parks o) a = work_lost i a
 work_due p i _ a = []
 
--- the state reports no object as good
-abbrev pub IsNotGood : ReturnState → Type 0
-IsNotGood (states.Parks o) = o ≢ outcomes.Good
-IsNotGood _ = Unit {0}
+-- what the state reports is good
+abbrev pub IsGood : ReturnState → Type 0
+IsGood (states.Parks o) = o ≡ outcomes.Good
+IsGood _ = Unit {0}
 
--- what is left to do for a return that is given up: what had begun to check the object has failed
-abbrev pub WorksCancelled : Plan → ℕ → ReturnState → ReturnState → Type 0
-WorksCancelled p i (states.Parks o) after = after ≡ states.Parks o
-WorksCancelled p i states.Destroys after = after ≡ states.Destroys
-WorksCancelled p i states.Frees after = after ≡ states.Frees
-WorksCancelled p i states.DestroysGone after = after ≡ states.DestroysGone
-WorksCancelled p i before after = (work_left p i after ≡ []) × IsNotGood after
+-- work that failed is reported as what it was, without further work; an object that the factory failed to destroy is destroyed
+abbrev pub Fails : ReturnState → ReturnState → Type 0
+Fails states.Tests after = after ≡ states.Parks outcomes.TestFailed
+Fails states.Passivates after = after ≡ states.Parks outcomes.PassivateFailed
+Fails states.Destroys after = after ≡ states.Frees
+Fails states.DestroysGone after = after ≡ states.Ended ends.Gone
+Fails _ after = ⊥
 
--- an answer begins the work that is due; a success does the first of it; after a failure nothing is left to do and no object is
--- reported as good
+-- a return that is given up ends if the pool has not taken the object back; what had begun to check it has failed
+abbrev pub GivesUp : ReturnState → ReturnState → Type 0
+GivesUp states.Gives after = after ≡ states.Ended ends.Cancelled
+GivesUp states.LacksRoom after = after ≡ states.Ended ends.Cancelled
+GivesUp (states.Parks o) after = after ≡ states.Parks o
+GivesUp states.Destroys after = after ≡ states.Destroys
+GivesUp states.Frees after = after ≡ states.Frees
+GivesUp states.DestroysGone after = after ≡ states.DestroysGone
+GivesUp before after = Fails before after
+
+-- an answer begins the work that is due; a success does the first of it, and only a good object is left without work. The rest
+-- begins no work
 abbrev pub Works : Plan → ℕ → Event → ReturnState → ReturnState → Type 0
 Works p i (events.Answered a) before after = work_left p i after ≡ work_due p i before a
-Works p i events.Succeeded before after = work_left p i after ≡ but_first (work_left p i before)
-Works p i events.Failed before after = (work_left p i after ≡ []) × IsNotGood after
-Works p i events.Cancelled before after = WorksCancelled p i before after
+Works p i events.Succeeded before after = (work_left p i after ≡ but_first (work_left p i before)) × IsGood after
+Works p i events.Failed before after = Fails before after
+Works p i events.Cancelled before after = GivesUp before after
 Works p i _ before after = work_left p i after ≡ []
 
 -- ---- the events that fit
@@ -219,14 +242,9 @@ fits s events.Woken = false
 fits s events.TimeOver = false
 fits s events.Cancelled = is_going s
 
--- a full journal ends no call: the host is asked to make room, and the step is asked for again. The call ends if there is no
--- memory for a step, or the journal could not be cut
+-- when a return lacks room, and how it goes on
 abbrev pub Pauses : Event → ReturnState → Type 0
-Pauses (events.NotTaken failures.JournalFull) after = lacks_room after ≡ true
-Pauses (events.NotTaken failures.OutOfMemory) after = after ≡ states.Ended (ends.NotTaken failures.OutOfMemory)
-Pauses events.RoomMade after = has_first_step after ≡ true
-Pauses events.NoRoom after = after ≡ states.Ended (ends.NotTaken failures.JournalFull)
-Pauses _ after = Unit {0}
+Pauses = turns.Pauses lacks_room has_first_step (λ e s. s ≡ states.Ended e)
 
 -- ---- the end
 -- the answers and reports of the factory that are left at most
@@ -247,3 +265,7 @@ Ends events.Succeeded before after = events_left after < events_left before
 Ends events.Failed before after = events_left after < events_left before
 Ends events.Cancelled before after = events_left after ≤ 3
 Ends _ before after = Unit {0}
+
+-- what an event does to a return
+abbrev pub Takes : Plan → ℕ → Event → ReturnState → ReturnState → Type 0
+Takes p i event before after = GoesOn p i event before after × Works p i event before after × Ends event before after × Pauses event after

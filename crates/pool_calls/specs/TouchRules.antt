@@ -8,7 +8,6 @@ use Rattle.pool_calls.specs.declared.action.Action.{Action}
 use Rattle.pool_calls.specs.declared.action.Action.TheVariants as actions
 use Rattle.pool_calls.specs.declared.action.Event.{Event}
 use Rattle.pool_calls.specs.declared.action.Event.TheVariants as events
-use Rattle.pool_calls.specs.declared.action.StepFailure.TheVariants as failures
 use Rattle.pool_calls.specs.declared.action.End.{End}
 use Rattle.pool_calls.specs.declared.action.End.TheVariants as ends
 use Rattle.pool_calls.specs.declared.touching.TouchState.{TouchState}
@@ -104,14 +103,9 @@ fits s events.NoRoom = lacks_room s
 fits s events.Cancelled = is_going s
 fits s _ = false
 
--- a full journal ends no call: the host is asked to make room, and the step is asked for again. The call ends if there is no
--- memory for the step, or the journal could not be cut
+-- when a note lacks room, and how it goes on
 abbrev pub Pauses : Event → TouchState → Type 0
-Pauses (events.NotTaken failures.JournalFull) after = lacks_room after ≡ true
-Pauses (events.NotTaken failures.OutOfMemory) after = after ≡ states.Ended (ends.NotTaken failures.OutOfMemory)
-Pauses events.RoomMade after = has_step after ≡ true
-Pauses events.NoRoom after = after ≡ states.Ended (ends.NotTaken failures.JournalFull)
-Pauses _ after = Unit {0}
+Pauses = turns.Pauses lacks_room has_step (λ e s. s ≡ states.Ended e)
 
 -- ---- the end
 -- an answer ends a note, and one that is given up ends at once
@@ -129,3 +123,7 @@ steps_left _ = 1
 abbrev pub Proceeds : Event → TouchState → TouchState → Type 0
 Proceeds (events.Answered a) before after = steps_left after < steps_left before
 Proceeds _ before after = Unit {0}
+
+-- what an event does to a note
+abbrev pub Takes : ℕ → Event → TouchState → TouchState → Type 0
+Takes i event before after = GoesOn i event before after × Ends event after × Proceeds event before after × Pauses event after

@@ -1,11 +1,14 @@
 -- The steps that a call has taken, each with its answer, and what is common to the rules of all calls.
-use Rattle.std.specs.Prelude.{◌≡◌, List, [], ◌∷◌, ◌++◌, Option, Some, None}
+use Rattle.std.specs.Prelude.{◌≡◌, Bool, true, false, List, [], ◌∷◌, ◌++◌, Option, Some, None}
 use Rattle.pool_journal.specs.declared.input.Input.{Input}
 use Rattle.pool_journal.specs.declared.answer.Answer.{Answer}
 use Rattle.pool_calls.specs.declared.action.Action.{Action}
 use Rattle.pool_calls.specs.declared.action.Action.TheVariants as actions
 use Rattle.pool_calls.specs.declared.action.Event.{Event}
 use Rattle.pool_calls.specs.declared.action.Event.TheVariants as events
+use Rattle.pool_calls.specs.declared.action.StepFailure.TheVariants as failures
+use Rattle.pool_calls.specs.declared.action.End.{End}
+use Rattle.pool_calls.specs.declared.action.End.TheVariants as ends
 
 pub record Turn : Type 0 where
   pub input : Input
@@ -68,3 +71,37 @@ but_first (a ∷ rest) = rest
 abbrev pub IsFirst : List Action → Action → Type 0
 IsFirst [] action = Unit {0}
 IsFirst (a ∷ rest) action = action ≡ a
+
+-- ---- pauses
+-- the host is asked to make an object
+abbrev pub asks_make : Action → Bool
+asks_make (actions.Make i) = true
+asks_make _ = false
+
+-- the host is asked to make room
+abbrev pub asks_room : Action → Bool
+asks_room actions.MakeRoom = true
+asks_room _ = false
+
+-- the host is asked to sleep
+abbrev pub asks_wait : Action → Bool
+asks_wait actions.Wait = true
+asks_wait _ = false
+
+-- a step was not taken, since the journal has no room
+abbrev pub is_full : Event → Bool
+is_full (events.NotTaken failures.JournalFull) = true
+is_full _ = false
+
+module _ {State : Type 0} (lacks_room has_first_step : State → Bool) (HasEnded : End → State → Type 0) where
+  -- a step for which room was made is asked for again. A call ends if there is no memory for a step, or the journal could not be
+  -- cut
+  abbrev pub Resumes : Event → State → Type 0
+  Resumes (events.NotTaken failures.OutOfMemory) after = HasEnded (ends.NotTaken failures.OutOfMemory) after
+  Resumes events.RoomMade after = has_first_step after ≡ true
+  Resumes events.NoRoom after = HasEnded (ends.NotTaken failures.JournalFull) after
+  Resumes _ after = Unit {0}
+
+  -- a full journal ends no call: the host is asked to make room, after such a step and after no other event
+  abbrev pub Pauses : Event → State → Type 0
+  Pauses event after = (lacks_room after ≡ is_full event) × Resumes event after

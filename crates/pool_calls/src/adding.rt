@@ -5,10 +5,10 @@ ghost use Rattle.pool_journal.specs.declared.input.Outcome.TheVariants as outcom
 ghost use Rattle.pool_calls.specs.declared.action.Event.TheVariants as events;
 ghost use Rattle.pool_calls.specs.declared.adding.AddState.TheVariants as states;
 ghost use Rattle.pool_calls.specs.AddRules as spec;
-ghost use Rattle.pool_calls.specs.AddRules.{Stage, IsAt, IsAfter, GoesOn, ComesOn, HasCome, IsRight, IsPossibleOutcome, AddEnds, IsGood, Fails, GivesUp, Works, makes, gone, step_at, step_of_state, work_left, work_due, work_found, work_lost, work_after, to_prepare, to_passivate, fits, has_step, has_first_step, lacks_room, has_work, is_going, events_left, progress_left, steps_left};
+ghost use Rattle.pool_calls.specs.AddRules.{Stage, IsAt, IsAfter, GoesOn, ComesOn, HasCome, IsRight, IsPossibleOutcome, AddEnds, IsGood, Fails, GivesUp, Works, makes, gone, step_at, step_of_state, work_left, work_due, work_found, work_lost, work_after, to_prepare, to_passivate, fits, has_step, has_first_step, is_making, lacks_room, has_work, is_going, events_left, progress_left, steps_left};
 ghost use Rattle.pool_calls.specs.FillRules as fill_rules;
 ghost use Rattle.pool_calls.specs.FillRules.{IsAtCount, FillEnds, IsAnswered, Stays, adds, adding};
-ghost use Rattle.pool_calls.specs.Turns.{step_of, IsFirst};
+ghost use Rattle.pool_calls.specs.Turns.{step_of, asks_make, asks_room, asks_wait, IsFirst};
 
 use crate::action::{Action, End, Event, StepFailure};
 use crate::plan::Plan;
@@ -46,6 +46,7 @@ fn passivate(plan: &Plan, id: u64) -> AddState
     ensures adds { IsAt plan.now result (makes id) }
     ensures fills { (n : ℕ) → IsAtCount plan.now n result (adds n (makes id)) }
     ensures work { (work_left plan.now result ≡ to_passivate plan.now id) × IsGood result }
+    ensures room { lacks_room result ≡ false }
     ensures left { events_left result ≤ 4 }
 {
     if plan.passivates {
@@ -60,6 +61,7 @@ fn prepare(plan: &Plan, id: u64) -> AddState
     ensures adds { IsAt plan.now result (makes id) }
     ensures fills { (n : ℕ) → IsAtCount plan.now n result (adds n (makes id)) }
     ensures work { (work_left plan.now result ≡ to_prepare plan.now id) × IsGood result }
+    ensures room { lacks_room result ≡ false }
     ensures left { events_left result ≤ 5 }
 {
     if plan.test_on_create {
@@ -131,6 +133,9 @@ impl AddState {
             → IsAtCount p n self stage → fill_rules.IsRight p n stage result }
         ensures step { step_of result ≡ step_of_state ask self }
         ensures works { (p : Plan) → IsFirst (work_left p self) result }
+        ensures room { asks_room result ≡ lacks_room self }
+        ensures wait { asks_wait result ≡ false }
+        ensures make { asks_make result ≡ is_making self }
     {
         match self {
             AddState::Asks => Action::Step(ask),
@@ -169,7 +174,7 @@ impl AddState {
         ensures fills { (p : Plan) → IfSome result (Stays p self) }
         ensures works { (p : Plan) → IfSome result (λ s. work_left p s ≡ []) }
         ensures fits { is_some result ≡ lacks_room self }
-        ensures again { IfSome result (λ s. has_first_step s ≡ true) }
+        ensures room { IfSome result (spec.Pauses events.RoomMade) }
         ensures asks { IfSome result (λ _. 3 < events_left self) }
     {
         match self {
@@ -200,6 +205,7 @@ impl AddState {
         ensures adds { IfSome result (GoesOn plan.now events.Succeeded self) }
         ensures fills { IfSome result (Stays plan.now self) }
         ensures works { IfSome result (Works plan.now events.Succeeded self) }
+        ensures room { IfSome result (λ s. lacks_room s ≡ false) }
         ensures fits { is_some result ≡ has_work self }
         ensures ends { IfSome result (λ s. events_left s < events_left self) }
     {
@@ -217,6 +223,7 @@ impl AddState {
         ensures adds { (p : Plan) → IfSome result (GoesOn p events.Failed self) }
         ensures fills { (p : Plan) → IfSome result (Stays p self) }
         ensures works { IfSome result (Fails self) }
+        ensures room { IfSome result (λ s. lacks_room s ≡ false) }
         ensures fits { is_some result ≡ has_work self }
         ensures ends { IfSome result (λ s. events_left s < events_left self) }
         ensures left { IfSome result (λ s. events_left s ≤ 3) }
@@ -235,6 +242,7 @@ impl AddState {
         ensures adds { (p : Plan) → IfSome result (GoesOn p events.Cancelled self) }
         ensures fills { (p : Plan) → IfSome result (Stays p self) }
         ensures works { IfSome result (GivesUp self) }
+        ensures room { IfSome result (λ s. lacks_room s ≡ false) }
         ensures fits { is_some result ≡ is_going self }
         ensures left { IfSome result (λ s. events_left s ≤ 3) }
     {
@@ -252,6 +260,7 @@ fn after_asking(answer: Answer) -> AddState
     ensures at { (p : Plan) → IsAt p result (spec.after_asking answer) }
     ensures work { (p : Plan) → work_left p result ≡ work_found p answer }
     ensures left { events_left result ≤ 6 }
+    ensures room { lacks_room result ≡ false }
     ensures steps { steps_left result ≡ 0 }
 {
     match answer {
@@ -270,6 +279,7 @@ fn after_progress(progress: Progress) -> AddState
     ensures at { (p : Plan) (stage : Stage) → IsAfter p progress stage → IsAt p result stage }
     ensures work { (p : Plan) → work_left p result ≡ work_after progress }
     ensures left { events_left result ≡ progress_left progress }
+    ensures room { lacks_room result ≡ false }
     ensures steps { steps_left result ≡ 0 }
 {
     match progress {
@@ -310,6 +320,9 @@ impl AddCall {
             → IsRight self.now.plan stage result }
         ensures step { step_of result ≡ step_at self.now.state }
         ensures works { IsFirst (work_left self.now.plan self.now.state) result }
+        ensures room { asks_room result ≡ lacks_room self.now.state }
+        ensures wait { asks_wait result ≡ false }
+        ensures make { asks_make result ≡ is_making self.now.state }
     {
         self.state.action(Input::Add)
     }
@@ -323,6 +336,7 @@ impl AddCall {
         ensures fits { is_some result ≡ has_step self.now.state }
         ensures ends { IfSome result (λ s. events_left s < events_left self.now.state) }
         ensures steps { IfSome result (λ s. steps_left s < steps_left self.now.state) }
+        ensures room { IfSome result (λ s. lacks_room s ≡ false) }
     {
         match self.state {
             AddState::Asks => Some(after_asking(answer)),

@@ -1,11 +1,10 @@
-ghost use Rattle.std.specs.Prelude.{◌≡◌, ◌<◌, ◌≤◌, ℕ, Bool, true, false, List, [], IfSome, IfNone};
+ghost use Rattle.std.specs.Prelude.{◌≡◌, ◌<◌, ◌≤◌, ℕ, Bool, true, false, List, [], IfSome};
 ghost use Rattle.std.specs.Option.{is_some};
 ghost use Rattle.pool_calls.specs.declared.action.Event.TheVariants as events;
-ghost use Rattle.pool_calls.specs.declared.action.End.TheVariants as ends;
 ghost use Rattle.pool_calls.specs.declared.borrowing.BorrowState.TheVariants as states;
 ghost use Rattle.pool_calls.specs.BorrowRules as spec;
-ghost use Rattle.pool_calls.specs.BorrowRules.{Stage, IsAt, GoesOn, ComesOn, HasCome, IsRight, IsPossibleOutcome, IsFailure, BorrowEnds, Works, first_stage, readies, failed, step_at, work_left, to_hold, to_ready, to_make, work_due, fits, has_step, has_first_step, lacks_room, has_work, is_waiting, is_asking, is_going, events_left};
-ghost use Rattle.pool_calls.specs.Turns.{but_first, step_of, IsFirst};
+ghost use Rattle.pool_calls.specs.BorrowRules.{Stage, IsAt, GoesOn, ComesOn, HasCome, Takes, IsRight, IsPossibleOutcome, IsFailure, BorrowEnds, IsGood, Works, EndsByAnswer, first_stage, readies, failed, step_at, work_left, to_hold, to_ready, to_make, work_due, is_wait, fits, has_step, has_first_step, lacks_room, has_work, is_making, is_waiting, is_asking, is_going, events_left};
+ghost use Rattle.pool_calls.specs.Turns.{step_of, asks_make, asks_room, asks_wait, IsFirst};
 
 use crate::action::{Action, End, Event, StepFailure};
 use crate::plan::Plan;
@@ -42,7 +41,8 @@ pub enum BorrowState {
 impl Plan {
     // The first state of a borrow.
     fn begin(&self) -> BorrowState
-        ensures { IsAt self.now result (first_stage self.now) }
+        ensures at { IsAt self.now result (first_stage self.now) }
+        ensures first { has_first_step result ≡ true }
     {
         if self.remove_abandoned_on_borrow {
             BorrowState::Steps(FirstStep::Begin)
@@ -54,7 +54,9 @@ impl Plan {
     // A borrow tests an active object if that is set.
     fn hold(&self, id: u64, is_new: bool) -> BorrowState
         ensures at { IsAt self.now result (readies id is_new) }
-        ensures work { work_left self.now result ≡ to_hold self.now id }
+        ensures work { (work_left self.now result ≡ to_hold self.now id) × IsGood result }
+        ensures pauses { (lacks_room result ≡ false) × (is_waiting result ≡ false) }
+        ensures due { (c : Bool) (a : Answer) → EndsByAnswer c a result }
     {
         if self.test_on_borrow {
             BorrowState::Validates(id, is_new)
@@ -66,7 +68,9 @@ impl Plan {
     // A borrow activates an object if the factory does so.
     fn ready(&self, id: u64, is_new: bool) -> BorrowState
         ensures at { IsAt self.now result (readies id is_new) }
-        ensures work { work_left self.now result ≡ to_ready self.now id }
+        ensures work { (work_left self.now result ≡ to_ready self.now id) × IsGood result }
+        ensures pauses { (lacks_room result ≡ false) × (is_waiting result ≡ false) }
+        ensures due { (c : Bool) (a : Answer) → EndsByAnswer c a result }
     {
         if self.activates {
             BorrowState::Activates(id, is_new)
@@ -78,7 +82,8 @@ impl Plan {
     // A borrow tests a new object if that is set.
     fn make_ready(&self, id: u64) -> BorrowState
         ensures at { IsAt self.now result (readies id true) }
-        ensures work { work_left self.now result ≡ to_make self.now id }
+        ensures work { (work_left self.now result ≡ to_make self.now id) × IsGood result }
+        ensures pauses { (lacks_room result ≡ false) × (is_waiting result ≡ false) }
     {
         if self.test_on_create {
             BorrowState::Tests(id)
@@ -92,6 +97,8 @@ impl Plan {
 fn remove_more(left: u64) -> BorrowState
     ensures at { (p : Plan) → IsAt p result (spec.remove_more left) }
     ensures work { (p : Plan) → work_left p result ≡ [] }
+    ensures pauses { (lacks_room result ≡ false) × (is_waiting result ≡ false) }
+    ensures due { (c : Bool) (a : Answer) → EndsByAnswer c a result }
 {
     if left == 0 {
         BorrowState::Steps(FirstStep::Ask)
@@ -103,6 +110,8 @@ fn remove_more(left: u64) -> BorrowState
 fn after_beginning(answer: Answer) -> BorrowState
     ensures at { (p : Plan) → IsAt p result (spec.after_beginning answer) }
     ensures work { (p : Plan) → work_left p result ≡ [] }
+    ensures pauses { (lacks_room result ≡ false) × (is_waiting result ≡ false) }
+    ensures due { (c : Bool) → EndsByAnswer c answer result }
 {
     match answer {
         Answer::Count(count) => remove_more(count),
@@ -113,6 +122,8 @@ fn after_beginning(answer: Answer) -> BorrowState
 fn after_removing(left: u64, answer: Answer) -> BorrowState
     ensures at { (p : Plan) → IsAt p result (spec.after_removing left answer) }
     ensures work { (p : Plan) → work_left p result ≡ [] }
+    ensures pauses { (lacks_room result ≡ false) × (is_waiting result ≡ false) }
+    ensures due { (c : Bool) → EndsByAnswer c answer result }
 {
     match answer {
         Answer::Reclaimed(_) => remove_more(left.saturating_sub(1)),
@@ -124,6 +135,8 @@ fn after_removing(left: u64, answer: Answer) -> BorrowState
 fn after_asking(plan: &Plan, answer: Answer) -> BorrowState
     ensures at { IsAt plan.now result (spec.after_asking answer) }
     ensures work { work_left plan.now result ≡ spec.work_found plan.now answer }
+    ensures pauses { (lacks_room result ≡ false) × (is_waiting result ≡ is_wait answer) }
+    ensures due { (c : Bool) → EndsByAnswer c answer result }
 {
     match answer {
         Answer::Take(id) => plan.ready(id, false),
@@ -131,7 +144,10 @@ fn after_asking(plan: &Plan, answer: Answer) -> BorrowState
         Answer::Wait => BorrowState::Waits,
         Answer::Exhausted => BorrowState::Ended(End::Exhausted),
         Answer::TimedOut => BorrowState::Ended(End::TimedOut),
-        Answer::Refused(Cause::Closed) => BorrowState::Ended(End::Closed),
+        Answer::Refused(cause) => match cause {
+            Cause::Closed => BorrowState::Ended(End::Closed),
+            other => BorrowState::Ended(End::Contradicted(Answer::Refused(other))),
+        },
         other => BorrowState::Ended(End::Contradicted(other)),
     }
 }
@@ -140,6 +156,9 @@ fn after_first_step(plan: &Plan, step: FirstStep, answer: Answer) -> BorrowState
     ensures at { (stage : Stage) → spec.IsAtFirst step stage
         → IsAt plan.now result (spec.after_first stage answer) }
     ensures work { work_left plan.now result ≡ spec.work_begun plan.now step answer }
+    ensures pauses { (lacks_room result ≡ false)
+        × (is_waiting result ≡ spec.waits_by (states.Steps step) answer) }
+    ensures due { (c : Bool) → EndsByAnswer c answer result }
 {
     match step {
         FirstStep::Begin => after_beginning(answer),
@@ -153,6 +172,8 @@ fn after_readying(id: u64, is_new: bool, outcome: Outcome, answer: Answer) -> Bo
         → IsAt p result (spec.after_readying id is_new outcome answer) }
     ensures work { (p : Plan) → work_left p result ≡ spec.work_lost id outcome answer }
     ensures left { events_left result ≤ 2 }
+    ensures pauses { (lacks_room result ≡ false) × (is_waiting result ≡ false) }
+    ensures due { (c : Bool) → EndsByAnswer c answer result }
 {
     match outcome {
         Outcome::Good => match answer {
@@ -172,7 +193,8 @@ fn after_readying(id: u64, is_new: bool, outcome: Outcome, answer: Answer) -> Bo
 
 // The end of a borrow whose new object was destroyed, with this outcome.
 fn unready(outcome: Outcome) -> End
-    ensures { (p : Plan) → IsFailure p true outcome → BorrowEnds (failed outcome) result }
+    ensures ends { (p : Plan) → IsFailure p true outcome → BorrowEnds (failed outcome) result }
+    ensures due { (c : Bool) (a : Answer) → EndsByAnswer c a (states.Ended result) }
 {
     match outcome {
         Outcome::CreateTestFailed => End::CreateTestFailed,
@@ -187,6 +209,8 @@ fn look_again(is_new: bool, outcome: Outcome, cancelled: bool) -> BorrowState
     ensures at { (p : Plan) → IsFailure p is_new outcome
         → IsAt p result (spec.after_freeing is_new outcome) }
     ensures work { (p : Plan) → work_left p result ≡ [] }
+    ensures pauses { (lacks_room result ≡ false) × (is_waiting result ≡ false) }
+    ensures due { (a : Answer) → EndsByAnswer cancelled a result }
     ensures ends { cancelled ≡ true → events_left result ≡ 0 }
 {
     if is_new {
@@ -202,6 +226,8 @@ fn after_destroying(is_new: bool, outcome: Outcome, cancelled: bool, answer: Ans
     ensures at { (p : Plan) → IsFailure p is_new outcome
         → IsAt p result (spec.after_destroying is_new outcome answer) }
     ensures work { (p : Plan) → work_left p result ≡ [] }
+    ensures pauses { (lacks_room result ≡ false) × (is_waiting result ≡ false) }
+    ensures due { EndsByAnswer cancelled answer result }
     ensures ends { cancelled ≡ true → events_left result ≡ 0 }
 {
     match answer {
@@ -228,6 +254,7 @@ impl BorrowCall {
     pub fn new(plan: Plan, began: u64) -> BorrowCall
         ensures given { (result.plan ≡ plan) × (result.began ≡ began) × (result.cancelled ≡ false) }
         ensures come { HasCome plan began result.state [] }
+        ensures first { has_first_step result.state ≡ true }
     {
         BorrowCall {
             plan,
@@ -250,6 +277,9 @@ impl BorrowCall {
             → IsRight self.now.plan self.now.began stage result }
         ensures step { step_of result ≡ step_at self.now.began self.now.state }
         ensures works { IsFirst (work_left self.now.plan self.now.state) result }
+        ensures room { asks_room result ≡ lacks_room self.now.state }
+        ensures wait { asks_wait result ≡ is_waiting self.now.state }
+        ensures make { asks_make result ≡ is_making self.now.state }
     {
         match self.state {
             BorrowState::Steps(FirstStep::Begin) => Action::Step(Input::Reclaim {
@@ -279,6 +309,8 @@ impl BorrowCall {
         ensures fits { is_some result ≡ has_step self.now.state }
         ensures ends { self.now.cancelled ≡ true → IfSome result (λ s. events_left s
             < events_left self.now.state) }
+        ensures due { IfSome result (EndsByAnswer self.now.cancelled answer) }
+        ensures room { IfSome result (spec.Pauses (events.Answered answer) self.now.state) }
     {
         match self.state {
             BorrowState::Steps(step) => Some(after_first_step(&self.plan, step, answer)),
@@ -294,13 +326,8 @@ impl BorrowCall {
 
     // The state after a step that was not taken; `None` if that can't be.
     fn after_no_step(&self, failure: StepFailure) -> Option<BorrowState>
-        ensures goes { IfSome result (GoesOn self.now.plan self.now.began (events.NotTaken failure)
-            self.now.state) }
-        ensures works { IfSome result (λ s. work_left self.now.plan s ≡ []) }
+        ensures takes { IfSome result (Takes self.now.plan self.now.began self.now.cancelled (events.NotTaken failure) self.now.state) }
         ensures fits { is_some result ≡ has_first_step self.now.state }
-        ensures room { IfSome result (spec.Pauses (events.NotTaken failure)) }
-        ensures ends { self.now.cancelled ≡ true → IfSome result (λ s. events_left s
-            < events_left self.now.state) }
     {
         match self.state {
             BorrowState::Steps(step) => match failure {
@@ -313,13 +340,8 @@ impl BorrowCall {
 
     // The state after the journal was cut; `None` if that was not asked for.
     fn after_room(&self) -> Option<BorrowState>
-        ensures goes { IfSome result (GoesOn self.now.plan self.now.began events.RoomMade
-            self.now.state) }
-        ensures works { IfSome result (λ s. work_left self.now.plan s ≡ []) }
+        ensures takes { IfSome result (Takes self.now.plan self.now.began self.now.cancelled events.RoomMade self.now.state) }
         ensures fits { is_some result ≡ lacks_room self.now.state }
-        ensures again { IfSome result (λ s. has_first_step s ≡ true) }
-        ensures ends { self.now.cancelled ≡ true → IfSome result (λ s. events_left s
-            < events_left self.now.state) }
     {
         match self.state {
             BorrowState::LacksRoom(step) => Some(BorrowState::Steps(step)),
@@ -329,13 +351,8 @@ impl BorrowCall {
 
     // The state after the journal could not be cut; `None` if that was not asked for.
     fn after_no_room(&self) -> Option<BorrowState>
-        ensures goes { IfSome result (GoesOn self.now.plan self.now.began events.NoRoom
-            self.now.state) }
-        ensures works { IfSome result (λ s. work_left self.now.plan s ≡ []) }
-        ensures room { IfSome result (spec.Pauses events.NoRoom) }
+        ensures takes { IfSome result (Takes self.now.plan self.now.began self.now.cancelled events.NoRoom self.now.state) }
         ensures fits { is_some result ≡ lacks_room self.now.state }
-        ensures ends { self.now.cancelled ≡ true → IfSome result (λ s. events_left s
-            < events_left self.now.state) }
     {
         match self.state {
             BorrowState::LacksRoom(_) => {
@@ -347,13 +364,8 @@ impl BorrowCall {
 
     // The state after a factory's call that succeeded; `None` if none was asked for.
     fn after_success(&self) -> Option<BorrowState>
-        ensures goes { IfSome result (GoesOn self.now.plan self.now.began events.Succeeded
-            self.now.state) }
-        ensures works { IfSome result (λ s. work_left self.now.plan s
-            ≡ but_first (work_left self.now.plan self.now.state)) }
+        ensures takes { IfSome result (Takes self.now.plan self.now.began self.now.cancelled events.Succeeded self.now.state) }
         ensures fits { is_some result ≡ has_work self.now.state }
-        ensures ends { self.now.cancelled ≡ true → IfSome result (λ s. events_left s
-            < events_left self.now.state) }
     {
         match self.state {
             BorrowState::Makes(id) => Some(self.plan.make_ready(id)),
@@ -371,13 +383,9 @@ impl BorrowCall {
 
     // The state after a factory's call that failed; `None` if none was asked for.
     fn after_failure(&self) -> Option<BorrowState>
-        ensures goes { IfSome result (GoesOn self.now.plan self.now.began events.Failed
-            self.now.state) }
-        ensures works { IfSome result (λ s. (work_left self.now.plan s ≡ []) × spec.IsNotGood s) }
+        ensures takes { IfSome result (Takes self.now.plan self.now.began self.now.cancelled events.Failed self.now.state) }
         ensures fits { is_some result ≡ has_work self.now.state }
         ensures left { IfSome result (λ s. events_left s ≤ 3) }
-        ensures ends { self.now.cancelled ≡ true → IfSome result (λ s. events_left s
-            < events_left self.now.state) }
     {
         match self.state {
             BorrowState::Makes(id) => Some(BorrowState::Reports(id, true, Outcome::MakeFailed)),
@@ -399,12 +407,8 @@ impl BorrowCall {
 
     // The state of a borrow that waits behind others; `None` if it does not ask.
     fn after_queueing(&self) -> Option<BorrowState>
-        ensures goes { IfSome result (GoesOn self.now.plan self.now.began events.Queued
-            self.now.state) }
-        ensures waits { IfSome result (λ s. s ≡ states.Waits) }
+        ensures takes { IfSome result (Takes self.now.plan self.now.began self.now.cancelled events.Queued self.now.state) }
         ensures fits { is_some result ≡ is_asking self.now.state }
-        ensures ends { self.now.cancelled ≡ true → IfSome result (λ s. events_left s
-            < events_left self.now.state) }
     {
         match self.state {
             BorrowState::Steps(FirstStep::Ask) => Some(BorrowState::Waits),
@@ -414,12 +418,8 @@ impl BorrowCall {
 
     // The state after the wait; `None` if it does not wait.
     fn after_waking(&self) -> Option<BorrowState>
-        ensures goes { IfSome result (GoesOn self.now.plan self.now.began events.Woken
-            self.now.state) }
-        ensures works { IfSome result (λ s. work_left self.now.plan s ≡ []) }
+        ensures takes { IfSome result (Takes self.now.plan self.now.began self.now.cancelled events.Woken self.now.state) }
         ensures fits { is_some result ≡ is_waiting self.now.state }
-        ensures ends { self.now.cancelled ≡ true → IfSome result (λ s. events_left s
-            < events_left self.now.state) }
     {
         match self.state {
             BorrowState::Waits => Some(BorrowState::Steps(FirstStep::Ask)),
@@ -429,12 +429,8 @@ impl BorrowCall {
 
     // The state after the time for the wait is over; `None` if it does not wait.
     fn after_time(&self) -> Option<BorrowState>
-        ensures goes { IfSome result (GoesOn self.now.plan self.now.began events.TimeOver
-            self.now.state) }
-        ensures over { IfSome result (λ s. s ≡ states.Ended ends.TimedOut) }
+        ensures takes { IfSome result (Takes self.now.plan self.now.began self.now.cancelled events.TimeOver self.now.state) }
         ensures fits { is_some result ≡ is_waiting self.now.state }
-        ensures ends { self.now.cancelled ≡ true → IfSome result (λ s. events_left s
-            < events_left self.now.state) }
     {
         match self.state {
             BorrowState::Waits => Some(BorrowState::Ended(End::TimedOut)),
@@ -444,11 +440,8 @@ impl BorrowCall {
 
     // The state of a borrow that is given up; `None` if it has ended or was given up before.
     fn after_cancelling(&self) -> Option<BorrowState>
-        ensures goes { IfSome result (GoesOn self.now.plan self.now.began events.Cancelled
-            self.now.state) }
-        ensures works { IfSome result (spec.WorksCancelled self.now.plan self.now.state) }
+        ensures takes { IfSome result (Takes self.now.plan self.now.began self.now.cancelled events.Cancelled self.now.state) }
         ensures fits { is_some result ≡ is_going self.now.cancelled self.now.state }
-        ensures left { IfSome result (λ s. events_left s ≤ 3) }
     {
         if self.cancelled {
             return None;
@@ -471,11 +464,8 @@ impl BorrowCall {
     }
 
     fn after(&self, event: Event) -> Option<BorrowState>
-        ensures goes { IfSome result (GoesOn self.now.plan self.now.began event self.now.state) }
-        ensures works { IfSome result (Works self.now.plan event self.now.state) }
+        ensures takes { IfSome result (Takes self.now.plan self.now.began self.now.cancelled event self.now.state) }
         ensures fits { is_some result ≡ fits self.now.cancelled self.now.state event }
-        ensures ends { IfSome result (spec.Ends self.now.cancelled event self.now.state) }
-        ensures room { IfSome result (spec.Pauses event) }
     {
         match event {
             Event::Answered(answer) => self.after_answer(answer),
@@ -500,7 +490,7 @@ impl BorrowCall {
         ensures fits { result ≡ fits self.old.cancelled self.old.state event }
         ensures ends { result ≡ true → spec.Ends self.old.cancelled event self.old.state
             self.new.state }
-        ensures room { result ≡ true → spec.Pauses event self.new.state }
+        ensures room { result ≡ true → spec.Pauses event self.old.state self.new.state }
         ensures cancelled { result ≡ true → self.new.cancelled
             ≡ spec.is_given_up self.old.cancelled event }
         ensures unfit { result ≡ false → self.new ≡ self.old }

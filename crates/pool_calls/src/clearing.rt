@@ -4,8 +4,8 @@ ghost use Rattle.pool_journal.specs.declared.input.Input.TheVariants as inputs;
 ghost use Rattle.pool_calls.specs.declared.action.Event.TheVariants as events;
 ghost use Rattle.pool_calls.specs.declared.clearing.ClearState.TheVariants as states;
 ghost use Rattle.pool_calls.specs.ClearRules as spec;
-ghost use Rattle.pool_calls.specs.ClearRules.{Stage, IsAt, GoesOn, ComesOn, HasCome, IsRight, Works, WorksOn, step_at, taken_of, work_left, work_due, to_come, fits, has_step, has_first_step, lacks_room, has_work, is_given_up, is_going, is_early, events_left, steps_left};
-ghost use Rattle.pool_calls.specs.Turns.{step_of, IsFirst};
+ghost use Rattle.pool_calls.specs.ClearRules.{Stage, IsAt, ComesOn, HasCome, Takes, IsRight, Works, step_at, taken_of, work_left, to_come, fits, has_step, has_first_step, lacks_room, has_work, is_going, is_early, events_left, steps_left};
+ghost use Rattle.pool_calls.specs.Turns.{step_of, asks_make, asks_room, asks_wait, IsFirst};
 
 use crate::action::{Action, End, Event, StepFailure};
 use pool_journal::{Answer, Input};
@@ -47,6 +47,7 @@ fn sweep_on(left: u64, taken: u64) -> ClearState
     ensures at { left + taken < 2 ^ 64 → IsAt result (spec.sweeps left taken) }
     ensures work { work_left result ≡ [] }
     ensures early { is_early result ≡ false }
+    ensures room { lacks_room result ≡ false }
     ensures ends { events_left result ≤ 3 * left }
     ensures steps { steps_left result ≤ 1 }
 {
@@ -62,6 +63,7 @@ fn begin_sweep(count: u64) -> ClearState
     ensures at { IsAt result (spec.sweeps count 0) }
     ensures work { work_left result ≡ [] }
     ensures early { is_early result ≡ false }
+    ensures room { lacks_room result ≡ false }
     ensures ends { events_left result < 3 * 2 ^ 64 }
     ensures steps { steps_left result ≤ 1 }
 {
@@ -72,6 +74,7 @@ fn after_beginning(answer: Answer) -> ClearState
     ensures at { IsAt result (spec.after_beginning answer) }
     ensures work { work_left result ≡ [] }
     ensures early { is_early result ≡ false }
+    ensures room { lacks_room result ≡ false }
     ensures ends { events_left result < 3 * 2 ^ 64 }
     ensures steps { steps_left result ≤ 1 }
 {
@@ -89,6 +92,7 @@ fn take_one(id: u64, left: u64, taken: u64) -> ClearState
         → IsAt result (spec.destroys id (left - 1) (taken + 1)) }
     ensures work { work_left result ≡ spec.work_taken (Answer.DestroyIdle id) }
     ensures early { is_early result ≡ false }
+    ensures room { lacks_room result ≡ false }
     ensures ends { events_left result < 3 * (left - 1) + 3 }
     ensures steps { steps_left result ≡ 0 }
 {
@@ -105,6 +109,7 @@ fn after_sweeping(left: u64, taken: u64, answer: Answer) -> ClearState
         → IsAt result (spec.after_sweeping left taken answer) }
     ensures work { work_left result ≡ spec.work_taken answer }
     ensures early { is_early result ≡ false }
+    ensures room { lacks_room result ≡ false }
     ensures ends { events_left result < 3 * (left - 1) + 3 }
     ensures steps { steps_left result ≡ 0 }
 {
@@ -120,6 +125,7 @@ fn finish_one(left: u64, taken: u64, cancelled: bool) -> ClearState
     ensures at { left + taken < 2 ^ 64 → IsAt result (spec.sweeps left taken) }
     ensures work { work_left result ≡ [] }
     ensures early { is_early result ≡ true → cancelled ≡ true }
+    ensures room { lacks_room result ≡ false }
     ensures ends { events_left result ≤ to_come cancelled left }
     ensures steps { steps_left result ≤ 1 }
 {
@@ -134,6 +140,7 @@ fn after_freeing(left: u64, taken: u64, cancelled: bool, answer: Answer) -> Clea
     ensures at { left + taken < 2 ^ 64 → IsAt result (spec.after_freeing left taken answer) }
     ensures work { work_left result ≡ [] }
     ensures early { is_early result ≡ true → cancelled ≡ true }
+    ensures room { lacks_room result ≡ false }
     ensures ends { events_left result ≤ to_come cancelled left }
     ensures steps { steps_left result ≤ 1 }
 {
@@ -186,6 +193,9 @@ impl ClearCall {
             → IsRight self.now.first stage result }
         ensures step { step_of result ≡ step_at self.now.first self.now.state }
         ensures works { IsFirst (work_left self.now.state) result }
+        ensures room { asks_room result ≡ lacks_room self.now.state }
+        ensures wait { asks_wait result ≡ false }
+        ensures make { asks_make result ≡ false }
     {
         match self.state {
             ClearState::Begins => Action::Step(self.first),
@@ -234,13 +244,8 @@ impl ClearCall {
 
     // The state after an answer; `None` if no step was asked for.
     fn after_answer(&self, answer: Answer) -> Option<ClearState>
-        ensures goes { IfSome result (GoesOn self.now.first (events.Answered answer)
-            self.now.state) }
-        ensures works { IfSome result (λ s. work_left s ≡ work_due self.now.state answer) }
+        ensures takes { IfSome result (Takes self.now.first (events.Answered answer) self.now.state) }
         ensures fits { is_some result ≡ has_step self.now.state }
-        ensures early { IfSome result (spec.Pauses (events.Answered answer) self.now.state) }
-        ensures ends { IfSome result (λ s. events_left s < events_left self.now.state) }
-        ensures steps { IfSome result (λ s. steps_left s < steps_left self.now.state) }
     {
         match self.state {
             ClearState::Begins => Some(after_beginning(answer)),
@@ -257,11 +262,8 @@ impl ClearCall {
 
     // The state after a step that was not taken; `None` if that can't be.
     fn after_no_step(&self, failure: StepFailure) -> Option<ClearState>
-        ensures goes { IfSome result (GoesOn self.now.first (events.NotTaken failure)
-            self.now.state) }
-        ensures works { IfSome result (λ s. work_left s ≡ []) }
+        ensures takes { IfSome result (Takes self.now.first (events.NotTaken failure) self.now.state) }
         ensures fits { is_some result ≡ has_first_step self.now.state }
-        ensures room { IfSome result (spec.Pauses (events.NotTaken failure) self.now.state) }
     {
         match self.state {
             ClearState::Begins => match failure {
@@ -278,10 +280,8 @@ impl ClearCall {
 
     // The state after the journal was cut; `None` if that was not asked for.
     fn after_room(&self) -> Option<ClearState>
-        ensures goes { IfSome result (GoesOn self.now.first events.RoomMade self.now.state) }
-        ensures works { IfSome result (λ s. work_left s ≡ []) }
+        ensures takes { IfSome result (Takes self.now.first events.RoomMade self.now.state) }
         ensures fits { is_some result ≡ lacks_room self.now.state }
-        ensures again { IfSome result (λ s. has_first_step s ≡ true) }
     {
         match self.state {
             ClearState::LacksRoomToBegin => Some(ClearState::Begins),
@@ -292,10 +292,8 @@ impl ClearCall {
 
     // The state after the journal could not be cut; `None` if that was not asked for.
     fn after_no_room(&self) -> Option<ClearState>
-        ensures goes { IfSome result (GoesOn self.now.first events.NoRoom self.now.state) }
-        ensures works { IfSome result (λ s. work_left s ≡ []) }
+        ensures takes { IfSome result (Takes self.now.first events.NoRoom self.now.state) }
         ensures fits { is_some result ≡ lacks_room self.now.state }
-        ensures room { IfSome result (spec.Pauses events.NoRoom self.now.state) }
     {
         match self.state {
             ClearState::LacksRoomToBegin => Some(ClearState::Ended(
@@ -312,11 +310,8 @@ impl ClearCall {
 
     // The state after the factory destroyed the object or failed to; `None` if that was not asked for.
     fn after_work(&self) -> Option<ClearState>
-        ensures goes { IfSome result (λ s. (stage : Stage)
-            → IsAt self.now.state stage → IsAt s stage) }
-        ensures works { IfSome result (WorksOn self.now.state) }
+        ensures takes { IfSome result (Takes self.now.first events.Succeeded self.now.state) }
         ensures fits { is_some result ≡ has_work self.now.state }
-        ensures ends { IfSome result (λ s. events_left s < events_left self.now.state) }
     {
         match self.state {
             ClearState::Destroys {
@@ -336,10 +331,8 @@ impl ClearCall {
 
     // The state of a clear that is given up; `None` if it has ended or was given up before.
     fn after_cancelling(&self) -> Option<ClearState>
-        ensures goes { IfSome result (GoesOn self.now.first events.Cancelled self.now.state) }
-        ensures works { IfSome result (spec.Cancels self.now.state) }
+        ensures takes { IfSome result (Takes self.now.first events.Cancelled self.now.state) }
         ensures fits { is_some result ≡ is_going self.now.state }
-        ensures ends { IfSome result (λ s. events_left s ≤ 2) }
     {
         match self.state {
             ClearState::Begins | ClearState::LacksRoomToBegin => {
@@ -387,12 +380,8 @@ impl ClearCall {
     }
 
     fn after(&self, event: Event) -> Option<ClearState>
-        ensures goes { IfSome result (GoesOn self.now.first event self.now.state) }
-        ensures works { IfSome result (Works event self.now.state) }
+        ensures takes { IfSome result (Takes self.now.first event self.now.state) }
         ensures fits { is_some result ≡ fits self.now.state event }
-        ensures ends { IfSome result (spec.Ends event self.now.state) }
-        ensures steps { IfSome result (spec.Proceeds event self.now.state) }
-        ensures room { IfSome result (spec.Pauses event self.now.state) }
     {
         match event {
             Event::Answered(answer) => self.after_answer(answer),

@@ -3,8 +3,8 @@ ghost use Rattle.std.specs.Option.{is_some};
 ghost use Rattle.pool_journal.specs.declared.input.Input.TheVariants as inputs;
 ghost use Rattle.pool_calls.specs.declared.action.Event.TheVariants as events;
 ghost use Rattle.pool_calls.specs.EvictRules as spec;
-ghost use Rattle.pool_calls.specs.EvictRules.{Stage, IsAt, IsAtFirst, HasRange, IsCounted, GoesOn, ComesOn, HasCome, HoldsNothing, IsRight, Works, Pauses, Ends, EndsByAnswer, Proceeds, examines, tests, none_yet, one_more, one_gone, run_of, step_at, work_left, work_due, to_test, to_passivate, fits, has_step, has_first_step, lacks_room, has_work, is_going, more_left, first_left, events_left, first_steps_left, steps_left};
-ghost use Rattle.pool_calls.specs.Turns.{but_first, step_of, IsFirst};
+ghost use Rattle.pool_calls.specs.EvictRules.{Stage, IsAt, IsAtFirst, HasRange, IsCounted, ComesOn, HasCome, Takes, HoldsNothing, IsRight, IsGood, Works, Pauses, Ends, EndsByAnswer, Proceeds, examines, tests, none_yet, one_more, one_gone, run_of, step_at, work_left, to_test, to_passivate, fits, has_step, has_first_step, lacks_room, has_work, is_going, more_left, first_left, events_left, first_steps_left, steps_left};
+ghost use Rattle.pool_calls.specs.Turns.{step_of, asks_make, asks_room, asks_wait, IsFirst};
 
 use crate::action::{Action, End, Event, StepFailure};
 use crate::plan::Plan;
@@ -99,7 +99,8 @@ impl EvictStep {
 // The state of a run that has tested its object.
 fn passivate(plan: &Plan, object: Examined) -> EvictState
     ensures at { IsCounted object → IsAt plan.now result (tests object.id object.left object.run) }
-    ensures work { work_left plan.now result ≡ to_passivate plan.now object.id }
+    ensures work { (work_left plan.now result ≡ to_passivate plan.now object.id) × IsGood result }
+    ensures room { lacks_room result ≡ false }
     ensures ends { (c : Bool) → events_left c result ≤ more_left c object.left + 4 }
 {
     if plan.passivates {
@@ -115,6 +116,7 @@ fn begin_test(plan: &Plan, object: Examined) -> EvictState
     ensures work { work_left plan.now result ≡ to_test plan.now object.id }
     ensures ends { (c : Bool) → events_left c result ≤ more_left c object.left + 6 }
     ensures due { (c : Bool) → EndsByAnswer c result }
+    ensures room { lacks_room result ≡ false }
     ensures steps { steps_left result ≡ 0 }
 {
     if plan.activates {
@@ -130,6 +132,7 @@ fn examine_more(left: u64, run: EvictRun) -> EvictState
     ensures work { (p : Plan) → work_left p result ≡ [] }
     ensures ends { events_left false result ≤ 7 * left }
     ensures due { (c : Bool) → EndsByAnswer c result }
+    ensures room { lacks_room result ≡ false }
     ensures steps { steps_left result ≤ left }
 {
     match left.checked_sub(1) {
@@ -145,6 +148,7 @@ fn go_on(cancelled: bool, left: u64, run: EvictRun) -> EvictState
     ensures ends { events_left cancelled result ≤ more_left cancelled left }
     ensures few { events_left cancelled result ≤ 7 * left }
     ensures due { EndsByAnswer cancelled result }
+    ensures room { lacks_room result ≡ false }
     ensures steps { steps_left result ≤ left }
 {
     if cancelled {
@@ -159,6 +163,7 @@ fn after_beginning(cancelled: bool, answer: Answer) -> EvictState
     ensures work { (p : Plan) → work_left p result ≡ [] }
     ensures ends { events_left cancelled result < 7 * 2 ^ 64 }
     ensures due { EndsByAnswer cancelled result }
+    ensures room { lacks_room result ≡ false }
     ensures steps { steps_left result < 2 ^ 64 }
 {
     let run = EvictRun::none();
@@ -175,6 +180,7 @@ fn after_destroying(cancelled: bool, object: Examined, answer: Answer) -> EvictS
     ensures work { (p : Plan) → work_left p result ≡ [] }
     ensures ends { events_left cancelled result < more_left cancelled object.left + 1 }
     ensures due { EndsByAnswer cancelled result }
+    ensures room { lacks_room result ≡ false }
     ensures steps { steps_left result < object.left + 1 }
 {
     match answer {
@@ -189,6 +195,7 @@ fn after_testing(cancelled: bool, object: Examined, outcome: Outcome, answer: An
     ensures work { (p : Plan) → work_left p result ≡ spec.work_lost object.id answer }
     ensures ends { events_left cancelled result < more_left cancelled object.left + 3 }
     ensures due { EndsByAnswer cancelled result }
+    ensures room { lacks_room result ≡ false }
     ensures steps { steps_left result < object.left + 1 }
 {
     match outcome {
@@ -236,6 +243,9 @@ impl EvictCall {
             → IsRight self.now.plan stage result }
         ensures step { step_of result ≡ step_at self.now.state }
         ensures works { IsFirst (work_left self.now.plan self.now.state) result }
+        ensures room { asks_room result ≡ lacks_room self.now.state }
+        ensures wait { asks_wait result ≡ false }
+        ensures make { asks_make result ≡ false }
     {
         match self.state {
             EvictState::Steps(EvictStep::Begin) => Action::Step(Input::Evict),
@@ -296,6 +306,7 @@ impl EvictCall {
         ensures work { work_left self.now.plan result ≡ spec.work_found self.now.plan answer }
         ensures ends { events_left self.now.cancelled result < more_left self.now.cancelled left + 7 }
         ensures due { EndsByAnswer self.now.cancelled result }
+        ensures room { lacks_room result ≡ false }
         ensures steps { steps_left result < left + 1 }
     {
         let counted = run.with_examined();
@@ -325,6 +336,7 @@ impl EvictCall {
         ensures work { work_left self.now.plan result ≡ spec.work_begun self.now.plan step answer }
         ensures ends { events_left self.now.cancelled result < first_left self.now.cancelled step }
         ensures due { EndsByAnswer self.now.cancelled result }
+        ensures room { lacks_room result ≡ false }
         ensures steps { steps_left result < first_steps_left step }
     {
         match step {
@@ -335,14 +347,8 @@ impl EvictCall {
 
     // The state after an answer; `None` if no step was asked for.
     fn after_answer(&self, answer: Answer) -> Option<EvictState>
-        ensures goes { IfSome result (GoesOn self.now.plan (events.Answered answer)
-            self.now.state) }
-        ensures works { IfSome result (λ s. work_left self.now.plan s
-            ≡ work_due self.now.plan self.now.state answer) }
+        ensures takes { IfSome result (Takes self.now.plan self.now.cancelled (events.Answered answer) self.now.state) }
         ensures fits { is_some result ≡ has_step self.now.state }
-        ensures ends { IfSome result (Ends self.now.cancelled (events.Answered answer)
-            self.now.state) }
-        ensures steps { IfSome result (Proceeds (events.Answered answer) self.now.state) }
     {
         match self.state {
             EvictState::Steps(step) => Some(self.after_first_step(step, answer)),
@@ -356,11 +362,8 @@ impl EvictCall {
 
     // The state after a step that was not taken; `None` if that can't be.
     fn after_no_step(&self, failure: StepFailure) -> Option<EvictState>
-        ensures goes { IfSome result (GoesOn self.now.plan (events.NotTaken failure)
-            self.now.state) }
-        ensures works { IfSome result (λ s. work_left self.now.plan s ≡ []) }
+        ensures takes { IfSome result (Takes self.now.plan self.now.cancelled (events.NotTaken failure) self.now.state) }
         ensures fits { is_some result ≡ has_first_step self.now.state }
-        ensures room { IfSome result (Pauses (events.NotTaken failure)) }
     {
         match self.state {
             EvictState::Steps(step) => match failure {
@@ -375,10 +378,8 @@ impl EvictCall {
 
     // The state after the journal was cut; `None` if that was not asked for.
     fn after_room(&self) -> Option<EvictState>
-        ensures goes { IfSome result (GoesOn self.now.plan events.RoomMade self.now.state) }
-        ensures works { IfSome result (λ s. work_left self.now.plan s ≡ []) }
+        ensures takes { IfSome result (Takes self.now.plan self.now.cancelled events.RoomMade self.now.state) }
         ensures fits { is_some result ≡ lacks_room self.now.state }
-        ensures again { IfSome result (λ s. has_first_step s ≡ true) }
     {
         match self.state {
             EvictState::LacksRoom(step) => Some(EvictState::Steps(step)),
@@ -388,9 +389,7 @@ impl EvictCall {
 
     // The state after the journal could not be cut; `None` if that was not asked for.
     fn after_no_room(&self) -> Option<EvictState>
-        ensures goes { IfSome result (GoesOn self.now.plan events.NoRoom self.now.state) }
-        ensures works { IfSome result (λ s. work_left self.now.plan s ≡ []) }
-        ensures room { IfSome result (Pauses events.NoRoom) }
+        ensures takes { IfSome result (Takes self.now.plan self.now.cancelled events.NoRoom self.now.state) }
         ensures fits { is_some result ≡ lacks_room self.now.state }
     {
         match self.state {
@@ -404,12 +403,8 @@ impl EvictCall {
 
     // The state after a factory's call that succeeded; `None` if none was asked for.
     fn after_success(&self) -> Option<EvictState>
-        ensures goes { IfSome result (GoesOn self.now.plan events.Succeeded self.now.state) }
-        ensures works { IfSome result (λ s. work_left self.now.plan s
-            ≡ but_first (work_left self.now.plan self.now.state)) }
+        ensures takes { IfSome result (Takes self.now.plan self.now.cancelled events.Succeeded self.now.state) }
         ensures fits { is_some result ≡ has_work self.now.state }
-        ensures ends { IfSome result (λ s. events_left self.now.cancelled s
-            < events_left self.now.cancelled self.now.state) }
     {
         match self.state {
             EvictState::Activates(object) => Some(EvictState::Validates(object)),
@@ -422,11 +417,8 @@ impl EvictCall {
 
     // The state after a factory's call that failed; `None` if none was asked for.
     fn after_failure(&self) -> Option<EvictState>
-        ensures goes { IfSome result (GoesOn self.now.plan events.Failed self.now.state) }
-        ensures works { IfSome result (λ s. (work_left self.now.plan s ≡ []) × spec.IsNotGood s) }
+        ensures takes { IfSome result (Takes self.now.plan self.now.cancelled events.Failed self.now.state) }
         ensures fits { is_some result ≡ has_work self.now.state }
-        ensures ends { IfSome result (λ s. events_left self.now.cancelled s
-            < events_left self.now.cancelled self.now.state) }
         ensures left { IfSome result (Ends self.now.cancelled events.Cancelled self.now.state) }
     {
         match self.state {
@@ -446,10 +438,8 @@ impl EvictCall {
 
     // The state of a run that is given up; `None` if it has ended or was given up before.
     fn after_cancelling(&self) -> Option<EvictState>
-        ensures goes { IfSome result (GoesOn self.now.plan events.Cancelled self.now.state) }
-        ensures works { IfSome result (spec.WorksCancelled self.now.plan self.now.state) }
+        ensures takes { IfSome result (Takes self.now.plan self.now.cancelled events.Cancelled self.now.state) }
         ensures fits { is_some result ≡ is_going self.now.cancelled self.now.state }
-        ensures left { IfSome result (Ends self.now.cancelled events.Cancelled self.now.state) }
     {
         if self.cancelled {
             return None;
@@ -465,12 +455,8 @@ impl EvictCall {
     }
 
     fn after(&self, event: Event) -> Option<EvictState>
-        ensures goes { IfSome result (GoesOn self.now.plan event self.now.state) }
-        ensures works { IfSome result (Works self.now.plan event self.now.state) }
+        ensures takes { IfSome result (Takes self.now.plan self.now.cancelled event self.now.state) }
         ensures fits { is_some result ≡ fits self.now.cancelled self.now.state event }
-        ensures ends { IfSome result (Ends self.now.cancelled event self.now.state) }
-        ensures steps { IfSome result (Proceeds event self.now.state) }
-        ensures room { IfSome result (Pauses event) }
     {
         match event {
             Event::Answered(answer) => self.after_answer(answer),

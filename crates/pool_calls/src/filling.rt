@@ -4,10 +4,10 @@ ghost use Rattle.pool_journal.specs.declared.input.Input.TheVariants as inputs;
 ghost use Rattle.pool_calls.specs.declared.action.Event.TheVariants as events;
 ghost use Rattle.pool_calls.specs.declared.adding.AddState.TheVariants as states;
 ghost use Rattle.pool_calls.specs.AddRules as add_rules;
-ghost use Rattle.pool_calls.specs.AddRules.{IsAfter, IsPossibleOutcome, GivesUp, Works, gone, work_left, work_due, work_found, work_after, has_step, events_left, progress_left, steps_left};
+ghost use Rattle.pool_calls.specs.AddRules.{IsAfter, IsPossibleOutcome, GivesUp, Works, gone, work_left, work_due, work_found, work_after, has_step, is_making, lacks_room, events_left, progress_left, steps_left};
 ghost use Rattle.pool_calls.specs.FillRules as spec;
 ghost use Rattle.pool_calls.specs.FillRules.{Stage, IsAt, GoesOn, ComesOn, HasCome, IsRight, HasFewer, IsAnswered, asks, adding, parked_of, step_at, fits, is_given_up};
-ghost use Rattle.pool_calls.specs.Turns.{step_of, IsFirst};
+ghost use Rattle.pool_calls.specs.Turns.{step_of, asks_make, asks_room, asks_wait, IsFirst};
 
 use crate::action::{Action, End, Event};
 use crate::adding::{AddState, Progress, after_destroying, after_making, ending};
@@ -27,6 +27,7 @@ fn go_on(parked: u64, cancelled: bool) -> FillState
     ensures work { (p : Plan) → work_left p result.addition ≡ [] }
     ensures ends { HasFewer cancelled 1 result.addition }
     ensures answered { IsAnswered cancelled result.addition }
+    ensures room { lacks_room result.addition ≡ false }
     ensures steps { steps_left result.addition ≤ 1 }
 {
     if cancelled {
@@ -49,6 +50,7 @@ fn after_leaving(parked: u64, cancelled: bool, outcome: Outcome) -> FillState
     ensures work { (p : Plan) → work_left p result.addition ≡ [] }
     ensures ends { HasFewer cancelled 1 result.addition }
     ensures answered { IsAnswered cancelled result.addition }
+    ensures room { lacks_room result.addition ≡ false }
     ensures steps { steps_left result.addition ≤ 1 }
 {
     match outcome {
@@ -67,6 +69,7 @@ fn after_progress(parked: u64, cancelled: bool, progress: Progress) -> FillState
     ensures work { (p : Plan) → work_left p result.addition ≡ work_after progress }
     ensures ends { HasFewer cancelled (progress_left progress + 1) result.addition }
     ensures answered { IsAnswered cancelled result.addition }
+    ensures room { lacks_room result.addition ≡ false }
     ensures steps { steps_left result.addition ≤ 1 }
 {
     match progress {
@@ -89,6 +92,7 @@ fn after_asking(parked: u64, answer: Answer) -> FillState
     ensures ends { (cancelled : Bool) → spec.Ends cancelled (events.Answered answer) states.Asks
         result.addition }
     ensures steps { steps_left result.addition ≡ 0 }
+    ensures room { lacks_room result.addition ≡ false }
 {
     match answer {
         Answer::Make(id) => FillState {
@@ -151,6 +155,9 @@ impl FillCall {
             → IsRight self.now.plan self.now.state.parked stage result }
         ensures step { step_of result ≡ step_at self.now.state }
         ensures works { IsFirst (work_left self.now.plan self.now.state.addition) result }
+        ensures room { asks_room result ≡ lacks_room self.now.state.addition }
+        ensures wait { asks_wait result ≡ false }
+        ensures make { asks_make result ≡ is_making self.now.state.addition }
     {
         self.state.addition.action(Input::Fill)
     }
@@ -175,6 +182,7 @@ impl FillCall {
         ensures ends { IfSome result (λ s. spec.Ends self.now.cancelled (events.Answered answer)
             self.now.state.addition s.addition) }
         ensures steps { IfSome result (λ s. steps_left s.addition < steps_left self.now.state.addition) }
+        ensures room { IfSome result (λ s. lacks_room s.addition ≡ false) }
     {
         let FillState { parked, addition } = self.state;
         match addition {
@@ -195,6 +203,7 @@ impl FillCall {
     fn after_cancelling(&self) -> Option<FillState>
         ensures goes { IfSome result (GoesOn self.now.plan events.Cancelled self.now.state) }
         ensures works { IfSome result (λ s. GivesUp self.now.state.addition s.addition) }
+        ensures room { IfSome result (λ s. lacks_room s.addition ≡ false) }
         ensures fits { is_some result ≡ fits self.now.cancelled self.now.state.addition
             events.Cancelled }
         ensures left { IfSome result (λ s. events_left s.addition ≤ 3) }

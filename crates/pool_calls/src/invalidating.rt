@@ -3,8 +3,8 @@ ghost use Rattle.std.specs.Option.{is_some};
 ghost use Rattle.pool_calls.specs.declared.action.Event.TheVariants as events;
 ghost use Rattle.pool_calls.specs.declared.invalidating.InvalidateState.TheVariants as states;
 ghost use Rattle.pool_calls.specs.InvalidateRules as spec;
-ghost use Rattle.pool_calls.specs.InvalidateRules.{Stage, IsAt, GoesOn, ComesOn, HasCome, IsRight, Works, step_at, work_left, work_due, to_destroy, fits, has_step, has_first_step, lacks_room, has_work, is_going, events_left, steps_left};
-ghost use Rattle.pool_calls.specs.Turns.{but_first, step_of, IsFirst};
+ghost use Rattle.pool_calls.specs.InvalidateRules.{Stage, IsAt, ComesOn, HasCome, Takes, IsRight, Works, step_at, work_left, to_destroy, fits, has_step, has_first_step, lacks_room, has_work, is_going, events_left, steps_left};
+ghost use Rattle.pool_calls.specs.Turns.{step_of, asks_make, asks_room, asks_wait, IsFirst};
 
 use crate::action::{Action, End, Event, StepFailure};
 use crate::refusals::end_by;
@@ -28,6 +28,7 @@ fn destroy(detaches: bool) -> InvalidateState
     ensures at { IsAt detaches result spec.destroys }
     ensures work { (i : ℕ) → work_left i result ≡ to_destroy detaches i }
     ensures ends { events_left result ≤ 2 }
+    ensures room { lacks_room result ≡ false }
     ensures steps { steps_left result ≤ 1 }
 {
     if detaches {
@@ -42,6 +43,7 @@ fn destroy_gone(detaches: bool) -> InvalidateState
     ensures at { IsAt detaches result spec.gone }
     ensures work { (i : ℕ) → work_left i result ≡ to_destroy detaches i }
     ensures ends { events_left result ≤ 1 }
+    ensures room { lacks_room result ≡ false }
     ensures steps { steps_left result ≡ 0 }
 {
     if detaches {
@@ -55,6 +57,7 @@ fn after_beginning(detaches: bool, answer: Answer) -> InvalidateState
     ensures at { IsAt detaches result (spec.after_beginning answer) }
     ensures work { (i : ℕ) → work_left i result ≡ spec.work_begun detaches i answer }
     ensures ends { events_left result ≤ 2 }
+    ensures room { lacks_room result ≡ false }
     ensures steps { steps_left result ≤ 1 }
 {
     match answer {
@@ -69,6 +72,7 @@ fn after_freeing(answer: Answer) -> InvalidateState
     ensures at { (d : Bool) → IsAt d result (spec.after_freeing answer) }
     ensures work { (i : ℕ) → work_left i result ≡ [] }
     ensures ends { events_left result ≡ 0 }
+    ensures room { lacks_room result ≡ false }
     ensures steps { steps_left result ≡ 0 }
 {
     match answer {
@@ -124,6 +128,9 @@ impl InvalidateCall {
             → IsRight self.now.detaches self.now.id stage result }
         ensures step { step_of result ≡ step_at self.now.id self.now.state }
         ensures works { IsFirst (work_left self.now.id self.now.state) result }
+        ensures room { asks_room result ≡ lacks_room self.now.state }
+        ensures wait { asks_wait result ≡ false }
+        ensures make { asks_make result ≡ false }
     {
         let id = self.id;
         match self.state {
@@ -138,13 +145,8 @@ impl InvalidateCall {
 
     // The state after an answer; `None` if no step was asked for.
     fn after_answer(&self, answer: Answer) -> Option<InvalidateState>
-        ensures goes { IfSome result (GoesOn self.now.detaches self.now.id (events.Answered answer)
-            self.now.state) }
-        ensures works { IfSome result (λ s. work_left self.now.id s
-            ≡ work_due self.now.detaches self.now.id self.now.state answer) }
+        ensures takes { IfSome result (Takes self.now.detaches self.now.id (events.Answered answer) self.now.state) }
         ensures fits { is_some result ≡ has_step self.now.state }
-        ensures ends { IfSome result (λ s. events_left s < events_left self.now.state) }
-        ensures steps { IfSome result (λ s. steps_left s < steps_left self.now.state) }
     {
         match self.state {
             InvalidateState::Begins => Some(after_beginning(self.detaches, answer)),
@@ -155,11 +157,8 @@ impl InvalidateCall {
 
     // The state after a step that was not taken; `None` if that can't be.
     fn after_no_step(&self, failure: StepFailure) -> Option<InvalidateState>
-        ensures goes { IfSome result (GoesOn self.now.detaches self.now.id (events.NotTaken failure)
-            self.now.state) }
-        ensures works { IfSome result (λ s. work_left self.now.id s ≡ []) }
+        ensures takes { IfSome result (Takes self.now.detaches self.now.id (events.NotTaken failure) self.now.state) }
         ensures fits { is_some result ≡ has_first_step self.now.state }
-        ensures room { IfSome result (spec.Pauses (events.NotTaken failure)) }
     {
         match self.state {
             InvalidateState::Begins => match failure {
@@ -172,11 +171,8 @@ impl InvalidateCall {
 
     // The state after the journal was cut; `None` if that was not asked for.
     fn after_room(&self) -> Option<InvalidateState>
-        ensures goes { IfSome result (GoesOn self.now.detaches self.now.id events.RoomMade
-            self.now.state) }
-        ensures works { IfSome result (λ s. work_left self.now.id s ≡ []) }
+        ensures takes { IfSome result (Takes self.now.detaches self.now.id events.RoomMade self.now.state) }
         ensures fits { is_some result ≡ lacks_room self.now.state }
-        ensures again { IfSome result (λ s. has_first_step s ≡ true) }
     {
         match self.state {
             InvalidateState::LacksRoom => Some(InvalidateState::Begins),
@@ -186,11 +182,8 @@ impl InvalidateCall {
 
     // The state after the journal could not be cut; `None` if that was not asked for.
     fn after_no_room(&self) -> Option<InvalidateState>
-        ensures goes { IfSome result (GoesOn self.now.detaches self.now.id events.NoRoom
-            self.now.state) }
-        ensures works { IfSome result (λ s. work_left self.now.id s ≡ []) }
+        ensures takes { IfSome result (Takes self.now.detaches self.now.id events.NoRoom self.now.state) }
         ensures fits { is_some result ≡ lacks_room self.now.state }
-        ensures room { IfSome result (spec.Pauses events.NoRoom) }
     {
         match self.state {
             InvalidateState::LacksRoom => {
@@ -202,12 +195,8 @@ impl InvalidateCall {
 
     // The state after the factory destroyed the object or failed to; `None` if that was not asked for.
     fn after_work(&self) -> Option<InvalidateState>
-        ensures goes { IfSome result (λ s. (stage : Stage)
-            → IsAt self.now.detaches self.now.state stage → IsAt self.now.detaches s stage) }
-        ensures works { IfSome result (λ s. work_left self.now.id s
-            ≡ but_first (work_left self.now.id self.now.state)) }
+        ensures takes { IfSome result (Takes self.now.detaches self.now.id events.Succeeded self.now.state) }
         ensures fits { is_some result ≡ has_work self.now.state }
-        ensures ends { IfSome result (λ s. events_left s < events_left self.now.state) }
     {
         match self.state {
             InvalidateState::Destroys => Some(InvalidateState::Frees),
@@ -218,11 +207,8 @@ impl InvalidateCall {
 
     // The state of an invalidation that is given up; `None` if it has ended.
     fn after_cancelling(&self) -> Option<InvalidateState>
-        ensures goes { IfSome result (GoesOn self.now.detaches self.now.id events.Cancelled
-            self.now.state) }
-        ensures works { IfSome result (spec.Cancels self.now.state) }
+        ensures takes { IfSome result (Takes self.now.detaches self.now.id events.Cancelled self.now.state) }
         ensures fits { is_some result ≡ is_going self.now.state }
-        ensures ends { IfSome result (λ s. events_left s ≤ 2) }
     {
         match self.state {
             InvalidateState::Begins | InvalidateState::LacksRoom => {
@@ -236,12 +222,8 @@ impl InvalidateCall {
     }
 
     fn after(&self, event: Event) -> Option<InvalidateState>
-        ensures goes { IfSome result (GoesOn self.now.detaches self.now.id event self.now.state) }
-        ensures works { IfSome result (Works self.now.detaches self.now.id event self.now.state) }
+        ensures takes { IfSome result (Takes self.now.detaches self.now.id event self.now.state) }
         ensures fits { is_some result ≡ fits self.now.state event }
-        ensures ends { IfSome result (spec.Ends event self.now.state) }
-        ensures steps { IfSome result (spec.Proceeds event self.now.state) }
-        ensures room { IfSome result (spec.Pauses event) }
     {
         match event {
             Event::Answered(answer) => self.after_answer(answer),

@@ -1,6 +1,6 @@
 ghost use Rattle.std.specs.Prelude.{◌≡◌, List, true, false};
-ghost use Rattle.pool_calls.specs.Operations.{HasCome, ComesOn, Proceeds, IsRight, fits, step_at, began_of};
-ghost use Rattle.pool_calls.specs.Turns.{Turn, step_of};
+ghost use Rattle.pool_calls.specs.Operations.{HasCome, ComesOn, Proceeds, IsRight, fits, step_at, lacks_room, is_making, is_waiting, comes_to_wait, began_of};
+ghost use Rattle.pool_calls.specs.Turns.{Turn, step_of, asks_make, asks_room, asks_wait, is_full};
 
 use crate::action::{Action, Event};
 use crate::adding::AddCall;
@@ -45,6 +45,9 @@ impl Operation {
         ensures right { (turns : List Turn) → HasCome self.now turns
             → IsRight self.now turns result }
         ensures step { step_of result ≡ step_at self.now }
+        ensures room { asks_room result ≡ lacks_room self.now }
+        ensures wait { asks_wait result ≡ is_waiting self.now }
+        ensures make { asks_make result ≡ is_making self.now }
     {
         match self {
             Operation::Borrow(call) => call.action(),
@@ -63,6 +66,8 @@ impl Operation {
     pub fn tell(&mut self, event: Event) -> bool
         ensures comes { result ≡ true → ComesOn event self.old self.new }
         ensures proceeds { result ≡ true → Proceeds event self.old self.new }
+        ensures room { result ≡ true → lacks_room self.new ≡ is_full event }
+        ensures wait { result ≡ true → is_waiting self.new ≡ comes_to_wait event self.old }
         ensures fits { result ≡ fits self.old event }
         ensures unfit { result ≡ false → self.new ≡ self.old }
     {

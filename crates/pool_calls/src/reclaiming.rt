@@ -4,8 +4,8 @@ ghost use Rattle.pool_journal.specs.declared.input.Input.TheVariants as inputs;
 ghost use Rattle.pool_journal.specs.declared.input.When.TheVariants as times;
 ghost use Rattle.pool_calls.specs.declared.action.Event.TheVariants as events;
 ghost use Rattle.pool_calls.specs.ReclaimRules as spec;
-ghost use Rattle.pool_calls.specs.ReclaimRules.{Stage, IsAt, IsAtFirst, IsGoing, GoesOn, ComesOn, HasCome, IsRight, Pauses, Ends, EndsByAnswer, Proceeds, reclaims, taken_of, step_at, fits, has_step, lacks_room, is_going, first_steps_left, steps_left};
-ghost use Rattle.pool_calls.specs.Turns.{step_of};
+ghost use Rattle.pool_calls.specs.ReclaimRules.{Stage, IsAt, IsAtFirst, IsGoing, ComesOn, HasCome, Takes, IsRight, Pauses, Ends, EndsByAnswer, Proceeds, reclaims, taken_of, step_at, fits, has_step, lacks_room, is_going, first_steps_left, steps_left};
+ghost use Rattle.pool_calls.specs.Turns.{step_of, asks_make, asks_room, asks_wait};
 
 use crate::action::{Action, End, Event, StepFailure};
 use pool_journal::{Answer, Input, When};
@@ -46,6 +46,7 @@ impl ReclaimStep {
 fn reclaim_more(left: u64, taken: u64) -> ReclaimState
     ensures at { left + taken < 2 ^ 64 → IsAt result (reclaims left taken) }
     ensures due { EndsByAnswer result }
+    ensures room { lacks_room result ≡ false }
     ensures steps { steps_left result ≤ left }
 {
     match left.checked_sub(1) {
@@ -57,6 +58,7 @@ fn reclaim_more(left: u64, taken: u64) -> ReclaimState
 fn after_beginning(answer: Answer) -> ReclaimState
     ensures at { IsAt result (spec.after_beginning answer) }
     ensures due { EndsByAnswer result }
+    ensures room { lacks_room result ≡ false }
     ensures steps { steps_left result < 2 ^ 64 }
 {
     match answer {
@@ -69,6 +71,7 @@ fn after_reclaiming(left: u64, taken: u64, answer: Answer) -> ReclaimState
     ensures at { suc left + taken < 2 ^ 64
         → IsAt result (spec.after_reclaiming left taken answer) }
     ensures due { EndsByAnswer result }
+    ensures room { lacks_room result ≡ false }
     ensures steps { steps_left result < left + 1 }
 {
     match answer {
@@ -82,6 +85,7 @@ fn after_step(step: ReclaimStep, answer: Answer) -> ReclaimState
     ensures at { (stage : Stage) → IsAtFirst step stage
         → IsAt result (spec.after_first stage answer) }
     ensures due { EndsByAnswer result }
+    ensures room { lacks_room result ≡ false }
     ensures steps { steps_left result < first_steps_left step }
 {
     match step {
@@ -115,6 +119,9 @@ impl ReclaimCall {
     pub fn action(&self) -> Action
         ensures right { (stage : Stage) → IsAt self.now.state stage → IsRight stage result }
         ensures step { step_of result ≡ step_at self.now.state }
+        ensures room { asks_room result ≡ lacks_room self.now.state }
+        ensures wait { asks_wait result ≡ false }
+        ensures make { asks_make result ≡ false }
     {
         match self.state {
             ReclaimState::Steps(ReclaimStep::Begin) => Action::Step(Input::Reclaim {
@@ -141,10 +148,8 @@ impl ReclaimCall {
 
     // The state after an answer; `None` if no step was asked for.
     fn after_answer(&self, answer: Answer) -> Option<ReclaimState>
-        ensures goes { IfSome result (GoesOn (events.Answered answer) self.now.state) }
+        ensures takes { IfSome result (Takes (events.Answered answer) self.now.state) }
         ensures fits { is_some result ≡ has_step self.now.state }
-        ensures ends { IfSome result EndsByAnswer }
-        ensures steps { IfSome result (Proceeds (events.Answered answer) self.now.state) }
     {
         match self.state {
             ReclaimState::Steps(step) => Some(after_step(step, answer)),
@@ -154,9 +159,8 @@ impl ReclaimCall {
 
     // The state after a step that was not taken; `None` if none was asked for.
     fn after_no_step(&self, failure: StepFailure) -> Option<ReclaimState>
-        ensures goes { IfSome result (GoesOn (events.NotTaken failure) self.now.state) }
+        ensures takes { IfSome result (Takes (events.NotTaken failure) self.now.state) }
         ensures fits { is_some result ≡ has_step self.now.state }
-        ensures room { IfSome result (Pauses (events.NotTaken failure)) }
     {
         match self.state {
             ReclaimState::Steps(step) => match failure {
@@ -171,9 +175,8 @@ impl ReclaimCall {
 
     // The state after the journal was cut; `None` if that was not asked for.
     fn after_room(&self) -> Option<ReclaimState>
-        ensures goes { IfSome result (GoesOn events.RoomMade self.now.state) }
+        ensures takes { IfSome result (Takes events.RoomMade self.now.state) }
         ensures fits { is_some result ≡ lacks_room self.now.state }
-        ensures again { IfSome result (λ s. has_step s ≡ true) }
     {
         match self.state {
             ReclaimState::LacksRoom(step) => Some(ReclaimState::Steps(step)),
@@ -183,9 +186,8 @@ impl ReclaimCall {
 
     // The state after the journal could not be cut; `None` if that was not asked for.
     fn after_no_room(&self) -> Option<ReclaimState>
-        ensures goes { IfSome result (GoesOn events.NoRoom self.now.state) }
+        ensures takes { IfSome result (Takes events.NoRoom self.now.state) }
         ensures fits { is_some result ≡ lacks_room self.now.state }
-        ensures room { IfSome result (Pauses events.NoRoom) }
     {
         match self.state {
             ReclaimState::LacksRoom(step) => {
@@ -198,9 +200,8 @@ impl ReclaimCall {
 
     // The state of a removal that is given up; `None` if it has ended.
     fn after_cancelling(&self) -> Option<ReclaimState>
-        ensures goes { IfSome result (GoesOn events.Cancelled self.now.state) }
+        ensures takes { IfSome result (Takes events.Cancelled self.now.state) }
         ensures fits { is_some result ≡ is_going self.now.state }
-        ensures ends { IfSome result (Ends events.Cancelled) }
     {
         match self.state {
             ReclaimState::Steps(step) => Some(ReclaimState::Ended(End::Cancelled, step.taken())),
@@ -212,11 +213,8 @@ impl ReclaimCall {
     }
 
     fn after(&self, event: Event) -> Option<ReclaimState>
-        ensures goes { IfSome result (GoesOn event self.now.state) }
+        ensures takes { IfSome result (Takes event self.now.state) }
         ensures fits { is_some result ≡ fits self.now.state event }
-        ensures ends { IfSome result (Ends event) }
-        ensures steps { IfSome result (Proceeds event self.now.state) }
-        ensures room { IfSome result (Pauses event) }
     {
         match event {
             Event::Answered(answer) => self.after_answer(answer),

@@ -3,8 +3,8 @@ ghost use Rattle.std.specs.Option.{is_some};
 ghost use Rattle.pool_journal.specs.declared.input.Input.TheVariants as inputs;
 ghost use Rattle.pool_calls.specs.declared.action.Event.TheVariants as events;
 ghost use Rattle.pool_calls.specs.ReturnRules as spec;
-ghost use Rattle.pool_calls.specs.ReturnRules.{Stage, IsAt, GoesOn, ComesOn, HasCome, IsRight, IsPossibleOutcome, Works, checks, step_at, work_left, work_due, to_check, to_passivate, fits, has_step, has_first_step, lacks_room, has_work, is_going, events_left};
-ghost use Rattle.pool_calls.specs.Turns.{but_first, step_of, IsFirst};
+ghost use Rattle.pool_calls.specs.ReturnRules.{Stage, IsAt, ComesOn, HasCome, IsRight, IsPossibleOutcome, IsGood, Works, Takes, checks, step_at, work_left, to_check, to_passivate, fits, has_step, has_first_step, lacks_room, has_work, is_going, events_left};
+ghost use Rattle.pool_calls.specs.Turns.{step_of, asks_make, asks_room, asks_wait, IsFirst};
 
 use crate::action::{Action, End, Event, StepFailure};
 use crate::plan::Plan;
@@ -30,6 +30,8 @@ pub enum ReturnState {
 fn passivate(plan: &Plan) -> ReturnState
     ensures at { IsAt plan.now result checks }
     ensures work { (i : ℕ) → work_left plan.now i result ≡ to_passivate plan.now i }
+    ensures good { IsGood result }
+    ensures room { lacks_room result ≡ false }
     ensures left { events_left result ≤ 4 }
 {
     if plan.passivates {
@@ -43,6 +45,7 @@ fn passivate(plan: &Plan) -> ReturnState
 fn check(plan: &Plan) -> ReturnState
     ensures at { IsAt plan.now result checks }
     ensures work { (i : ℕ) → work_left plan.now i result ≡ to_check plan.now i }
+    ensures room { lacks_room result ≡ false }
     ensures left { events_left result ≤ 5 }
 {
     if plan.test_on_return {
@@ -56,11 +59,15 @@ fn after_giving(plan: &Plan, answer: Answer) -> ReturnState
     ensures at { IsAt plan.now result (spec.after_giving answer) }
     ensures work { (i : ℕ) → work_left plan.now i result ≡ spec.work_given plan.now i answer }
     ensures left { events_left result ≤ 5 }
+    ensures room { lacks_room result ≡ false }
 {
     match answer {
         Answer::Check => check(plan),
         Answer::Gone => ReturnState::DestroysGone,
-        Answer::Refused(Cause::NotLent) => ReturnState::Ended(End::NotLent),
+        Answer::Refused(cause) => match cause {
+            Cause::NotLent => ReturnState::Ended(End::NotLent),
+            other => ReturnState::Ended(End::Contradicted(Answer::Refused(other))),
+        },
         other => ReturnState::Ended(End::Contradicted(other)),
     }
 }
@@ -70,6 +77,7 @@ fn after_checking(outcome: Outcome, answer: Answer) -> ReturnState
         → IsAt p result (spec.after_checking outcome answer) }
     ensures work { (p : Plan) (i : ℕ) → work_left p i result ≡ spec.work_lost i answer }
     ensures left { events_left result ≤ 2 }
+    ensures room { lacks_room result ≡ false }
 {
     match outcome {
         Outcome::Good => match answer {
@@ -88,6 +96,7 @@ fn after_destroying(answer: Answer) -> ReturnState
     ensures at { (p : Plan) → IsAt p result (spec.after_destroying answer) }
     ensures work { (p : Plan) (i : ℕ) → work_left p i result ≡ [] }
     ensures left { events_left result ≡ 0 }
+    ensures room { lacks_room result ≡ false }
 {
     match answer {
         Answer::Freed => ReturnState::Ended(End::Destroyed),
@@ -126,6 +135,9 @@ impl ReturnCall {
             → IsRight self.now.plan self.now.id stage result }
         ensures step { step_of result ≡ step_at self.now.id self.now.state }
         ensures works { IsFirst (work_left self.now.plan self.now.id self.now.state) result }
+        ensures room { asks_room result ≡ lacks_room self.now.state }
+        ensures wait { asks_wait result ≡ false }
+        ensures make { asks_make result ≡ false }
     {
         let id = self.id;
         match self.state {
@@ -143,12 +155,8 @@ impl ReturnCall {
 
     // The state after an answer; `None` if no step was asked for.
     fn after_answer(&self, answer: Answer) -> Option<ReturnState>
-        ensures goes { IfSome result (GoesOn self.now.plan self.now.id (events.Answered answer)
-            self.now.state) }
-        ensures works { IfSome result (λ s. work_left self.now.plan self.now.id s
-            ≡ work_due self.now.plan self.now.id self.now.state answer) }
+        ensures takes { IfSome result (Takes self.now.plan self.now.id (events.Answered answer) self.now.state) }
         ensures fits { is_some result ≡ has_step self.now.state }
-        ensures ends { IfSome result (λ s. events_left s < events_left self.now.state) }
     {
         match self.state {
             ReturnState::Gives => Some(after_giving(&self.plan, answer)),
@@ -160,11 +168,8 @@ impl ReturnCall {
 
     // The state after a step that was not taken; `None` if that can't be.
     fn after_no_step(&self, failure: StepFailure) -> Option<ReturnState>
-        ensures goes { IfSome result (GoesOn self.now.plan self.now.id (events.NotTaken failure)
-            self.now.state) }
-        ensures works { IfSome result (λ s. work_left self.now.plan self.now.id s ≡ []) }
+        ensures takes { IfSome result (Takes self.now.plan self.now.id (events.NotTaken failure) self.now.state) }
         ensures fits { is_some result ≡ has_first_step self.now.state }
-        ensures room { IfSome result (spec.Pauses (events.NotTaken failure)) }
     {
         match self.state {
             ReturnState::Gives => match failure {
@@ -177,11 +182,8 @@ impl ReturnCall {
 
     // The state after the journal was cut; `None` if that was not asked for.
     fn after_room(&self) -> Option<ReturnState>
-        ensures goes { IfSome result (GoesOn self.now.plan self.now.id events.RoomMade
-            self.now.state) }
-        ensures works { IfSome result (λ s. work_left self.now.plan self.now.id s ≡ []) }
+        ensures takes { IfSome result (Takes self.now.plan self.now.id events.RoomMade self.now.state) }
         ensures fits { is_some result ≡ lacks_room self.now.state }
-        ensures again { IfSome result (λ s. has_first_step s ≡ true) }
     {
         match self.state {
             ReturnState::LacksRoom => Some(ReturnState::Gives),
@@ -191,10 +193,7 @@ impl ReturnCall {
 
     // The state after the journal could not be cut; `None` if that was not asked for.
     fn after_no_room(&self) -> Option<ReturnState>
-        ensures goes { IfSome result (GoesOn self.now.plan self.now.id events.NoRoom
-            self.now.state) }
-        ensures works { IfSome result (λ s. work_left self.now.plan self.now.id s ≡ []) }
-        ensures room { IfSome result (spec.Pauses events.NoRoom) }
+        ensures takes { IfSome result (Takes self.now.plan self.now.id events.NoRoom self.now.state) }
         ensures fits { is_some result ≡ lacks_room self.now.state }
     {
         match self.state {
@@ -207,12 +206,8 @@ impl ReturnCall {
 
     // The state after a factory's call that succeeded; `None` if none was asked for.
     fn after_success(&self) -> Option<ReturnState>
-        ensures goes { IfSome result (GoesOn self.now.plan self.now.id events.Succeeded
-            self.now.state) }
-        ensures works { IfSome result (λ s. work_left self.now.plan self.now.id s
-            ≡ but_first (work_left self.now.plan self.now.id self.now.state)) }
+        ensures takes { IfSome result (Takes self.now.plan self.now.id events.Succeeded self.now.state) }
         ensures fits { is_some result ≡ has_work self.now.state }
-        ensures ends { IfSome result (λ s. events_left s < events_left self.now.state) }
     {
         match self.state {
             ReturnState::Tests => Some(passivate(&self.plan)),
@@ -225,13 +220,8 @@ impl ReturnCall {
 
     // The state after a factory's call that failed; `None` if none was asked for.
     fn after_failure(&self) -> Option<ReturnState>
-        ensures goes { IfSome result (GoesOn self.now.plan self.now.id events.Failed
-            self.now.state) }
-        ensures works { IfSome result (λ s. (work_left self.now.plan self.now.id s ≡ [])
-            × spec.IsNotGood s) }
+        ensures takes { IfSome result (Takes self.now.plan self.now.id events.Failed self.now.state) }
         ensures fits { is_some result ≡ has_work self.now.state }
-        ensures ends { IfSome result (λ s. events_left s < events_left self.now.state) }
-        ensures left { IfSome result (λ s. events_left s ≤ 3) }
     {
         match self.state {
             ReturnState::Tests => Some(ReturnState::Parks(Outcome::TestFailed)),
@@ -244,12 +234,8 @@ impl ReturnCall {
 
     // The state of a return that is given up; `None` if it has ended.
     fn after_cancelling(&self) -> Option<ReturnState>
-        ensures goes { IfSome result (GoesOn self.now.plan self.now.id events.Cancelled
-            self.now.state) }
-        ensures works { IfSome result (spec.WorksCancelled self.now.plan self.now.id
-            self.now.state) }
+        ensures takes { IfSome result (Takes self.now.plan self.now.id events.Cancelled self.now.state) }
         ensures fits { is_some result ≡ is_going self.now.state }
-        ensures left { IfSome result (λ s. events_left s ≤ 3) }
     {
         match self.state {
             ReturnState::Gives | ReturnState::LacksRoom => {
@@ -266,11 +252,8 @@ impl ReturnCall {
     }
 
     fn after(&self, event: Event) -> Option<ReturnState>
-        ensures goes { IfSome result (GoesOn self.now.plan self.now.id event self.now.state) }
-        ensures works { IfSome result (Works self.now.plan self.now.id event self.now.state) }
+        ensures takes { IfSome result (Takes self.now.plan self.now.id event self.now.state) }
         ensures fits { is_some result ≡ fits self.now.state event }
-        ensures ends { IfSome result (spec.Ends event self.now.state) }
-        ensures room { IfSome result (spec.Pauses event) }
     {
         match event {
             Event::Answered(answer) => self.after_answer(answer),

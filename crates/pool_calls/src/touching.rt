@@ -4,8 +4,8 @@ ghost use Rattle.pool_calls.specs.declared.action.Event.TheVariants as events;
 ghost use Rattle.pool_calls.specs.declared.action.End.TheVariants as ends;
 ghost use Rattle.pool_calls.specs.declared.touching.TouchState.TheVariants as states;
 ghost use Rattle.pool_calls.specs.TouchRules as spec;
-ghost use Rattle.pool_calls.specs.TouchRules.{Stage, IsAt, GoesOn, ComesOn, HasCome, IsRight, step_at, fits, has_step, lacks_room, is_going, steps_left};
-ghost use Rattle.pool_calls.specs.Turns.{step_of};
+ghost use Rattle.pool_calls.specs.TouchRules.{Stage, IsAt, ComesOn, HasCome, Takes, IsRight, step_at, fits, has_step, lacks_room, is_going, steps_left};
+ghost use Rattle.pool_calls.specs.Turns.{step_of, asks_make, asks_room, asks_wait};
 
 use crate::action::{Action, End, Event, StepFailure};
 use crate::refusals::end_by;
@@ -23,6 +23,7 @@ pub enum TouchState {
 fn after_using(answer: Answer) -> TouchState
     ensures at { IsAt result (spec.after_using answer) }
     ensures over { is_going result ≡ false }
+    ensures room { lacks_room result ≡ false }
     ensures steps { steps_left result ≡ 0 }
 {
     match answer {
@@ -61,6 +62,9 @@ impl TouchCall {
         ensures right { (stage : Stage) → IsAt self.now.state stage
             → IsRight self.now.id stage result }
         ensures step { step_of result ≡ step_at self.now.id self.now.state }
+        ensures room { asks_room result ≡ lacks_room self.now.state }
+        ensures wait { asks_wait result ≡ false }
+        ensures make { asks_make result ≡ false }
     {
         match self.state {
             TouchState::Uses => Action::Step(Input::Use { id: self.id }),
@@ -71,10 +75,8 @@ impl TouchCall {
 
     // The state after an answer; `None` if no step was asked for.
     fn after_answer(&self, answer: Answer) -> Option<TouchState>
-        ensures goes { IfSome result (GoesOn self.now.id (events.Answered answer) self.now.state) }
+        ensures takes { IfSome result (Takes self.now.id (events.Answered answer) self.now.state) }
         ensures fits { is_some result ≡ has_step self.now.state }
-        ensures over { IfSome result (λ s. is_going s ≡ false) }
-        ensures steps { IfSome result (λ s. steps_left s < steps_left self.now.state) }
     {
         match self.state {
             TouchState::Uses => Some(after_using(answer)),
@@ -84,9 +86,8 @@ impl TouchCall {
 
     // The state after a step that was not taken; `None` if that can't be.
     fn after_no_step(&self, failure: StepFailure) -> Option<TouchState>
-        ensures goes { IfSome result (GoesOn self.now.id (events.NotTaken failure) self.now.state) }
+        ensures takes { IfSome result (Takes self.now.id (events.NotTaken failure) self.now.state) }
         ensures fits { is_some result ≡ has_step self.now.state }
-        ensures room { IfSome result (spec.Pauses (events.NotTaken failure)) }
     {
         match self.state {
             TouchState::Uses => match failure {
@@ -99,9 +100,8 @@ impl TouchCall {
 
     // The state after the journal was cut; `None` if that was not asked for.
     fn after_room(&self) -> Option<TouchState>
-        ensures goes { IfSome result (GoesOn self.now.id events.RoomMade self.now.state) }
+        ensures takes { IfSome result (Takes self.now.id events.RoomMade self.now.state) }
         ensures fits { is_some result ≡ lacks_room self.now.state }
-        ensures again { IfSome result (λ s. has_step s ≡ true) }
     {
         match self.state {
             TouchState::LacksRoom => Some(TouchState::Uses),
@@ -111,9 +111,8 @@ impl TouchCall {
 
     // The state after the journal could not be cut; `None` if that was not asked for.
     fn after_no_room(&self) -> Option<TouchState>
-        ensures goes { IfSome result (GoesOn self.now.id events.NoRoom self.now.state) }
+        ensures takes { IfSome result (Takes self.now.id events.NoRoom self.now.state) }
         ensures fits { is_some result ≡ lacks_room self.now.state }
-        ensures room { IfSome result (spec.Pauses events.NoRoom) }
     {
         match self.state {
             TouchState::LacksRoom => {
@@ -125,9 +124,8 @@ impl TouchCall {
 
     // The state of a note that is given up; `None` if it has ended.
     fn after_cancelling(&self) -> Option<TouchState>
-        ensures goes { IfSome result (GoesOn self.now.id events.Cancelled self.now.state) }
+        ensures takes { IfSome result (Takes self.now.id events.Cancelled self.now.state) }
         ensures fits { is_some result ≡ is_going self.now.state }
-        ensures over { IfSome result (λ s. s ≡ states.Ended ends.Cancelled) }
     {
         match self.state {
             TouchState::Uses | TouchState::LacksRoom => Some(TouchState::Ended(End::Cancelled)),
@@ -136,11 +134,8 @@ impl TouchCall {
     }
 
     fn after(&self, event: Event) -> Option<TouchState>
-        ensures goes { IfSome result (GoesOn self.now.id event self.now.state) }
+        ensures takes { IfSome result (Takes self.now.id event self.now.state) }
         ensures fits { is_some result ≡ fits self.now.state event }
-        ensures ends { IfSome result (spec.Ends event) }
-        ensures steps { IfSome result (spec.Proceeds event self.now.state) }
-        ensures room { IfSome result (spec.Pauses event) }
     {
         match event {
             Event::Answered(answer) => self.after_answer(answer),
