@@ -1,3 +1,4 @@
+pub mod FirstSteps
 pub mod Moving
 pub mod Queueing
 pub mod Running

@@ -1,9 +1,10 @@
 // The calls of a pool, before their first step.
-ghost use Rattle.std.specs.Prelude.{◌≡◌, max, Some};
+ghost use Rattle.std.specs.Prelude.{◌≡◌, max, true, false, Some};
+ghost use Rattle.std.specs.Option.{is_some};
 ghost use Rattle.pool_journal.specs.declared.input.Input.TheVariants as inputs;
 ghost use Rattle.pool_journal.specs.declared.input.When.TheVariants as times;
 ghost use Rattle.pool_calls.specs.Operations.{began_of, step_at};
-ghost use Rattle.pool_driver.specs.Driving.{Begins};
+ghost use Rattle.pool_driver.specs.Driving.{Begins, detaches};
 
 use crate::call::Call;
 use crate::pool::DrivenPool;
@@ -14,9 +15,11 @@ use pool_calls::{
 
 impl DrivenPool {
     /// Returns a borrow that begins at time `at` (milliseconds). If a greater time was passed in before, it begins then.
+    #[tactic(auto, using(crate::proofs::FirstSteps::borrow_steps))]
     pub fn borrow(&self, at: u64) -> Call
         ensures begins { Begins self.now.plan result }
         ensures began { began_of result.operation ≡ Some (max at self.now.last) }
+        ensures steps { is_some (step_at result.operation) ≡ true }
     {
         let began = at.max(self.last);
         Call::new(Operation::Borrow(BorrowCall::new(self.plan, began)), 0)
@@ -33,6 +36,7 @@ impl DrivenPool {
 
     /// Returns an invalidation of the object with this id and token, which is destroyed.
     pub fn invalidate(&self, id: u64, token: u64) -> Call
+        ensures destroys { detaches result.operation ≡ false }
         ensures begins { Begins self.now.plan result }
         ensures first { step_at result.operation ≡ Some (inputs.Invalidate id) }
         ensures token { result.token ≡ token }
@@ -42,6 +46,7 @@ impl DrivenPool {
 
     /// Returns a detachment of the object with this id and token, which the caller keeps.
     pub fn detach(&self, id: u64, token: u64) -> Call
+        ensures detaches { detaches result.operation ≡ true }
         ensures begins { Begins self.now.plan result }
         ensures first { step_at result.operation ≡ Some (inputs.Invalidate id) }
         ensures token { result.token ≡ token }

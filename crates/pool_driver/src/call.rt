@@ -1,4 +1,4 @@
-ghost use Rattle.std.specs.Prelude.{◌≡◌, None};
+ghost use Rattle.std.specs.Prelude.{◌≡◌, None, false};
 
 use pool_calls::Operation;
 
@@ -10,6 +10,8 @@ pub struct Call {
     pub(crate) token: u64,
     // Its ticket, while it waits.
     pub(crate) ticket: Option<u64>,
+    // Whether it found something before, so that it goes before those that wait.
+    pub(crate) was_served: bool,
 }
 
 impl Call {
@@ -18,11 +20,13 @@ impl Call {
         ensures operation { result.operation ≡ operation }
         ensures token { result.token ≡ token }
         ensures ticket { result.ticket ≡ None }
+        ensures turn { result.was_served ≡ false }
     {
         Call {
             operation,
             token,
             ticket: None,
+            was_served: false,
         }
     }
 

@@ -1,17 +1,19 @@
 // The waits of borrows.
-ghost use Rattle.std.specs.Prelude.{◌≡◌, ◌-◌, Some, None, true, false, length};
-ghost use Rattle.pool_calls.specs.Operations.{step_at};
+ghost use Rattle.std.specs.Prelude.{◌≡◌, ◌-◌, ◌&&◌, ◌||◌, Some, None, true, false, length};
+ghost use Rattle.std.specs.Option.{is_some};
+ghost use Rattle.pool_calls.specs.Operations.{Proceeds, fits, is_waiting, lacks_room, step_at};
 ghost use Rattle.pool_calls.specs.Waiting.{may_lend};
 ghost use Rattle.pool_core.specs.Reply.{has_reached};
 ghost use Rattle.pool_journal.specs.Base.{closed_from};
+ghost use Rattle.pool_calls.specs.declared.action.Event.TheVariants as events;
 ghost use Rattle.pool_driver.specs.declared.report.Report.TheVariants as reports;
 ghost use Rattle.pool_driver.specs.Queueing.{Queues};
-ghost use Rattle.pool_driver.specs.Driving.{Accepts, IsAvailable, Moves, available_in, is_low_in, until_of, is_done, waking_of};
+ghost use Rattle.pool_driver.specs.Driving.{Accepts, HasRoom, IsAvailable, IsWoken, LacksRoomOnlyEmpty, LooksIf, Moves, TakesFirst, available_in, is_low_in, may_come_in, until_of, is_done, waking_at, waking_of};
 
 use crate::call::Call;
 use crate::pool::DrivenPool;
 use pool_calls::{Action, Event, StepFailure};
-use pool_journal::{Answer, Cause, Input};
+use pool_journal::{Answer, Input};
 
 /// What a borrow that sleeps does when it wakes up.
 #[derive(Clone, Copy, Debug, PartialEq, Eq)]
@@ -38,14 +40,8 @@ fn decide(is_signalled: bool, is_over: bool, expected: Answer) -> Waking
 }
 
 impl DrivenPool {
-    // Whether the pool is closed.
-    fn is_closed(&self) -> bool
-        ensures { result ≡ closed_from self.now.core.base self.now.core.journal }
-    {
-        matches!(self.core.due(0, Input::Add), Answer::Refused(Cause::Closed))
-    }
-
-    /// Returns the number of idle objects and free places: 2^64 - 1 if it has no limit, or if the pool is closed.
+    /// Returns the number of objects that a borrow may take, and of free places: 2^64 - 1 if there is no limit, or if the
+    /// pool is closed.
     pub(crate) fn available(&self) -> u64
         ensures { result ≡ available_in self.now.core }
     {
@@ -55,7 +51,8 @@ impl DrivenPool {
         match u64::try_from(self.settings.max_total) {
             Ok(most) => {
                 let counts = self.core.counts();
-                most - (counts.lent + counts.reserved)
+                let free = most - (counts.idle + counts.lent + counts.reserved);
+                self.core.takeable().saturating_add(free)
             }
             Err(_) => u64::MAX,
         }
@@ -91,21 +88,41 @@ impl DrivenPool {
 
     // A call waits no longer: its ticket leaves.
     fn leave(&mut self, call: &mut Call)
-        ensures rest { self.new ≡ record self.old { queue = self.new.queue } }
+        ensures rest { self.new ≡ record self.old {
+          queue = self.new.queue;
+          holds_back = self.new.holds_back;
+        } }
         ensures call { call.new ≡ record call.old { ticket = None } }
         ensures queue { Queues call.old.ticket None self.old.queue self.new.queue }
     {
         if let Some(ticket) = call.ticket {
             let _ = self.waiters.leave(ticket);
+            self.holds_back = false;
             call.ticket = None;
         }
+    }
+
+    // What a borrow with this ticket does when it wakes up.
+    fn waking(&self, ticket: Option<u64>, began: u64, at: u64) -> Waking
+        ensures { result ≡ waking_at self.now at ticket began }
+    {
+        let is_signalled = match ticket {
+            Some(ticket) => self.waiters.is_signalled(ticket),
+            None => true,
+        };
+        let expected = self.core.due(at, Input::Borrow { began });
+        decide(is_signalled, self.is_over(began, at), expected)
     }
 
     /// Wakes a call up. Returns whether it sleeps; otherwise nothing changes. It sleeps on if it would only wait again,
     /// or if what is there is for others.
     pub(crate) fn wake_up(&mut self, call: &mut Call, at: u64) -> bool
+        ensures fits { result ≡ is_waiting call.old.operation }
+        ensures told { result ≡ true → IsWoken self.old at call.old.ticket call.old.operation
+            call.new.operation }
         ensures accepted { result ≡ true
             → Accepts reports.Woken self.old self.new call.old call.new }
+        ensures room { result ≡ true → lacks_room call.new.operation ≡ false }
         ensures unfit { result ≡ false → (self.new ≡ self.old) × (call.new ≡ call.old) }
     {
         let Some(began) = call.operation.began() else {
@@ -114,12 +131,7 @@ impl DrivenPool {
         if !matches!(call.operation.action(), Action::Wait) {
             return false;
         }
-        let is_signalled = match call.ticket {
-            Some(ticket) => self.waiters.is_signalled(ticket),
-            None => true,
-        };
-        let expected = self.core.due(at, Input::Borrow { began });
-        match decide(is_signalled, self.is_over(began, at), expected) {
+        match self.waking(call.ticket, began, at) {
             Waking::Asks => {
                 let _ = call.operation.tell(Event::Woken);
             }
@@ -127,7 +139,7 @@ impl DrivenPool {
                 let _ = call.operation.tell(Event::TimeOver);
                 self.leave(call);
             }
-            Waking::SleepsOn => {}
+            Waking::SleepsOn => self.holds_back = true,
         }
         true
     }
@@ -135,8 +147,12 @@ impl DrivenPool {
     /// Tells a call that the journal was cut. Returns whether that fits; otherwise nothing changes. A borrow that waited
     /// before looks as one that wakes up.
     pub(crate) fn room_made(&mut self, call: &mut Call, at: u64) -> bool
+        ensures fits { result ≡ fits call.old.operation events.RoomMade }
+        ensures told { result ≡ true → HasRoom self.old at call.old.ticket call.old.operation
+            call.new.operation }
         ensures accepted { result ≡ true
             → Accepts reports.RoomMade self.old self.new call.old call.new }
+        ensures room { result ≡ true → lacks_room call.new.operation ≡ false }
         ensures unfit { result ≡ false → (self.new ≡ self.old) × (call.new ≡ call.old) }
     {
         if !call.operation.tell(Event::RoomMade) {
@@ -148,7 +164,11 @@ impl DrivenPool {
 
     // A borrow that has a ticket, and is to ask, looks as one that wakes up.
     fn look_again(&mut self, call: &mut Call, at: u64)
-        ensures { Accepts reports.GoOn self.old self.new call.old call.new }
+        requires { lacks_room call.old.operation ≡ false }
+        ensures told { LooksIf (is_some call.old.ticket && fits call.old.operation events.Queued)
+            self.old at call.old.ticket call.old.operation call.new.operation }
+        ensures accepts { Accepts reports.GoOn self.old self.new call.old call.new }
+        ensures room { lacks_room call.new.operation ≡ false }
     {
         if call.ticket.is_some() && call.operation.tell(Event::Queued) {
             let _ = self.wake_up(call, at);
@@ -157,8 +177,11 @@ impl DrivenPool {
 
     /// Gives a call up. Returns whether that fits; otherwise nothing changes.
     pub(crate) fn give_up(&mut self, call: &mut Call) -> bool
+        ensures fits { result ≡ fits call.old.operation events.Cancelled }
+        ensures told { result ≡ true → Proceeds events.Cancelled call.old.operation call.new.operation }
         ensures accepted { result ≡ true
             → Accepts reports.GivenUp self.old self.new call.old call.new }
+        ensures room { result ≡ true → lacks_room call.new.operation ≡ false }
         ensures unfit { result ≡ false → (self.new ≡ self.old) × (call.new ≡ call.old) }
     {
         if !call.operation.tell(Event::Cancelled) {
@@ -171,7 +194,10 @@ impl DrivenPool {
     /// A call whose action is its end leaves the queue.
     pub(crate) fn leave_at_end(&mut self, call: &mut Call, action: Action)
         ensures accepts { Accepts reports.GoOn self.old self.new call.old call.new }
-        ensures rest { self.new ≡ record self.old { queue = self.new.queue } }
+        ensures rest { self.new ≡ record self.old {
+          queue = self.new.queue;
+          holds_back = self.new.holds_back;
+        } }
         ensures operation { call.new.operation ≡ call.old.operation }
         ensures ended { is_done action ≡ true → call.new.ticket ≡ None }
     {
@@ -180,7 +206,7 @@ impl DrivenPool {
         }
     }
 
-    // The number of idle objects and free places, as far as it matters to a newcomer: 0 if no call waits.
+    // The number of available objects and free places, as far as it matters to a newcomer: 0 if no call waits.
     fn available_to_newcomer(&self) -> u64
         ensures { IsAvailable self.now result }
     {
@@ -193,7 +219,9 @@ impl DrivenPool {
 
     // A borrow that has no ticket draws one.
     fn draw_ticket(&mut self, call: &mut Call)
-        ensures { Accepts reports.GoOn self.old self.new call.old call.new }
+        ensures accepts { Accepts reports.GoOn self.old self.new call.old call.new }
+        ensures room { lacks_room call.new.operation ≡ true
+            → lacks_room call.old.operation ≡ true }
     {
         if call.ticket.is_some() {
             return;
@@ -206,21 +234,25 @@ impl DrivenPool {
         }
     }
 
-    // A borrow took something. If it had no ticket, it overtook those that wait.
+    // A borrow took something. If it had no ticket, and took nothing before, it overtook those that wait.
     fn count_overtake(&mut self, call: &Call, available: u64)
-        requires { call.now.ticket ≡ None → may_lend available self.old.queue ≡ true }
+        requires { call.now.ticket ≡ None → call.now.was_served ≡ false
+            → may_lend available self.old.queue ≡ true }
         ensures rest { self.new ≡ record self.old { queue = self.new.queue } }
         ensures queue { Queues call.now.ticket call.now.ticket self.old.queue self.new.queue }
     {
-        if call.ticket.is_none() {
+        if call.ticket.is_none() && !call.was_served {
             self.waiters.note_lent(available);
         }
     }
 
     // A borrow has asked: it waits, or it waits no longer. One that found something overtook those that wait.
     fn note_answer(&mut self, call: &mut Call, available: u64)
-        requires { call.old.ticket ≡ None → may_lend available self.old.queue ≡ true }
-        ensures { Accepts reports.GoOn self.old self.new call.old call.new }
+        requires { call.old.ticket ≡ None → call.old.was_served ≡ false
+            → may_lend available self.old.queue ≡ true }
+        ensures accepts { Accepts reports.GoOn self.old self.new call.old call.new }
+        ensures room { lacks_room call.new.operation ≡ true
+            → lacks_room call.old.operation ≡ true }
     {
         match call.operation.action() {
             Action::Wait => self.draw_ticket(call),
@@ -228,6 +260,7 @@ impl DrivenPool {
             Action::Done(_) => self.leave(call),
             _ => {
                 self.count_overtake(call, available);
+                call.was_served = true;
                 self.leave(call);
             }
         }
@@ -235,31 +268,77 @@ impl DrivenPool {
 
     // A borrow has to wait behind others: it draws a ticket.
     fn queue_up(&mut self, call: &mut Call)
-        ensures { Accepts reports.GoOn self.old self.new call.old call.new }
+        ensures accepts { Accepts reports.GoOn self.old self.new call.old call.new }
+        ensures room { lacks_room call.new.operation ≡ true
+            → lacks_room call.old.operation ≡ true }
     {
         if call.operation.tell(Event::Queued) {
             self.draw_ticket(call);
         }
     }
 
-    /// A borrow asks for an object, or waits behind those that come first.
-    pub(crate) fn ask(&mut self, call: &mut Call, caller: u32, at: u64, input: Input)
-        requires asked { step_at call.old.operation ≡ Some input }
-        ensures { Moves caller at self.old self.new call.old call.new }
+    // Reserves the memory for a ticket. Returns whether there is some.
+    fn reserve_ticket(&mut self) -> bool
+        ensures waiting { self.new.queue.waiting ≡ self.old.queue.waiting }
+        ensures most { self.new.queue.most ≡ self.old.queue.most }
+        ensures overtakes { self.new.queue.overtakes ≡ self.old.queue.overtakes }
+        ensures rest { self.new ≡ record self.old { queue = self.new.queue } }
     {
-        if self.waiters.reserve(1).is_err() {
-            let _ = call
-                .operation
-                .tell(Event::NotTaken(StepFailure::OutOfMemory));
-            self.leave(call);
-            return;
+        self.waiters.reserve(1).is_ok()
+    }
+
+    // Whether a borrow that comes later may ask: there is more than those that wait can take, or it may overtake them.
+    // It may not once one of them was woken and found nothing.
+    fn may_come(&mut self, available: u64) -> bool
+        ensures value { result ≡ may_come_in available self.old }
+        ensures kept { self.new ≡ self.old }
+    {
+        let waiting = self.waiters.len() as u64;
+        if self.holds_back && waiting > 0 && available <= waiting {
+            return false;
+        }
+        self.waiters.may_lend(available)
+    }
+
+    // Whether a borrow may ask: it waits, it found something before, or it may come before those that wait.
+    fn may_ask(&mut self, call: &Call, available: u64) -> bool
+        ensures value { result ≡ (is_some call.now.ticket || call.now.was_served
+            || may_come_in available self.old) }
+        ensures kept { self.new ≡ self.old }
+    {
+        call.ticket.is_some() || call.was_served || self.may_come(available)
+    }
+
+    // A borrow for which there is no memory ends.
+    fn end_for_memory(&mut self, call: &mut Call)
+        ensures accepts { Accepts reports.GoOn self.old self.new call.old call.new }
+        ensures room { lacks_room call.new.operation ≡ true
+            → lacks_room call.old.operation ≡ true }
+    {
+        let _ = call
+            .operation
+            .tell(Event::NotTaken(StepFailure::OutOfMemory));
+        self.leave(call);
+    }
+
+    /// A borrow asks for an object, or waits behind those that come first. Returns whether it asked.
+    pub(crate) fn ask(&mut self, call: &mut Call, caller: u32, at: u64, input: Input) -> bool
+        requires asked { step_at call.old.operation ≡ Some input }
+        requires room { lacks_room call.old.operation ≡ false }
+        ensures moves { TakesFirst input result caller at self.old self.new call.old call.new }
+        ensures room { LacksRoomOnlyEmpty self.old.drops self.new.core call.new.operation }
+    {
+        if !self.reserve_ticket() {
+            self.end_for_memory(call);
+            return false;
         }
         let available = self.available_to_newcomer();
-        if call.ticket.is_none() && !self.waiters.may_lend(available) {
+        if !self.may_ask(call, available) {
             self.queue_up(call);
-            return;
+            return false;
         }
-        self.step(call, caller, at, input);
+        let is_taken = self.step_for(call, caller, at, input);
         self.note_answer(call, available);
+        is_taken
     }
 }

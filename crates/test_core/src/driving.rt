@@ -1,6 +1,7 @@
-// A pool whose calls a host drives: whole calls, waits, and a journal without room.
-use pool_calls::{Action, End, StepFailure};
-use pool_driver::{Call, DrivenPool, Effects, Hooks, Report};
+// A pool whose calls a host drives: whole calls, waits, and a journal without room or dropped.
+use pool_calls::{Action, End, Operation, StepFailure};
+use pool_driver::{Call, DrivenPool, Effects, Hooks, Options, Report};
+use pool_journal::{Answer, Cause, Input};
 use pool_settings::Settings;
 use std::alloc::Global;
 use std::fmt::Debug;
@@ -10,23 +11,45 @@ fn expect_equal<T: Copy + PartialEq + Debug>(rt: &impl Abort, found: T, wanted: 
     assert_eq!(rt; found, wanted);
 }
 
-// A pool of one object, whose borrows wait for up to 100 milliseconds, and are overtaken at most once.
-fn opened(rt: &impl Abort, alloc: Global, all_hooks: bool, journal_limit: u64) -> DrivenPool {
-    let settings = Settings {
+// One object, which is tested wherever it can be. Borrows wait for up to 100 milliseconds.
+fn settings_with(journal_limit: u64) -> Settings {
+    Settings {
         max_total: 1,
         max_wait_millis: 100,
         journal_limit,
         test_on_borrow: true,
         test_on_create: true,
         test_on_return: true,
+        test_while_idle: true,
         ..Settings::default()
+    }
+}
+
+fn options_with(all_hooks: bool, max_overtakes: u64) -> Options {
+    Options {
+        hooks: Hooks {
+            activates: all_hooks,
+            validates: all_hooks,
+            passivates: all_hooks,
+        },
+        max_overtakes,
+        drops_journal: false,
+    }
+}
+
+// A pool whose borrows are overtaken at most once.
+fn opened(rt: &impl Abort, alloc: Global, all_hooks: bool, journal_limit: u64) -> DrivenPool {
+    let settings = settings_with(journal_limit);
+    DrivenPool::open(alloc, settings, options_with(all_hooks, 1)).expect(rt, "memory")
+}
+
+// A pool without hooks that drops its journal.
+fn opened_dropping(rt: &impl Abort, alloc: Global, journal_limit: u64) -> DrivenPool {
+    let options = Options {
+        drops_journal: true,
+        ..options_with(false, 1)
     };
-    let hooks = Hooks {
-        activates: all_hooks,
-        validates: all_hooks,
-        passivates: all_hooks,
-    };
-    DrivenPool::open(alloc, settings, hooks, 1).expect(rt, "memory")
+    DrivenPool::open(alloc, settings_with(journal_limit), options).expect(rt, "memory")
 }
 
 fn advance(
@@ -251,4 +274,257 @@ fn a_full_journal_is_cut(rt: HostRuntime) {
     let lent = Action::Done(End::Lent(0));
     goes_on(&rt, &mut pool, &mut call, 3, Report::RoomMade, lent);
     expect_equal(&rt, pool.core().journal().len(), 2);
+}
+
+// An object under an idle test is not available: its end wakes the borrow that waits for it.
+#[test]
+fn the_end_of_an_idle_test_wakes_a_borrow(rt: HostRuntime) {
+    let settings = settings_with(1_000);
+    let mut pool = DrivenPool::open(rt.alloc(), settings, options_with(true, 1)).expect(
+        &rt, "memory",
+    );
+    let mut addition = pool.add();
+    let reports = [
+        (Report::GoOn, Action::Make(0)),
+        (Report::Made(7), Action::Validate(0)),
+        (Report::Succeeded, Action::Passivate(0)),
+        (Report::Succeeded, Action::Done(End::Parked)),
+    ];
+    for (report, action) in reports {
+        goes_on(&rt, &mut pool, &mut addition, 0, report, action);
+    }
+    let mut run = pool.evict();
+    goes_on(
+        &rt,
+        &mut pool,
+        &mut run,
+        0,
+        Report::GoOn,
+        Action::Activate(0),
+    );
+    let mut waiting = wait(&rt, &mut pool, 0, 0);
+    expect_equal(&rt, wake(&mut pool), (None, None, true));
+    goes_on(
+        &rt,
+        &mut pool,
+        &mut run,
+        0,
+        Report::Succeeded,
+        Action::Validate(0),
+    );
+    goes_on(
+        &rt,
+        &mut pool,
+        &mut run,
+        0,
+        Report::Succeeded,
+        Action::Passivate(0),
+    );
+    expect_equal(&rt, wake(&mut pool), (None, None, true));
+    goes_on(
+        &rt,
+        &mut pool,
+        &mut run,
+        0,
+        Report::Succeeded,
+        Action::Done(End::Complete),
+    );
+    expect_equal(&rt, wake(&mut pool), (Some(0), None, true));
+    goes_on(
+        &rt,
+        &mut pool,
+        &mut waiting,
+        0,
+        Report::Woken,
+        Action::Activate(0),
+    );
+    match run.operation() {
+        Operation::Evict(run) => expect_equal(&rt, (run.examined(), run.destroyed()), (1, 0)),
+        _ => assert!(&rt; false, "not an eviction run"),
+    }
+}
+
+// A borrow that was woken and found nothing is not overtaken again, however often that is allowed.
+#[test]
+fn one_that_was_woken_in_vain_is_next(rt: HostRuntime) {
+    let settings = settings_with(1_000);
+    let mut pool = DrivenPool::open(rt.alloc(), settings, options_with(false, 16)).expect(
+        &rt, "memory",
+    );
+    let _ = lend_new(&rt, &mut pool, 0, 7);
+    let mut waiting = wait(&rt, &mut pool, 0, 0);
+    give_back(&rt, &mut pool, 0, 7);
+    expect_equal(&rt, wake(&mut pool), (Some(0), None, true));
+    let lent = Action::Done(End::Lent(0));
+    let mut first = pool.borrow(0);
+    goes_on(&rt, &mut pool, &mut first, 0, Report::GoOn, lent);
+    expect_equal(&rt, wake(&mut pool), (None, None, true));
+    goes_on(&rt, &mut pool, &mut waiting, 0, Report::Woken, Action::Wait);
+    give_back(&rt, &mut pool, 0, 7);
+    let _ = wait(&rt, &mut pool, 0, 1);
+    expect_equal(&rt, wake(&mut pool), (Some(0), None, true));
+    goes_on(&rt, &mut pool, &mut waiting, 0, Report::Woken, lent);
+    give_back(&rt, &mut pool, 0, 7);
+    let mut last = pool.borrow(0);
+    goes_on(&rt, &mut pool, &mut last, 0, Report::GoOn, lent);
+}
+
+// A borrow whose idle object failed goes before one that began later, even if none may be overtaken.
+#[test]
+fn a_failed_object_keeps_the_turn(rt: HostRuntime) {
+    let settings = settings_with(1_000);
+    let mut pool = DrivenPool::open(rt.alloc(), settings, options_with(true, 0)).expect(
+        &rt, "memory",
+    );
+    let mut addition = pool.add();
+    goes_on(
+        &rt,
+        &mut pool,
+        &mut addition,
+        0,
+        Report::GoOn,
+        Action::Make(0),
+    );
+    goes_on(
+        &rt,
+        &mut pool,
+        &mut addition,
+        0,
+        Report::Made(7),
+        Action::Validate(0),
+    );
+    goes_on(
+        &rt,
+        &mut pool,
+        &mut addition,
+        0,
+        Report::Succeeded,
+        Action::Passivate(0),
+    );
+    goes_on(
+        &rt,
+        &mut pool,
+        &mut addition,
+        0,
+        Report::Succeeded,
+        Action::Done(End::Parked),
+    );
+    let mut first = pool.borrow(0);
+    goes_on(
+        &rt,
+        &mut pool,
+        &mut first,
+        0,
+        Report::GoOn,
+        Action::Activate(0),
+    );
+    let _ = wait(&rt, &mut pool, 0, 0);
+    goes_on(
+        &rt,
+        &mut pool,
+        &mut first,
+        0,
+        Report::Failed,
+        Action::Destroy(0),
+    );
+    goes_on(
+        &rt,
+        &mut pool,
+        &mut first,
+        0,
+        Report::Succeeded,
+        Action::Make(1),
+    );
+    expect_equal(&rt, wake(&mut pool), (None, None, true));
+}
+
+// Far more steps than the journal has room for, of a pool that drops it.
+#[test]
+fn a_dropped_journal_never_lacks_room(rt: HostRuntime) {
+    let mut pool = opened_dropping(&rt, rt.alloc(), 8);
+    let _ = lend_new(&rt, &mut pool, 0, 7);
+    give_back(&rt, &mut pool, 0, 7);
+    for at in 0..5_000 {
+        let mut call = pool.borrow(at);
+        goes_on(
+            &rt,
+            &mut pool,
+            &mut call,
+            at,
+            Report::GoOn,
+            Action::Done(End::Lent(0)),
+        );
+        give_back(&rt, &mut pool, at, 7);
+    }
+    expect_equal(&rt, pool.core().counts().steps, 20_004);
+    assert!(&rt;
+        pool.core().journal().len() <= 8,
+        "the journal is longer than its limit"
+    );
+}
+
+#[test]
+fn a_dropped_journal_stays_short(rt: HostRuntime) {
+    let mut pool = opened_dropping(&rt, rt.alloc(), 1_000_000);
+    let _ = lend_new(&rt, &mut pool, 0, 7);
+    give_back(&rt, &mut pool, 0, 7);
+    for at in 0..5_000 {
+        let mut call = pool.borrow(at);
+        goes_on(
+            &rt,
+            &mut pool,
+            &mut call,
+            at,
+            Report::GoOn,
+            Action::Done(End::Lent(0)),
+        );
+        give_back(&rt, &mut pool, at, 7);
+        assert!(&rt;
+            pool.core().journal().len() <= 1_024,
+            "more entries than are stored at most"
+        );
+    }
+    expect_equal(&rt, pool.core().counts().steps, 20_004);
+}
+
+// The objects themselves leave no room: a lent one needs four entries and the close one, a new one five.
+#[test]
+fn objects_that_leave_no_room_are_told(rt: HostRuntime) {
+    let mut pool = opened_dropping(&rt, rt.alloc(), 5);
+    let mut call = pool.borrow(0);
+    goes_on(&rt, &mut pool, &mut call, 0, Report::GoOn, Action::MakeRoom);
+    expect_equal(&rt, pool.core().journal().len(), 0);
+    let end = End::NotTaken(StepFailure::JournalFull);
+    goes_on(
+        &rt,
+        &mut pool,
+        &mut call,
+        0,
+        Report::NoRoom,
+        Action::Done(end),
+    );
+}
+
+#[test]
+fn a_host_takes_steps_of_its_own(rt: HostRuntime) {
+    let mut pool = opened(&rt, rt.alloc(), false, 1_000);
+    expect_equal(&rt, pool.is_closed(), false);
+    match pool.step(3, 9, Input::Add, None) {
+        Ok((answer, out)) => expect_equal(&rt, (answer, out), (Answer::Make(0), None)),
+        Err(_) => assert!(&rt; false, "the step was not taken"),
+    }
+    let mut call = pool.close();
+    goes_on(
+        &rt,
+        &mut pool,
+        &mut call,
+        9,
+        Report::GoOn,
+        Action::Done(End::Complete),
+    );
+    expect_equal(&rt, pool.is_closed(), true);
+    match pool.step(3, 9, Input::Add, None) {
+        Ok((answer, _)) => expect_equal(&rt, answer, Answer::Refused(Cause::Closed)),
+        Err(_) => assert!(&rt; false, "the step was not taken"),
+    }
 }

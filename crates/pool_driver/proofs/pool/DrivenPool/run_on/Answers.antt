@@ -1,0 +1,14 @@
+use Rattle.std.proofs.Common.{◌∙◌}
+use Rattle.pool_driver.proofs.Moving.{moves_on}
+use Rattle.pool_driver.proofs.pool.DrivenPool.run_on.Goals as goal
+
+pub loop-preserved : goal.loop-preserved
+loop-preserved c =
+    let so_far = c.loop.invariant.0 in (
+      moves_on c.args.caller c.args.at c.args.self.now c.loop.self c.take_step.new.self c.args.call.now c.loop.call c.take_step.new.call so_far c.take_step.ensures.moves.moves,
+      λ before lacks drops. c.take_step.ensures.room lacks (so_far.rest.drops ∙ drops),
+    )
+
+pub returns-in_default-clause-moves : goal.returns-in_default-clause-moves
+returns-in_default-clause-moves c =
+    moves_on c.args.caller c.args.at c.args.self.now c.loop.self c.take_step.new.self c.args.call.now c.loop.call c.take_step.new.call c.loop.invariant.0 c.take_step.ensures.moves.moves

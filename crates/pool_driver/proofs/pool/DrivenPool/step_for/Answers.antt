@@ -1,0 +1,22 @@
+use Rattle.std.proofs.Common.{◌≡◌, ℕ, Option, sym, ap, subst}
+use Rattle.std.specs.Option.{is_some}
+use Rattle.pool_driver.specs.Driving.{Takes}
+use Rattle.pool_driver.proofs.Moving.{takes_none, takes_step}
+use Rattle.pool_driver.proofs.Queueing.{queues_same}
+use Rattle.pool_driver.proofs.Running.{forgets_settings}
+use Rattle.pool_driver.specs.Queueing.{Queues}
+use Rattle.pool_driver.proofs.pool.DrivenPool.step_for.Goals as goal
+
+pub returns-in-Ok-clause-moves : goal.returns-in-Ok-clause-moves
+returns-in-Ok-clause-moves c =
+    let rest = c.take.ensures.rest in
+    let A : Option ℕ → Type 0 = λ v. Takes c.args.caller c.args.at c.args.input v c.args.self.now.drops c.args.self.now.core c.take.new.self.core c.in-Ok.answer c.in-Ok.out in
+    takes_step c.args.input c.args.caller c.args.at c.in-Ok.answer c.in-Ok.out c.args.self.now c.take.new.self c.args.call.now c.tell_answer.new.call c.requires.asked (subst A c.token_for-value.ensures.value c.in-Ok.ensures.taken) c.tell_answer.ensures.token (c.tell_answer.ensures.comes (ap (λ s. is_some s) c.requires.asked)) (ap (λ d. d.plan) rest) (ap (λ d. d.drops) rest) (ap (λ d. d.queue) rest) c.tell_answer.ensures.ticket
+
+pub returns-in-Err-clause-moves : goal.returns-in-Err-clause-moves
+returns-in-Err-clause-moves c =
+    let rest = c.take.ensures.rest in
+    let Q : Option ℕ → Type 0 = λ t. Queues c.args.call.now.ticket t c.args.self.now.queue c.take.new.self.queue in
+    takes_none c.args.input c.args.caller c.args.at c.args.self.now c.take.new.self c.args.call.now c.tell_failure.new.call c.in-Err.ensures.failed c.tell_failure.ensures.token c.tell_failure.ensures.comes
+    (record { settings = forgets_settings c.args.self.now.drops c.args.self.now.core c.take.new.self.core c.in-Err.ensures.failed; plan = ap (λ d. d.plan) rest; drops = ap (λ d. d.drops) rest })
+    (subst Q (sym c.tell_failure.ensures.ticket) (queues_same c.args.call.now.ticket c.args.self.now.queue c.take.new.self.queue (ap (λ d. d.queue.most) rest) (ap (λ d. d.queue.waiting) rest)))
