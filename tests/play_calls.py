@@ -1,40 +1,48 @@
 #!/usr/bin/env python3
-"""Plays borrows and returns at random on PROGRAM, event by event, and compares each answer with that of a model.
+"""Plays calls of all kinds at random on PROGRAM, event by event, and compares each answer with that of a model.
 
     play_calls.py PROGRAM [--seeds N] [--seed SEED] [--commands N]
+    play_calls.py --record FOLDER [--seeds N] [--seed SEED] [--commands N]
 
-PROGRAM is test_calls. Each seed plays a pool with random settings: up to 16 callers borrow and return, the factory fails at random, calls are given up
-at any point, waits end with their time, the journal is cut or has no room, hosts wake up for nothing, return what they do not hold, and report what
-does not fit. Each event is chosen by the answers so far. After it
+PROGRAM is test_calls. Each seed plays a pool with random settings: up to 16 callers make calls of all kinds, the factory fails at random, calls
+are given up at any point, waits end with their time, the journal is cut or has no room, hosts wake up for nothing, return what they do not hold, and
+report what does not fit. Some pools are closed. Each event is chosen by the answers so far. After it
 
-- the answer is the one of the model in call_model.py: the action, the calls to wake, and the counts;
-- from the answers alone (Watch): as many tickets are signalled as objects and places are available, or all that wait, the oldest first; no ticket is
-  overtaken more often than is allowed; each object has one holder, with its token; no more objects are there than `maxTotal`; a call that is over holds
-  nothing but what it was lent; a call that was given up is over after three more reports.
+- the answer is the one of the model in call_model.py: the action, what a call over several objects has come to, the calls to wake, and the counts;
+- from the answers alone (call_watch.py): as many tickets are signalled as objects and places are available, or all that wait, the oldest first; as
+  many were woken, and did not look since, as find something; no ticket is overtaken more often than is allowed; each object has one holder, with its
+  token, also while it is idle or tested; an object that failed is destroyed, and only then its place is free; the counts are those of the objects,
+  and no more are there than `maxTotal`; a call that is over holds nothing but what it was lent; one that was given up is over, or destroys its
+  object first; after a close no object becomes idle, and all that wait are woken.
 
 At the end all that is held is returned, only calls that were woken go on, and none may be left. The journal is that of the model, and legal by
-pool_model.py. All seeds together see each action and each end of a call. Then scripts with errors are refused.
+pool_model.py. All seeds together see each action, each end of each kind of call, a failure and a call that is given up at each work of the factory,
+and calls of each kind that free something and so wake others. Then scripts with errors are refused.
 
-Prints what differs, and in the end the line 'N passed, M failed'. With --seed it plays that seed alone.
+Prints what differs, and in the end the line 'N passed, M failed'. With --seed it plays that seed alone. With --record it plays no program, but writes
+the script of each seed into FOLDER with the answers of the model: `rt try --cases FOLDER` plays them on a program that is not proved.
 """
 
 import argparse
 import concurrent.futures
+import functools
 import os
+import pathlib
 import random
 import subprocess
 import sys
 import threading
 
 from call_model import FITTING, Driven
+from call_watch import HANDED, Difference, Watch, expect
 from playing import differing
 from pool_model import settings_of, verdict_of_segments
 
 SLOTS = 16
 # For how long a seed may be played, in seconds.
 LONGEST = 120
-# After how many reports a call that was given up is over.
-MOST_AFTER = 3
+# More objects than a call reclaims at a time.
+MANY = 100
 # How many commands before a difference are shown.
 SHOWN = 8
 
@@ -44,20 +52,51 @@ HOOKS = ("activates", "validates", "passivates")
 
 REPORTS = sorted({report for reports in FITTING.values() for report in reports} | {"given-up"})
 
-# All that a call can be answered.
-ENDS = """lent exhausted timed-out make-failed create-test-failed activate-failed borrow-test-failed cancelled parked destroyed gone not-lent
-journal-full""".split()
-ACTIONS = {*FITTING, "misfit", *(f"done {end}" for end in ENDS)} - {"done"}
+# How each kind of call can end.
+OF_FACTORY = "make-failed create-test-failed passivate-failed"
+ENDS = {
+    "borrow": "lent closed exhausted timed-out make-failed create-test-failed activate-failed borrow-test-failed",
+    "return": "parked destroyed gone not-lent",
+    "invalidate": "destroyed gone not-lent",
+    "detach": "destroyed gone not-lent",
+    "touch": "noted gone not-lent",
+    "add": f"parked closed no-place destroyed {OF_FACTORY}",
+    "fill": f"complete {OF_FACTORY}",
+    "evict": "complete closed",
+    **dict.fromkeys(("reclaim", "clear", "close"), "complete"),
+}
+# Whose answers wake others: all that free a place, or leave an object idle.
+WAKERS = set(ENDS) - {"touch"}
+# Those that destroy an object with which the factory succeeded.
+DISCARDERS = ("return", "add", "fill", "evict")
+WANTED = {*FITTING, "misfit", *(f"{kind} wakes" for kind in WAKERS), *(f"{kind} discards" for kind in DISCARDERS)} - {"done"}
+# The actions of each kind of call, besides that it has its journal cut: at each it may be given up, and the factory may fail.
+WORK = {
+    "borrow": "make validate activate destroy",
+    "return": "validate passivate destroy",
+    **dict.fromkeys(("add", "fill"), "make validate passivate destroy"),
+    "evict": "activate validate passivate destroy",
+    **dict.fromkeys(("invalidate", "clear"), "destroy"),
+}
+WANTED.update(f"{kind} {report} at {action}" for kind, work in WORK.items() for action in work.split() for report in ("failed", "given-up"))
+WANTED.update(f"{kind} {end}" for kind, ends in ENDS.items() for end in [*ends.split(), "cancelled", "journal-full"])
+
+# The calls that are made most. The others are given up, and fail in the factory, so many times as likely; and at most how likely.
+FREQUENT, RARE = ("borrow", "return"), 5
+MOST_LIKELY = 0.4
 
 # The first lines of a script, and scripts with an error, each with what is told of it.
-POOL = "\npool 1 no no no\n"
+POOL = "\npool 1 no no no no\n"
 REFUSED = {
     "maxTotal = true\n" + POOL: "settings: wrong type maxTotal",
-    "\npool 1 no no\n": "line 2: not the line of a pool",
-    "\npool 1 no no maybe\n": "line 2: not the line of a pool",
-    "\npool -1 no no no\n": "line 2: bad number",
+    "\npool 1 no no no\n": "line 2: not the line of a pool",
+    "\npool 1 no no no maybe\n": "line 2: not the line of a pool",
+    "\npool -1 no no no no\n": "line 2: bad number",
     POOL + "lend 0 0 0\n": "line 3: not a command",
     POOL + "borrow 0 0\n": "line 3: not a command",
+    POOL + "return 0 0 0\n": "line 3: not a command",
+    POOL + "close 0 0 0 0 0\n": "line 3: not a command",
+    POOL + "touch 0 0 0 first\n": "line 3: bad number",
     POOL + "borrow 16 0 0\n": "line 3: no such slot",
     POOL + "borrow 0 4294967296 0\n": "line 3: bad number",
     POOL + "borrow 0 0 18446744073709551616\n": "line 3: bad number",
@@ -66,21 +105,6 @@ REFUSED = {
     POOL + "borrow 0 0 0\nreport 0 0 0 made\n": "line 4: not a command",
     POOL + "borrow 0 0 0\nborrow 0 0 0\n": "line 4: the slot is taken",
 }
-
-
-class Difference(Exception):
-    """Something is not as it must be."""
-
-
-def expect(what, wanted, got):
-    if wanted != got:
-        raise Difference(f"{what}: wanted {wanted!r}, got {got!r}")
-
-
-def name_of(line):
-    """The name of an action, and of an end the word after it."""
-    words = line.split(" ")
-    return " ".join(words[: 2 if words[0] == "done" else 1])
 
 
 class Program:
@@ -92,7 +116,7 @@ class Program:
         self.watch.start()
         self.process.stdin.write("".join(line + "\n" for line in lines))
 
-    def ask(self, command):
+    def ask(self, command, _):
         """The lines of the answer to a command, up to the one with the counts."""
         lines = []
         try:
@@ -117,134 +141,23 @@ class Program:
         self.process.wait()
 
 
-class Watch:
-    """What must hold of the answers alone. `most_total` is None if there is no limit."""
+class Record:
+    """In the place of the program: it writes the commands to a file, and gives the wanted answers and writes them to another."""
 
-    def __init__(self, most_total, most_overtakes, reclaims):
-        self.most_total, self.most_overtakes, self.reclaims = most_total, most_overtakes, reclaims
-        self.available = most_total
-        # How often each ticket that waits was overtaken; and the tickets that are signalled.
-        self.waiting, self.signalled = {}, set()
-        # The ticket under which the call in a slot waits.
-        self.tickets = {}
-        # The id of the object that each slot makes, and the object that it holds with its token. The others are idle, or lent.
-        self.making, self.held, self.idle, self.lent = {}, {}, {}, {}
-        # The words of the last action of each slot, and the number of reports since its call was given up.
-        self.actions, self.since = {}, {}
+    def __init__(self, path, lines):
+        self.path, self.commands, self.answers = path, [*lines], []
 
-    def begins(self, slot):
-        self.actions[slot] = ["none"]
+    def ask(self, command, wanted):
+        self.commands.append(command)
+        self.answers += wanted
+        return wanted
 
-    def begins_return(self, slot, id):
-        self.begins(slot)
-        self.held[slot] = (id, self.lent.pop(id))
+    def end(self):
+        return "", "", 0
 
-    def note(self, slot, report, token, lines, reclaimed):
-        """Takes in the answer to a report that fits. The objects that were reclaimed have no place."""
-        before, action = self.actions[slot], lines[0].split(" ")
-        has_destroyed = before[0] == "destroy" and report != "given-up"
-        had_nothing = has_destroyed or (slot not in self.held and slot not in self.making)
-        self.count_reports(slot, report, action)
-        if before[0] == "sleep":
-            expect("a call that sleeps goes on by a report of that", True, action[0] in ("sleep", "done") or report == "woken")
-        self.take_report(slot, before, report, token)
-        finds = self.take_action(slot, before, action)
-        if had_nothing and finds and slot not in self.tickets:
-            self.count_overtake(has_destroyed)
-        self.take_ticket(slot, action, finds)
-        self.actions[slot] = action
-        self.check_places(reclaimed)
-        self.take_wakes(lines)
-
-    def count_reports(self, slot, report, action):
-        if report == "given-up":
-            self.since.setdefault(slot, 0)
-        elif slot in self.since:
-            self.since[slot] += 1
-        if slot in self.since:
-            expect("a call that was given up goes on", False, self.since[slot] >= MOST_AFTER and action[0] != "done")
-        if action[0] == "done":
-            self.since.pop(slot, None)
-
-    def take_report(self, slot, before, report, token):
-        """What a report changes: an object was made, or not; or one was destroyed."""
-        if before[0] == "make":
-            id = self.making.pop(slot)
-            if report == "made":
-                self.held[slot] = (id, token)
-        elif before[0] == "destroy" and report != "given-up":
-            del self.held[slot]
-
-    def take_action(self, slot, before, action):
-        """What an action shows. Returns whether the call has an object, makes one, or was lent one."""
-        if action[0] == "make":
-            expect("a call that makes an object holds", None, self.held.get(slot))
-            self.making[slot] = int(action[1])
-        elif action[0] in ("activate", "validate", "passivate", "destroy"):
-            self.hold(slot, *map(int, action[1:]))
-        elif action[0] == "done":
-            self.take_end(slot, before, action[1:])
-            return action[1] == "lent"
-        return slot in self.held or slot in self.making
-
-    def take_end(self, slot, before, end):
-        if end[0] == "lent":
-            self.hold(slot, *map(int, end[1:]))
-            self.give_to(self.lent, slot)
-        elif end[0] == "parked":
-            self.give_to(self.idle, slot)
-        elif slot in self.held and end[0] in ("cancelled", "journal-full") and before[0] in ("none", "make-room", "step"):
-            # A return that took no step: its host still has the object.
-            self.give_to(self.lent, slot)
-        expect("a call that is over holds", (None, None), (self.held.get(slot), self.making.get(slot)))
-
-    def hold(self, slot, id, token):
-        """A call holds an object with this token: it did before, or the object was idle."""
-        if slot not in self.held:
-            expect(f"object {id} is idle", True, id in self.idle)
-            self.held[slot] = (id, self.idle.pop(id))
-        expect("the object of a call, with its token", self.held[slot], (id, token))
-
-    def give_to(self, others, slot):
-        id, token = self.held.pop(slot)
-        others[id] = token
-
-    def count_overtake(self, has_destroyed):
-        """A call without a ticket found something: it overtakes those that wait, unless there was more. What is there when it asks is what the answer
-        before told, and the place of an object that was just destroyed. Not so if it reclaimed objects."""
-        if self.reclaims or self.available is None or len(self.waiting) < self.available + has_destroyed:
-            return
-        for ticket in self.waiting:
-            self.waiting[ticket] += 1
-            expect(f"ticket {ticket} is overtaken at most {self.most_overtakes} times", True, self.waiting[ticket] <= self.most_overtakes)
-
-    def take_ticket(self, slot, action, finds):
-        if action[0] == "sleep":
-            ticket = int(action[1])
-            expect("the ticket of a call", self.tickets.setdefault(slot, ticket), ticket)
-            expect("a new ticket is the greatest", True, ticket in self.waiting or ticket > max(self.waiting, default=-1))
-            self.waiting.setdefault(ticket, 0)
-        elif slot in self.tickets and (finds or action[0] == "done"):
-            ticket = self.tickets.pop(slot)
-            del self.waiting[ticket]
-            self.signalled.discard(ticket)
-
-    def check_places(self, reclaimed):
-        there = {*self.idle, *self.lent, *self.making.values(), *(id for id, _ in self.held.values())} - reclaimed
-        if self.most_total is not None:
-            expect("no more objects are there than maxTotal", True, len(there) <= self.most_total)
-
-    def take_wakes(self, lines):
-        """The tickets to wake are the oldest that sleep, so that as many are signalled as there are idle objects and free places."""
-        _, lent, reserved, waiting = map(int, lines[-1].split(" ")[1:])
-        expect("the number of calls that wait", len(self.waiting), waiting)
-        self.available = None if self.most_total is None else self.most_total - lent - reserved
-        wanted = waiting if self.available is None else min(self.available, waiting)
-        self.signalled = set(sorted(self.signalled)[:wanted])
-        asleep = [ticket for ticket in sorted(self.waiting) if ticket not in self.signalled]
-        woken = [int(line.split(" ")[1]) for line in lines if line.startswith("wake ")]
-        expect("the tickets to wake", asleep[: wanted - len(self.signalled)], woken)
-        self.signalled.update(woken)
+    def stop(self):
+        for path, lines in (self.path, self.commands), (self.path.with_suffix(".stdout"), self.answers):
+            path.write_text("".join(line + "\n" for line in lines))
 
 
 def text_of(settings):
@@ -261,15 +174,20 @@ def random_settings(dice):
     settings = {
         "maxTotal": most,
         "maxIdle": dice.choice((8, 8, 8, -1, 0, 1, 2)),
+        "minIdle": dice.choice((0, 1, 2, 3)),
         "lifo": dice.random() < 0.5,
         "blockWhenExhausted": dice.random() < 0.9,
         "maxWaitMillis": dice.choice((-1, -1, 20, 200, 0)),
-        **{key: dice.random() < 0.5 for key in ("testOnBorrow", "testOnCreate", "testOnReturn")},
+        **{key: dice.random() < 0.5 for key in ("testOnBorrow", "testOnCreate", "testOnReturn", "testWhileIdle")},
+        "numTestsPerEvictionRun": dice.choice((3, 1, 10, -1, -2)),
+        "minEvictableIdleMillis": dice.choice((-1, 20, 200, 1_800_000)),
+        "softMinEvictableIdleMillis": dice.choice((-1, 10, 100)),
     }
-    if dice.random() < 0.25 or most < 0:
+    if dice.random() < 0.4 or most < 0:
         settings["abandoned"] = {
-            "removeAbandonedOnBorrow": dice.random() < 0.8,
-            "removeAbandonedTimeoutMillis": dice.choice((40, 400)) if most > 0 else 2_000,
+            "removeAbandonedOnBorrow": dice.random() < 0.7,
+            "removeAbandonedOnMaintenance": dice.random() < 0.8,
+            "removeAbandonedTimeoutMillis": dice.choice((40, 400)) if most > 0 else 20_000,
         }
     if most > 0 and dice.random() < 0.5:
         # As much as is needed if all objects but one are lent and one is readied, up to a little more; sometimes less.
@@ -279,27 +197,35 @@ def random_settings(dice):
 
 
 class Player:
-    """Plays one seed."""
+    """Plays so many commands of one seed on a program that `start` starts with its first lines, and then what is left."""
 
-    def __init__(self, path, seed):
+    def __init__(self, start, seed, commands):
         self.dice = dice = random.Random(seed)
         settings = random_settings(dice)
         most, reclaims = settings["maxTotal"], "abandoned" in settings
         lines = text_of(settings)
         self.settings = {**OF_CALLS, **settings_of("\n".join(lines))}
         hooks = {key: dice.random() < 0.5 for key in HOOKS}
-        overtakes = dice.choice((0, 1, 1, 2, 5))
-        self.model = Driven(self.settings, hooks, overtakes)
+        overtakes, self.drops = dice.choice((0, 1, 1, 2, 5)), dice.random() < 0.25
+        self.model = Driven(self.settings, hooks, overtakes, self.drops)
         self.watch = Watch(None if most < 0 else most, overtakes, reclaims)
-        self.first = [*lines, "", f"pool {overtakes} {' '.join('yes' if hooks[key] else 'no' for key in HOOKS)}"]
-        self.program = Program(path, self.first)
+        flags = ["yes" if flag else "no" for flag in (*(hooks[key] for key in HOOKS), self.drops)]
+        self.first = [*lines, "", f"pool {overtakes} {' '.join(flags)}"]
+        self.program, self.most_commands = start(self.first), commands
         # How likely a factory's call fails and a call is given up, and how many objects callers hold at most.
         self.failing = dice.choice((0.0, 0.05, 0.3))
         self.giving_up = dice.choice((0.0, 0.02, 0.1))
         self.most_held = 130 if most < 0 else 12
+        # After how many commands the pool may be closed, and while which call works on an object: none if while one is idle.
+        self.open_for, self.closes_at = dice.uniform(0.3, 1.1) * commands, dice.choice(("add", "fill", "evict", None))
         self.clock, self.next_token = dice.choice((0, 1_000)), 100
-        # The call of each slot, the slots of calls that return what their hosts do not hold, and the tickets that were woken.
-        self.calls, self.bogus, self.woken = {}, set(), set()
+        # The last call of each slot, the slots of those that go on, and of those for what their hosts do not hold; the tickets that were woken.
+        self.calls, self.going, self.bogus, self.woken = {}, [], set(), set()
+        # What may happen next, each as often as it is likely.
+        self.events = [
+            *[self.borrow] * (120 if most < 0 else 40), *[self.return_or_end] * (6 if most < 0 else 18), *[self.go_on] * 80, *[self.maintain] * 16,
+            *[self.touch] * 4, *[self.misreport] * 8, *[self.close] * 6, *[self.end_wrongly] * 3, self.cut,
+        ]
         self.commands, self.journal, self.seen = [], [], set()
 
     # What is sent.
@@ -307,9 +233,8 @@ class Player:
     def send(self, command, wanted):
         """Sends a command, whose answer must be that of the model. Returns the answer."""
         self.commands.append(command)
-        got = self.program.ask(command)
+        got = self.program.ask(command, wanted)
         expect(command, wanted, got)
-        self.seen.add(name_of(got[0]))
         self.woken.update(int(line.split(" ")[1]) for line in got if line.startswith("wake "))
         return got
 
@@ -317,27 +242,31 @@ class Player:
         """The time of a caller: clocks differ by a little."""
         return max(0, self.clock - self.dice.choice((0, 0, 0, 0, 2)))
 
-    def begin_borrow(self, slot):
+    def begin(self, slot, kind, *words, is_bogus=False):
+        """Begins a call of this kind. The words are the id and the token of its object, if it has one."""
         caller, at = self.caller(slot), self.now()
-        self.calls[slot], wanted = self.model.borrow(caller, at)
-        self.watch.begins(slot)
-        self.noted(slot, "go-on", None, self.send(f"borrow {slot} {caller} {at}", wanted))
-
-    def begin_return(self, slot, id, token, is_bogus=False):
-        caller, at = self.caller(slot), self.now()
-        self.calls[slot], wanted = self.model.give_back(caller, at, id, token)
+        self.calls[slot], wanted = self.model.begin(kind, caller, at, *words)
+        self.going.append(slot)
         if is_bogus:
             self.bogus.add(slot)
         else:
-            self.watch.begins_return(slot, id)
-        self.noted(slot, "go-on", None, self.send(f"return {slot} {caller} {at} {id} {token}", wanted))
+            self.watch.begins(slot, kind, *words[:1])
+        self.noted(slot, None, "go-on", None, self.send(" ".join(map(str, (kind, slot, caller, at, *words))), wanted))
 
-    def noted(self, slot, report, token, lines):
+    def noted(self, slot, before, report, token, lines):
+        """Takes in the answer to a call, after its action before."""
+        call = self.calls[slot]
+        self.seen.add(f"{call.kind} {call.action[1]}" if call.is_over() else call.action[0])
+        if call.action[0] == "destroy" and report in ("made", "succeeded"):
+            self.seen.add(f"{call.kind} discards")
+        if report in ("failed", "given-up"):
+            self.seen.add(f"{call.kind} {report} at {before}")
         if slot in self.bogus:
             self.watch.take_wakes(lines)
-        else:
-            self.watch.note(slot, report, token, lines, self.model.reclaimed)
-        if self.calls[slot].is_over():
+        elif self.watch.note(slot, report, token, lines, self.model.reclaimed):
+            self.seen.add(f"{call.kind} wakes")
+        if call.is_over():
+            self.going.remove(slot)
             self.bogus.discard(slot)
 
     def report(self, slot, report):
@@ -348,12 +277,13 @@ class Player:
             token, self.next_token = self.next_token, self.next_token + self.dice.randint(1, 9)
         if report == "woken" and fits:
             self.woken.discard(call.ticket)
-        wanted = self.model.report(call, caller, at, report, token)
+        before, wanted = call.action[0], self.model.report(call, caller, at, report, token)
         words = report if token is None else f"{report} {token}"
         lines = self.send(f"report {slot} {caller} {at} {words}", wanted)
         if fits:
-            self.noted(slot, report, token, lines)
+            self.noted(slot, before, report, token, lines)
         else:
+            self.seen.add(lines[0])
             self.watch.take_wakes(lines)
 
     def cut(self):
@@ -368,40 +298,66 @@ class Player:
     # What is chosen.
 
     def free_slots(self):
-        return [slot for slot in range(SLOTS) if slot not in self.calls or self.calls[slot].is_over()]
+        return [slot for slot in range(SLOTS) if slot not in self.going]
 
-    def going(self):
-        return [slot for slot, call in self.calls.items() if not call.is_over()]
+    def awake(self):
+        """The slots of the calls that go on and do not sleep, or were woken."""
+        return [slot for slot in self.going if self.calls[slot].action[0] != "sleep" or self.calls[slot].ticket in self.woken]
 
-    def begin(self):
-        """Begins a borrow. One slot is left for returns."""
+    def begin_any(self, kind):
+        """Begins a call that is for no object. One slot is left for those that are for one, and another for calls that do not borrow."""
         slots = self.free_slots()
-        if len(slots) > 1 and len(self.watch.lent) < self.most_held:
-            self.begin_borrow(self.dice.choice(slots))
+        if len(slots) > (2 if kind == "borrow" else 1):
+            self.begin(self.dice.choice(slots), kind)
 
-    def give_back(self):
+    def borrow(self):
+        if len(self.watch.lent) < self.most_held:
+            self.begin_any("borrow")
+
+    def end_loan(self, kind):
         slots = self.free_slots()
         if slots and self.watch.lent:
             id = self.dice.choice(sorted(self.watch.lent))
-            self.begin_return(self.dice.choice(slots), id, self.watch.lent[id])
+            self.begin(self.dice.choice(slots), kind, id, self.watch.lent[id])
 
-    def give_back_wrongly(self):
-        """A return of an object that its host does not hold."""
+    def end_wrongly(self):
+        """A return, an invalidation or a detachment of an object that its host does not hold."""
         slots = self.free_slots()
         id = self.dice.randint(0, self.model.pool.drawn + 1)
         if slots and self.model.pool.phase(id) != "lent":
-            self.begin_return(self.dice.choice(slots), id, 7, is_bogus=True)
+            self.begin(self.dice.choice(slots), self.dice.choice(HANDED), id, 7, is_bogus=True)
+
+    def touch(self):
+        """The note of a use, mostly of an object that is lent."""
+        slots = self.free_slots()
+        ids = sorted(self.watch.lent) if self.dice.random() < 0.8 else range(self.model.pool.drawn + 2)
+        if len(slots) > 1 and ids:
+            self.begin(self.dice.choice(slots), "touch", self.dice.choice(ids))
+
+    def maintain(self):
+        """A call that is for the pool, and mostly one that leaves it as many objects."""
+        kinds = ["add", "fill", "evict", "reclaim", "clear"]
+        kind = self.dice.choices(kinds, [3, 3, 5, 4, 2])[0]
+        if kind != "add" or len(self.watch.idle) < 4:
+            self.begin_any(kind)
 
     def go_on(self):
-        """An event of a call that goes on."""
-        slots = self.going()
+        """An event of a call that goes on, mostly of one that is awake."""
+        slots = (self.dice.random() < 0.9 and self.awake()) or self.going
         if not slots:
             return
         slot = self.dice.choice(slots)
-        if self.dice.random() < self.giving_up and self.calls[slot].fits("given-up"):
+        call = self.calls[slot]
+        if self.dice.random() < self.likely(self.giving_up, call):
             self.report(slot, "given-up")
         elif report := self.report_of(slot):
             self.report(slot, report)
+
+    def likely(self, chance, call):
+        """How likely it is for a call what is so likely for one that is made most."""
+        if call.kind in FREQUENT:
+            return chance
+        return MOST_LIKELY if chance and call.action[0] == "destroy" else min(chance * RARE, MOST_LIKELY)
 
     def report_of(self, slot):
         """What the host of a call reports next; nothing if it sleeps on."""
@@ -414,17 +370,19 @@ class Player:
         if action == "sleep":
             is_over = len(call.action) > 2 and self.clock >= call.action[2]
             return "woken" if chance < (0.5 if call.ticket in self.woken else 0.3 if is_over else 0.02) else None
-        if chance < self.failing:
+        if chance < self.likely(self.failing, call):
             return "failed"
         return "made" if action == "make" else "succeeded"
 
     def room_of(self, slot, chance):
-        """Cuts the journal, or not. What a return that is bogus names may be lent meanwhile, so that one ends."""
+        """Cuts the journal, or not. What a call that is bogus names may be lent meanwhile, so that one ends."""
         if slot in self.bogus:
-            return "no-room"
-        if chance < 0.6:
+            return "no-room" if chance < 0.5 else "given-up"
+        if chance < 0.5:
             self.cut()
-        return "room-made" if chance < 0.8 else "no-room"
+        if chance > 0.9 and self.calls[slot].fits("given-up"):
+            return "given-up"
+        return "room-made" if chance < 0.65 else "no-room"
 
     def misreport(self):
         """A report that does not fit, to a call that goes on or is over."""
@@ -434,34 +392,43 @@ class Player:
                 self.report(slot, report)
 
     def event(self):
+        """Something happens, mostly soon. Where many objects are lent, all of them may soon be abandoned."""
         dice = self.dice
-        self.clock += dice.choice((0, 0, 1, 1, 2, 5)) if dice.random() < 0.99 else dice.choice((50, 500, 3_000))
-        chance = dice.random()
-        if chance < 0.25:
-            self.begin()
-        elif chance < (0.28 if self.most_held > SLOTS else 0.37):
-            self.give_back()
-        elif chance < 0.94:
-            self.go_on()
-        elif chance < 0.985:
-            self.misreport()
-        elif chance < 0.99:
-            self.give_back_wrongly()
-        elif chance < 0.995:
-            self.cut()
+        is_many = len(self.watch.lent) > MANY and len(self.watch.lent.keys() - self.model.reclaimed) > MANY
+        if dice.random() < (0.1 if is_many else 0.01):
+            self.clock += 30_000 if is_many else dice.choice((50, 500, 3_000))
+        self.clock += dice.choice((0, 0, 1, 1, 2, 5))
+        dice.choice(self.events)()
+
+    def return_or_end(self):
+        self.end_loan(self.dice.choices(HANDED, [6, 2, 1])[0])
+
+    def close(self):
+        """Closes the pool in some seeds, while a call works on an object or one is idle; and again, mostly where the journal is full."""
+        if len(self.commands) < self.open_for:
+            return
+        going = [self.calls[slot] for slot in self.going]
+        if self.watch.closed:
+            is_time = any(call.action[0] == "make-room" for call in going)
+        elif self.closes_at is None:
+            is_time = bool(self.watch.idle)
+        else:
+            self.begin_any(self.closes_at)
+            is_time = any(call.kind == self.closes_at and call.action[0] in ("make", "validate") for call in going)
+        if is_time or self.dice.random() < 0.05:
+            self.begin_any("close")
 
     def drain(self):
         """Returns all that is held. Of the calls that sleep only those go on that were woken."""
         tries = 0
-        while self.going() or self.watch.lent:
-            moved = [slot for slot in self.going() if self.calls[slot].action[0] != "sleep" or self.calls[slot].ticket in self.woken]
-            if moved:
-                slot = self.dice.choice(moved)
+        while self.going or self.watch.lent:
+            if slots := self.awake():
+                slot = self.dice.choice(slots)
                 self.report(slot, self.last_report_of(slot))
             elif self.watch.lent:
-                self.give_back()
+                self.return_or_end()
             else:
-                raise Difference(f"nothing is held, and calls sleep on: {[self.calls[slot].action for slot in self.going()]}")
+                raise Difference(f"nothing is held, and calls sleep on: {[self.calls[slot].action for slot in self.going]}")
             tries += 1
             expect("all calls end", True, tries < 10_000)
 
@@ -477,15 +444,16 @@ class Player:
     def end(self):
         counts = self.cut()[-1].split(" ")
         expect("what is lent or reserved and who waits", ["0", "0", "0"], counts[2:])
-        expect("the journal", self.model.entries, self.journal)
-        text = "".join(line + "\n" for line in self.journal).encode()
-        expect("the verdict", b"legal %d\n" % len(self.journal), verdict_of_segments(self.settings, [text]))
+        if not self.drops:
+            expect("the journal", self.model.entries, self.journal)
+        text = "".join(line + "\n" for line in self.model.entries).encode()
+        expect("the verdict", b"legal %d\n" % len(self.model.entries), verdict_of_segments(self.settings, [text]))
         expect("the end", ("", "", 0), self.program.end())
 
-    def play(self, commands):
-        """Plays so many commands, and then what is left. Returns what differs, if anything does."""
+    def play(self):
+        """Plays. Returns what differs, if anything does."""
         try:
-            while len(self.commands) < commands:
+            while len(self.commands) < self.most_commands:
                 self.event()
             self.drain()
             self.end()
@@ -497,10 +465,11 @@ class Player:
             self.program.stop()
 
 
-def play_seed(path, seed, commands):
-    """Plays a seed. Returns what differs, if anything does, the number of commands, and the actions that were seen."""
-    player = Player(path, seed)
-    difference = player.play(commands)
+def play_seed(seed, asked):
+    """Plays a seed. Returns what differs, if anything does, the number of commands, and what was seen."""
+    start = functools.partial(*((Program, asked.program) if asked.record is None else (Record, asked.record / f"seed-{seed}")))
+    player = Player(start, seed, asked.commands)
+    difference = player.play()
     return difference and f"seed {seed}: {difference}", len(player.commands), player.seen
 
 
@@ -514,23 +483,28 @@ def refused(path):
 
 def arguments():
     words = argparse.ArgumentParser(prog="play_calls.py", description=__doc__, formatter_class=argparse.RawDescriptionHelpFormatter)
-    words.add_argument("program", metavar="PROGRAM")
-    words.add_argument("--seeds", metavar="N", type=int, default=32, help="how many seeds are played")
+    words.add_argument("program", metavar="PROGRAM", nargs="?")
+    words.add_argument("--record", metavar="FOLDER", type=pathlib.Path, help="write scripts and answers there, and play no program")
+    words.add_argument("--seeds", metavar="N", type=int, default=56, help="how many seeds are played")
     words.add_argument("--seed", metavar="SEED", type=int, help="play this seed alone")
-    words.add_argument("--commands", metavar="N", type=int, default=1_500, help="how many commands each seed has, at least")
-    return words.parse_args()
+    words.add_argument("--commands", metavar="N", type=int, default=600, help="how many commands each seed has, at least")
+    asked = words.parse_args()
+    if (asked.program is None) == (asked.record is None):
+        words.error("either PROGRAM or --record FOLDER is needed")
+    return asked
 
 
 def main():
     asked = arguments()
     seeds = range(1, asked.seeds + 1) if asked.seed is None else [asked.seed]
     with concurrent.futures.ProcessPoolExecutor(os.cpu_count()) as workers:
-        played = list(workers.map(play_seed, *zip(*((asked.program, seed, asked.commands) for seed in seeds))))
+        played = list(workers.map(play_seed, seeds, [asked] * len(seeds)))
     print(f"{sum(count for _, count, _ in played)} commands")
     found = [difference for difference, _, _ in played]
     if asked.seed is None:
-        missing = ACTIONS.difference(*(seen for _, _, seen in played))
-        found += [f"never seen: {sorted(missing)}" if missing else None, *refused(asked.program)]
+        missing = WANTED.difference(*(seen for _, _, seen in played))
+        found.append(f"never seen: {sorted(missing)}" if missing else None)
+        found += refused(asked.program) if asked.program else []
     for difference in filter(None, found):
         print(difference)
     failed = sum(map(bool, found))

@@ -1,14 +1,7 @@
 //! The commands of a script, and their words.
 
 use crate::fault::LineFault;
-use pool_driver::{Hooks, Report};
-
-/// What a pool is opened with, besides its settings.
-#[derive(Clone, Copy, Debug)]
-pub(crate) struct Setup {
-    pub(crate) max_overtakes: u64,
-    pub(crate) hooks: Hooks,
-}
+use pool_driver::{Hooks, Options, Report};
 
 /// A command of a script.
 #[derive(Clone, Copy, Debug)]
@@ -32,23 +25,33 @@ pub(crate) struct Turn {
     pub(crate) at: u64,
 }
 
-/// The kind of a call that begins.
+/// The kind of a call that begins, and the object that it is for.
 #[derive(Clone, Copy, Debug)]
 pub(crate) enum Start {
     Borrow,
     Return { id: u64, token: u64 },
+    Invalidate { id: u64, token: u64 },
+    Detach { id: u64, token: u64 },
+    Touch { id: u64 },
+    Add,
+    Fill,
+    Evict,
+    Reclaim,
+    Clear,
+    Close,
 }
 
 /// Reads the words of a pool's line.
-pub(crate) fn setup_of(words: &[&str]) -> Result<Setup, LineFault> {
+pub(crate) fn options_of(words: &[&str]) -> Result<Options, LineFault> {
     match *words {
-        ["pool", overtakes, activates, validates, passivates] => Ok(Setup {
+        ["pool", overtakes, activates, validates, passivates, drops] => Ok(Options {
             max_overtakes: overtakes.parse()?,
             hooks: Hooks {
                 activates: flag_of(activates)?,
                 validates: flag_of(validates)?,
                 passivates: flag_of(passivates)?,
             },
+            drops_journal: flag_of(drops)?,
         }),
         _ => Err(LineFault::NotAPool),
     }
@@ -74,16 +77,18 @@ pub(crate) fn command_of(words: &[&str]) -> Result<Command, LineFault> {
             turn_of(slot, caller, at)?,
             Report::Made(token.parse()?),
         )),
-        ["borrow", slot, caller, at] => {
-            Ok(Command::Begin(turn_of(slot, caller, at)?, Start::Borrow))
-        }
-        ["return", slot, caller, at, id, token] => Ok(Command::Begin(
+        ["touch", slot, caller, at, id] => Ok(Command::Begin(
             turn_of(slot, caller, at)?,
-            Start::Return {
-                id: id.parse()?,
-                token: token.parse()?,
-            },
+            Start::Touch { id: id.parse()? },
         )),
+        [word, slot, caller, at] => {
+            let start = start_of(word)?;
+            Ok(Command::Begin(turn_of(slot, caller, at)?, start))
+        }
+        [word, slot, caller, at, id, token] => {
+            let start = start_with_object(word, id.parse()?, token.parse()?)?;
+            Ok(Command::Begin(turn_of(slot, caller, at)?, start))
+        }
         ["cut"] => Ok(Command::Cut),
         ["journal"] => Ok(Command::Journal),
         _ => Err(LineFault::NotACommand),
@@ -96,6 +101,30 @@ fn turn_of(slot: &str, caller: &str, at: &str) -> Result<Turn, LineFault> {
         caller: caller.parse()?,
         at: at.parse()?,
     })
+}
+
+/// Reads the word of a call that is for no object.
+fn start_of(word: &str) -> Result<Start, LineFault> {
+    match word {
+        "borrow" => Ok(Start::Borrow),
+        "add" => Ok(Start::Add),
+        "fill" => Ok(Start::Fill),
+        "evict" => Ok(Start::Evict),
+        "reclaim" => Ok(Start::Reclaim),
+        "clear" => Ok(Start::Clear),
+        "close" => Ok(Start::Close),
+        _ => Err(LineFault::NotACommand),
+    }
+}
+
+/// Reads the word of a call for an object and its token.
+fn start_with_object(word: &str, id: u64, token: u64) -> Result<Start, LineFault> {
+    match word {
+        "return" => Ok(Start::Return { id, token }),
+        "invalidate" => Ok(Start::Invalidate { id, token }),
+        "detach" => Ok(Start::Detach { id, token }),
+        _ => Err(LineFault::NotACommand),
+    }
 }
 
 /// Reads a report of one word.

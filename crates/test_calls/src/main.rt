@@ -4,16 +4,19 @@
 //! PASSIVATES`: the number of times that a call that waits is overtaken at most, and `yes` or `no` for each hook of the
 //! factory. Each further line is a command:
 //!
-//! - `borrow SLOT CALLER AT` and `return SLOT CALLER AT ID TOKEN` begin a call in one of the slots 0 to 15.
+//! - `borrow SLOT CALLER AT` begins a call in one of the slots 0 to 15. So do `add`, `fill`, `evict`, `reclaim`, `clear`
+//!   and `close`; and `return SLOT CALLER AT ID TOKEN`, `invalidate` and `detach`; and `touch SLOT CALLER AT ID`.
 //! - `report SLOT CALLER AT REPORT` goes on with it. The report is `go-on`, `made TOKEN`, `succeeded`, `failed`,
 //!   `woken`, `room-made`, `no-room` or `given-up`.
 //! - `cut` cuts the journal, and `journal` prints it.
 //!
 //! The answer to a call begins with its next action: `step`, `make-room`, `make ID`, one of `activate`, `validate`,
 //! `passivate` and `destroy` with `ID TOKEN`, `sleep TICKET UNTIL`, `done lent ID TOKEN` or `done END`. It begins with
-//! `misfit` if the report does not fit. A line `low` follows if the journal is to be cut soon. The answer to `cut` and
-//! `journal` begins with that word and the number of entries; the entries of the journal follow. Each answer then has a
-//! line `wake TICKET` for each call to wake, and ends with `counts IDLE LENT RESERVED WAITING`.
+//! `misfit` if the report does not fit. If the call is one over several objects, what it has come to follows: `made N` of a
+//! fill, `examined N` and `destroyed N` of an eviction, `reclaimed N`, and `destroyed N` of a clear or a close. A line
+//! `low` follows if the journal is to be cut soon. The answer to `cut` and `journal` begins with that word and the number
+//! of entries; the entries of the journal follow. Each answer then has a line `wake TICKET` for each call to wake, and ends
+//! with `counts IDLE LENT RESERVED WAITING`.
 //!
 //! The status is 0. It is 2 for an error of the script, and 3 for an error of a stream or of memory. One line on
 //! standard error reports the error.
@@ -28,7 +31,7 @@ mod script;
 use command::Command;
 use fault::Fault;
 use player::Player;
-use printing::{write_counts, write_cut, write_effects, write_journal, write_wakes};
+use printing::{write_counts, write_cut, write_journal, write_progress, write_wakes};
 use script::Script;
 use std::alloc::Global;
 use std::io::{self, BufWriter, Read, Write};
@@ -56,8 +59,8 @@ fn play(rt: &HostRuntime) -> Result<(), Fault> {
 /// Opens the pool of the first lines of a script.
 fn open<R: Read + Drop>(alloc: Global, script: &mut Script<R>) -> Result<Player, Fault> {
     let settings = script.settings(alloc)?;
-    let setup = script.setup(alloc)?;
-    Ok(Player::open(alloc, settings, &setup)?)
+    let options = script.options(alloc)?;
+    Ok(Player::open(alloc, settings, options)?)
 }
 
 /// Plays the commands of a script, and answers each before the next is read.
@@ -88,11 +91,11 @@ fn play_one<R: Read + Drop, W: Write>(
 ) -> Result<(), Fault> {
     match command {
         Command::Begin(turn, start) => match player.begin(&turn, &start) {
-            Ok(effects) => write_effects(out, effects)?,
+            Ok(progress) => write_progress(out, progress)?,
             Err(fault) => return Err(script.fault(fault)),
         },
         Command::Report(turn, report) => match player.report(&turn, report) {
-            Ok(effects) => write_effects(out, effects)?,
+            Ok(progress) => write_progress(out, progress)?,
             Err(fault) => return Err(script.fault(fault)),
         },
         Command::Cut => write_cut(out, player.cut(alloc)?)?,

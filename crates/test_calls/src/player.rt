@@ -1,9 +1,9 @@
 //! A pool, and the calls that a script plays.
 
-use crate::command::{Setup, Start, Turn};
+use crate::command::{Start, Turn};
 use crate::fault::LineFault;
-use pool_calls::Action;
-use pool_driver::{Call, DrivenPool, Effects, Report};
+use pool_calls::{Action, Operation};
+use pool_driver::{Call, DrivenPool, Effects, Options, Report};
 use pool_settings::Settings;
 use std::alloc::{AllocError, Global};
 
@@ -17,6 +17,13 @@ struct Begun {
     is_over: bool,
 }
 
+/// What the host of a call does next, and what the call has come to.
+#[derive(Clone, Copy)]
+pub(crate) struct Progress {
+    pub(crate) effects: Effects,
+    pub(crate) operation: Operation,
+}
+
 /// A pool with its calls, at most one in a slot.
 #[derive(Drop)]
 pub(crate) struct Player {
@@ -28,10 +35,10 @@ impl Player {
     pub(crate) fn open(
         alloc: Global,
         settings: Settings,
-        setup: &Setup,
+        options: Options,
     ) -> Result<Player, AllocError> {
         Ok(Player {
-            pool: DrivenPool::open(alloc, settings, setup.hooks, setup.max_overtakes)?,
+            pool: DrivenPool::open(alloc, settings, options)?,
             slots: [None; SLOTS],
         })
     }
@@ -41,7 +48,7 @@ impl Player {
         &mut self,
         turn: &Turn,
         start: &Start,
-    ) -> Result<Option<Effects>, LineFault> {
+    ) -> Result<Option<Progress>, LineFault> {
         self.check_free(turn.slot)?;
         let call = self.call_of(turn, start);
         self.put(
@@ -59,6 +66,15 @@ impl Player {
         match *start {
             Start::Borrow => self.pool.borrow(turn.at),
             Start::Return { id, token } => self.pool.give_back(id, token),
+            Start::Invalidate { id, token } => self.pool.invalidate(id, token),
+            Start::Detach { id, token } => self.pool.detach(id, token),
+            Start::Touch { id } => self.pool.touch(id),
+            Start::Add => self.pool.add(),
+            Start::Fill => self.pool.fill(),
+            Start::Evict => self.pool.evict(),
+            Start::Reclaim => self.pool.reclaim(),
+            Start::Clear => self.pool.clear(),
+            Start::Close => self.pool.close(),
         }
     }
 
@@ -79,16 +95,20 @@ impl Player {
         &mut self,
         turn: &Turn,
         report: Report,
-    ) -> Result<Option<Effects>, LineFault> {
+    ) -> Result<Option<Progress>, LineFault> {
         let mut begun = self.begun_in(turn.slot)?;
         let effects = self
             .pool
             .advance(&mut begun.call, turn.caller, turn.at, report);
-        if let Some(effects) = effects {
-            begun.is_over = matches!(effects.action, Action::Done(_));
-        }
+        let Some(effects) = effects else {
+            return Ok(None);
+        };
+        begun.is_over = matches!(effects.action, Action::Done(_));
         self.put(turn.slot, begun);
-        Ok(effects)
+        Ok(Some(Progress {
+            effects,
+            operation: begun.call.operation(),
+        }))
     }
 
     fn begun_in(&self, slot: usize) -> Result<Begun, LineFault> {

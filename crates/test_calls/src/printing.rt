@@ -1,6 +1,7 @@
 //! The lines of an answer.
 
-use pool_calls::{Action, End, StepFailure};
+use crate::player::Progress;
+use pool_calls::{Action, End, Operation, StepFailure};
 use pool_driver::{DrivenPool, Effects};
 use pool_journal::{Entry, print_entry};
 use std::alloc::Global;
@@ -8,15 +9,34 @@ use std::io;
 use std::io::Write;
 
 /// Writes what the host of a call does next, or that its report does not fit.
-pub(crate) fn write_effects<W: Write>(out: &mut W, effects: Option<Effects>) -> io::Result<()> {
-    let Some(effects) = effects else {
+pub(crate) fn write_progress<W: Write>(out: &mut W, progress: Option<Progress>) -> io::Result<()> {
+    let Some(progress) = progress else {
         return out.write_all(b"misfit\n");
     };
-    write_action(out, &effects)?;
-    if effects.is_low {
+    write_action(out, &progress.effects)?;
+    write_tally(out, progress.operation)?;
+    if progress.effects.is_low {
         out.write_all(b"low\n")?;
     }
     Ok(())
+}
+
+/// Writes what a call over several objects has come to.
+fn write_tally<W: Write>(out: &mut W, operation: Operation) -> io::Result<()> {
+    match operation {
+        Operation::Fill(call) => write_number(out, "made", call.parked()),
+        Operation::Evict(call) => {
+            write_number(out, "examined", call.examined())?;
+            write_number(out, "destroyed", call.destroyed())
+        }
+        Operation::Reclaim(call) => write_number(out, "reclaimed", call.reclaimed()),
+        Operation::Clear(call) => write_number(out, "destroyed", call.destroyed()),
+        _ => Ok(()),
+    }
+}
+
+fn write_number<W: Write>(out: &mut W, word: &str, number: u64) -> io::Result<()> {
+    writeln!(out, "{word} {number}")
 }
 
 fn write_action<W: Write>(out: &mut W, effects: &Effects) -> io::Result<()> {

@@ -1,7 +1,8 @@
 //! The lines of a script.
 
-use crate::command::{Command, Setup, command_of, setup_of};
+use crate::command::{Command, command_of, options_of};
 use crate::fault::{Fault, LineFault};
+use pool_driver::Options;
 use pool_settings::Settings;
 use std::alloc::Global;
 use std::io::{BufRead, BufReader, Read};
@@ -50,11 +51,11 @@ impl<R: Read + Drop> Script<R> {
     }
 
     /// Reads the line of the pool.
-    pub(crate) fn setup(&mut self, alloc: Global) -> Result<Setup, Fault> {
+    pub(crate) fn options(&mut self, alloc: Global) -> Result<Options, Fault> {
         let _ = self.next_line()?;
         let words: Vec<&str> = self.line.as_str().split_whitespace().collect(alloc)?;
-        match setup_of(&words) {
-            Ok(setup) => Ok(setup),
+        match options_of(&words) {
+            Ok(options) => Ok(options),
             Err(fault) => Err(self.fault(fault)),
         }
     }
