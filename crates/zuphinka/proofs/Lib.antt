@@ -1,3 +1,5 @@
 mod Held
+pub mod Keeping
+pub mod Openings
 mod Pairs
 mod Sent

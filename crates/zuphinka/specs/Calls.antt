@@ -2,6 +2,7 @@
 use Rattle.std.specs.Prelude.{◌≡◌, ℕ, ◌+◌, true, false, if◌then◌else◌, List, [], ◌∷◌, ◌++◌, length, Option, Some, None, IsSomeAnd, Ok, Err, IsUtf8}
 use Rattle.pool_settings.specs.Answer.{settings_of_text, IsAnswer}
 use Rattle.pool_settings.specs.declared.fault.SettingsFault.{SettingsFault}
+use Rattle.pool_settings.specs.declared.settings.Settings.{Settings}
 use Rattle.pool_journal.specs.Base.{empty_base, closed_from, records_from, base_after}
 use Rattle.pool_journal.specs.Carrying.{carries}
 use Rattle.pool_journal.specs.declared.answer.Answer.{Answer}
@@ -16,8 +17,12 @@ use Rattle.pool_core.specs.Legal.{IsLegalFrom, expected_entry_from}
 use Rattle.pool_core.specs.Pool.{CoreModel}
 use Rattle.pool_core.specs.Reply.{reply_from}
 use Rattle.pool_core.specs.Steps.{keeps_value}
+use Rattle.pool_driver.specs.Driving as driver
 use Rattle.zuphinka.specs.Codes.{input_of, reply_of}
 use Rattle.zuphinka.specs.Lines.{TextTo, entry_line, base_line}
+use Rattle.zuphinka.specs.Opening.{OpenModel, options_of}
+use Rattle.zuphinka.specs.Tables.{IsEmpty}
+use Rattle.zuphinka.specs.declared.pool_options.PoolOptions.{PoolOptions}
 use Rattle.zuphinka.specs.Status.{status_code, fault_status}
 use Rattle.zuphinka.specs.declared.status.Status.{Status}
 use Rattle.zuphinka.specs.declared.status.Status.TheVariants.{Done, NotOpen, AlreadyOpen, OutOfMemory, JournalFull, BadRequest, NotText}
@@ -54,6 +59,24 @@ OpensTo text new s = HasFault text s × (new ≡ None)
 abbrev pub Opens : List ℕ → Held → Held → Status → Type 0
 Opens text None new s = OpensTo text new s
 Opens text (Some pool) new s = (s ≡ AlreadyOpen) × (new ≡ Some pool)
+
+-- the pool is new, with the settings of the text and these options, and without calls
+pub record OpenedWith (text : List ℕ) (options : PoolOptions) (pool : OpenModel) : Type 0 where
+  pub settings : Settings
+  pub read : settings_of_text text ≡ Ok settings
+  pub driven : driver.Opened settings (options_of options) pool.driven
+  pub number : pool.number ≡ options.pool
+  pub calls : IsEmpty pool.calls
+
+-- the result of opening an empty handle with options
+abbrev pub OpensWithTo : List ℕ → PoolOptions → Option OpenModel → Status → Type 0
+OpensWithTo text options new Done = IsSomeAnd new (OpenedWith text options)
+OpensWithTo text options new NotText = ¬ (IsUtf8 text) × (new ≡ None)
+OpensWithTo text options new s = HasFault text s × (new ≡ None)
+
+abbrev pub OpensWith : List ℕ → PoolOptions → Option OpenModel → Option OpenModel → Status → Type 0
+OpensWith text options None new s = OpensWithTo text options new s
+OpensWith text options (Some pool) new s = (s ≡ AlreadyOpen) × (new ≡ Some pool)
 
 -- ---- step
 

@@ -1,7 +1,11 @@
+pub mod CallCodes
+pub mod Calling
 pub mod Calls
 pub mod Codes
 pub mod Counting
 pub mod Holding
 pub mod Lines
+pub mod Opening
 pub mod Setting
 pub mod Status
+pub mod Tables

@@ -1,10 +1,10 @@
-ghost use Rattle.std.specs.Prelude.{◌≡◌, ℕ, Option, Some, None};
+ghost use Rattle.std.specs.Prelude.{◌≡◌, Option, Some, None};
 ghost use Rattle.std.specs.Option.{option_map, MatchOption};
-ghost use Rattle.pool_core.specs.Pool.{CoreModel};
+ghost use Rattle.zuphinka.specs.Opening.{OpenModel};
 ghost use Rattle.zuphinka.specs.Holding.{holds, pool_code};
 
+use crate::open_pool::OpenPool;
 use crate::parts::Parts;
-use pool_core::Core;
 use std::alloc::Global;
 use std::marker::{Model, Send};
 use std::mem;
@@ -15,11 +15,11 @@ use std::ptr::null_mut;
 pub struct Handle {
     at: *mut u8,
     alloc: Global,
-    pub ghost core: { Option (CoreModel ℕ) } by { pool_code },
+    pub ghost held: { Option OpenModel } by { pool_code },
 }
 
 impl Model for Handle {
-    ghost also_owns = { λ h. holds h.alloc h.at h.core };
+    ghost also_owns = { λ h. holds h.alloc h.at h.held };
 }
 
 // C may call from another thread than before, if the host orders the calls.
@@ -35,7 +35,7 @@ fn sendable<T: Send>(value: T) -> T
 impl Handle {
     // Returns a handle of no pool.
     fn empty(alloc: Global) -> Handle
-        ensures { result.core ≡ None }
+        ensures { result.held ≡ None }
     {
         Handle {
             at: null_mut(),
@@ -43,8 +43,8 @@ impl Handle {
         }
     }
 
-    fn from_parts(parts: Parts<Core<u64>, Global>) -> Handle
-        ensures { result.core ≡ Some parts.value }
+    fn from_parts(parts: Parts<OpenPool, Global>) -> Handle
+        ensures { result.held ≡ Some parts.value }
     {
         let Parts { at, alloc } = parts;
         Handle {
@@ -53,25 +53,25 @@ impl Handle {
         }
     }
 
-    fn into_parts(self) -> Option<Parts<Core<u64>, Global>>
-        ensures { option_map (λ p. p.value) result ≡ self.core }
+    fn into_parts(self) -> Option<Parts<OpenPool, Global>>
+        ensures { option_map (λ p. p.value) result ≡ self.held }
     {
         let Handle { at, alloc } = self;
         if at.is_null() {
             None
         } else {
             Some(Parts {
-                at: at as *mut Core<u64>,
+                at: at as *mut OpenPool,
                 alloc,
             })
         }
     }
 
     /// Takes the pool out of the handle, which is then empty. Returns `None` if there is none.
-    pub fn take(&mut self, alloc: Global) -> Option<Box<Core<u64>>>
-        ensures taken { MatchOption result (self.old.core ≡ None)
-            (λ b. self.old.core ≡ Some b.value) }
-        ensures empty { self.new.core ≡ None }
+    pub fn take(&mut self, alloc: Global) -> Option<Box<OpenPool>>
+        ensures taken { MatchOption result (self.old.held ≡ None)
+            (λ b. self.old.held ≡ Some b.value) }
+        ensures empty { self.new.held ≡ None }
     {
         match mem::replace(self, Handle::empty(alloc)).into_parts() {
             Some(parts) => Some(parts.into_box()),
@@ -80,11 +80,11 @@ impl Handle {
     }
 
     /// Puts a pool into an empty handle.
-    pub fn put(&mut self, core: Box<Core<u64>>)
-        requires empty { self.old.core ≡ None }
-        ensures put { self.new.core ≡ Some core.value }
+    pub fn put(&mut self, pool: Box<OpenPool>)
+        requires empty { self.old.held ≡ None }
+        ensures put { self.new.held ≡ Some pool.value }
     {
-        let before = mem::replace(self, sendable(Handle::from_parts(Parts::of(core))));
+        let before = mem::replace(self, sendable(Handle::from_parts(Parts::of(pool))));
         if let Some(parts) = before.into_parts() {
             drop(parts.into_box());
         }

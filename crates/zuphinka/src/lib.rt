@@ -2,27 +2,44 @@
 #![tactic(auto)]
 
 ghost use Rattle.std.specs.Prelude.{◌≡◌, None, IsSomeAnd};
-ghost use Rattle.zuphinka.specs.Calls.{Came, Opens, Steps, IsCompleting, Reads, TellsSteps, TellsRoom, Lines, BaseLines, Cuts};
+ghost use Rattle.zuphinka.specs.Calling.{AdvancesIn, BeginsIn, ReadsState, WakesIn};
+ghost use Rattle.zuphinka.specs.Calls.{Came, Opens, OpensWith, Steps, IsCompleting, Reads, TellsSteps, TellsRoom, Lines, BaseLines, Cuts};
 ghost use Rattle.zuphinka.specs.Counting.{ReportsCounts};
+ghost use Rattle.zuphinka.specs.Opening.{KeepsCalls, core_in, no_options};
 ghost use Rattle.zuphinka.specs.Setting.{SetsTo};
 ghost use Rattle.zuphinka.specs.Status.{status_code};
 ghost use Rattle.zuphinka.specs.declared.status.Status.TheVariants.{Done};
 
+mod call_effects;
+mod call_name;
+mod event;
 mod handle;
 mod lines;
+mod open_pool;
 mod parts;
 mod pool;
+mod pool_options;
+mod pool_state;
 mod reply;
 mod request;
 mod setup;
+mod starting;
 mod status;
+mod stored;
+mod table;
 mod tally;
 
+use call_effects::CallEffects;
+use call_name::CallName;
+use event::CallEvent;
 use handle::Handle;
+use pool_options::PoolOptions;
 use pool_settings::Settings;
+use pool_state::PoolState;
 use reply::Reply;
 use request::Request;
 use setup::{Setup, put_key};
+use starting::CallStart;
 use status::{Status, status_of};
 use std::alloc::Global;
 use std::str;
@@ -67,22 +84,11 @@ pub extern "C" fn zuphinka_settings(
 /// Opens a pool in an empty handle, with settings from a text.
 #[unsafe(no_mangle)]
 pub extern "C" fn zuphinka_open(alloc: Global, pool: &mut Handle, settings: &[u8]) -> u32
-    ensures { Came result (Opens settings.now pool.old.core pool.new.core) }
+    ensures opens { Came result (Opens settings.now (core_in pool.old.held)
+        (core_in pool.new.held)) }
+    ensures options { Came result (OpensWith settings.now no_options pool.old.held pool.new.held) }
 {
-    if let Some(core) = pool.take(alloc) {
-        pool.put(core);
-        return Status::AlreadyOpen.code();
-    }
-    let Ok(text) = str::from_utf8(settings) else {
-        return Status::NotText.code();
-    };
-    match pool::open(alloc, text) {
-        Ok(core) => {
-            pool.put(core);
-            Status::Done.code()
-        }
-        Err(status) => status.code(),
-    }
+    pool::open_in(alloc, pool, settings, &PoolOptions::none()).code()
 }
 
 /// Stores the expected answer to `request` in `reply`, and appends exactly one entry, which records it.
@@ -93,55 +99,59 @@ pub extern "C" fn zuphinka_step(
     request: &Request,
     reply: &mut Reply,
 ) -> u32
-    ensures status { Came result (Steps request.now pool.old.core pool.new.core reply.old
+    ensures status { Came result (Steps request.now (core_in pool.old.held) (core_in pool.new.held) reply.old
         reply.new) }
-    ensures completing { IsSomeAnd pool.old.core (IsCompleting request.now)
+    ensures completing { IsSomeAnd (core_in pool.old.held) (IsCompleting request.now)
         → result ≡ status_code Done }
+    ensures rest { KeepsCalls pool.old.held pool.new.held }
 {
-    let Some(mut core) = pool.take(alloc) else {
+    let Some(mut held) = pool.take(alloc) else {
         return Status::NotOpen.code();
     };
-    let status = pool::step(&mut *core, request, reply);
-    pool.put(core);
+    let status = pool::step(&mut *held, request, reply);
+    pool.put(held);
     status.code()
 }
 
 /// Stores the counts in `counts`.
 #[unsafe(no_mangle)]
 pub extern "C" fn zuphinka_counts(alloc: Global, pool: &mut Handle, counts: &mut Tally) -> u32
-    ensures { Reads ReportsCounts pool.old.core pool.new.core counts.old counts.new result }
+    ensures reads { Reads ReportsCounts (core_in pool.old.held) (core_in pool.new.held) counts.old counts.new result }
+    ensures same { pool.new.held ≡ pool.old.held }
 {
-    let Some(core) = pool.take(alloc) else {
+    let Some(held) = pool.take(alloc) else {
         return Status::NotOpen.code();
     };
-    *counts = Tally::of(core.counts());
-    pool.put(core);
+    *counts = Tally::of(held.core().counts());
+    pool.put(held);
     Status::Done.code()
 }
 
 /// Stores in `steps` the number of entries in the journal, since its last cut.
 #[unsafe(no_mangle)]
 pub extern "C" fn zuphinka_steps(alloc: Global, pool: &mut Handle, steps: &mut u64) -> u32
-    ensures { Reads TellsSteps pool.old.core pool.new.core steps.old steps.new result }
+    ensures reads { Reads TellsSteps (core_in pool.old.held) (core_in pool.new.held) steps.old steps.new result }
+    ensures same { pool.new.held ≡ pool.old.held }
 {
-    let Some(core) = pool.take(alloc) else {
+    let Some(held) = pool.take(alloc) else {
         return Status::NotOpen.code();
     };
-    *steps = core.journal().len() as u64;
-    pool.put(core);
+    *steps = held.core().journal().len() as u64;
+    pool.put(held);
     Status::Done.code()
 }
 
 /// Stores in `room` the number of entries that still fit into the journal, besides the outstanding ones.
 #[unsafe(no_mangle)]
 pub extern "C" fn zuphinka_room(alloc: Global, pool: &mut Handle, room: &mut u64) -> u32
-    ensures { Reads TellsRoom pool.old.core pool.new.core room.old room.new result }
+    ensures reads { Reads TellsRoom (core_in pool.old.held) (core_in pool.new.held) room.old room.new result }
+    ensures same { pool.new.held ≡ pool.old.held }
 {
-    let Some(core) = pool.take(alloc) else {
+    let Some(held) = pool.take(alloc) else {
         return Status::NotOpen.code();
     };
-    *room = core.room();
-    pool.put(core);
+    *room = held.core().room();
+    pool.put(held);
     Status::Done.code()
 }
 
@@ -154,14 +164,15 @@ pub extern "C" fn zuphinka_line(
     text: &mut [u8],
     size: &mut u64,
 ) -> u32
-    ensures { Came result (Lines position pool.old.core pool.new.core text.old text.new size.old
+    ensures text { Came result (Lines position (core_in pool.old.held) (core_in pool.new.held) text.old text.new size.old
         size.new) }
+    ensures same { pool.new.held ≡ pool.old.held }
 {
-    let Some(core) = pool.take(alloc) else {
+    let Some(held) = pool.take(alloc) else {
         return Status::NotOpen.code();
     };
-    let status = lines::put_entry(alloc, core.journal(), position, text, size);
-    pool.put(core);
+    let status = lines::put_entry(alloc, held.core().journal(), position, text, size);
+    pool.put(held);
     status.code()
 }
 
@@ -175,34 +186,116 @@ pub extern "C" fn zuphinka_base(
     text: &mut [u8],
     size: &mut u64,
 ) -> u32
-    ensures { Came result (BaseLines position pool.old.core pool.new.core text.old text.new size.old
+    ensures text { Came result (BaseLines position (core_in pool.old.held) (core_in pool.new.held) text.old text.new size.old
         size.new) }
+    ensures same { pool.new.held ≡ pool.old.held }
 {
-    let Some(core) = pool.take(alloc) else {
+    let Some(held) = pool.take(alloc) else {
         return Status::NotOpen.code();
     };
-    let status = lines::put_base(alloc, core.base(), position, text, size);
-    pool.put(core);
+    let status = lines::put_base(alloc, held.core().base(), position, text, size);
+    pool.put(held);
     status.code()
 }
 
 /// Cuts the journal: drops the stored entries, and continues from the state after them.
 #[unsafe(no_mangle)]
 pub extern "C" fn zuphinka_cut(alloc: Global, pool: &mut Handle) -> u32
-    ensures { Came result (Cuts pool.old.core pool.new.core) }
+    ensures cuts { Came result (Cuts (core_in pool.old.held) (core_in pool.new.held)) }
+    ensures rest { KeepsCalls pool.old.held pool.new.held }
 {
-    let Some(mut core) = pool.take(alloc) else {
+    let Some(mut held) = pool.take(alloc) else {
         return Status::NotOpen.code();
     };
-    let status = pool::cut(alloc, &mut *core);
-    pool.put(core);
+    let status = pool::cut(alloc, &mut *held);
+    pool.put(held);
     status.code()
 }
 
 /// Ends a pool. The handle is then empty.
 #[unsafe(no_mangle)]
 pub extern "C" fn zuphinka_drop(alloc: Global, pool: &mut Handle)
-    ensures { pool.new.core ≡ None }
+    ensures { pool.new.held ≡ None }
 {
     drop(pool.take(alloc));
+}
+
+/// Opens a pool in an empty handle, with settings from a text, and with options.
+#[unsafe(no_mangle)]
+pub extern "C" fn zuphinka_open_with(
+    alloc: Global,
+    pool: &mut Handle,
+    settings: &[u8],
+    options: &PoolOptions,
+) -> u32
+    ensures { Came result (OpensWith settings.now options.now pool.old.held pool.new.held) }
+{
+    pool::open_in(alloc, pool, settings, options).code()
+}
+
+/// Begins a call, takes its first steps, and stores in `effects` what the host does next. The call is in progress under
+/// the name that is stored in `call`, unless it is over.
+#[unsafe(no_mangle)]
+pub extern "C" fn zuphinka_begin(
+    alloc: Global,
+    pool: &mut Handle,
+    start: &CallStart,
+    call: &mut CallName,
+    effects: &mut CallEffects,
+) -> u32
+    ensures { Came result (BeginsIn start.now pool.old.held pool.new.held call.old call.new
+        effects.old effects.new) }
+{
+    let Some(mut held) = pool.take(alloc) else {
+        return Status::NotOpen.code();
+    };
+    let status = held.begin(start, call, effects);
+    pool.put(held);
+    status.code()
+}
+
+/// Goes on with a call in progress after a report, and stores in `effects` what the host does next.
+#[unsafe(no_mangle)]
+pub extern "C" fn zuphinka_advance(
+    alloc: Global,
+    pool: &mut Handle,
+    call: &CallName,
+    event: &CallEvent,
+    effects: &mut CallEffects,
+) -> u32
+    ensures { Came result (AdvancesIn event.now call.now pool.old.held pool.new.held effects.old
+        effects.new) }
+{
+    let Some(mut held) = pool.take(alloc) else {
+        return Status::NotOpen.code();
+    };
+    let status = held.advance(call, event, effects);
+    pool.put(held);
+    status.code()
+}
+
+/// Stores in `ticket` the ticket of the next call to wake, if there is one.
+#[unsafe(no_mangle)]
+pub extern "C" fn zuphinka_next_wake(alloc: Global, pool: &mut Handle, ticket: &mut u64) -> u32
+    ensures { Came result (WakesIn pool.old.held pool.new.held ticket.old ticket.new) }
+{
+    let Some(mut held) = pool.take(alloc) else {
+        return Status::NotOpen.code();
+    };
+    let status = held.next_wake(ticket);
+    pool.put(held);
+    status.code()
+}
+
+/// Stores in `state` what is true of the pool besides its counts.
+#[unsafe(no_mangle)]
+pub extern "C" fn zuphinka_state(alloc: Global, pool: &mut Handle, state: &mut PoolState) -> u32
+    ensures { ReadsState pool.old.held pool.new.held state.old state.new result }
+{
+    let Some(held) = pool.take(alloc) else {
+        return Status::NotOpen.code();
+    };
+    *state = held.state();
+    pool.put(held);
+    Status::Done.code()
 }

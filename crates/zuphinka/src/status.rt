@@ -32,6 +32,12 @@ pub(crate) enum Status {
     WrongType,
     /// The number of the key is out of its range.
     OutOfRange,
+    /// The pool has no such call in progress.
+    NoCall,
+    /// The report does not fit the call's last action.
+    Misfit,
+    /// No call is to be woken.
+    NoWake,
 }
 
 impl Status {
@@ -52,6 +58,9 @@ impl Status {
             Status::UnknownKey => 10,
             Status::WrongType => 11,
             Status::OutOfRange => 12,
+            Status::NoCall => 13,
+            Status::Misfit => 14,
+            Status::NoWake => 15,
         }
     }
 }

@@ -41,4 +41,4 @@ empty_spec 𝓤 𝓛 𝓜 𝓡 wired =
     sets ! (agg ! (and_then ! (lit ! tt) (and_then ! (get ! refl) (no_more !)))) refl made $
     use0 𝓛 (raw (fact 𝓤 (None ≡ None))) (fact_i 𝓤 (None ≡ None) (emp 𝓤) refl) $ nothing ! $ nothing ! $ fjoin ! $
     returns ! (look_at ! 0 refl) $ free_all ! refl $ keep ! (4 ∷ 0 ∷ 2 ∷ 1 ∷ []) $
-    by ! (leaves 𝓛 ended hs c z (word null_ptr h) (record { at = null_ptr; alloc = x; core = None }) (tt, tt) (tt, tt)))))
+    by ! (leaves 𝓛 ended hs c z (word null_ptr h) (record { at = null_ptr; alloc = x; held = None }) (tt, tt) (tt, tt)))))

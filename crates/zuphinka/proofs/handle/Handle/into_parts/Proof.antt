@@ -24,9 +24,8 @@ use Rattle.std.specs.contracts.alloc.Global as heap
 use Rattle.std.proofs.alloc.Global.TheLaws as heap_laws
 use Rattle.zuphinka.proofs.Pairs.{word, ptr_good, word_good, apart, joined}
 use Rattle.zuphinka.specs.contracts.handle.Handle as handle
-use denote.Builtin.{u64}
 use Rattle.std.specs.contracts.impls.GlobalAllocator.TheImpl.{ghosts}
-use Rattle.pool_core.specs.contracts.pool.Core as core
+use Rattle.zuphinka.specs.contracts.open_pool.OpenPool as pools
 use Rattle.zuphinka.specs.contracts.parts.Parts as parts
 use mir.Val.{vcons, vnil}
 use types.Match.{live}
@@ -46,18 +45,18 @@ into_parts_spec 𝓤 𝓛 𝓜 𝓡 wired =
     proved_at 𝓛 ended hs c 𝓜 𝓡 (Goes-dropped 𝓛 0 (plain (λ _. From)) yes (λ κs x f. refl), tt) #self fn (code.unfolded 𝓤 H 𝓜 𝓡 wired) (λ z are.
     let x = z.0.3.0 in let Post : Val → SProp 𝓤 = (walk_of 𝓛 ended hs c).post z in let Run : List Val → SProp 𝓤 = λ ws. WpFn 𝓤 H 𝓣.C 𝓣.Λ fn ws Post in
     qed 𝓛 ((raw (alive 𝓛 ended.signature z.0.0 z.0.1) ⊛ ‵ (owns (types_at ended.signature.params z.0.0) z.0.3 z.0.4)) ∷ raw ((c z.0.0 z.0.3).requires z.1) ∷ []) ∵
-    let To : RattleType = parts.the_row (core.the_row u64) Z ghosts in let Out : RattleType = option.the_row To in
+    let To : RattleType = parts.the_row pools.the_row Z ghosts in let Out : RattleType = option.the_row To in
     split ! $ move ! (1 ∷ []) $ fsplit ! $ fsplit ! $
     -- [the fields; what is held; nothing; the tokens]
     apart Z LZ ! x.at x.alloc z.0.4.0 (λ h laid good. move ! (1 ∷ []) $
-    either ! x.alloc x.at x.core
+    either ! x.alloc x.at x.held
     (λ empty null. let w : Val = word null_ptr h in let none : Val = live 0 vnil in let small : Good (layout Out) none = (tt, (record { fits = lit< tt }, tt)) in
     suffices ! (Run (w ∷ [])) (subst (λ (us : List Val). ent 𝓤 (Run (w ∷ [])) (Run (us ++ []))) (sym (laid ∙ (λ i. word (null i) h ∷ []))) (id⊢ 𝓤 (Run (w ∷ [])))) $
     enter ! 𝓣.C 𝓣.Λ fn (w ∷ []) Post $ alloc_all ! (λ l. pass_all ! refl (word_good Z refl null_ptr h good, tt) $ let Ev = env fn.locals l in
     sets ! (of_opd ! (get_in ! (fld ! refl (stop !)) (sub ! 0 refl (whole !)))) refl (ptr_good null_ptr) $ sets ! (of_opd ! (get_in ! (fld ! refl (stop !)) (sub ! 1 refl (whole !)))) refl good $
     sets ! (bin ! (get ! refl) (lit ! tt) tt) refl (tt, tt) $ first ! $ branches ! (get ! refl)
     (λ _. sets_last ! (agg ! (and_then ! (lit ! tt) (no_more !))) refl small $ exec ! 𝓣.C 𝓣.Λ Ev (after 4 fn.body) (at_ret Ev Post) $ sets ! (of_opd ! (get ! refl)) refl small $
-    use0 𝓛 (‵ (Out.own_val None (none ∷ []))) (none_of 𝓛 To) $ use0 𝓛 (raw (fact 𝓤 (None ≡ x.core))) (fact_i 𝓤 (None ≡ x.core) (emp 𝓤) (sym empty)) $ nothing ! $ nothing ! $ fjoin ! $
+    use0 𝓛 (‵ (Out.own_val None (none ∷ []))) (none_of 𝓛 To) $ use0 𝓛 (raw (fact 𝓤 (None ≡ x.held))) (fact_i 𝓤 (None ≡ x.held) (emp 𝓤) (sym empty)) $ nothing ! $ nothing ! $ fjoin ! $
     -- [nothing; that there is none; the result; the allocator; nothing; the tokens]
     returns ! (look_at ! 0 refl) $ free_all ! refl $ keep ! (5 ∷ 0 ∷ 2 ∷ 1 ∷ []) $ by ! (leaves 𝓛 ended hs c z none None (tt, tt) (tt, tt)))
     (λ wrong. absurd wrong)))
@@ -72,5 +71,5 @@ into_parts_spec 𝓤 𝓛 𝓜 𝓡 wired =
     sets_last ! (agg ! (and_then ! (lit ! tt) (and_then ! (get ! refl) (no_more !)))) refl large $ exec ! 𝓣.C 𝓣.Λ Ev (after 4 fn.body) (at_ret Ev Post) $ sets ! (of_opd ! (get ! refl)) refl large $
     -- [the pool's memory; the allocator; nothing; the tokens]
     move ! (1 ∷ []) $ joined Z LZ ! p x.alloc h $ fjoin ! $ use1 𝓛 (‵ (Out.own_val (Some d) (some ∷ []))) (Some-of 𝓛 To d w) $
-    use0 𝓛 (raw (fact 𝓤 (Some pool ≡ x.core))) (fact_i 𝓤 (Some pool ≡ x.core) (emp 𝓤) (sym full)) $ nothing ! $ nothing ! $ fjoin ! $
+    use0 𝓛 (raw (fact 𝓤 (Some pool ≡ x.held))) (fact_i 𝓤 (Some pool ≡ x.held) (emp 𝓤) (sym full)) $ nothing ! $ nothing ! $ fjoin ! $
     returns ! (look_at ! 0 refl) $ free_all ! refl $ keep ! (4 ∷ 0 ∷ 2 ∷ 1 ∷ []) $ by ! (leaves 𝓛 ended hs c z some (Some d) (tt, tt) (tt, tt)))))))

@@ -1,0 +1,216 @@
+-- The calls in progress from C: what begins them, what follows a report, and what the host is told.
+use Rattle.std.specs.Prelude.{◌≡◌, ◌≢◌, ℕ, ◌+◌, if◌then◌else◌, max, not, Bool, true, false, List, [], Option, Some, None, is_some, unwrap_or, IsSome, IsSomeAnd, count_by, length}
+use Rattle.pool_journal.specs.Base.{closed_from}
+use Rattle.pool_journal.specs.declared.answer.Answer.{Answer}
+use Rattle.pool_journal.specs.declared.answer.Answer.TheVariants as answers
+use Rattle.pool_journal.specs.declared.input.Input.{Input}
+use Rattle.pool_journal.specs.declared.input.Input.TheVariants as inputs
+use Rattle.pool_journal.specs.declared.input.When.TheVariants as times
+use Rattle.pool_core.specs.Pool.{CoreModel}
+use Rattle.pool_core.specs.Reply.{reply_from}
+use Rattle.pool_calls.specs.ClearRules as clears
+use Rattle.pool_calls.specs.EvictRules as evicts
+use Rattle.pool_calls.specs.FillRules as fills
+use Rattle.pool_calls.specs.ReclaimRules as reclaims
+use Rattle.pool_calls.specs.Operations.{HasCome, IsRight, began_of, step_at}
+use Rattle.pool_calls.specs.Turns.{Turn, asks_room}
+use Rattle.pool_calls.specs.Waiting.{IsSettled, Signals}
+use Rattle.pool_calls.specs.declared.operation.Operation.{Operation}
+use Rattle.pool_calls.specs.declared.operation.Operation.TheVariants as operations
+use Rattle.pool_driver.specs.Driving.{DrivenModel, Begins, GoesFrom, IsTold, Moves, available_in, detaches, fits_report, is_done, is_low_in, told, until_of}
+use Rattle.pool_driver.specs.declared.call.Call.{Call}
+use Rattle.pool_driver.specs.declared.effects.Effects.{Effects}
+use Rattle.pool_driver.specs.declared.report.Report.{Report}
+use Rattle.pool_driver.specs.declared.report.Report.TheVariants as reports
+use Rattle.zuphinka.specs.CallCodes.{action_code, action_end, action_number, kind_at, report_of}
+use Rattle.zuphinka.specs.Opening.{OpenModel, call_at}
+use Rattle.zuphinka.specs.Tables.{HasSpare}
+use Rattle.zuphinka.specs.Status.{status_code}
+use Rattle.zuphinka.specs.declared.call_effects.CallEffects.{CallEffects}
+use Rattle.zuphinka.specs.declared.call_name.CallName.{CallName}
+use Rattle.zuphinka.specs.declared.event.CallEvent.{CallEvent}
+use Rattle.zuphinka.specs.declared.pool_state.PoolState.{PoolState}
+use Rattle.zuphinka.specs.declared.starting.CallStart.{CallStart}
+use Rattle.zuphinka.specs.declared.starting.Kind.{Kind}
+use Rattle.zuphinka.specs.declared.starting.Kind.TheVariants as kinds
+use Rattle.zuphinka.specs.declared.status.Status.{Status}
+use Rattle.zuphinka.specs.declared.status.Status.TheVariants.{Done, NotOpen, OutOfMemory, BadRequest, NoCall, Misfit, NoWake}
+
+-- ---- what the host is told
+-- the number of objects that a fill made, a removal reclaimed, an eviction run examined, or a clear or a close destroyed
+abbrev pub IsCount : Operation → ℕ → Type 0
+IsCount (operations.Fill c) n = (stage : fills.Stage) → fills.IsAt c.plan c.state stage → n ≡ fills.parked_of stage
+IsCount (operations.Evict c) n = (stage : evicts.Stage) → evicts.IsAt c.plan c.state stage → n ≡ (evicts.run_of stage).examined
+IsCount (operations.Reclaim c) n = (stage : reclaims.Stage) → reclaims.IsAt c.state stage → n ≡ reclaims.taken_of stage
+IsCount (operations.Clear c) n = (stage : clears.Stage) → clears.IsAt c.state stage → n ≡ clears.taken_of stage
+IsCount _ n = n ≡ 0
+
+-- the number of objects that an eviction run destroyed
+abbrev pub IsDestroyed : Operation → ℕ → Type 0
+IsDestroyed (operations.Evict c) n = (stage : evicts.Stage) → evicts.IsAt c.plan c.state stage → n ≡ (evicts.run_of stage).destroyed
+IsDestroyed _ n = n ≡ 0
+
+-- C reads these effects of a call, and the ticket to wake
+pub record IsReadAs (e : Effects) (op : Operation) (woken : Option ℕ) (out : CallEffects) : Type 0 where
+  pub number : out.number ≡ action_number e.action
+  pub object : out.object ≡ e.token
+  pub ticket : out.ticket ≡ unwrap_or e.ticket 0
+  pub until : out.until ≡ unwrap_or e.until 0
+  pub wake : out.wake ≡ unwrap_or woken 0
+  pub count : IsCount op out.count
+  pub destroyed : IsDestroyed op out.destroyed
+  pub action : out.action ≡ action_code e.action
+  pub end : out.end ≡ action_end e.action
+  pub has_ticket : out.has_ticket ≡ is_some e.ticket
+  pub has_until : out.has_until ≡ is_some e.until
+  pub has_wake : out.has_wake ≡ is_some woken
+  pub is_low : out.is_low ≡ e.is_low
+
+-- the next ticket to wake is signalled, or none is to be
+abbrev pub Wakes : DrivenModel → DrivenModel → Option ℕ → Type 0
+Wakes old new None = (new ≡ record old { queue = record old.queue { signalled = new.queue.signalled } }) × IsSettled (available_in old.core) new.queue
+Wakes old new (Some ticket) =
+    (new ≡ record old { queue = record old.queue { signalled = new.queue.signalled } }) × Signals (available_in old.core) old.queue new.queue ticket
+
+-- a call goes on after a report that fits what the host was asked to do, and C reads what it does next. A pool that drops its
+-- journal asks for room only while no entry is stored
+pub record GoesOn (caller at : ℕ) (report : Report) (old new : DrivenModel) (before after : Call) (out : CallEffects) (ends : Bool) : Type 0 where
+  pub effects : Effects
+  pub between : DrivenModel  -- before a call is woken
+  pub wake : Option ℕ
+  pub fits : fits_report report before.operation ≡ true
+  pub moves : Moves caller (max at old.last) old between (told report before) after
+  pub tells : (mid : Operation) × IsTold report old (max at old.last) before mid × GoesFrom (step_at mid) caller (max at old.last) old between (record before { operation = mid; token = (told report before).token }) after
+  pub last : between.last ≡ max at old.last
+  pub action : (turns : List Turn) → HasCome after.operation turns → IsRight after.operation turns effects.action
+  pub ended : is_done effects.action ≡ true → after.ticket ≡ None
+  pub token : effects.token ≡ after.token
+  pub ticket : effects.ticket ≡ after.ticket
+  pub until : effects.until ≡ until_of between.core.settings after.operation
+  pub room : asks_room effects.action ≡ true → old.drops ≡ true → between.core.journal ≡ []
+  pub low : effects.is_low ≡ is_low_in between.core
+  pub wakes : Wakes between new wake
+  pub read : IsReadAs effects after.operation wake out
+  pub over : ends ≡ is_done effects.action
+
+-- ---- begin
+-- the object is lent, by what is expected of its return or its invalidation
+abbrev pub ends_loan : Answer → Bool
+ends_loan (answers.Refused cause) = false
+ends_loan answers.Gone = false
+ends_loan _ = true
+
+-- a place is set aside for the call: one for each object that is lent, and one for the close
+abbrev pub is_set_aside : CoreModel ℕ → CallStart → Kind → Bool
+is_set_aside c s kinds.Return = ends_loan (reply_from c.settings c.base c.journal s.at (inputs.GiveBack s.id))
+is_set_aside c s kinds.Invalidate = ends_loan (reply_from c.settings c.base c.journal s.at (inputs.Invalidate s.id))
+is_set_aside c s kinds.Detach = ends_loan (reply_from c.settings c.base c.journal s.at (inputs.Invalidate s.id))
+is_set_aside c s kinds.Close = not (closed_from c.base c.journal)
+is_set_aside c s _ = false
+
+-- no place is left for the call, or none was set aside for it
+abbrev pub LacksPlace : CallStart → OpenModel → Type 0
+LacksPlace start p = (kind : Kind) → kind_at start.kind ≡ Some kind → HasSpare p.calls → is_set_aside p.driven.core start kind ≡ false
+
+-- it begins with this step, and has this token
+abbrev pub Asks : Call → Input → ℕ → Type 0
+Asks c input token = (step_at c.operation ≡ Some input) × (c.token ≡ token)
+
+-- the call is what its start says
+abbrev pub IsKind : CallStart → ℕ → Kind → Call → Type 0
+IsKind s last kinds.Borrow c = began_of c.operation ≡ Some (max s.at last)
+IsKind s last kinds.Return c = Asks c (inputs.GiveBack s.id) s.object
+IsKind s last kinds.Invalidate c = Asks c (inputs.Invalidate s.id) s.object × (detaches c.operation ≡ false)
+IsKind s last kinds.Detach c = Asks c (inputs.Invalidate s.id) s.object × (detaches c.operation ≡ true)
+IsKind s last kinds.Touch c = step_at c.operation ≡ Some (inputs.Use s.id)
+IsKind s last kinds.Add c = step_at c.operation ≡ Some inputs.Add
+IsKind s last kinds.Fill c = step_at c.operation ≡ Some inputs.Fill
+IsKind s last kinds.Evict c = step_at c.operation ≡ Some inputs.Evict
+IsKind s last kinds.Reclaim c = step_at c.operation ≡ Some (inputs.Reclaim times.Maintain)
+IsKind s last kinds.Clear c = step_at c.operation ≡ Some inputs.Clear
+IsKind s last kinds.Close c = step_at c.operation ≡ Some inputs.Close
+
+-- the pool is the same but for the memory of its table
+abbrev pub SameButSpare : OpenModel → OpenModel → Type 0
+SameButSpare old new = new ≡ record old { calls = record old.calls { spare = new.calls.spare } }
+
+-- the table has what became of a call, exactly if it is not over, and each call with another number as before
+pub record Keeps (old new : OpenModel) (name : CallName) (over : Bool) (call : Call) : Type 0 where
+  pub number : new.number ≡ old.number
+  pub stored : call_at new name ≡ (if over then None else Some call)
+  pub others : (other : CallName) → other.number ≢ name.number → call_at new other ≡ call_at old other
+
+-- a call of this kind has begun, with the next number
+pub record Began (start : CallStart) (old new : OpenModel) (name : CallName) (out : CallEffects) (kind : Kind) : Type 0 where
+  pub first : Call
+  pub begins : Begins old.driven.plan first
+  pub is : IsKind start old.driven.last kind first
+  pub call : Call
+  pub over : Bool
+  pub goes : GoesOn start.caller start.at reports.GoOn old.driven new.driven first call out over
+  pub pool : name.pool ≡ old.number
+  pub next : name.number ≡ old.calls.begun
+  pub begun : new.calls.begun ≡ old.calls.begun + 1
+  pub free : call_at old name ≡ None
+  pub keeps : Keeps old new name over call
+
+-- the result of beginning a call of an open pool
+abbrev pub BeginsTo : CallStart → OpenModel → OpenModel → CallName → CallName → CallEffects → CallEffects → Status → Type 0
+BeginsTo start old new name name' out out' Done = IsSomeAnd (kind_at start.kind) (Began start old new name' out')
+BeginsTo start old new name name' out out' BadRequest = (kind_at start.kind ≡ None) × (new ≡ old) × (name' ≡ name) × (out' ≡ out)
+BeginsTo start old new name name' out out' OutOfMemory = LacksPlace start old × SameButSpare old new × (name' ≡ name) × (out' ≡ out)
+BeginsTo start old new name name' out out' _ = ⊥
+
+-- ---- advance
+-- a call in progress went on after a report
+pub record Advanced (event : CallEvent) (name : CallName) (old new : OpenModel) (out : CallEffects) (before : Call) : Type 0 where
+  pub report : Report
+  pub reported : report_of event ≡ Some report
+  pub call : Call
+  pub over : Bool
+  pub goes : GoesOn event.caller event.at report old.driven new.driven before call out over
+  pub begun : new.calls.begun ≡ old.calls.begun
+  pub keeps : Keeps old new name over call
+
+-- the result of a report to an open pool
+abbrev pub AdvancesTo : CallEvent → CallName → OpenModel → OpenModel → CallEffects → CallEffects → Status → Type 0
+AdvancesTo event name old new out out' Done = IsSomeAnd (call_at old name) (Advanced event name old new out')
+AdvancesTo event name old new out out' NoCall = (call_at old name ≡ None) × (new ≡ old) × (out' ≡ out)
+AdvancesTo event name old new out out' BadRequest = IsSome (call_at old name) × (report_of event ≡ None) × (new ≡ old) × (out' ≡ out)
+AdvancesTo event name old new out out' Misfit =
+    IsSomeAnd (call_at old name) (λ c. IsSomeAnd (report_of event) (λ r. fits_report r c.operation ≡ false)) × (new ≡ old) × (out' ≡ out)
+AdvancesTo event name old new out out' _ = ⊥
+
+-- ---- wakes and the state
+-- the result of asking an open pool for the next call to wake
+abbrev pub WakesTo : OpenModel → OpenModel → ℕ → ℕ → Status → Type 0
+WakesTo old new ticket ticket' Done = Wakes old.driven new.driven (Some ticket') × (new ≡ record old { driven = new.driven })
+WakesTo old new ticket ticket' NoWake = Wakes old.driven new.driven None × (new ≡ record old { driven = new.driven }) × (ticket' ≡ ticket)
+WakesTo old new ticket ticket' _ = ⊥
+
+-- the numbers of calls, and whether the pool is closed
+pub record ReportsState (p : OpenModel) (reported : PoolState) : Type 0 where
+  pub waiting : reported.waiting ≡ length p.driven.queue.waiting
+  pub running : reported.running ≡ count_by is_some p.calls.slots
+  pub closed : reported.is_closed ≡ closed_from p.driven.core.base p.driven.core.journal
+
+-- ---- handles
+-- the result of beginning a call of the pool in a handle
+abbrev pub BeginsIn : CallStart → Option OpenModel → Option OpenModel → CallName → CallName → CallEffects → CallEffects → Status → Type 0
+BeginsIn start None new name name' out out' s = (s ≡ NotOpen) × (new ≡ None) × (name' ≡ name) × (out' ≡ out)
+BeginsIn start (Some old) new name name' out out' s = IsSomeAnd new (λ p. BeginsTo start old p name name' out out' s)
+
+-- the result of a report to the pool in a handle
+abbrev pub AdvancesIn : CallEvent → CallName → Option OpenModel → Option OpenModel → CallEffects → CallEffects → Status → Type 0
+AdvancesIn event name None new out out' s = (s ≡ NotOpen) × (new ≡ None) × (out' ≡ out)
+AdvancesIn event name (Some old) new out out' s = IsSomeAnd new (λ p. AdvancesTo event name old p out out' s)
+
+-- the result of asking the pool in a handle for the next call to wake
+abbrev pub WakesIn : Option OpenModel → Option OpenModel → ℕ → ℕ → Status → Type 0
+WakesIn None new ticket ticket' s = (s ≡ NotOpen) × (new ≡ None) × (ticket' ≡ ticket)
+WakesIn (Some old) new ticket ticket' s = IsSomeAnd new (λ p. WakesTo old p ticket ticket' s)
+
+-- the result of asking the pool in a handle for its state
+abbrev pub ReadsState : Option OpenModel → Option OpenModel → PoolState → PoolState → ℕ → Type 0
+ReadsState None new before after code = (code ≡ status_code NotOpen) × (new ≡ None) × (after ≡ before)
+ReadsState (Some old) new before after code = (code ≡ status_code Done) × (new ≡ Some old) × ReportsState old after

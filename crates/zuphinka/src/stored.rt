@@ -1,0 +1,8 @@
+use pool_driver::Call;
+
+/// A call in progress, with its number.
+#[derive(Clone, Copy)]
+pub struct Stored {
+    pub number: u64,
+    pub call: Call,
+}
