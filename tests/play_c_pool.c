@@ -1,4 +1,4 @@
-/* Tests bindings/c/zuphinka_pool.c, one test a run.
+/* Tests bindings/c/zuphinka_pool.c, or with -DDRIVEN bindings/c/zuphinka_driven_pool.c, one test a run.
  *
  *     play_c_pool list                                  the names of the tests
  *     play_c_pool test NAME
@@ -32,6 +32,13 @@ enum {
   LAST_ERROR = ZUPHINKA_POOL_ERROR_FOREIGN,
   SLACK = 1 << 20,
 };
+
+/* Where the two sources differ. */
+#ifdef DRIVEN
+enum { LOOKS_AFTER_MAKE = 2, COUNTS_FOR_EACH = true };
+#else
+enum { LOOKS_AFTER_MAKE = 1, COUNTS_FOR_EACH = false };
+#endif
 
 #define check(holds) check_at(holds, #holds, __LINE__)
 
@@ -300,9 +307,9 @@ static void test_life(void) {
   uint32_t caller = zuphinka_pool_caller();
   snprintf(lines, sizeof lines,
            "%" PRIu32 " 10 borrow 10 = make 0\n%" PRIu32
-           " 11 ready 0 good = lent\n"
+           " %d ready 0 good = lent\n"
            "%" PRIu32 " 15 return 0 = check\n%" PRIu32 " 16 park 0 good = parked\n",
-           caller, caller, caller, caller);
+           caller, caller, 10 + LOOKS_AFTER_MAKE, caller, caller);
   check_text(entries(pool), lines);
   check_text(calls(), "map");
   end_pool(pool);
@@ -1241,11 +1248,11 @@ static int overtakes_of(struct zuphinka_pool *pool, struct zuphinka_pool_loan *l
   return overtakes;
 }
 
-/* A thread that waits is overtaken as often as the host says, and then further borrows find nothing, and make no entry. The next one that waits is
- * overtaken as often. */
+/* A thread that waits is overtaken as often as the host says, and then further borrows find nothing, and make no entry. One that waited behind it is
+ * overtaken as often once it has waited longest, or no more if overtaking counts for each; one that begins later is overtaken as often anew. */
 static void test_overtakes_are_bounded(void) {
   for (int choice = 0; choice < CHOICES; choice++) {
-    struct waiter waiters[2];
+    struct waiter waiters[3];
     struct zuphinka_pool_loan loan = open_waited(choice, "maxTotal = 1\n", &waiters[0], wait_for_one), none;
     struct zuphinka_pool *pool = maker.pool;
     start(&waiters[1], overtaking[choice].most > 0, pool, wait_for_one);
@@ -1259,10 +1266,15 @@ static void test_overtakes_are_bounded(void) {
     join(&waiters[0], 1, ZUPHINKA_POOL_ERROR_NONE);
     if (overtaking[choice].most == 0) start(&waiters[1], 1, pool, wait_for_one);
     check(atomic_fetch_add(&((struct thing *)waiters[0].loan.object)->holders, 1) == 0);
-    check(overtakes_of(pool, &waiters[0].loan, &waiters[1]) == overtaking[choice].most);
+    check(overtakes_of(pool, &waiters[0].loan, &waiters[1]) == (COUNTS_FOR_EACH ? 0 : overtaking[choice].most));
     atomic_store(&maker.held, 0);
     join(&waiters[1], 1, ZUPHINKA_POOL_ERROR_NONE);
-    check_error(zuphinka_pool_give_back(pool, &waiters[1].loan), ZUPHINKA_POOL_ERROR_NONE);
+    start(&waiters[2], 1, pool, wait_for_one);
+    check(atomic_fetch_add(&((struct thing *)waiters[1].loan.object)->holders, 1) == 0);
+    check(overtakes_of(pool, &waiters[1].loan, &waiters[2]) == overtaking[choice].most);
+    atomic_store(&maker.held, 0);
+    join(&waiters[2], 1, ZUPHINKA_POOL_ERROR_NONE);
+    check_error(zuphinka_pool_give_back(pool, &waiters[2].loan), ZUPHINKA_POOL_ERROR_NONE);
     loan = lend(pool);
     give_back(pool, &loan);
     end_pool(pool);
@@ -1615,6 +1627,177 @@ static void test_callers(void) {
   check(there != here && zuphinka_pool_caller() == here);
 }
 
+/* ---- the calls of the library, without the pool for threads */
+
+/* A pool whose host has all work to do. */
+static struct zuphinka open_driven(uint64_t number, const char *settings) {
+  const struct zuphinka_options options = {.pool = number, .activates = true, .validates = true, .passivates = true};
+  struct zuphinka pool = {.at = NULL};
+  check(zuphinka_open_with(&pool, settings, strlen(settings), &options) == ZUPHINKA_STATUS_DONE);
+  return pool;
+}
+
+static uint32_t begin(struct zuphinka *pool, uint32_t kind, struct zuphinka_call *call, struct zuphinka_effects *effects) {
+  const struct zuphinka_start start = {.object = &maker, .kind = kind};
+  return zuphinka_begin(pool, &start, call, effects);
+}
+
+static uint32_t advance(struct zuphinka *pool, const struct zuphinka_call *call, uint32_t report, struct zuphinka_effects *effects) {
+  const struct zuphinka_event event = {.object = &maker, .report = report};
+  return zuphinka_advance(pool, call, &event, effects);
+}
+
+struct told {
+  char text[512];
+};
+
+/* All that a pool says of itself; nothing of an empty handle. */
+static struct told tell(struct zuphinka *pool) {
+  struct told told;
+  struct zuphinka_tally counts = {.steps = 0};
+  struct zuphinka_activity state = {.is_closed = false};
+  uint64_t steps = 0, room = 0;
+  zuphinka_counts(pool, &counts);
+  zuphinka_state(pool, &state);
+  zuphinka_steps(pool, &steps);
+  zuphinka_room(pool, &room);
+  snprintf(told.text, sizeof told.text,
+           "steps %" PRIu64 " of %" PRIu64 ", room %" PRIu64 ", idle %" PRIu64 ", lent %" PRIu64 ", reserved %" PRIu64 ", created %" PRIu64
+           ", destroyed %" PRIu64 ", waiting %" PRIu64 ", running %" PRIu64 "%s\n",
+           steps, counts.steps, room, counts.idle, counts.lent, counts.reserved, counts.created, counts.destroyed, state.waiting, state.running,
+           state.is_closed ? ", closed" : "");
+  return told;
+}
+
+/* What a call of the library stores, before it does. */
+struct stored {
+  struct zuphinka_call call;
+  struct zuphinka_effects effects;
+};
+
+static void check_refused(uint32_t found, uint32_t wanted, const struct stored *stored, struct zuphinka *pool, const struct told *before) {
+  struct stored unchanged;
+  memset(&unchanged, 'u', sizeof unchanged);
+  check(found == wanted);
+  check(memcmp(&stored->effects, &unchanged.effects, sizeof unchanged.effects) == 0);
+  check(memcmp(&stored->call, &unchanged.call, sizeof unchanged.call) == 0);
+  check_text(tell(pool).text, before->text);
+}
+
+/* A report, or the beginning of a call if `call` is null, is refused, and leaves all as it was. */
+static void refuse(struct zuphinka *pool, const struct zuphinka_call *call, uint32_t code, uint32_t status) {
+  struct stored stored;
+  struct told before = tell(pool);
+  memset(&stored, 'u', sizeof stored);
+  uint32_t found = call ? advance(pool, call, code, &stored.effects) : begin(pool, code, &stored.call, &stored.effects);
+  check_refused(found, status, &stored, pool, &before);
+}
+
+static void test_calls_of_an_empty_handle(void) {
+  struct zuphinka pool = {.at = NULL};
+  struct zuphinka_call call = {.number = 0};
+  struct zuphinka_activity state = {.waiting = 7};
+  uint64_t ticket = 7;
+  for (uint32_t code = 0; code <= ZUPHINKA_KIND_CLOSE + 1; code++) {
+    refuse(&pool, NULL, code, ZUPHINKA_STATUS_NOT_OPEN);
+    refuse(&pool, &call, code, ZUPHINKA_STATUS_NOT_OPEN);
+  }
+  check(zuphinka_next_wake(&pool, &ticket) == ZUPHINKA_STATUS_NOT_OPEN && ticket == 7);
+  check(zuphinka_state(&pool, &state) == ZUPHINKA_STATUS_NOT_OPEN && state.waiting == 7);
+  check(!pool.at);
+}
+
+static void test_unknown_kinds(void) {
+  struct zuphinka pool = open_driven(1, "");
+  refuse(&pool, NULL, 0, ZUPHINKA_STATUS_BAD_REQUEST);
+  refuse(&pool, NULL, ZUPHINKA_KIND_CLOSE + 1, ZUPHINKA_STATUS_BAD_REQUEST);
+  refuse(&pool, NULL, UINT32_MAX, ZUPHINKA_STATUS_BAD_REQUEST);
+  zuphinka_drop(&pool);
+}
+
+static bool fits(uint32_t action, uint32_t report) {
+  switch (report) {
+    case ZUPHINKA_REPORT_GO_ON: return action == ZUPHINKA_ACTION_GO_ON;
+    case ZUPHINKA_REPORT_MADE: return action == ZUPHINKA_ACTION_MAKE;
+    case ZUPHINKA_REPORT_SUCCEEDED: return action >= ZUPHINKA_ACTION_ACTIVATE && action <= ZUPHINKA_ACTION_DESTROY;
+    case ZUPHINKA_REPORT_FAILED: return action >= ZUPHINKA_ACTION_MAKE && action <= ZUPHINKA_ACTION_DESTROY;
+    case ZUPHINKA_REPORT_WOKEN: return action == ZUPHINKA_ACTION_SLEEP;
+    case ZUPHINKA_REPORT_ROOM_MADE:
+    case ZUPHINKA_REPORT_NO_ROOM: return action == ZUPHINKA_ACTION_MAKE_ROOM;
+    default: return report == ZUPHINKA_REPORT_GIVEN_UP;
+  }
+}
+
+/* Each report that does not fit the action of a call is refused; so is each of another call, of a call of another pool, and each unknown one. */
+static void refuse_all(struct zuphinka *pool, const struct zuphinka_call *call, uint32_t action) {
+  static struct zuphinka other;
+  const struct zuphinka_call wrong[] = {{call->pool + 1, call->place, call->number},
+                                        {call->pool, call->place + 1, call->number},
+                                        {call->pool, UINT64_MAX, call->number},
+                                        {call->pool, call->place, call->number + 1}};
+  if (!other.at) other = open_driven(call->pool + 1, "");
+  for (uint32_t report = 0; report <= ZUPHINKA_REPORT_GIVEN_UP + 1; report++) {
+    bool is_known = report >= ZUPHINKA_REPORT_GO_ON && report <= ZUPHINKA_REPORT_GIVEN_UP;
+    for (size_t n = 0; n < sizeof wrong / sizeof *wrong; n++) refuse(pool, &wrong[n], report, ZUPHINKA_STATUS_NO_CALL);
+    refuse(&other, call, report, ZUPHINKA_STATUS_NO_CALL);
+    if (action == ZUPHINKA_ACTION_DONE) {
+      refuse(pool, call, report, ZUPHINKA_STATUS_NO_CALL);
+    } else if (!fits(action, report)) {
+      refuse(pool, call, report, is_known ? ZUPHINKA_STATUS_MISFIT : ZUPHINKA_STATUS_BAD_REQUEST);
+    }
+  }
+  if (action == ZUPHINKA_ACTION_DONE) zuphinka_drop(&other);
+}
+
+/* Makes a call whose actions all succeed, and tries all that is refused before each. Returns how it ended. */
+static uint32_t drive_call(struct zuphinka *pool, uint32_t kind, const char *actions, struct zuphinka_effects *effects) {
+  struct zuphinka_call call;
+  check(begin(pool, kind, &call, effects) == ZUPHINKA_STATUS_DONE);
+  for (; effects->action != ZUPHINKA_ACTION_DONE; actions++) {
+    check(*actions == "?grmavpds"[effects->action]);
+    refuse_all(pool, &call, effects->action);
+    uint32_t report = effects->action == ZUPHINKA_ACTION_MAKE ? ZUPHINKA_REPORT_MADE : ZUPHINKA_REPORT_SUCCEEDED;
+    check(advance(pool, &call, report, effects) == ZUPHINKA_STATUS_DONE);
+  }
+  check(!*actions);
+  refuse_all(pool, &call, effects->action);
+  return effects->end;
+}
+
+/* What is refused changes nothing at any action of a call, and the call goes on after it. */
+static void test_refused_reports(void) {
+  struct zuphinka pool = open_driven(1, "maxTotal = 1\ntestOnBorrow = true\ntestOnReturn = true\n");
+  struct zuphinka_effects effects;
+  struct zuphinka_call waiting;
+  check(drive_call(&pool, ZUPHINKA_KIND_BORROW, "mav", &effects) == ZUPHINKA_END_LENT && effects.object == &maker);
+  check(begin(&pool, ZUPHINKA_KIND_BORROW, &waiting, &effects) == ZUPHINKA_STATUS_DONE);
+  check(effects.action == ZUPHINKA_ACTION_SLEEP && effects.has_ticket);
+  uint64_t ticket = effects.ticket;
+  refuse_all(&pool, &waiting, effects.action);
+  check(drive_call(&pool, ZUPHINKA_KIND_RETURN, "vp", &effects) == ZUPHINKA_END_PARKED);
+  check(effects.has_wake && effects.wake == ticket && zuphinka_next_wake(&pool, &ticket) == ZUPHINKA_STATUS_NO_WAKE);
+  refuse_all(&pool, &waiting, ZUPHINKA_ACTION_SLEEP);
+  check(advance(&pool, &waiting, ZUPHINKA_REPORT_WOKEN, &effects) == ZUPHINKA_STATUS_DONE && effects.action == ZUPHINKA_ACTION_ACTIVATE);
+  check(advance(&pool, &waiting, ZUPHINKA_REPORT_SUCCEEDED, &effects) == ZUPHINKA_STATUS_DONE && effects.action == ZUPHINKA_ACTION_VALIDATE);
+  check(advance(&pool, &waiting, ZUPHINKA_REPORT_SUCCEEDED, &effects) == ZUPHINKA_STATUS_DONE && effects.end == ZUPHINKA_END_LENT);
+  check(drive_call(&pool, ZUPHINKA_KIND_INVALIDATE, "d", &effects) == ZUPHINKA_END_DESTROYED);
+  check(drive_call(&pool, ZUPHINKA_KIND_CLOSE, "", &effects) == ZUPHINKA_END_COMPLETE);
+  zuphinka_drop(&pool);
+}
+
+/* The same while the journal has no room. */
+static void test_refused_reports_without_room(void) {
+  struct zuphinka pool = open_driven(1, "journalLimit = 5\n");
+  struct zuphinka_effects effects;
+  struct zuphinka_call call;
+  check(begin(&pool, ZUPHINKA_KIND_BORROW, &call, &effects) == ZUPHINKA_STATUS_DONE && effects.action == ZUPHINKA_ACTION_MAKE_ROOM);
+  refuse_all(&pool, &call, effects.action);
+  check(advance(&pool, &call, ZUPHINKA_REPORT_NO_ROOM, &effects) == ZUPHINKA_STATUS_DONE);
+  check(effects.action == ZUPHINKA_ACTION_DONE && effects.end == ZUPHINKA_END_JOURNAL_FULL);
+  refuse_all(&pool, &call, effects.action);
+  zuphinka_drop(&pool);
+}
+
 /* ---- a sink that fails at one call */
 
 static void run_sink(int fails_at, const char *folder) {
@@ -1659,6 +1842,7 @@ struct table {
   pthread_mutex_t lock;
   struct zuphinka_pool_loan handed[MOST_THREADS]; /* loans that one thread hands to another */
   size_t count;
+  uint64_t lent; /* after all others */
 };
 
 struct player {
@@ -1844,9 +2028,25 @@ static void open_table(struct table *table, uint64_t seed, const char *folder) {
   maker.has_chance = true;
 }
 
+/* Lends all that the pool can have at once, without a wait: no place was lost, nor a signal, for which a call would still be in the queue. */
+static void lend_all(struct table *table) {
+  struct zuphinka_pool_loan loans[HELD];
+  enum zuphinka_pool_error error = ZUPHINKA_POOL_ERROR_NONE;
+  int most = most_of_manner[table->manner], lent = 0;
+  for (int tries = 0; tries < 10000 && lent < most && error != ZUPHINKA_POOL_ERROR_CLOSED; tries++) {
+    error = zuphinka_pool_try_get(table->pool, &loans[lent]);
+    check(is_expected(table, error));
+    if (!error) atomic_fetch_add(&((struct thing *)loans[lent++].object)->holders, 1);
+  }
+  check(lent == most || error == ZUPHINKA_POOL_ERROR_CLOSED);
+  table->lent += (uint64_t)lent;
+  while (lent > 0) end_loan(table, loans[--lent], false);
+}
+
 /* Closes the pool, which has nothing left then, and stores the rest of its journal. */
 static void close_table(struct table *table) {
   while (table->count > 0) end_loan(table, table->handed[--table->count], false);
+  lend_all(table);
   zuphinka_pool_close(table->pool);
   struct zuphinka_tally counts = counts_of(table->pool);
   check(counts.idle == 0 && counts.lent == 0 && counts.reserved == 0 && counts.created == counts.destroyed + counts.reclaimed);
@@ -1875,6 +2075,7 @@ static void run_random(uint64_t seed, int threads, int calls, const char *folder
   check(started == threads || table.is_short);
   for (int n = 0; n < started; n++) check(pthread_join(players[n].thread, NULL) == 0);
   close_table(&table);
+  printf("caller %" PRIu32 " lent %" PRIu64 "\n", zuphinka_pool_caller(), table.lent);
   for (int n = 0; n < started; n++) printf("caller %" PRIu32 " lent %" PRIu64 "\n", players[n].caller, players[n].lent);
 }
 
@@ -2002,6 +2203,10 @@ static const struct {
     TEST(forked_in_a_store),
     TEST(forked_in_any_call),
     TEST(callers),
+    TEST(calls_of_an_empty_handle),
+    TEST(unknown_kinds),
+    TEST(refused_reports),
+    TEST(refused_reports_without_room),
 };
 
 static void run_test(const char *name) {

@@ -1,11 +1,11 @@
 #!/usr/bin/env python3
-"""Tests the pool for threads in C, bindings/c/zuphinka_pool.c, by the program tests/play_c_pool.c.
+"""Tests both sources of the pool for threads in C, bindings/c/zuphinka_pool.c and zuphinka_driven_pool.c, by the program tests/play_c_pool.c.
 
     play_c_pool.py LIBRARY POOL
 
-LIBRARY is libzuphinka.a, as `rt lib` builds it, and POOL the program `pool`. The C compiler that CC names, or cc, compiles the pool and the
-program, with warnings as errors; the header must compile by itself as C99, C11 and C++ too, with more warnings, and each of its codes is named
-after its enum.
+LIBRARY is libzuphinka.a, as `rt lib` builds it, and POOL the program `pool`. The C compiler that CC names, or cc, compiles each source with the
+program, with warnings as errors, the second with -DDRIVEN. The header must compile by itself as C99, C11 and C++ too, with more warnings, and each
+of its codes is named after its enum. All that follows is of each source.
 
 - Each test of the program must pass.
 - A pool whose `store` fails at each call in turn must store its whole journal in the end.
@@ -37,10 +37,12 @@ from playing import differing
 from preloading import preloaded
 
 POOL_FLAGS = [*FLAGS, "-pthread", "-I", TOP / "bindings/c"]
-SEEDS, THREADS, CALLS = 18, 4, 2_000
-SHARED_ROUNDS, SOAKED = 5_000, 5_000_000
+# The sources, each with its flags.
+SOURCES = {"zuphinka_pool.c": [], "zuphinka_driven_pool.c": ["-DDRIVEN"]}
+SEEDS, THREADS, CALLS = 15, 4, 2_000
+SHARED_ROUNDS, SOAKED = 5_000, 3_000_000
 # Under valgrind and ThreadSanitizer, and while allocations fail.
-FEW_SEEDS, FEW_CALLS, MORE_THREADS = 9, 400, 8
+FEW_SEEDS, FEW_CALLS, MORE_THREADS = 6, 400, 8
 REFUSE_OF = 20
 # A run that takes longer hangs, in seconds.
 LONGEST = 600
@@ -52,10 +54,11 @@ ANSWERS = set(
 )
 
 
-def built(folder, name, library, flags, main=TOP / "tests/play_c_pool.c"):
-    """Compiles a program over the pool with flags, links it with the library, and returns its path."""
-    program = pathlib.Path(folder) / name
-    subprocess.run([compiler(), *POOL_FLAGS, *flags, "-o", program, main, TOP / "bindings/c/zuphinka_pool.c", library, heap()], check=True)
+def built(folder, name, source, library, flags, main=TOP / "tests/play_c_pool.c"):
+    """Compiles a program over a source of the pool with flags, links it with the library, and returns its path."""
+    program = pathlib.Path(folder) / f"{name}_{pathlib.Path(source).stem}"
+    words = [*POOL_FLAGS, *SOURCES[source], *flags]
+    subprocess.run([compiler(), *words, "-o", program, main, TOP / "bindings/c" / source, library, heap()], check=True)
     return program
 
 
@@ -72,10 +75,10 @@ def has_tsan(folder):
 
 
 class Runs:
-    """The runs of one build of the program, perhaps under another program or with a library that is loaded before."""
+    """The runs of one build of the program over a source, perhaps under another program or with a library that is loaded before."""
 
-    def __init__(self, name, words, pool, environment=None):
-        self.name, self.words, self.pool, self.environment = name, words, pool, environment
+    def __init__(self, name, source, words, pool, environment=None):
+        self.name, self.source, self.words, self.pool, self.environment = f"{source}, {name}", source, words, pool, environment
         self.answers = set()
 
     def run(self, *words):
@@ -128,18 +131,19 @@ class Runs:
 
     def shared(self, program):
         """What differs where the example lends connections to threads."""
-        with tempfile.TemporaryDirectory() as name:
-            folder = pathlib.Path(name)
+        with tempfile.TemporaryDirectory() as path:
+            folder = pathlib.Path(path)
             (folder / "settings").write_text("journalLimit = 1000\n")
-            found = differing("shared_life", (b"", b"", 0), run(program, folder / "settings", folder, str(THREADS), str(SHARED_ROUNDS)))
+            name = f"{self.source}, shared_life"
+            found = differing(name, (b"", b"", 0), run(program, folder / "settings", folder, str(THREADS), str(SHARED_ROUNDS)))
             journal = b"".join(path.read_bytes() for path in sorted(folder.glob("segment-*")))
             wanted = [SHARED_ROUNDS] * THREADS
             lent = list(collections.Counter(LENT.findall(journal)).values())
-            told = [] if lent == wanted else [f"shared_life: the journal has {lent} loans for its threads"]
+            told = [] if lent == wanted else [f"{name}: the journal has {lent} loans for its threads"]
             again = run(program, folder / "settings", folder, "1", str(SHARED_ROUNDS))
             left = b"".join(path.read_bytes() for path in sorted(folder.iterdir()) if path.name != "settings")
-            told += [] if again.returncode == 1 and left == journal else ["shared_life: a second run replaces segments, or leaves more files"]
-            return found + told + self.judged("shared_life", folder, journal.count(b" = "))[1]
+            told += [] if again.returncode == 1 and left == journal else [f"{name}: a second run replaces segments, or leaves more files"]
+            return found + told + self.judged(name, folder, journal.count(b" = "))[1]
 
     def sinks(self):
         """What differs where `store` fails at no call, and at each in turn."""
@@ -156,52 +160,62 @@ def header_differing(folder):
         yield [f"{name} isn't named after {kind}" for name in names if not name.startswith(kind.upper() + "_")]
 
 
-def tools(folder, library, pool):
-    """The runs under valgrind and ThreadSanitizer, each with how many threads it has. Prints which are left out."""
+def tools(folder):
+    """The names of the builds for valgrind and ThreadSanitizer, each with its flags, the words before it, and how many threads it has. Prints which
+    are left out."""
     if shutil.which("valgrind"):
-        yield Runs("valgrind", [*VALGRIND, built(folder, "debugged", library, ["-g"])], pool), THREADS
+        yield "valgrind", ["-g"], VALGRIND, THREADS
     else:
         print("valgrind isn't installed, and nothing looks for faults of memory (Debian and Ubuntu: apt-get install valgrind)")
     if has_tsan(folder):
-        yield Runs("ThreadSanitizer", [built(folder, "watched", library, ["-g", "-fsanitize=thread"])], pool), MORE_THREADS
+        yield "ThreadSanitizer", ["-g", "-fsanitize=thread"], [], MORE_THREADS
     else:
         print("the compiler has no ThreadSanitizer, and nothing looks for races (Debian and Ubuntu: apt-get install gcc)")
 
 
 def refused(plain, refuse, folder, seed):
     """What differs in a run in which allocations fail."""
-    mark = pathlib.Path(folder) / f"refused{seed}"
+    mark = pathlib.Path(folder) / f"refused_{plain.source}_{seed}"
     changes = {"REFUSE_OF": str(REFUSE_OF), "REFUSE_SEED": str(seed), "REFUSED": str(mark), "LD_PRELOAD": str(refuse)}
-    runs = Runs("allocations that fail", plain.words, plain.pool, os.environ | changes)
-    return runs.random(seed, THREADS, CALLS) + ([] if mark.exists() else [f"seed {seed}: no allocation failed"])
+    runs = Runs("allocations that fail", plain.source, plain.words, plain.pool, os.environ | changes)
+    return runs.random(seed, THREADS, CALLS) + ([] if mark.exists() else [f"{runs.name}, seed {seed}: no allocation failed"])
 
 
-def all_calls(plain, library, folder):
-    """Each run as a call that returns what differs, in lists."""
+def all_calls(plain, library, folder, watches):
+    """Each run over a source as a call that returns what differs, in lists."""
     names = plain.run("list").stdout.decode().split()
     refuse = preloaded("refuse", folder)
     few = range(1, FEW_SEEDS + 1)
     calls = [(plain.test, name) for name in names] + [(plain.random, seed, THREADS, CALLS) for seed in range(1, SEEDS + 1)]
-    for runs, threads in tools(folder, library, plain.pool):
+    for name, flags, before, threads in watches:
+        runs = Runs(name, plain.source, [*before, built(folder, name, plain.source, library, flags)], plain.pool)
         calls += [(runs.test, name) for name in names] + [(runs.random, seed, threads, FEW_CALLS) for seed in few]
     return calls + [(refused, plain, refuse, folder, seed) for seed in few]
 
 
+def differences(source, library, pool, folder, watches):
+    """What differs in each run over a source."""
+    plain = Runs("plain", source, [built(folder, "plain", source, library, [])], str(pathlib.Path(pool).resolve()))
+    calls = all_calls(plain, library, folder, watches)
+    with concurrent.futures.ThreadPoolExecutor(os.cpu_count()) as workers:
+        found = list(workers.map(lambda call: call[0](*call[1:]), calls))
+    shared = built(folder, "shared_life", source, library, [], TOP / "bindings/c/shared_life.c")
+    found += [plain.soak(), plain.shared(shared), *plain.sinks()]
+    missing = ANSWERS - plain.answers
+    return [*found, [f"{source}: no journal has {sorted(missing)}"] if missing else []]
+
+
 def main(library, pool):
     with tempfile.TemporaryDirectory() as folder:
-        plain = Runs("plain", [built(folder, "plain", library, [])], str(pathlib.Path(pool).resolve()))
-        calls = all_calls(plain, library, folder)
-        with concurrent.futures.ThreadPoolExecutor(os.cpu_count()) as workers:
-            found = list(workers.map(lambda call: call[0](*call[1:]), calls))
-        shared = built(folder, "shared_life", library, [], TOP / "bindings/c/shared_life.c")
-        found += [plain.soak(), plain.shared(shared), *plain.sinks(), *header_differing(folder)]
-    missing = ANSWERS - plain.answers
-    found.append([f"no journal has {sorted(missing)}"] if missing else [])
+        watches = list(tools(folder))
+        found = list(header_differing(folder))
+        for source in SOURCES:
+            found += differences(source, library, pool, folder, watches)
     for line in (line for lines in found for line in lines):
         print(line[:2000])
     failed = sum(map(bool, found))
     print(f"{len(found) - failed} passed, {failed} failed")
-    return 1 if failed or len(found) < SEEDS else 0
+    return 1 if failed or len(found) < SEEDS * len(SOURCES) else 0
 
 
 if __name__ == "__main__":

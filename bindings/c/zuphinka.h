@@ -15,7 +15,8 @@
  *     cc -o server server.c $(PKG_CONFIG_PATH=FOLDER/lib/pkgconfig pkg-config --cflags --libs zuphinka)
  *
  * In the repository, bindings/c/plain_life.c and bindings/c/long_life.c are programs of one thread to copy from. zuphinka_pool.h is a pool for
- * threads over this library. bindings/c/zuphinka_pool.c shows how threads share a core under a lock, and bindings/c/shared_life.c uses that pool.
+ * threads over this library. bindings/c/zuphinka_pool.c shows how threads share a core under a lock, bindings/c/zuphinka_driven_pool.c how they make
+ * calls, and bindings/c/shared_life.c uses either.
  *
  * Rules
  *
@@ -56,8 +57,9 @@
  * (ZUPHINKA_INPUT_DESTROYED): the report frees its place, and another thread may make a new object at once.
  *
  * A thread that returns an object and borrows at once may take it again before the one that it woke, over and over. To bound that, let borrowers
- * queue: bindings/c/zuphinka_pool.c does, and all else above. It is tested with eight threads under ThreadSanitizer. Copy from it, or use it as it is
- * (zuphinka_pool.h), as bindings/c/shared_life.c does.
+ * queue: bindings/c/zuphinka_pool.c does, and all else above. A pool with calls (`zuphinka_open_with`) has a queue, which is proved, and decides all
+ * else above: bindings/c/zuphinka_driven_pool.c drives it for threads. Both are tested with eight threads under ThreadSanitizer. Copy from one, or
+ * use it as it is (zuphinka_pool.h), as bindings/c/shared_life.c does.
  */
 #ifndef ZUPHINKA_H
 #define ZUPHINKA_H
@@ -89,14 +91,17 @@ enum zuphinka_status {
   ZUPHINKA_STATUS_ALREADY_OPEN = 2,     /* the handle has a pool */
   ZUPHINKA_STATUS_OUT_OF_MEMORY = 3,    /* an allocation failed */
   ZUPHINKA_STATUS_JOURNAL_FULL = 4,     /* the journal has no room for the entry and those outstanding after it */
-  ZUPHINKA_STATUS_BAD_REQUEST = 5,      /* `input` has a wrong code, or `outcome` has one and the input needs an outcome */
+  ZUPHINKA_STATUS_BAD_REQUEST = 5,      /* `input`, `kind` or `report` has a wrong code, or `outcome` has one and the input needs an outcome */
   ZUPHINKA_STATUS_NO_ENTRY = 6,         /* the journal has no entry, or the base no line, at the position */
   ZUPHINKA_STATUS_BUFFER_TOO_SMALL = 7, /* the text does not fit into the buffer */
   ZUPHINKA_STATUS_NOT_TEXT = 8,         /* the settings are not UTF-8 */
   ZUPHINKA_STATUS_NOT_TOML = 9,         /* the settings are not a TOML document */
   ZUPHINKA_STATUS_UNKNOWN_KEY = 10,     /* no setting has the key */
   ZUPHINKA_STATUS_WRONG_TYPE = 11,      /* the value of a key has another type */
-  ZUPHINKA_STATUS_OUT_OF_RANGE = 12     /* the number of a key is out of its range */
+  ZUPHINKA_STATUS_OUT_OF_RANGE = 12,    /* the number of a key is out of its range */
+  ZUPHINKA_STATUS_NO_CALL = 13,         /* the pool has no such call in progress */
+  ZUPHINKA_STATUS_MISFIT = 14,          /* the report does not fit the last action of the call */
+  ZUPHINKA_STATUS_NO_WAKE = 15          /* no call is to be woken */
 };
 
 /* The input of a request. `number`, `outcome` and `object` are fields of the request. */
@@ -223,6 +228,127 @@ struct zuphinka_setup {
   bool test_while_idle;
 };
 
+/* How a pool works besides its settings. */
+struct zuphinka_options {
+  uint64_t pool;          /* the host's number of the pool: its calls bear it, and no call of a pool with another number is taken */
+  uint64_t max_overtakes; /* how often a borrow that waits is overtaken at most, by borrows that begin later; 0: never */
+  bool activates;         /* the host has work to activate an object that is to be lent */
+  bool validates;         /* it tests objects; otherwise each passes */
+  bool passivates;        /* it has work to passivate an object that is to be idle */
+  bool drops_journal;     /* the stored entries are forgotten once they are many beside the objects, or leave no room for a step */
+};
+
+/* The kind of a call. `id` and `object` are fields of its start. */
+enum zuphinka_kind {
+  ZUPHINKA_KIND_BORROW = 1,
+  ZUPHINKA_KIND_RETURN = 2,     /* its holder returns object `id`, whose token is `object` */
+  ZUPHINKA_KIND_INVALIDATE = 3, /* its holder finds object `id` broken, and it is destroyed */
+  ZUPHINKA_KIND_DETACH = 4,     /* its holder keeps object `id`, and the pool frees its place */
+  ZUPHINKA_KIND_TOUCH = 5,      /* its holder uses object `id` */
+  ZUPHINKA_KIND_ADD = 6,        /* one more idle object is made */
+  ZUPHINKA_KIND_FILL = 7,       /* objects are made until minIdle are idle */
+  ZUPHINKA_KIND_EVICT = 8,      /* an eviction run */
+  ZUPHINKA_KIND_RECLAIM = 9,    /* abandoned objects lose their places, for maintenance */
+  ZUPHINKA_KIND_CLEAR = 10,     /* all idle objects are destroyed */
+  ZUPHINKA_KIND_CLOSE = 11      /* the pool closes, and all idle objects are destroyed */
+};
+
+/* What begins a call. Set all fields: `struct zuphinka_start start = {.at = .., ..};` sets the others to 0. */
+struct zuphinka_start {
+  uint64_t at;     /* the time, in milliseconds */
+  uint64_t id;     /* the object's id, of a return, an invalidation, a detachment or a touch */
+  void *object;    /* its token, of a return, an invalidation or a detachment */
+  uint32_t caller; /* the caller's number in the journal */
+  uint32_t kind;   /* enum zuphinka_kind */
+};
+
+/* A call in progress. Only the library uses its fields. It may be copied, and a copy is the same call. */
+struct zuphinka_call {
+  uint64_t pool, place, number;
+};
+
+/* What became of the last action of a call. */
+enum zuphinka_report {
+  ZUPHINKA_REPORT_GO_ON = 1,     /* of ZUPHINKA_ACTION_GO_ON: nothing; the call takes further steps */
+  ZUPHINKA_REPORT_MADE = 2,      /* the object was made, and `object` is its token */
+  ZUPHINKA_REPORT_SUCCEEDED = 3, /* it was activated, passed its test, was passivated or destroyed */
+  ZUPHINKA_REPORT_FAILED = 4,    /* it was not, or it failed its test; to destroy it may fail too, and means the same */
+  ZUPHINKA_REPORT_WOKEN = 5,     /* the sleep is over: the ticket was woken, or `until` is reached */
+  ZUPHINKA_REPORT_ROOM_MADE = 6, /* the journal was cut */
+  ZUPHINKA_REPORT_NO_ROOM = 7,   /* the journal could not be cut */
+  ZUPHINKA_REPORT_GIVEN_UP = 8   /* the host gives the call up, at any action that is not the end, and has stopped that action */
+};
+
+/* What the host reports. Set all fields. */
+struct zuphinka_event {
+  uint64_t at;     /* the time, in milliseconds */
+  void *object;    /* the token of the object, for ZUPHINKA_REPORT_MADE */
+  uint32_t caller; /* the caller's number in the journal */
+  uint32_t report; /* enum zuphinka_report */
+};
+
+/* What the host does next. `number`, `object` and the like are fields of the effects. */
+enum zuphinka_action {
+  ZUPHINKA_ACTION_GO_ON = 1,     /* 64 steps were taken and more follow: report ZUPHINKA_REPORT_GO_ON, after others had the lock */
+  ZUPHINKA_ACTION_MAKE_ROOM = 2, /* cut the journal, if the host can */
+  ZUPHINKA_ACTION_MAKE = 3,      /* make a new object with the id `number` */
+  ZUPHINKA_ACTION_ACTIVATE = 4,  /* activate object `number`, whose token is `object` */
+  ZUPHINKA_ACTION_VALIDATE = 5,  /* test it */
+  ZUPHINKA_ACTION_PASSIVATE = 6, /* passivate it */
+  ZUPHINKA_ACTION_DESTROY = 7,   /* destroy it */
+  ZUPHINKA_ACTION_SLEEP = 8,     /* sleep until `ticket` is woken, or until `until` if there is such a time */
+  ZUPHINKA_ACTION_DONE = 9       /* nothing: the call is over, and `end` says how */
+};
+
+/* How a call ended. */
+enum zuphinka_end {
+  ZUPHINKA_END_NONE = 0,               /* it is not over */
+  ZUPHINKA_END_LENT = 1,               /* object `number`, whose token is `object`, is lent to the caller */
+  ZUPHINKA_END_CLOSED = 2,             /* the pool is closed */
+  ZUPHINKA_END_EXHAUSTED = 3,          /* no object and no place is free, and the settings say not to wait */
+  ZUPHINKA_END_TIMED_OUT = 4,          /* no object and no place was free for as long as the settings say */
+  ZUPHINKA_END_MAKE_FAILED = 5,        /* the host failed to make an object */
+  ZUPHINKA_END_CREATE_TEST_FAILED = 6, /* a new object failed its test of testOnCreate, and was destroyed */
+  ZUPHINKA_END_ACTIVATE_FAILED = 7,    /* a new object was not activated, and was destroyed */
+  ZUPHINKA_END_BORROW_TEST_FAILED = 8, /* a new object failed its test of testOnBorrow, and was destroyed */
+  ZUPHINKA_END_PASSIVATE_FAILED = 9,   /* a new object was not passivated, and was destroyed */
+  ZUPHINKA_END_PARKED = 10,            /* the object is idle */
+  ZUPHINKA_END_DESTROYED = 11,         /* the object was destroyed */
+  ZUPHINKA_END_GONE = 12,              /* the pool had given the object's place away, and it was destroyed */
+  ZUPHINKA_END_NOT_LENT = 13,          /* the object is not lent */
+  ZUPHINKA_END_NOTED = 14,             /* the pool noted the use */
+  ZUPHINKA_END_NO_PLACE = 15,          /* no place is free for one more object */
+  ZUPHINKA_END_COMPLETE = 16,          /* the call did all that it was to do, and `count` says how much */
+  ZUPHINKA_END_JOURNAL_FULL = 17,      /* the journal has no room, and the call holds no object */
+  ZUPHINKA_END_OUT_OF_MEMORY = 18,     /* an allocation failed, and the call holds no object */
+  ZUPHINKA_END_CANCELLED = 19,         /* the host gave the call up, and it holds no object */
+  ZUPHINKA_END_CONTRADICTED = 20       /* the host broke a rule: it returned an object that another call works on, or the like */
+};
+
+/* What the host does next, with the numbers that it needs. */
+struct zuphinka_effects {
+  uint64_t number;    /* the id of the object that the action is for, or that is lent; else 0 */
+  void *object;       /* the token of the call's object; null if it has none yet */
+  uint64_t ticket;    /* the ticket of a call that waits, if has_ticket is true; else 0 */
+  uint64_t until;     /* the time at which the wait of a borrow is over by the settings, in milliseconds, if has_until is true; else 0 */
+  uint64_t wake;      /* the ticket of the call to wake first, if has_wake is true; else 0 */
+  uint64_t count;     /* how many objects a fill made, a reclaim took, an eviction run examined, a clear or a close destroyed so far; else 0 */
+  uint64_t destroyed; /* how many of these an eviction run destroyed so far; else 0 */
+  uint32_t action;    /* enum zuphinka_action */
+  uint32_t end;       /* enum zuphinka_end */
+  bool has_ticket;    /* the call waits */
+  bool has_until;     /* the wait is limited */
+  bool has_wake;      /* a call is to be woken; then ask zuphinka_next_wake for more */
+  bool is_low;        /* the journal has room for less than a quarter of its limit: cut it soon */
+};
+
+/* What is true of a pool besides its counts. */
+struct zuphinka_activity {
+  uint64_t waiting; /* calls that wait */
+  uint64_t running; /* calls in progress, including those that wait */
+  bool is_closed;
+};
+
 /* The greatest size of a line of a journal, in bytes, with its line feed. */
 #define ZUPHINKA_LONGEST_LINE 256
 
@@ -230,6 +356,9 @@ struct zuphinka_setup {
 _Static_assert(sizeof(void *) == 8 && sizeof(size_t) == 8, "zuphinka.h is for 64-bit systems");
 _Static_assert(sizeof(struct zuphinka_request) == 40 && sizeof(struct zuphinka_reply) == 32, "zuphinka.h: another layout of structs");
 _Static_assert(sizeof(struct zuphinka_setup) == 72, "zuphinka.h: another layout of structs");
+_Static_assert(sizeof(struct zuphinka_options) == 24 && sizeof(struct zuphinka_activity) == 24, "zuphinka.h: another layout of structs");
+_Static_assert(sizeof(struct zuphinka_start) == 32 && sizeof(struct zuphinka_call) == 24, "zuphinka.h: another layout of structs");
+_Static_assert(sizeof(struct zuphinka_event) == 24 && sizeof(struct zuphinka_effects) == 72, "zuphinka.h: another layout of structs");
 #endif
 
 /* Returns the ZUPHINKA_VERSION_NUMBER of the library that the program is linked with. It needs no pool. */
@@ -330,6 +459,53 @@ uint32_t zuphinka_cut(struct zuphinka *pool);
 void zuphinka_drop(struct zuphinka *pool);
 
 /*
+ * Opens a pool as `zuphinka_open` does, with options. With all options 0 it is the same. Sets aside the memory of 64 calls that wait and of one
+ * call in progress.
+ */
+uint32_t zuphinka_open_with(struct zuphinka *pool, const char *settings, size_t length, const struct zuphinka_options *options);
+
+/*
+ * Begins a call, and takes its first steps: those that follow each other without the host, at most 64. Stores in `effects` what the host does
+ * next, and in `call` the call, which is in progress until its action is ZUPHINKA_ACTION_DONE. If that is the first action, `call` need not be kept.
+ *
+ * A borrow of an idle object without activation or test is over at once, and so is the return of an object without test or passivation. Neither
+ * allocates memory if the pool has as many objects and calls in progress as before.
+ *
+ * The host holds its lock during a call of the library, and not while it acts or sleeps. After each call of `zuphinka_begin` and
+ * `zuphinka_advance` it wakes the call whose ticket is `wake`, if there is one, and then those of `zuphinka_next_wake` until none is left. After a
+ * step by `zuphinka_step` it does the latter. A call that is woken reports ZUPHINKA_REPORT_WOKEN; if it is still not its turn, its action is
+ * ZUPHINKA_ACTION_SLEEP again. Times never decrease: a call at an earlier time than one before it is taken at that of the latter.
+ *
+ * Returns ZUPHINKA_STATUS_DONE. Errors leave the pool, `call` and `effects` unchanged:
+ *   - ZUPHINKA_STATUS_NOT_OPEN; ZUPHINKA_STATUS_BAD_REQUEST, if `kind` has a wrong code;
+ *   - ZUPHINKA_STATUS_OUT_OF_MEMORY, if there is no memory for one more call in progress. It does not come to the return, invalidation or
+ *     detachment of an object that was lent by a call, nor to the close of an open pool: their memory is set aside.
+ */
+uint32_t zuphinka_begin(struct zuphinka *pool, const struct zuphinka_start *start, struct zuphinka_call *call,
+                        struct zuphinka_effects *effects);
+
+/*
+ * Goes on with a call in progress after a report of what became of its last action, as `zuphinka_begin` does. Once its action is
+ * ZUPHINKA_ACTION_DONE it is in progress no more.
+ *
+ * Returns ZUPHINKA_STATUS_DONE. Errors leave the pool and `effects` unchanged, and the call in progress:
+ *   - ZUPHINKA_STATUS_NOT_OPEN; ZUPHINKA_STATUS_NO_CALL, exactly if no such call is in progress: it is over, or of a pool with another number;
+ *   - ZUPHINKA_STATUS_BAD_REQUEST, if `report` has a wrong code; ZUPHINKA_STATUS_MISFIT, if the report does not fit the last action.
+ */
+uint32_t zuphinka_advance(struct zuphinka *pool, const struct zuphinka_call *call, const struct zuphinka_event *event,
+                          struct zuphinka_effects *effects);
+
+/*
+ * Stores in `ticket` the ticket of the next call to wake: the oldest that sleeps, one for each idle object and each free place, and all once the pool
+ * is closed. Returns ZUPHINKA_STATUS_DONE; or ZUPHINKA_STATUS_NOT_OPEN, or ZUPHINKA_STATUS_NO_WAKE if no call is to be woken, and `ticket` is
+ * unchanged.
+ */
+uint32_t zuphinka_next_wake(struct zuphinka *pool, uint64_t *ticket);
+
+/* Stores in `state` what is true of the pool. Returns ZUPHINKA_STATUS_DONE; or ZUPHINKA_STATUS_NOT_OPEN, and `state` is unchanged. */
+uint32_t zuphinka_state(struct zuphinka *pool, struct zuphinka_activity *state);
+
+/*
  * Returns whether to cut the journal now: it stores entries, and has room for fewer than `least` more. It is false for an empty handle.
  *
  * Ask it before a borrow, and cut if it is true. A borrow and its return take four entries, so a `least` of 16 is enough for one thread that
@@ -357,6 +533,9 @@ static inline const char *zuphinka_status_text(uint32_t status) {
     case ZUPHINKA_STATUS_UNKNOWN_KEY: return "the settings have an unknown key";
     case ZUPHINKA_STATUS_WRONG_TYPE: return "a value in the settings has the wrong type";
     case ZUPHINKA_STATUS_OUT_OF_RANGE: return "a number in the settings is out of range";
+    case ZUPHINKA_STATUS_NO_CALL: return "the pool has no such call in progress";
+    case ZUPHINKA_STATUS_MISFIT: return "the report does not fit the last action of the call";
+    case ZUPHINKA_STATUS_NO_WAKE: return "no call is to be woken";
     default: return "the code is no status";
   }
 }

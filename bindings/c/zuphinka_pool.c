@@ -1,4 +1,5 @@
-/* A pool of objects for threads over the proved core. zuphinka_pool.h explains its calls; docs/guide/concepts.md has the life of an object. */
+/* A pool of objects for threads over the proved core. zuphinka_pool.h explains its calls; docs/guide/concepts.md has the life of an object.
+ * zuphinka_driven_pool.c has the same functions over the proved calls. */
 #ifndef _GNU_SOURCE
 #define _GNU_SOURCE
 #endif

@@ -2,10 +2,14 @@
  * zuphinka_pool.h: a pool of objects for threads, over zuphinka.h.
  *
  * The host writes callbacks that make and destroy objects and, if it wishes, activate, test and passivate them. The pool lends the objects to
- * threads, with the settings of docs/guide/settings.md. The installed archive has it; otherwise compile bindings/c/zuphinka_pool.c with the
- * program, with -std=c11 and -pthread. zuphinka.h has the commands.
+ * threads, with the settings of docs/guide/settings.md.
  *
- * Each decision is a step of the proved core. The lock, the waits and the journals of this file are not proved: tests/play_c_pool.py tests them.
+ * Link one of its two sources: bindings/c/zuphinka_pool.c, for speed, or bindings/c/zuphinka_driven_pool.c, in which more is proved. The installed
+ * archive has the first; otherwise compile the source with the program, with -std=c11 and -pthread. zuphinka.h has the commands.
+ *
+ * Each decision about an object is a step of the proved core. In zuphinka_driven_pool.c the library also decides what a call does after each step,
+ * which threads wait, which one is woken, and when a journal is dropped: docs/proof/proved.md says what of that is proved. In zuphinka_pool.c none of
+ * it is. In neither are the lock, the sleep of threads, the loans and the segments of the journal. tests/play_c_pool.py tests both.
  * bindings/c/shared_life.c is a program to copy from.
  *
  * Rules
@@ -110,8 +114,9 @@ struct zuphinka_pool_host {
 
   /* How many borrows may overtake the thread that has waited longest: 1 to 4,294,967,295; 0 stands for 16. Threads that wait queue in the order
    * of arrival. A borrow overtakes them if it begins later and takes an object or a place that they could have had. Once so many have, or that
-   * thread was woken and found nothing, further borrows queue too, and `zuphinka_pool_try_get` finds nothing. It is the same for the next thread
-   * that has waited longest. */
+   * thread was woken and found nothing, further borrows queue too, and `zuphinka_pool_try_get` finds nothing. In zuphinka_pool.c it is the same
+   * for the next thread that has waited longest. In zuphinka_driven_pool.c the borrows are counted for each thread from the beginning of its wait,
+   * and further borrows queue once any thread that waits was woken and found nothing, until one leaves the queue. */
   uint32_t max_overtakes;
 
   /* Whether no borrow overtakes a thread that waits, whatever `max_overtakes` says. */
