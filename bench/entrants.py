@@ -19,13 +19,15 @@ CONTESTANTS, RUST, CRATE = TOP / "bench/peers_java", TOP / "bench/peers_rust", T
 JAR = java.DEBIAN_JAR
 LIBRARY = java.LIBRARY
 REGISTRY = pathlib.Path("/usr/share/cargo/registry")
+HIKARI_JAR = pathlib.Path("/usr/share/java/HikariCP.jar")
 COMMONS, R2D2, PLAIN = "Commons Pool 2", "r2d2", "plain Rust"
 COMMONS_HOOKS = "Commons Pool 2, hooks"
 JAVA, JAVA_HOOKS = "Java", "Java, hooks"
+HIKARI = "HikariCP bag"
 COUNTER, CLOCK, HOOKS = "crate, counter", "crate, clock", "crate, clock, hooks"
 C = "C"
 LOAD, THREADS_OF_LOAD = "load", "load, threads alone"
-COLUMNS = [COMMONS, JAVA, COMMONS_HOOKS, JAVA_HOOKS, R2D2, PLAIN, COUNTER, CLOCK, HOOKS, C, LOAD, THREADS_OF_LOAD]
+COLUMNS = [COMMONS, JAVA, COMMONS_HOOKS, JAVA_HOOKS, HIKARI, R2D2, PLAIN, COUNTER, CLOCK, HOOKS, C, LOAD, THREADS_OF_LOAD]
 JOURNAL_LIMIT = 1 << 32
 # A run that takes longer hangs, in seconds.
 LONGEST = 600
@@ -139,6 +141,11 @@ def version_of(*command):
     return (done.stdout + done.stderr).partition("\n")[0] if done.returncode == 0 else ""
 
 
+def version_of_jdk():
+    """The version of the command java. It is empty if it or javac does not run."""
+    return version_of("javac", "-version") and version_of("java", "-version")
+
+
 def runs_cargo():
     return bool(version_of("cargo", "--version"))
 
@@ -148,10 +155,12 @@ class Entrants:
 
     `wanted` has the columns for which programs are built. `pool` is the program `pool`; if it is `None`, it is built where `load` is wanted."""
 
-    def __init__(self, folder, pool, jar, library, registry, wanted=COLUMNS):
-        self.folder, self.pool, self.jar, self.library, self.registry, self.wanted = folder, pool, jar, library, registry, wanted
+    def __init__(self, folder, pool, jar, hikari, library, registry, wanted=COLUMNS):
+        self.folder, self.pool, self.jar, self.hikari = folder, pool, jar, hikari
+        self.library, self.registry, self.wanted = library, registry, wanted
         self.programs, self.versions, self.left_out = [], [], []
         self.enter_java()
+        self.enter_hikari()
         self.enter_r2d2()
         self.enter_plain()
         self.enter_crate()
@@ -174,27 +183,43 @@ class Entrants:
         factories = [(factory, columns) for factory, columns in factories if self.wants(*columns)]
         if not factories:
             return
-        runs = version_of("javac", "-version") and version_of("java", "-version")
+        runs = version_of_jdk()
         needs = [(runs, "JDK"), (self.jar.exists(), f"libcommons-pool2-java ({self.jar})")]
         has_library = (self.library.exists(), f"libzuphinka.a ({self.library})"), (shutil.which(os.environ.get("CC", "cc")), "C compiler")
         has_commons, has_java = self.has(COMMONS, *needs), self.has(JAVA, *needs, *has_library)
         if not has_commons:
             return
-        named = sorted(path.stem for path in self.jar.parent.glob(f"{self.jar.stem}-[0-9]*.jar"))
-        self.versions += [*named[-1:], runs]
+        self.note_versions(self.jar, runs)
         kinds = ["Commons", "Zuphinka"] if has_java else ["Commons"]
         program = self.built_java(kinds)
         for factory, columns in factories:
             self.enter_contestants(program, factory, dict(zip(kinds, columns)))
 
     def built_java(self, kinds):
-        """Compiles contestants and what they need. Returns the command that runs them."""
+        """Compiles contestants over Commons Pool 2 and what they need. Returns the command that runs them."""
         native, files = self.folder / "libzuphinka_jni.so", [CONTESTANTS / f"{name}.java" for name in ("Bench", "Contestant", "Holders", *kinds)]
         if "Zuphinka" in kinds:
             java.compile_native(self.library, heap_of_kit(), native)
             files += (java.JAVA / "src").rglob("*.java")
         java.compile_classes(files, self.folder, self.jar)
         return ["java", f"-Dzuphinka.library={native}", "-cp", f"{self.jar}:{self.folder}", "Bench"]
+
+    def note_versions(self, jar, runs):
+        """Notes the version of a jar, which a longer name of it has, and that of the JDK."""
+        named = sorted(path.stem for path in jar.parent.glob(f"{jar.stem}-[0-9]*.jar"))
+        self.versions += [version for version in (*named[-1:], runs) if version not in self.versions]
+
+    def enter_hikari(self):
+        """Enters HikariCP's bag of objects, in a virtual machine of its own. It loads only with the interface of its logger."""
+        if not self.wants(HIKARI):
+            return
+        logger, runs = self.hikari.with_name("slf4j-api.jar"), version_of_jdk()
+        jars = (self.hikari.exists(), f"libhikaricp-java ({self.hikari})"), (logger.exists(), f"libslf4j-java ({logger})")
+        if self.has(HIKARI, (runs, "JDK"), *jars):
+            self.note_versions(self.hikari, runs)
+            java.compile_classes([CONTESTANTS / f"{name}.java" for name in ("Bench", "Contestant", "Hikari")], self.folder, self.hikari, logger)
+            program = ["java", "-cp", f"{self.hikari}:{logger}:{self.folder}", "Bench"]
+            self.enter_contestants(program, "bare", {"Hikari": HIKARI})
 
     def enter_contestants(self, program, factory, columns):
         def is_right(row, report):

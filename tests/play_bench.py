@@ -1,17 +1,18 @@
 #!/usr/bin/env python3
-"""Sees that bench/peers, bench/longest_waits and bench/soak find what is wrong.
+"""Sees that bench/peers, bench/longest_waits and bench/soak find what is wrong, and that bench/two_pools runs.
 
     play_bench.py POOL
 
 POOL is the program. bench/peers must end with an error after a run with a pair too few or of a pool for Java with a wrong report, name and leave
-out the pools whose packages are missing, and show the columns alone that it is asked for. Where all packages are installed, all its columns must come,
-in both tables. bench/longest_waits must end with
-an error after a report with a wait too few, name what it leaves out, and tell the waits that are too long. bench/soak must fail each report in which one
-number is wrong.
+out the pools whose packages are missing, and show the columns alone that it is asked for. Where all packages are installed, all its columns must
+come, in both tables. HikariCP's bag must be in the first one alone, also without Commons Pool 2. bench/longest_waits must end with an error after a
+report with a wait too few, name what it leaves out, and tell the waits that are too long. bench/soak must fail each report in which one number is
+wrong.
 
 Prints what fails, and in the end the line 'N passed, M failed'.
 """
 
+import os
 import pathlib
 import re
 import shutil
@@ -23,7 +24,8 @@ TOP = pathlib.Path(__file__).resolve().parent.parent
 sys.path.append(str(TOP / "bench"))
 
 from entrants import (
-    C, CLOCK, COMMONS, COMMONS_HOOKS, COUNTER, HOOKS, JAR, JAVA, JAVA_HOOKS, LOAD, PLAIN, R2D2, REGISTRY, Row, is_right_contestant, runs_cargo
+    C, CLOCK, COMMONS, COMMONS_HOOKS, COUNTER, HIKARI, HIKARI_JAR, HOOKS, JAR, JAVA, JAVA_HOOKS, LIBRARY, LOAD, PLAIN, R2D2, REGISTRY,
+    Row, is_right_contestant, runs_cargo,
 )
 from soaking import ROUNDS, THREADS, Length, fault_of_load, faults_of
 from waiting import C as C_WAITS, JAVA as JAVA_WAITS, TASKS, THREADS as THREAD_WAITS, Miscounted, looked_at, waited, waits_of
@@ -40,6 +42,7 @@ TARGETS = {
 }
 ABSENT = ["--jar", "/nowhere/commons-pool2.jar", "--registry", "/nowhere"]
 NO_LIBRARY = ["--library", "/nowhere/libzuphinka.a"]
+NO_BAG = ["--hikari", "/nowhere/HikariCP.jar"]
 # A program in the place of POOL that makes one pair less than it is asked for.
 ONE_LESS = """#!/bin/sh
 pairs=$(($3 * $4 - 1))
@@ -110,13 +113,13 @@ def last_line(done):
 
 
 def check_missing(pool):
-    """Without the packages three pools are named and left out, and no row has a target."""
-    done = peers("--pool", pool, *ABSENT)
-    for line in f"left out: {COMMONS}: no ", f"left out: {JAVA}: no ", f"left out: {R2D2}: no ":
+    """Without the packages four pools are named and left out, and no row has a target."""
+    done = peers("--pool", pool, *ABSENT, *NO_BAG)
+    for line in (f"left out: {column}: no " for column in (COMMONS, JAVA, HIKARI, R2D2)):
         yield None if line in done.stdout else f"{line!r} isn't said: {done.stdout}{done.stderr}"
     yield fault_of_tables(done, [PLAIN, COUNTER, CLOCK, HOOKS, C, LOAD], [PLAIN])
     heads = [line for table in tables(done.stdout) for line in table[:1]]
-    yield f"{heads} have a pool that is left out" if {COMMONS, COMMONS_HOOKS, JAVA, JAVA_HOOKS, R2D2} & set(sum(heads, [])) else None
+    yield f"{heads} have a pool that is left out" if {COMMONS, COMMONS_HOOKS, JAVA, JAVA_HOOKS, HIKARI, R2D2} & set(sum(heads, [])) else None
     yield None if (done.returncode, last_line(done)) == (0, "0 rows, 0 short") else f"status {done.returncode}: {last_line(done)}"
 
 
@@ -130,7 +133,8 @@ def check_present(pool):
         print("r2d2 is left out: `bench/peers --help` says what it needs")
     others = [R2D2, PLAIN] if has_r2d2 else [PLAIN]
     done = peers("--pool", pool)
-    yield fault_of_tables(done, [*in_java, *others, COUNTER, CLOCK, HOOKS, C, LOAD], [COMMONS, COMMONS_HOOKS, *others])
+    bag = [HIKARI] if has_bag() else []
+    yield fault_of_tables(done, [*in_java, *bag, *others, COUNTER, CLOCK, HOOKS, C, LOAD], [COMMONS, COMMONS_HOOKS, *others])
     yield from (fault_of_target(done, our, peer, least) for (our, peer), least in TARGETS.items() if has_r2d2 or peer != R2D2)
     short = {line.split(": ")[1] for line in done.stdout.splitlines() if line.startswith("short: ")}
     is_told = done.returncode == bool(short) and last_line(done) == f"5 rows, {len(short)} short" and short <= set(ROWS)
@@ -145,6 +149,29 @@ def check_only():
     yield None if head[1:] == [PLAIN, CLOCK] else f"--only shows {head}"
     done = peers("--only", "crate")
     yield None if done.returncode == 2 and "invalid choice: 'crate'" in done.stderr else f"--only crate: {done.returncode}: {done.stderr}"
+
+
+def has_bag():
+    return bool(shutil.which("javac")) and HIKARI_JAR.exists() and HIKARI_JAR.with_name("slf4j-api.jar").exists()
+
+
+def check_bag():
+    """HikariCP's bag is measured without Commons Pool 2, too. Without the jar of its logger it is named and left out."""
+    with tempfile.TemporaryDirectory() as folder:
+        alone = pathlib.Path(folder) / HIKARI_JAR.name
+        alone.touch()
+        done = peers("--only", HIKARI, "--only", PLAIN, "--hikari", alone)
+        line = f"left out: {HIKARI}: no libslf4j-java ({folder}/slf4j-api.jar)"
+        yield None if line in done.stdout.splitlines() and not done.returncode else f"{line!r} isn't said: {done.stdout}{done.stderr}"
+    if not has_bag():
+        print("HikariCP's bag is left out: `bench/peers --help` says what it needs")
+        return
+    done = peers("--only", HIKARI, "--only", PLAIN, *ABSENT)
+    shown = tables(done.stdout)
+    has_cells = len(shown) == 1 and all(re.fullmatch(r"\d+\.\d\d", cell) for line in shown[0][1:] for cell in line[1:])
+    yield None if has_cells and shown[0][0][1:] == [HIKARI, PLAIN] else f"the bag shows {shown}: {done.stdout}{done.stderr}"
+    yield None if [line[0] for line in sum(shown, [])[1:]] == ROWS else f"other rows than {ROWS}: {shown}"
+    yield None if (done.returncode, last_line(done)) == (0, "0 rows, 0 short") else f"status {done.returncode}: {last_line(done)}"
 
 
 def check_java():
@@ -213,10 +240,20 @@ def check_soak():
         yield None if fault_of_load(LOADED | {word: number}) else f"a load passes with {word} {number}"
 
 
+def check_two_pools():
+    """Both sources of the C pool are measured, and a build of it beside itself, if there is a C compiler."""
+    if not shutil.which(os.environ.get("CC", "cc")):
+        return
+    for builds in [], [TOP / "bindings/c", LIBRARY] * 2:
+        done = subprocess.run([TOP / "bench/two_pools", *builds, "--pairs", "100", "--rounds", "3"], capture_output=True, text=True, timeout=LONGEST)
+        is_right = re.search(r"^first \d+ ns, second \d+ ns, ratio \d+\.\d\d$", done.stdout, re.MULTILINE) and done.returncode == 0
+        yield None if is_right else f"bench/two_pools: {done.stdout}{done.stderr}"
+
+
 def main(pool):
-    checks = [*check_soak(), *check_java(), *check_waits()]
+    checks = [*check_soak(), *check_java(), *check_waits(), *check_two_pools()]
     if runs_cargo():
-        checks += [*check_missing_waits(), *check_missing(pool), *check_counting(), *check_only(), *check_present(pool)]
+        checks += [*check_missing_waits(), *check_missing(pool), *check_counting(), *check_only(), *check_bag(), *check_present(pool)]
     else:
         print("bench/peers and bench/longest_waits are left out, since no cargo runs here")
     faults = [fault for fault in checks if fault]

@@ -109,7 +109,7 @@ PARTS = (
         ("pool", "judge", "journal_picture", "example_archive", "zuphinka"),
         CARGO,
     ),
-    Part("c-pool", "the C pool for threads, also with failing allocations", "python3 tests/play_c_pool.py {zuphinka} {pool}", ("pool", "zuphinka")),
+    Part("c-pool", "both C pools for threads, also with failing allocations", "python3 tests/play_c_pool.py {zuphinka} {pool}", ("pool", "zuphinka")),
     Part("benchmarks", "bench/peers, bench/longest_waits and bench/soak notice what is wrong", "python3 tests/play_bench.py {pool}", ("pool", "zuphinka"), CARGO),
     Part("soak", "ten seconds of bench/soak", "python3 bench/soak --seconds 10 --pool {pool}", ("pool", "zuphinka"), CARGO),
     Part(

@@ -3,10 +3,10 @@ interface Contestant extends AutoCloseable {
     /** Borrows an object and returns it, over and over. */
     void work(long rounds) throws Exception;
 
-    /** Returns the pairs of a borrow and a return that the pool has counted. */
+    /** Returns the pairs of a borrow and a return that the pool or its objects have counted. */
     long pairs();
 
-    /** Returns how many objects it has created. */
+    /** Returns how many objects it has created, or was given. */
     long created();
 
     @Override
