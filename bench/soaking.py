@@ -105,7 +105,7 @@ class Soak:
 
     def play_rust(self):
         if not runs_cargo():
-            print("Rust crate: left out, since no cargo runs here")
+            print("skipped: the soak of the Rust crate: no cargo runs here")
             return
         self.play("Rust crate", built_by_cargo(TOP / "bench/soak_rust") / "soak")
 

@@ -7,7 +7,7 @@ POOL is the program. The crate's tests are cargo's: those in its files, in tests
 judged by the program; what the example `settings` writes of a file must be what Python reads there; the example `pairs` must make as many
 entries as its rounds are, whatever becomes of its journal, and the segments that it stores are judged too; and the codes, the fields and the functions
 of `src/sys.rs` must be those of `bindings/c/zuphinka.h`. The tests under tokio run where Debian has its source; everywhere the files that they name
-must be there. Where no cargo runs, all of it is left out.
+must be there. What cannot be tested is skipped, with the reason: all of it if no cargo runs.
 
 Prints what fails, and in the end the line 'N passed, M failed'.
 """
@@ -19,6 +19,8 @@ import subprocess
 import sys
 import tempfile
 import tomllib
+
+from skipping import NO_CARGO, has, skip
 
 TOP = pathlib.Path(__file__).resolve().parent.parent
 CRATE = TOP / "bindings/rust"
@@ -61,16 +63,15 @@ def run_tests(environment, *options, package=CRATE):
 
 
 def run_trial(environment):
-    """The same of the tests under tokio, whose source is Debian's. Without its package they are left out."""
-    if not any(REGISTRY.glob("tokio-[0-9]*")):
-        print(f"tests/tokio_trial is left out, since there is no librust-tokio-dev ({REGISTRY})")
+    """The same of the tests under tokio, whose source is Debian's. Without its package they are skipped."""
+    if not has("tests/tokio_trial", "librust-tokio-dev"):
         return 0, 0
     source = ["--config", 'source.crates-io.replace-with="debian"', "--config", f'source.debian.directory="{REGISTRY}"']
     return run_tests(environment, *source, package=TRIAL)
 
 
 def check_trial():
-    """The files that the tests under tokio name are there. This is seen where they are left out, too."""
+    """The files that the tests under tokio name are there. This is seen where they are skipped, too."""
     files = re.findall(r'^#\[path = "(.*)"\]$', (TRIAL / "tokio_trial.rs").read_text(), flags=re.MULTILINE)
     manifest = tomllib.loads((TRIAL / "Cargo.toml").read_text())
     crates = [crate["path"] + "/Cargo.toml" for crate in manifest["dependencies"].values() if "path" in crate]
@@ -104,6 +105,14 @@ def check_servers(servers, pool):
         verdict, entries = judged(pool, journal)
     right = (done.returncode, verdict) == (0, f"legal {entries}\n") and entries > 0
     yield None if right else f"servers: status {done.returncode}, {done.stderr!r}; {entries} entries, {verdict!r}"
+
+
+def check_examples():
+    """Each example is built: by the crate, or by the folder of its name, which has what it depends on."""
+    listed = {example["name"] for example in tomllib.loads((CRATE / "Cargo.toml").read_text())["example"]}
+    alone = {folder.parent.name for folder in (CRATE / "examples").glob("*/Cargo.toml")}
+    found = {file.stem for file in (CRATE / "examples").glob("*.rs")}
+    yield None if listed | alone == found and not listed & alone else f"examples are {found}, and built are {listed} and {alone}"
 
 
 def defaults():
@@ -177,14 +186,14 @@ def check_pairs(pairs, pool):
 
 def main(pool):
     if not runs_cargo():
-        print("bindings/rust is left out, since no cargo runs here; rustup.rs has one, and so have most systems' packages")
+        skip("bindings/rust", NO_CARGO)
         print("0 passed, 0 failed")
         return 0
     environment = os.environ | {"ZUPHINKA_POOL": str(pathlib.Path(pool).resolve())}
     passed, failed = (sum(column) for column in zip(run_tests(environment), run_trial(environment)))
     examples = built_examples(environment)
     checks = [check_servers(examples / "servers", pool), check_settings(examples / "settings"), check_pairs(examples / "pairs", pool)]
-    checks += [check_trial(), check_binding(), check_version()]
+    checks += [check_examples(), check_trial(), check_binding(), check_version()]
     for check in checks:
         for fault in check:
             if fault is None:

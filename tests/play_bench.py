@@ -20,6 +20,8 @@ import subprocess
 import sys
 import tempfile
 
+from skipping import NO_CARGO, has, skip
+
 TOP = pathlib.Path(__file__).resolve().parent.parent
 sys.path.append(str(TOP / "bench"))
 
@@ -127,10 +129,10 @@ def check_present(pool):
     """With all packages all columns come, and each row has a target."""
     in_java, has_r2d2 = [COMMONS, JAVA, COMMONS_HOOKS, JAVA_HOOKS], any(REGISTRY.glob("r2d2-[0-9]*"))
     if not (shutil.which("javac") and JAR.exists()):
-        print("Commons Pool 2 and Java are left out: `bench/peers --help` says what they need")
+        skip("the columns of bench/peers in Java", "not installed: Debian's default-jdk-headless or libcommons-pool2-java")
         return
     if not has_r2d2:
-        print("r2d2 is left out: `bench/peers --help` says what it needs")
+        skip("the column r2d2 of bench/peers", "not installed: Debian's librust-r2d2-dev")
     others = [R2D2, PLAIN] if has_r2d2 else [PLAIN]
     done = peers("--pool", pool)
     bag = [HIKARI] if has_bag() else []
@@ -164,7 +166,7 @@ def check_bag():
         line = f"left out: {HIKARI}: no libslf4j-java ({folder}/slf4j-api.jar)"
         yield None if line in done.stdout.splitlines() and not done.returncode else f"{line!r} isn't said: {done.stdout}{done.stderr}"
     if not has_bag():
-        print("HikariCP's bag is left out: `bench/peers --help` says what it needs")
+        skip("HikariCP's bag in bench/peers", "not installed: Debian's default-jdk-headless, libhikaricp-java or libslf4j-java")
         return
     done = peers("--only", HIKARI, "--only", PLAIN, *ABSENT)
     shown = tables(done.stdout)
@@ -243,11 +245,16 @@ def check_soak():
 def check_two_pools():
     """Both sources of the C pool are measured, and a build of it beside itself, if there is a C compiler."""
     if not shutil.which(os.environ.get("CC", "cc")):
+        skip("bench/two_pools", "there is no C compiler: Debian's package gcc has one")
         return
     for builds in [], [TOP / "bindings/c", LIBRARY] * 2:
         done = subprocess.run([TOP / "bench/two_pools", *builds, "--pairs", "100", "--rounds", "3"], capture_output=True, text=True, timeout=LONGEST)
         is_right = re.search(r"^first \d+ ns, second \d+ ns, ratio \d+\.\d\d$", done.stdout, re.MULTILINE) and done.returncode == 0
         yield None if is_right else f"bench/two_pools: {done.stdout}{done.stderr}"
+    if has("bench/two_pools --instructions", "valgrind"):
+        done = subprocess.run([TOP / "bench/two_pools", "--instructions", "--pairs", "100"], capture_output=True, text=True, timeout=LONGEST)
+        is_right = re.fullmatch(r"first \d+ instructions, second \d+ instructions, ratio \d+\.\d\d\n", done.stdout) and done.returncode == 0
+        yield None if is_right else f"bench/two_pools --instructions: {done.stdout}{done.stderr}"
 
 
 def main(pool):
@@ -255,7 +262,7 @@ def main(pool):
     if runs_cargo():
         checks += [*check_missing_waits(), *check_missing(pool), *check_counting(), *check_only(), *check_bag(), *check_present(pool)]
     else:
-        print("bench/peers and bench/longest_waits are left out, since no cargo runs here")
+        skip("bench/peers and bench/longest_waits", NO_CARGO)
     faults = [fault for fault in checks if fault]
     print(*faults, sep="\n", end="\n" if faults else "")
     print(f"{len(checks) - len(faults)} passed, {len(faults)} failed")

@@ -186,7 +186,8 @@ def refused(trial):
     trial.expect_refused("a crate that is refused", "right is refused")
     trial.expect("what is built of it", True, "right" in trial.built() and "pool" not in trial.built())
     trial.expect_refused("the same again", "right is refused")
-    trial.expect("only it is tried again", ["right"], trial.built())
+    # A build that ran beside it was stopped with it, or had ended.
+    trial.expect("only it is tried again, and what was stopped", True, {"right"} <= set(trial.built()) <= {"left", "right"})
     broken.unlink()
     trial.expect("once it is mended, at least", True, {"right", "pool"} <= set(rebuilt(trial)) <= {"left", "right", "pool"})
     trial.expect_built("and then", [])

@@ -1332,11 +1332,19 @@ static void test_woken_for_nothing_once(void) {
   end_pool(pool);
 }
 
-/* Threads that wait are served in the order of arrival. */
-static void test_served_in_order(void) {
+/* Borrows that give up at once. */
+static void give_up(struct zuphinka_pool *pool, int times) {
+  struct zuphinka_pool_loan none;
+  for (int n = 0; n < times; n++) check_error(zuphinka_pool_try_get(pool, &none), ZUPHINKA_POOL_ERROR_EXHAUSTED);
+}
+
+static void serve_in_order(int between) {
   struct waiter waiters[MANY];
   struct zuphinka_pool_loan loan = open_waited(0, "maxTotal = 1\n", &waiters[0], borrow_and_return);
-  for (int n = 1; n < MANY; n++) start(&waiters[n], 1, maker.pool, borrow_and_return);
+  for (int n = 1; n < MANY; n++) {
+    give_up(maker.pool, between);
+    start(&waiters[n], 1, maker.pool, borrow_and_return);
+  }
   entries(maker.pool);
   give_back(maker.pool, &loan);
   join(waiters, MANY, ZUPHINKA_POOL_ERROR_NONE);
@@ -1347,6 +1355,12 @@ static void test_served_in_order(void) {
   }
   check(served == MANY);
   end_pool(maker.pool);
+}
+
+/* Threads that wait are served in the order of arrival, also if so many others gave up between them that all sleep on the same condition. */
+static void test_served_in_order(void) {
+  serve_in_order(0);
+  serve_in_order(255);
 }
 
 enum { TAKERS = 6, TURNS = 200, TURNS_OF_A_SLEEP = 50 };
@@ -1403,11 +1417,11 @@ static void test_something_is_left(void) {
 /* A wait ends by the settings also while there is an object, but for a thread that came earlier. */
 static void test_times_out_beside_an_object(void) {
   struct waiter waiters[2];
-  struct zuphinka_pool_loan loan = open_waited(0, "maxTotal = 1\nmaxWaitMillis = 100\n", &waiters[0], borrow_and_return);
+  struct zuphinka_pool_loan loan = open_waited(0, "maxTotal = 1\nmaxWaitMillis = 1000\n", &waiters[0], borrow_and_return);
   start(&waiters[1], 1, maker.pool, borrow_and_return);
   atomic_store(&maker.held, waiters[0].caller + 1);
   give_back(maker.pool, &loan);
-  atomic_store(&maker.now, 100);
+  atomic_store(&maker.now, 1000);
   join(&waiters[1], 1, ZUPHINKA_POOL_ERROR_TIMED_OUT);
   check(!strstr(entries(maker.pool), " = timeout\n"));
   atomic_store(&maker.held, 0);

@@ -27,7 +27,6 @@ import concurrent.futures
 import os
 import pathlib
 import re
-import shutil
 import subprocess
 import sys
 import tempfile
@@ -35,6 +34,7 @@ import tempfile
 from play_library import FLAGS, TOP, VALGRIND, compiler, header_runs, heap
 from playing import differing
 from preloading import preloaded
+from skipping import has, skip
 
 POOL_FLAGS = [*FLAGS, "-pthread", "-I", TOP / "bindings/c"]
 # The sources, each with its flags.
@@ -161,16 +161,14 @@ def header_differing(folder):
 
 
 def tools(folder):
-    """The names of the builds for valgrind and ThreadSanitizer, each with its flags, the words before it, and how many threads it has. Prints which
-    are left out."""
-    if shutil.which("valgrind"):
+    """The names of the builds for valgrind and ThreadSanitizer, each with its flags, the words before it, and how many threads it has. Says which are
+    skipped."""
+    if has("the C pools under valgrind", "valgrind"):
         yield "valgrind", ["-g"], VALGRIND, THREADS
-    else:
-        print("valgrind isn't installed, and nothing looks for faults of memory (Debian and Ubuntu: apt-get install valgrind)")
     if has_tsan(folder):
         yield "ThreadSanitizer", ["-g", "-fsanitize=thread"], [], MORE_THREADS
     else:
-        print("the compiler has no ThreadSanitizer, and nothing looks for races (Debian and Ubuntu: apt-get install gcc)")
+        skip("the C pools under ThreadSanitizer", "the C compiler has none: Debian's package gcc has it")
 
 
 def refused(plain, refuse, folder, seed):

@@ -1,6 +1,6 @@
 #!/usr/bin/env python3
-"""Tests of ./check: in a small repository of its own, with a table of tiny parts, and a command `rt` that proves nothing and notes what it was asked.
-And of the table in tools/parts.py: that it names what is there, and forgets no test.
+"""Tests of ./check: in a small repository of its own, with a table of tiny parts, and commands `rt`, `apt-get` and `sudo` that prove and install
+nothing, and note what they were asked. And of the tables in tools/parts.py: that they name what is there, and forget no test and no package.
 
     play_check.py
 
@@ -25,9 +25,9 @@ TOP = pathlib.Path(__file__).resolve().parent.parent
 sys.path.append(str(TOP / "tools"))
 
 import sources
-from parts import PARTS, PROOFS
+from parts import PACKAGES, PARTS, PROOFS
 
-COPIED = ("check", "tools/runner.py", "tools/build.py", "tools/kit.py", "tools/sources.py", "tools/proof_seconds.txt")
+COPIED = ("check", ".ci/run", "tools/packages.py", "tools/runner.py", "tools/build.py", "tools/kit.py", "tools/sources.py", "tools/proof_seconds.txt")
 CRATES = {"low": "", "tool": "low", "wrong": "low", "archive staticlib": "low"}
 # Notes each call. `rt ci` builds all, but for what is broken: programs, and libraries where there is none with a stamp.
 RT = """#!/bin/sh
@@ -72,7 +72,27 @@ for file; do echo $name has $(cat $file 2>&1); done
 [ $passed = - ] || echo "$passed passed, $failed failed"
 exit $status
 """
-HEAD = """from runner import Part
+# A part that needs a package: it skips one thing, unless a sign of the package is there.
+NEEDY = """echo begin needy $$ >>$CALLS
+if [ -e $1 ]; then echo "2 passed, 0 failed"; else echo "skipped: a tool: not installed: Debian's tool-dev"; echo "1 passed, 0 failed"; fi
+"""
+# Notes each call. It fails if it is broken, and if it is stale until it is updated; it installs nothing if it is idle.
+APT = """#!/bin/sh
+echo apt-get $* >>$CALLS
+case $APT in
+broken) [ $1 = update ] || exit 100 ;;
+stale) if [ $1 = update ]; then touch $SIGNS/updated; else [ -e $SIGNS/updated ] || exit 100; fi ;;
+idle) exit 0 ;;
+esac
+[ $1 = update ] || touch $SIGNS/tool-dev
+"""
+SUDO = """#!/bin/sh
+[ "$1" = -n ] && shift
+exec "$@"
+"""
+INSTALL = "apt-get install -y --no-install-recommends tool-dev"
+HEAD = """from packages import Package
+from runner import Part
 
 PROOFS = Part("proofs", "the gate", "rt ci")
 PARTS = (
@@ -90,9 +110,12 @@ BAD = [
     ("failing", "has two that fail", "failing 1 0 1 2 1"),
     ("status", "has a status alone", "status 1 0 1 0 3"),
     ("mute", "counts nothing", "mute 1 0 - 0 0"),
+    ("empty", "tests nothing", "empty 1 0 0 0 0"),
     ("wrong", "needs what can't be built", "wrong 1 0 1 0 0 {wrong}", "wrong"),
 ]
 ENDLESS = [("endless", "goes on", "endless 1 60 1 0 0"), ("next", "too", "next 1 60 1 0 0")]
+# The names of Debian's packages, as the tests and the tools have them.
+PACKAGE = re.compile(r"\b(?:lib[a-z0-9+.-]+-java|librust-[a-z0-9-]+-dev|default-jdk-headless)\b")
 # A run that takes longer hangs, in seconds.
 LONGEST = 60
 Done = collections.namedtuple("Done", "lines status errors calls")
@@ -116,6 +139,13 @@ class Trial:
             (self.top / name).parent.mkdir(parents=True, exist_ok=True)
             shutil.copy(TOP / name, self.top / name)
         write(self.top / "tests/say", SAY)
+        write(self.top / "tests/needy", NEEDY)
+        self.signs = folder / "signs"
+        self.signs.mkdir()
+        self.environment |= {"SIGNS": str(self.signs), "APT": ""}
+        for name, text in ("apt-get", APT), ("sudo", SUDO):
+            write(folder / "bin" / name, text)
+            (folder / "bin" / name).chmod(0o755)
         write(self.top / "HANDLES", "Handles allowed: none.\n")
         write(self.top / "crates.txt", "".join(f"{head}: {names}\n" for head, names in CRATES.items()))
         for head in CRATES:
@@ -127,13 +157,16 @@ class Trial:
         """Writes the table of parts."""
         folders = {"folder": ("made/here",)}
         parts = [(name, tests, f"sh tests/say {words}", tuple(needs), folders.get(name, ())) for name, tests, words, *needs in rows]
-        write(self.top / "tools/parts.py", HEAD + "".join(f"    Part(*{part!r}),\n" for part in parts) + ")\n")
+        parts.append(("needy", "needs a package", f"sh tests/needy {self.signs}/tool-dev", (), (), "sh tests/fetch" * (self.top / "tests/fetch").exists()))
+        packages = [("tool-dev", f"{self.signs}/tool-*", ("needy",)), ("shell", "sh"), ("other", "/nowhere", (), "SIGNS"), ("more", "/nowhere", ("none",))]
+        rows = [*(f"    Part(*{part!r}),\n" for part in parts), ")\nPACKAGES = (\n", *(f"    Package(*{package!r}),\n" for package in packages)]
+        write(self.top / "tools/parts.py", HEAD + "".join(rows) + ")\n")
 
-    def run(self, *words, until=""):
+    def run(self, *words, until="", program="check", **changes):
         """Runs ./check with these words. A static library isn't built until this is noted."""
         self.calls.write_text("")
-        options = {"cwd": "/", "env": self.environment | {"UNTIL": until}, "stdin": subprocess.DEVNULL, "capture_output": True, "text": True}
-        done = subprocess.run([self.top / "check", *words], timeout=LONGEST, **options)
+        options = {"cwd": "/", "env": self.environment | {"UNTIL": until} | changes, "stdin": subprocess.DEVNULL, "capture_output": True, "text": True}
+        done = subprocess.run([self.top / program, *words], timeout=LONGEST, **options)
         return Done(done.stdout.splitlines(), done.returncode, done.stderr, self.noted())
 
     def noted(self):
@@ -159,7 +192,7 @@ def began(done):
 def listing(trial):
     """The list, and names of no part."""
     done = trial.run("--list")
-    names = ["proofs", *(name for name, *_ in GOOD)]
+    names = ["proofs", *(name for name, *_ in GOOD), "needy"]
     yield "the list", (names, 0, "", []), ([line.split()[0] for line in done.lines], done.status, done.errors, done.calls)
     yield "what a part tests", "quick    needs nothing", done.lines[4]
     done = trial.run("quick", "qick")
@@ -173,7 +206,7 @@ def alone(trial):
     """Parts that are named: alone, in the order of the table, once what they need is built."""
     done = trial.run("quick")
     head = ["check: part 1 of 1, quick, after N:N min", "check: all parts have ended, after N:N min", "check: quick, N s, alone by ./check quick"]
-    lines = [*head, "quick 1", "1 passed, 0 failed", "1 passed, 0 failed"]
+    lines = [*head, "quick 1", "1 passed, 0 failed", "1 passed, 0 failed, 0 skipped"]
     found = [re.sub(r"\d+:\d\d min", "N:N min", re.sub(r", \d+ s,", ", N s,", line)) for line in done.lines]
     yield "a part that needs nothing", (lines, 0, "", ["begin quick"]), (found, *done[1:])
     done = trial.run("folder", "tool", "quick", "tool")
@@ -182,7 +215,7 @@ def alone(trial):
     yield "its progress is shown", True, any(line.startswith("tool: 1 of 2 crates, ") for line in done.lines)
     begin = [line.split(", ")[-1] for line in began(done)]
     yield "what begins", ["check: build of tool", "folder", "quick", "tool"], sorted(begin)
-    yield "what is shown", (["tool", "quick", "folder"], "5 passed, 0 failed", 0), (shown(done), done.lines[-1], done.status)
+    yield "what is shown", (["tool", "quick", "folder"], "5 passed, 0 failed, 0 skipped", 0), (shown(done), done.lines[-1], done.status)
     yield "the program", True, any(re.fullmatch("tool has .* # alone // tool", line) for line in done.lines)
     yield "the folder is there", True, (trial.top / "made/here").is_dir()
     done = trial.run("tool")
@@ -203,10 +236,10 @@ def whole(trial):
     """All: the gate first, then builds and parts, whose output is shown in one piece and in order."""
     shutil.rmtree(trial.top / "crates/low/out")
     done = trial.run(until="begin slow" if len(os.sched_getaffinity(0)) > 1 else "")
-    names = [name for name, *_ in GOOD]
-    yield "all: the count", ("14 passed, 0 failed", 0), (done.lines[-1], done.status)
+    names = [*(name for name, *_ in GOOD), "needy"]
+    yield "all: the count", ("15 passed, 0 failed, 1 skipped", 0), (done.lines[-1], done.status)
     yield "all: what is shown", ["proofs", *names], shown(done)
-    yield "all: the gate is first", ("rt ci repository", ["check: part 1 of 8, proofs"]), (done.calls[0], began(done)[:1])
+    yield "all: the gate is first", ("rt ci repository", ["check: part 1 of 9, proofs"]), (done.calls[0], began(done)[:1])
     proofs = [call for call in done.calls if not call.startswith("begin ")]
     yield "all: no other proof", ["rt ci repository", "archive archive", "built archive"], proofs
     jobs = int(re.search(r"^archive archive --jobs (\d+)", trial.calls.read_text(), re.MULTILINE)[1])
@@ -223,7 +256,7 @@ def whole(trial):
     yield "what the gate has left serves", ["late", "library", "tool"], sorted(call.removeprefix("begin ") for call in done.calls)
     write(trial.top / "crates/low/src/lib.rt", "// another\n")
     done = trial.run("library", "proofs")
-    yield "the gate by its name", (["proofs", "library"], "5 passed, 0 failed"), (shown(done), done.lines[-1])
+    yield "the gate by its name", (["proofs", "library"], "5 passed, 0 failed, 0 skipped"), (shown(done), done.lines[-1])
     yield "a library of an earlier gate is removed", True, "library has // another" in done.lines
     yield "and not built again after the gate", ["rt ci repository", "begin library"], done.calls
     yield "no commit where parts are named", False, any("commit" in line for line in done.lines)
@@ -247,12 +280,96 @@ def failing(trial):
     write(trial.top / "crates/wrong/src/broken", "")
     trial.lay_table([*BAD, *GOOD])
     done = trial.run("quick", *(name for name, *_ in BAD))
-    yield "what fails", ("3 passed, 5 failed", 1), (done.lines[-1], done.status)
-    yield "what failed", "check: what failed, again: ./check failing status mute wrong", done.lines[-2]
+    yield "what fails", ("3 passed, 6 failed, 0 skipped", 1), (done.lines[-1], done.status)
+    yield "what failed", "check: what failed, again: ./check failing status mute empty wrong", done.lines[-2]
     told = ["status: ended with status 3", "mute: ended with status 0 and without a count", "wrong: not run, since wrong can't be built"]
+    told.append("empty: tested nothing, and skipped nothing")
     yield "how it ended", told, [line for line in told if line in done.lines]
     yield "why it can't be built", True, "wrong is refused" in done.lines and "wrong: not built" in done.lines
     yield "it doesn't run", False, "begin wrong" in done.calls
+    trial.lay_table(GOOD)
+
+
+def skipping(trial):
+    """What a part skips is counted, and shown with its reason before the last line."""
+    done = trial.run("needy", "quick")
+    wanted = ["check: skipped: needy: a tool: not installed: Debian's tool-dev", "check: ./check --install installs what they need"]
+    yield "what is skipped", ([*wanted, "2 passed, 0 failed, 1 skipped"], 0), (done.lines[-3:], done.status)
+    yield "nothing is installed", ["begin needy", "begin quick"], sorted(done.calls)
+
+
+def installing(trial):
+    """Packages are installed before what needs them runs, and then nothing may be skipped."""
+    done = trial.run("--install", "quick")
+    yield "nothing to install", ("1 passed, 0 failed, 0 skipped", 0, ["begin quick"]), (done.lines[-1], done.status, done.calls)
+    done = trial.run("--install", "needy", APT="broken")
+    told = "check: not installed: "
+    yield "it fails", ([INSTALL], 3, True), (done.lines, done.status, done.errors.startswith(told) and " status 100; " in done.errors)
+    yield "nothing runs then", [INSTALL, "apt-get update", INSTALL], done.calls
+    done = trial.run("--install", "needy", APT="idle")
+    wanted = "check: failed, since nothing may be skipped: needy: a tool: not installed: Debian's tool-dev"
+    yield "a part that still cannot run", ([wanted, "1 passed, 1 failed, 0 skipped"], 1), (done.lines[-2:], done.status)
+    yield "what failed then", "check: what failed, again: ./check needy", done.lines[-3]
+    done = trial.run("--install", "needy", APT="stale")
+    yield "with an update", [INSTALL, "apt-get update", INSTALL, "begin needy"], done.calls
+    yield "what is shown of it", (INSTALL, "2 passed, 0 failed, 0 skipped", 0), (done.lines[0], done.lines[-1], done.status)
+    done = trial.run("--install", "needy", APT="broken")
+    yield "it is installed", (["begin needy"], 0), (done.calls, done.status)
+    (trial.top.parent / "bin/apt-get").rename(trial.top.parent / "bin/other")
+    (trial.signs / "tool-dev").unlink()
+    done = trial.run("--install", "needy", PATH=f"{trial.top.parent}/bin:{trial.top.parent}/python:{without_apt(trial)}")
+    yield "no apt-get", ([INSTALL], 3, f"{told}there is no apt-get here; ./check alone skips what needs it\n"), (done.lines, done.status, done.errors)
+    (trial.top.parent / "bin/other").rename(trial.top.parent / "bin/apt-get")
+
+
+def without_apt(trial):
+    """A folder with the system's commands, except apt-get and sudo."""
+    folder = trial.top.parent / "commands"
+    folder.mkdir(exist_ok=True)
+    for command in (path for place in ("/bin", "/usr/bin") for path in pathlib.Path(place).iterdir()):
+        if command.name not in ("apt-get", "sudo") and not (folder / command.name).is_symlink():
+            (folder / command.name).symlink_to(command)
+    return folder
+
+
+def privileged(trial):
+    """The words that make a command root's: none for root, those of sudo if it asks for no password."""
+    words = [sys.executable, "-c", f"import sys; sys.path.append('{TOP}/tools'); import packages; print(packages.prefix(int(sys.argv[1])))"]
+    refusing = trial.top.parent / "refusing"
+    write(refusing / "sudo", "#!/bin/sh\nexit 1\n")
+    (refusing / "sudo").chmod(0o755)
+    with_sudo, commands = trial.top.parent / "bin", without_apt(trial)
+    cases = [("0", commands, "[]"), ("1000", commands, "None"), ("1000", f"{with_sudo}:{commands}", "['sudo', '-n']"), ("1000", f"{refusing}:{commands}", "None")]
+    for number, (user, path, wanted) in enumerate(cases):
+        done = subprocess.run([*words, user], env=trial.environment | {"PATH": str(path)}, capture_output=True, text=True)
+        yield f"who may install, {number}", (wanted + "\n", ""), (done.stdout, done.stderr)
+
+
+def fetching(trial):
+    """What a part needs from the network is fetched with the packages."""
+    write(trial.top / "tests/fetch", "echo fetched >>$CALLS; exit $FETCH\n")
+    trial.lay_table(GOOD)
+    done = trial.run("--install", "needy", FETCH="1")
+    told = "check: not installed: sh tests/fetch ended with status 1; ./check alone skips what needs it\n"
+    yield "nothing is fetched", ([INSTALL, "fetched"], 3, told), (done.calls, done.status, done.errors)
+    done = trial.run("--install", "needy", FETCH="0")
+    yield "it is fetched", (["fetched", "begin needy"], 0), (done.calls, done.status)
+    yield "only where it is needed", ["begin quick"], trial.run("--install", "quick", FETCH="1").calls
+
+
+def unattended(trial):
+    """.ci/run installs nothing, and skips what it must."""
+    sign = trial.signs / "tool-dev"
+    sign.unlink()
+    done = trial.run(program=".ci/run", FETCH="0")
+    yield "without packages", ("15 passed, 0 failed, 1 skipped", 0, 0), (done.lines[-1], done.status, done.calls.count(INSTALL))
+    sign.touch()
+    done = trial.run(program=".ci/run", FETCH="0")
+    yield "with all", ("16 passed, 0 failed, 0 skipped", 0, 1), (done.lines[-1], done.status, done.calls.count("begin needy"))
+    (trial.top / "tests/fetch").unlink()
+    trial.lay_table([*BAD[:1], *GOOD])
+    done = trial.run(program=".ci/run")
+    yield "with a part that fails", ("17 passed, 2 failed, 0 skipped", 1, 1), (done.lines[-1], done.status, done.calls.count("begin needy"))
     trial.lay_table(GOOD)
 
 
@@ -265,7 +382,7 @@ def committed(trial):
     write(trial.top / "crates/tool/src/main.rt", "// another\n")
     done = trial.run()
     yield "a change", f"check: commit {commit}-changed", done.lines[0]
-    yield "a gate that fails", ("13 passed, 1 failed", 1), (done.lines[-1], done.status)
+    yield "a gate that fails", ("15 passed, 1 failed, 0 skipped", 1), (done.lines[-1], done.status)
     yield "its programs are taken", True, "tool has # gate // another" in done.lines
     trial.git("commit", "-qam", "another")
     (trial.top / "crates/wrong/src/broken").rename(trial.top.parent / "broken")
@@ -281,7 +398,7 @@ def without_kit(trial):
     (trial.top.parent / "bin/rt").rename(trial.top.parent / "bin/other")
     done = trial.run("proofs", "tool")
     told = "proofs: not run, since the Rattle kit's command rt is not on the PATH"
-    yield "without the kit", ("3 passed, 1 failed", 1, True), (done.lines[-1], done.status, told in done.lines)
+    yield "without the kit", ("3 passed, 1 failed, 0 skipped", 1, True), (done.lines[-1], done.status, told in done.lines)
     (trial.top.parent / "bin/other").rename(trial.top.parent / "bin/rt")
 
 
@@ -334,13 +451,23 @@ def table():
     scripts = [path for kind in ("check", "count", "play", "refuse") for path in TOP.glob(f"tests/{kind}_*.py")]
     tests = {f"tests/{path.name}" for path in scripts if "__main__" in path.read_text()}
     yield "each test is in a part", [], sorted(tests - {line[1] for line in words})
+    yield "packages of parts", [], [package.name for package in PACKAGES if not {*package.parts} <= {*names}]
+    sources_of_tests = [path for pattern in ("tests/*.py", "tools/*.py", "bench/*") for path in TOP.glob(pattern) if path.is_file()]
+    named = {name for path in sources_of_tests for name in PACKAGE.findall(path.read_text())}
+    yield "packages that are named", set(), named - {package.name for package in PACKAGES}
+    silent = [path.name for path in TOP.glob("tests/*.py") if re.search(r"print\(.*\bleft out\b", path.read_text()) and path.name != "play_check.py"]
+    yield "nothing is left out without being counted", [], silent
+
+
+WITH_ALL = (listing, alone, static, whole, jobs)
+INSTALLING = (skipping, installing, privileged, fetching, unattended)
 
 
 def checks():
     yield from table()
     with tempfile.TemporaryDirectory() as folder:
         trial = Trial(pathlib.Path(folder).resolve())
-        for part in listing, alone, static, whole, jobs, failing, committed, without_kit, interrupted:
+        for part in (*WITH_ALL, *INSTALLING, failing, committed, without_kit, interrupted):
             yield from part(trial)
 
 

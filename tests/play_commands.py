@@ -8,7 +8,7 @@ other with the repository's examples at hand, or as one where they have a loop; 
 settings, cut into segments or not; the form of a line; or the line of `rt version` of a kit with the logic of this one. The command ./check
 is not run, since it runs this, nor is tools/build.py, since it has built the programs: there must be such a crate or binding. Java's commands are
 run by play_java.py. What ./try does with the program without its proofs is done here by the program. Blocks between fences are not run:
-check_readme.py holds them against the sources. Names are for check_names.py. Cargo's commands are left out where no cargo runs.
+check_readme.py holds them against the sources. Names are for check_names.py. Cargo's commands are skipped if no cargo runs.
 """
 
 import functools
@@ -18,7 +18,11 @@ import subprocess
 import sys
 import tempfile
 
+from skipping import NO_CARGO, skip
+
 TOP = pathlib.Path(__file__).resolve().parent.parent
+# Commands that this does not run, since they run it.
+OWN = ("./check", "./check --install")
 COMMAND = re.compile(
     r"(\./pool|\./try|\./check|pool|crates/\S+|\(cd|mkdir|printf|python3 tools/\S+|cc|\./plain_life|\./long_life|\./shared_life|cargo|java) "
 )
@@ -55,7 +59,7 @@ class Place:
 
     def __init__(self, folder, pool):
         self.folder = pathlib.Path(folder)
-        for name in ("examples", "crates", "bindings", "tools"):
+        for name in ("examples", "crates", "bindings", "tools", "docs"):
             (self.folder / name).symlink_to(TOP / name)
         (self.folder / "pool").symlink_to(pool)
         self.runs_cargo = runs_cargo()
@@ -63,13 +67,14 @@ class Place:
     def fault_of_command(self, line):
         """Why a command is not as the page says, if it isn't."""
         words = line.partition(" #")[0].strip()
-        if words == "./check":
+        if words in OWN:
             return None
         if words.startswith("python3 tools/build.py "):
             return None if any((TOP / kind / words.split()[2]).is_dir() for kind in ("crates", "bindings")) else "no such crate"
         if words.startswith("java "):
             return None
         if words.startswith("cargo") and not self.runs_cargo:
+            skip(words, NO_CARGO)
             return None
         if words.startswith("./try ") and not (TOP / "try").is_file():
             return "no such script"

@@ -2,14 +2,16 @@
 """Runs the tests of Commons Pool 2, unchanged, over the pool for Java, and compares which pass with docs/guide/commons-pool-tests.md.
 
     play_commons_pool.py [--source FOLDER] LIBRARY POOL
+    play_commons_pool.py --fetch
 
 LIBRARY is libzuphinka.a, POOL the program `pool`, and FOLDER the source of Commons Pool 2 of the version that is installed. Else COMMONS_POOL2_SOURCE
-names it, or Debian's archive of it is downloaded into a temporary folder. The tests run in four virtual machines, over a class that stands in for
-GenericObjectPool and passes each call on (tests/commons_pool). A test that does not end as the page says runs again, alone, up to twice.
+names it, or Debian's archive of it is downloaded, unless --fetch has stored it in the folder out. The tests run in four virtual machines, over
+a class that stands in for GenericObjectPool and passes each call on (tests/commons_pool). A test that does not end as the page says runs again,
+alone, up to twice.
 
 What fails is a test that fails without a row on the page, that passes although its row says that it differs, or that does not exist; a class of which
 another number of tests passes; and a journal that is not legal, of a pool that a test closed. If a tool, a library or the source is missing, all of
-it is left out.
+it is skipped, with the reason.
 
 Prints what fails, and in the end the line 'N passed, M failed'.
 """
@@ -19,6 +21,7 @@ import concurrent.futures
 import contextlib
 import hashlib
 import http.client
+import io
 import itertools
 import os
 import pathlib
@@ -34,6 +37,7 @@ import zipfile
 
 from check_names import backquoted, tables
 from playing import play_checks
+from skipping import skip
 
 TOP = pathlib.Path(__file__).resolve().parent.parent
 sys.path.append(str(TOP / "tools"))
@@ -47,6 +51,7 @@ OWN = TOP / "tests/commons_pool"
 VERSION = "2.11.1"
 ARCHIVE = f"http://deb.debian.org/debian/pool/main/c/commons-pool2/commons-pool2_{VERSION}.orig.tar.xz"
 CHECKSUM = "16deaefe5bd9ec8f242b1836459f672a786382d1154971fc2488c65eb62ae36f"
+FETCHED = TOP / "out" / pathlib.PurePosixPath(ARCHIVE).name
 # The jars that the tests need besides, and the packages that have them.
 JUNIT = ("junit-jupiter-api", "junit-jupiter-engine", "junit-platform-commons", "junit-platform-engine", "junit-platform-launcher")
 JARS = dict.fromkeys((*JUNIT, "apiguardian-api", "opentest4j", "hamcrest"), "junit5") | dict.fromkeys(("cglib", "asm"), "libcglib-java")
@@ -131,8 +136,8 @@ def require_version():
         raise java.Missing(f"{java.commons_pool()} is not version {VERSION} of Commons Pool 2, whose tests these are")
 
 
-def download(to):
-    """Downloads the archive and unpacks its tests, and returns the folder of the source."""
+def download():
+    """Downloads the archive, and returns it."""
     try:
         with urllib.request.urlopen(ARCHIVE, timeout=30) as reply:
             packed = reply.read()
@@ -141,9 +146,31 @@ def download(to):
     checksum = hashlib.sha256(packed).hexdigest()
     if checksum != CHECKSUM:
         sys.exit(f"{ARCHIVE}: wanted the checksum {CHECKSUM}, got {checksum}\n0 passed, 1 failed")
-    archive = to / "source.tar.xz"
-    archive.write_bytes(packed)
-    with tarfile.open(archive) as members:
+    return packed
+
+
+def is_fetched():
+    """Whether the archive is stored, with its checksum."""
+    return FETCHED.is_file() and hashlib.sha256(FETCHED.read_bytes()).hexdigest() == CHECKSUM
+
+
+def fetch():
+    """Stores the archive, unless it is there or another source is named. Returns the status to end with."""
+    if os.environ.get("COMMONS_POOL2_SOURCE") or is_fetched():
+        return 0
+    try:
+        packed = download()
+    except java.Missing as missing:
+        print(missing, file=sys.stderr)
+        return 1
+    FETCHED.parent.mkdir(exist_ok=True)
+    FETCHED.write_bytes(packed)
+    return 0
+
+
+def unpacked(to):
+    """Unpacks the tests of the archive, and returns the folder of the source."""
+    with tarfile.open(fileobj=io.BytesIO(FETCHED.read_bytes() if is_fetched() else download())) as members:
         members.extractall(to, [member for member in members if "/src/test/" in member.name])
     return next(to.glob("*/src/test")).parent.parent
 
@@ -266,7 +293,7 @@ def checks(library, pool, source):
     page = read_page()
     with tempfile.TemporaryDirectory() as name:
         folder = pathlib.Path(name)
-        source = source or download(folder)
+        source = source or unpacked(folder)
         jar = java.build(pathlib.Path(library), heap_of_kit(), folder / "out")
         tests = Tests(page.classes(), source, jar, folder)
         found = tests.run("list", page.classes())
@@ -283,20 +310,27 @@ def checks(library, pool, source):
 def arguments():
     words = argparse.ArgumentParser(description=__doc__, formatter_class=argparse.RawDescriptionHelpFormatter)
     words.add_argument("--source", type=pathlib.Path, default=os.environ.get("COMMONS_POOL2_SOURCE"), help="the source of Commons Pool 2")
-    words.add_argument("library", metavar="LIBRARY", help="libzuphinka.a")
-    words.add_argument("pool", metavar="POOL", help="the program pool")
-    return words.parse_args()
+    words.add_argument("--fetch", action="store_true", help="store the archive of the source, and test nothing")
+    words.add_argument("library", metavar="LIBRARY", nargs="?", help="libzuphinka.a")
+    words.add_argument("pool", metavar="POOL", nargs="?", help="the program pool")
+    given = words.parse_args()
+    if not given.fetch and not given.pool:
+        words.error("LIBRARY and POOL are missing")
+    return given
 
 
 def main():
     given = arguments()
+    if given.fetch:
+        return fetch()
     if given.source and not (given.source / "src/test/java").is_dir():
         sys.exit(f"{given.source}/src/test/java: no such folder\n0 passed, 1 failed")
     try:
         java.jdk(), jars(), require_version()
         return play_checks(checks(given.library, given.pool, given.source))
     except java.Missing as missing:
-        print(f"left out: {missing}\n0 passed, 0 failed")
+        skip("the tests of Commons Pool 2", missing)
+        print("0 passed, 0 failed")
         return 0
 
 

@@ -1,6 +1,7 @@
 #!/usr/bin/env python3
 """Plays the examples that docs/guide/settings.md names, looks for the journal lines that it shows, and draws the journals whose pictures
-stand in docs/pictures, each under the name of its settings, and the overview there of the journal that tests/sample_journal.py writes.
+stand in docs/pictures, each under the name of its settings, the overview there of the journal that tests/sample_journal.py writes, and the journal
+leak.journal there.
 
 play_examples.py POOL JOURNAL_PICTURE  Both are programs. The last line is 'N passed, M failed'.
 """
@@ -50,6 +51,9 @@ def main(program, picture):
     played += 1
     if not is_drawn(picture, "overview", Sample().play().decode()):
         wrong.append("docs/pictures/overview.svg is another picture than that of tests/sample_journal.py")
+    played += 1
+    if not is_drawn(picture, "leak", (PICTURES / "leak.journal").read_text()):
+        wrong.append("docs/pictures/leak.svg is another picture than that of docs/pictures/leak.journal")
     unnamed = {f"examples/{path.name}" for path in (TOP / "examples").iterdir()} - named
     wrong += [f"{name}: docs/guide/settings.md doesn't tell what it shows" for name in sorted(unnamed)]
     print(*wrong, sep="\n", end="\n" if wrong else "")

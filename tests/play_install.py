@@ -20,6 +20,7 @@ import tempfile
 
 from play_library import FLAGS, PLAIN_LIFE, TOP, compiler
 from playing import differing
+from skipping import has
 
 SOURCES = TOP / "bindings/c"
 # The installed files by their paths, each with its source.
@@ -89,12 +90,10 @@ def main(library):
         found.append([] if installed.returncode == 0 else [installed.stderr.decode()])
         if installed.returncode == 0:
             found.append(copies(prefix))
-            if shutil.which("pkg-config"):
+            if has("programs that are built by the installed files", "pkgconf"):
                 version, flags = flags_of(prefix)
                 plain = program_differing("plain_life", folder, flags, [TOP / "examples/settings.toml"], PLAIN_LIFE)
                 found += [version, plain, shared_differing(folder, flags)]
-            else:
-                print("pkg-config isn't installed, and nothing is built by the installed files (Debian and Ubuntu: apt-get install pkgconf)")
     for line in (line for lines in found for line in lines):
         print(line[:2000])
     failed = sum(map(bool, found))

@@ -10,8 +10,8 @@ refuses the native library each of its allocations in turn. tests/java/Folders.j
 tests/java/Loaders.java has pools in two class loaders, where temporary folders are unfit. The journals that they write must be legal. A stored file
 must be synced before it has its name, and its folder afterwards. The jar must have the version of all products and load nothing but the C library,
 and the codes of zuphinka.Core must be those of bindings/c/zuphinka.h. Each public and protected item must have documentation in which javac finds
-nothing wrong. If there is no JDK or no Commons Pool 2, all of it is left out. The examples are run by the commands of bindings/java/README.md, that
-over DBCP2 only if DBCP2 and H2 are there; its journal must be drawn.
+nothing wrong. The examples are run by the commands of bindings/java/README.md; the journal of that over DBCP2 must be drawn. What needs a JDK or a jar
+that is missing is skipped, with the reason.
 
 Prints what fails, and in the end the line 'N passed, M failed'.
 """
@@ -29,6 +29,7 @@ import zipfile
 from check_picture import differences
 from playing import play_checks
 from preloading import preloaded
+from skipping import has, skip
 
 TOP = pathlib.Path(__file__).resolve().parent.parent
 sys.path.append(str(TOP / "tools"))
@@ -52,6 +53,8 @@ ALLOCATORS = ("malloc", "calloc", "realloc")
 SHORT_PART = 512
 # What the example over DBCP2 needs, and the packages that have it.
 EXAMPLE_JARS = {"commons-dbcp2": "libcommons-dbcp2-java", "h2": "libh2-java"}
+# What that prints: 16 of its connections break, and others take their places.
+BANK = r"1000 transfers, \d+ a second, 0 failed\n2000 euros in all\ncreated (1[7-9]|[2-9]\d), destroyed \1, idle 0, lent 0\n"
 # A run that takes longer hangs, in seconds.
 LONGEST = 120
 
@@ -225,15 +228,14 @@ def example(name, report, pool, folder):
 
 
 def examples(pool, picture, folder):
-    """What is wanted of the examples, and what came of it. Those over jars that are missing are left out."""
-    if java.DEBIAN_JAR.is_file():
-        yield from example("Servers", r"180 requests were answered over \d+ connections\n", pool, folder / "servers")
-    missing = next((jar for jar in ["commons-pool2", *EXAMPLE_JARS] if not (java.DEBIAN_JAR.parent / f"{jar}.jar").is_file()), None)
-    if missing:
-        print(f"examples are left out, since there is no {missing}.jar: Debian's package {EXAMPLE_JARS.get(missing, 'libcommons-pool2-java')} has it")
+    """What is wanted of the examples, and what came of it. Those over jars that are missing are skipped."""
+    if not java.DEBIAN_JAR.is_file():
+        skip("the examples in Java", f"no {java.DEBIAN_JAR}: Debian's package libcommons-pool2-java has it")
         return
-    yield from example("Bank", "1000 transfers, 20 broken connections, 2000 euros in all\n", pool, folder / "bank")
-    yield "Bank: its picture", [], differences(picture, *sorted((folder / "bank").glob("segment-*")))
+    yield from example("Servers", r"180 requests were answered over \d+ connections\n", pool, folder / "servers")
+    if has("the example Bank", *EXAMPLE_JARS.values()):
+        yield from example("Bank", BANK, pool, folder / "bank")
+        yield "Bank: its picture", [], differences(picture, *sorted((folder / "bank").glob("segment-*")))
 
 
 def checks(library, pool, picture):
@@ -270,7 +272,8 @@ def main():
     try:
         java.jdk(), java.commons_pool()
     except java.Missing as missing:
-        print(f"left out: {missing}\n0 passed, 0 failed")
+        skip("the pool for Java", missing)
+        print("0 passed, 0 failed")
         return 0
     return play_checks(checks(*map(pathlib.Path, sys.argv[1:])))
 

@@ -5,7 +5,7 @@
 
 LIBRARY is libzuphinka.a. In each run six threads call one pool with random settings, over a factory that fails at random, and are interrupted at
 random. Each run has a fixed seed, though what happens depends on the threads too. A run of the pool for Java that breaks a promise counts as failed.
-What Commons Pool 2 does is printed and not tested. If there is no JDK or no Commons Pool 2, all of it is left out.
+What Commons Pool 2 does is printed and not tested. If there is no JDK or no Commons Pool 2, all of it is skipped.
 
 Prints a line for each of the two, what fails, and in the end the line 'N passed, M failed'.
 """
@@ -25,6 +25,7 @@ sys.path.append(str(TOP / "tools"))
 import java
 from install import heap_of_kit
 from play_java import COUNT
+from skipping import skip
 
 SOURCES = [TOP / f"tests/java/{name}.java" for name in ("Promises", "EitherPool", "Expectations")]
 # How many runs each pool gets, and for how many milliseconds each run calls.
@@ -72,7 +73,8 @@ def main():
     try:
         java.jdk(), java.commons_pool()
     except java.Missing as missing:
-        print(f"left out: {missing}\n0 passed, 0 failed")
+        skip("random calls of the pool for Java", missing)
+        print("0 passed, 0 failed")
         return 0
     return play_checks(checks(pathlib.Path(sys.argv[1])))
 

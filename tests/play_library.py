@@ -6,12 +6,13 @@
     play_library.py refused LIBRARY FOLDER..
     play_library.py segments LIBRARY POOL FOLDER..
     play_library.py many LIBRARY POOL
+    play_library.py crowd LIBRARY
 
 LIBRARY is libzuphinka.a, as `rt lib` builds it. The programs bindings/c/plain_life.c, bindings/c/long_life.c and bindings/c/play.c are compiled with
 bindings/c/zuphinka.h by the C compiler that CC names, or cc, and linked with it and with the kit's heap.
 
 - programs: `plain_life examples/settings.toml` must write the journal of examples/plain-life.script, which stands here, and end with status 0;
-  and so it must, and `play` with the first case of the folder, whole and cut, under valgrind, where it is installed, with no fault and nothing
+  and so it must, and `play` with the first case of the folder, whole and cut, under valgrind, with no fault and nothing
   left behind. `plain_life` and `long_life` must take settings of LONGEST_SETTINGS bytes and no more, and must free each object before they
   report it as destroyed (tests/destroy_first.c). `play` must find a line with a null at fault. The header must compile by itself, as C and C++,
   without one of the warnings of STRICT. The C++ compilers are g++ and clang++, or the one that CXX names.
@@ -23,15 +24,19 @@ bindings/c/zuphinka.h by the C compiler that CC names, or cc, and linked with it
 - segments: each case that ends with status 0 is cut every so many entries, for each of EVERY, and must write the segments that
   tests/pool_model.py has, which POOL, the program, must judge legal together.
 - many: the same of a pool that makes OBJECTS of them and parks most, and is cut where all are lent; and the segments of `long_life`, each named
-  for its first entry, must be judged legal together, also of a run under valgrind, where it is installed. A second run over the same folder must
+  for its first entry, must be judged legal together, also of a run under valgrind. A second run over the same folder must
   end early, and replace none.
+- crowd: so many borrows as in CROWDS wait for one object, and each gets it in its turn (tests/crowd.c). Memory is taken for the lists of calls in
+  progress and of entries as they double, and for more tickets than TICKETS; and for nothing else. Each of the borrows' allocations is refused in turn:
+  then one borrow ends for lack of memory, and all others are served. Also under valgrind, where it is installed.
 
-Prints each run that differs, and in the end the line 'N passed, M failed'.
+What needs valgrind or a compiler that is missing is skipped, with the reason. Prints each run that differs, and in the end the line 'N passed, M failed'.
 """
 
 import itertools
 import os
 import pathlib
+import re
 import shutil
 import subprocess
 import sys
@@ -41,6 +46,7 @@ from many_objects import segments_of
 from play_cases import wanted_of_script, wanted_of_settings
 from playing import differing, play_folders
 from pool_model import cut_at, settings_of
+from skipping import has, skip
 
 TOP = pathlib.Path(__file__).resolve().parent.parent
 PLAIN_LIFE = b"0 10 borrow 10 = make 0\n0 11 ready 0 good = lent\n0 15 return 0 = check\n0 16 park 0 good = parked\n"
@@ -52,6 +58,10 @@ EVERY = (1, 3, 7)
 SHORT = 100
 OBJECTS = 100_000
 ROUNDS = 2_000
+CROWDS = (60, 1_024, 5_000)
+# For so many calls that wait a pool has memory from the start.
+TICKETS = 1_024
+CROWD_TEXT = re.compile(rb"(\d+) wait, (\d+) ended, allocations: (\d+), (\d+) of the first 1024, (\d+) while they are served, (\d+) by 1000 pairs\n")
 # A run that takes longer hangs, in seconds.
 LONGEST = 600
 LONGEST_SETTINGS = 1_048_576
@@ -73,11 +83,11 @@ def heap():
     return pathlib.Path(page).parent / "c" / "liblibc_c.a"
 
 
-def compiled(name, library, folder, flags):
-    """Compiles bindings/c/NAME.c in the folder, links it with the library, and returns its path."""
+def compiled(name, library, folder, flags, sources=TOP / "bindings/c"):
+    """Compiles NAME.c in the folder, links it with the library, and returns its path."""
     program = pathlib.Path(folder) / name
     program.parent.mkdir(exist_ok=True)
-    subprocess.run([compiler(), *FLAGS, "-I", TOP / "bindings/c", "-o", program, TOP / "bindings/c" / f"{name}.c", *flags, library, heap()], check=True)
+    subprocess.run([compiler(), *FLAGS, "-I", TOP / "bindings/c", "-o", program, sources / f"{name}.c", *flags, library, heap()], check=True)
     return program
 
 
@@ -152,8 +162,57 @@ def long_differing(life, pool, before, rounds):
 def play_many(play, life, pool):
     """Plays a run over many objects and long lives, and gives the status to end with."""
     runs = [many_differing(play, pool), long_differing(life, pool, [], ROUNDS)]
-    if shutil.which("valgrind"):
+    if has("long_life under valgrind", "valgrind"):
         runs.append(long_differing(life, pool, VALGRIND, ROUNDS // 10))
+    for difference in itertools.chain(*runs):
+        print(difference[:1000])
+    failed = sum(map(bool, runs))
+    print(f"{len(runs) - failed} passed, {failed} failed")
+    return 1 if failed else 0
+
+
+def doublings(length):
+    """How often a list doubles at most until it has this length."""
+    return length.bit_length()
+
+
+def told_by_crowd(words):
+    """The numbers that tests/crowd.c prints, or `None`, and what differs from a run without a fault."""
+    done = run(*words)
+    found = CROWD_TEXT.fullmatch(done.stdout)
+    name = " ".join(map(str, words[-3:]))
+    return (list(map(int, found.groups())) if found else None), differing(name, (done.stdout if found else b"numbers", b"", 0), done)
+
+
+def unrefused_crowd(crowd, size):
+    """How many allocations the borrows of a crowd take, and what differs where none is refused."""
+    numbers, differs = told_by_crowd([crowd, str(size), "0"])
+    if differs:
+        return 0, differs
+    waits, ended, waited, first, served, by_pairs = numbers
+    lists = 1 if size <= TICKETS else 3  # the calls in progress; and the tickets, in two lists
+    bounds = {"those that wait": (waits, size, size), "those that ended": (ended, 0, 0), "allocations": (waited, 1, lists * doublings(size) + 2)}
+    bounds["allocations of the first"] = first, 0, doublings(TICKETS) + 2
+    bounds["allocations after the borrows"] = served + by_pairs, 1, doublings(4 * (size + 1_000)) + 2
+    return waited, [f"crowd {size}: {what}: {number}, not {least} to {most}" for what, (number, least, most) in bounds.items() if not least <= number <= most]
+
+
+def refused_in_crowd(words, size, refused):
+    """What differs where one allocation of a crowd's borrows is refused."""
+    numbers, differs = told_by_crowd([*words, str(size), str(refused)])
+    if not differs and numbers[:2] != [size - 1, 1]:
+        differs = [f"crowd {size}, with allocation {refused} refused: {numbers[0]} wait, {numbers[1]} ended"]
+    return differs
+
+
+def play_crowds(crowd):
+    """Plays crowds, and gives the status to end with."""
+    runs = []
+    for size in CROWDS:
+        allocations, differs = unrefused_crowd(crowd, size)
+        runs += [differs, *(refused_in_crowd([crowd], size, refused) for refused in range(1, allocations + 1))]
+    if has("a crowd under valgrind", "valgrind"):
+        runs.append(refused_in_crowd([*VALGRIND, crowd], CROWDS[0], 2))
     for difference in itertools.chain(*runs):
         print(difference[:1000])
     failed = sum(map(bool, runs))
@@ -205,7 +264,7 @@ def header_runs(folder, header, body):
             words = [name, *STRICT, "-I", TOP / "bindings/c", "-x", language, f"-std={standard}", source]
             yield f"{header} in {standard} by {name}", words, (b"", b"", 0)
         else:
-            print(f"there is no {name}, so {header} isn't compiled by it")
+            skip(f"{header} in {standard} by {name}", f"there is no {name}")
 
 
 def ordered_runs(library, folder):
@@ -219,7 +278,7 @@ def ordered_runs(library, folder):
 
 
 def runs(life, play, folder):
-    """What the programs are run on by themselves, and what is wanted of each; under valgrind too, where it is installed."""
+    """What the programs are run on by themselves, and what is wanted of each; under valgrind too."""
     name, settings, script, wanted = next(refused_cases(folder))
     parts = b"".join(segments(settings, wanted[0], EVERY[1])), b"", 0
     alone = [
@@ -228,14 +287,14 @@ def runs(life, play, folder):
         (f"{name}, cut", [play, settings, script, str(EVERY[1])], parts),
     ]
     yield from alone
-    if shutil.which("valgrind"):
+    if has("the C examples under valgrind", "valgrind"):
         yield from ((f"{name} under valgrind", [*VALGRIND, *words], wanted) for name, words, wanted in alone)
-    else:
-        print("valgrind isn't installed, and nothing looks for faults of memory (Debian and Ubuntu: apt-get install valgrind)")
 
 
 def main(kind, library, words):
     with tempfile.TemporaryDirectory() as built:
+        if kind == "crowd":
+            return play_crowds(compiled("crowd", library, built, REFUSING, TOP / "tests"))
         play = compiled("play", library, built, REFUSING)
         if kind == "many":
             return play_many(play, compiled("long_life", library, built, []), *words)

@@ -8,7 +8,7 @@ CLONE is the top of a clone in which the programs and the C library are built. T
 and Java, whose output is compared, and their journals are checked by the program of the archive. The jar must have what tests/play_java.py wants of
 it. The checksums must be those of the files, and notice each file that is changed or missing. Two archives must have the same bytes, and a log of
 ./check that isn't one of this commit that passed must be refused; without a JDK, so must an archive that is not to do without Java. If no cargo runs,
-or Java has no JDK or lacks a jar, its examples are left out, which is printed.
+or Java has no JDK or lacks a jar, its examples are skipped, with the reason.
 
 Prints each thing that differs, and in the end the line 'N passed, M failed'.
 """
@@ -25,9 +25,10 @@ import tarfile
 import tempfile
 
 from check_rust import runs_cargo
-from play_java import EXAMPLE_JARS, java, portable
+from play_java import BANK, EXAMPLE_JARS, java, portable
 from play_library import PLAIN_LIFE, TOP
 from playing import play_checks
+from skipping import NO_CARGO, has, skip
 
 # The examples in Rust and Java: four servers with fifty requests each, of which each tenth breaks its connection.
 ANSWERED = 4 * 50 * 9 // 10
@@ -102,11 +103,12 @@ def logs(clone, folder):
     cases = {
         "": 1,
         f"check: commit {commit}\n": 1,
-        f"check: commit {commit}\n12 passed, 1 failed\n": 1,
-        f"check: commit {commit}\n12 passed, 0 failed\nmore\n": 1,
-        f"check: commit {'0' * 40}\n12 passed, 0 failed\n": 1,
-        "12 passed, 0 failed\n": 1,
-        f"check: commit {commit}\nelse\n12 passed, 0 failed\n": 1 if is_changed else 0,
+        f"check: commit {commit}\n12 passed, 1 failed, 0 skipped\n": 1,
+        f"check: commit {commit}\n12 passed, 0 failed\n": 1,
+        f"check: commit {commit}\n12 passed, 0 failed, 3 skipped\nmore\n": 1,
+        f"check: commit {'0' * 40}\n12 passed, 0 failed, 3 skipped\n": 1,
+        "12 passed, 0 failed, 3 skipped\n": 1,
+        f"check: commit {commit}\nelse\n12 passed, 0 failed, 3 skipped\n": 1 if is_changed else 0,
     }
     for number, (text, wanted) in enumerate(cases.items()):
         log, there = folder / f"log{number}", folder / f"gate{number}"
@@ -117,7 +119,7 @@ def logs(clone, folder):
         if not wanted:
             with tarfile.open(done.stdout.strip()) as tar:
                 proved = tar.extractfile(next(name for name in tar.getnames() if name.endswith("/PROVED"))).read().decode()
-            yield "what was passed", True, "# ./check: 12 passed, 0 failed" in proved
+            yield "what was passed", True, "# ./check: 12 passed, 0 failed, 3 skipped" in proved
 
 
 def entries(archive):
@@ -171,7 +173,7 @@ def commands(top):
     yield compile_c, (b"", b"", 0), shell(compile_c, top)
     yield run_c, (PLAIN_LIFE, b"", 0), shell(run_c, top)
     if not runs_cargo():
-        print("the Rust example is left out, since no cargo runs here")
+        skip("the Rust example of the archive", NO_CARGO)
         return
     said, faults, status = shell(run_rust, top)
     yield run_rust, (b"", 0), (said, status)
@@ -195,22 +197,21 @@ def example(top, block, folder, report):
 
 
 def java_part(top):
-    """The jar, and the examples in Java. They are left out if something is missing."""
+    """The jar, and the examples in Java. They are skipped if something is missing."""
     if missing_for_java():
-        print(f"the jar and the Java examples are left out: {missing_for_java()}")
+        skip("the jar and the Java examples of the archive", missing_for_java())
         return
     yield from portable(top / JAR)
     section = (top / "README.md").read_text().partition("\n## Java\n")[2]
     reports = {
         "servers": rb"%d requests were answered over \d+ connections\n" % ANSWERED,
-        "bank": rb"1000 transfers, 20 broken connections, 2000 euros in all\n",
+        "bank": BANK.encode(),
     }
-    jars = {"servers": {"commons-pool2": "libcommons-pool2-java"}, "bank": EXAMPLE_JARS}
+    packages = {"servers": [], "bank": EXAMPLE_JARS.values()}
     for block, folder in zip(BLOCK.findall(section), reports, strict=True):
-        missing = [package for jar, package in jars[folder].items() if not (java.DEBIAN_JAR.parent / f"{jar}.jar").is_file()]
-        if missing:
-            print(f"the Java example {folder} is left out, since Debian's package {missing[0]} isn't installed")
-        else:
+        if not java.DEBIAN_JAR.is_file():
+            skip(f"the Java example {folder}", f"no {java.DEBIAN_JAR}: Debian's package libcommons-pool2-java has it")
+        elif has(f"the Java example {folder}", *packages[folder]):
             yield from example(top, block, folder, reports[folder])
 
 
@@ -220,8 +221,7 @@ def programs(top):
     (top / "plain.journal").write_bytes(PLAIN_LIFE)
     done = run(top / "bin/journal_picture", "plain.journal", folder=top)
     yield "a picture", (b"", 0, True), (done.stderr, done.returncode, done.stdout.startswith(b"<"))
-    if not shutil.which("pkg-config"):
-        print("shared_life.c is left out, since pkg-config isn't installed")
+    if not has("shared_life.c of the archive", "pkgconf"):
         return
     flags = "$(PKG_CONFIG_PATH=lib/pkgconfig pkg-config --cflags --libs zuphinka)"
     yield "shared_life.c", (b"", b"", 0), shell(f"cc -Wall -Wextra -Werror -o shared_life examples/shared_life.c {flags}", top)

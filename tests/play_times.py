@@ -26,7 +26,7 @@ ok; handles allowed: Threads, Wait; every proof and must-fail edit was done in t
 7 passed, 0 failed
 check: all parts have ended, after 53:07 min
 check: proofs, 3016 s, alone by ./check proofs
-9 passed, 0 failed
+9 passed, 0 failed, 1 skipped
 """
 SOME = "done in this run: 1 of the 9 proofs (of crates and of their tests); the others are kept from earlier runs of the same files on this machine\n"
 PACE = "a fixed loop took 8.0 ms before it and 11.5 ms beside it, with 2.5 % steal"
@@ -90,6 +90,7 @@ def refused(folder):
         "no lines in the page": (PAGE.replace(END, ""), whole, "no lines <!--"),
         "no table": (PAGE, TOLD, "no table of tools/gate_times.py"),
         "a part that failed": (PAGE, whole.replace("9 passed, 0 failed", "9 passed, 2 failed"), "2 failed"),
+        "proofs that failed": (PAGE, whole.replace("7 passed, 0 failed", "7 passed, 3 failed"), "3 failed"),
         "other crates": (PAGE, TOLD + table([*CRATES[1:], "other", "all"]), f"a table of other crates: other, {CRATES[0]}"),
     }
     for name, (text, said, told) in cases.items():

@@ -15,6 +15,7 @@ import sys
 import tempfile
 
 from playing import play_checks
+from skipping import skip
 
 TOP = pathlib.Path(__file__).resolve().parent.parent
 TRY = TOP / "try"
@@ -90,7 +91,7 @@ def without_rt(folder):
 def with_kit(folder):
     """The program itself, from another folder, with paths as they are there."""
     if not shutil.which("rt"):
-        print("./try itself is left out, since rt is not on the PATH")
+        skip("./try itself", "the Rattle kit's command rt is not on the PATH")
         return
     for name in "settings.toml", "plain-life.script":
         shutil.copy(TOP / "examples" / name, folder)

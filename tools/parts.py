@@ -1,6 +1,8 @@
-"""The parts of ./check, as it shows them. Those begin first that take longest. `./check --list` tells their names and what they test."""
+"""The parts of ./check, as it shows them. Those begin first that take longest. `./check --list` tells their names and what they test. And the Debian
+packages that they need besides the Rattle kit, which `./check --install` installs."""
 
 import sources
+from packages import Package
 from runner import Part
 
 # Cargo makes this folder under another name first, on which a build beside it may come that lists the files of the Rust crate. So it is there before.
@@ -101,12 +103,20 @@ PARTS = (
         "the tests of Commons Pool 2, unchanged, over the pool for Java",
         "python3 tests/play_commons_pool.py {zuphinka} {pool}",
         ("pool", "zuphinka"),
+        fetch="python3 tests/play_commons_pool.py --fetch",
     ),
     Part(
         "commands",
         "the commands and journals that the pages show",
         "python3 tests/play_commands.py {pool}",
         ("pool", "judge", "journal_picture", "example_archive", "zuphinka"),
+        CARGO,
+    ),
+    Part(
+        "postgres",
+        "the examples over PostgreSQL, in Rust, Java and C, while the server fails",
+        "python3 tests/play_postgres.py {zuphinka} {pool}",
+        ("pool", "zuphinka"),
         CARGO,
     ),
     Part("c-pool", "both C pools for threads, also with failing allocations", "python3 tests/play_c_pool.py {zuphinka} {pool}", ("pool", "zuphinka")),
@@ -191,6 +201,7 @@ PARTS = (
         "python3 tests/play_library.py programs {zuphinka} tests/cases/rows",
         ("zuphinka",),
     ),
+    Part("c-crowd", "calls that wait on the C library", "python3 tests/play_library.py crowd {zuphinka}", ("zuphinka",)),
     Part("c-many", "many objects on the C library", "python3 tests/play_library.py many {zuphinka} {pool}", ("zuphinka", "pool")),
     Part("c-install", "the installed C library, and programs that are built with it", "python3 tests/play_install.py {zuphinka}", ("zuphinka",)),
     Part(
@@ -199,4 +210,32 @@ PARTS = (
         "python3 tests/play_release.py .",
         ("pool", "judge", "journal_picture", "zuphinka"),
     ),
+)
+
+JARS, CRATES = "/usr/share/java", "/usr/share/cargo/registry"
+IN_JAVA = ("java", "java-random", "commons-pool", "benchmarks", "release", "postgres")
+
+PACKAGES = (
+    Package("gcc", "cc", variable="CC"),
+    Package("libc6-dev", "/usr/include/stdio.h"),
+    Package("g++", "g++", ("c-programs", "c-pool"), "CXX"),
+    Package("clang", "clang++", ("c-programs", "c-pool"), "CXX"),
+    Package("valgrind", "valgrind", ("c-programs", "c-crowd", "c-many", "c-pool", "benchmarks")),
+    Package("pkgconf", "pkg-config", ("c-install", "release")),
+    # The cargo of Debian 12's package of that name is older than the Rust crate allows.
+    Package("cargo-web", "cargo", ("rust", "commands", "benchmarks", "soak", "release", "postgres")),
+    Package("librust-tokio-dev", f"{CRATES}/tokio-[0-9]*", ("rust",)),
+    Package("librust-r2d2-dev", f"{CRATES}/r2d2-[0-9]*", ("benchmarks",)),
+    Package("default-jdk-headless", "javac", IN_JAVA, "JAVA_HOME"),
+    Package("libcommons-pool2-java", f"{JARS}/commons-pool2.jar", IN_JAVA, "COMMONS_POOL2"),
+    Package("libcommons-dbcp2-java", f"{JARS}/commons-dbcp2.jar", ("java", "release", "postgres")),
+    Package("libh2-java", f"{JARS}/h2.jar", ("java", "release")),
+    Package("junit5", f"{JARS}/junit-jupiter-engine.jar", ("commons-pool",)),
+    Package("libcglib-java", f"{JARS}/cglib.jar", ("commons-pool",)),
+    Package("libhikaricp-java", f"{JARS}/HikariCP.jar", ("benchmarks",)),
+    Package("libslf4j-java", f"{JARS}/slf4j-api.jar", ("benchmarks",)),
+    Package("postgresql", "/usr/lib/postgresql/*/bin/initdb", ("postgres",)),
+    Package("libpq-dev", "/usr/include/postgresql/libpq-fe.h", ("postgres",)),
+    Package("libpostgresql-jdbc-java", f"{JARS}/postgresql.jar", ("postgres",)),
+    Package("librust-tokio-postgres-dev", f"{CRATES}/tokio-postgres-[0-9]*", ("postgres",)),
 )

@@ -7,8 +7,8 @@ The archive has the C library with its headers and its file for pkg-config, the 
 programs pool, judge and journal_picture, the man page, examples, the licence, a README, and PROVED. That file has what ./check came to, the commit,
 the kit's line and a checksum of each other file, as `sha256sum --check` reads it.
 
---gate FILE names the log of ./check, whose commit must be the one that is checked out, without changes, and in whose last line nothing failed; a
-check of named parts tells no commit, and won't do. Without a log PROVED says that nothing was passed. --output FOLDER gets the archive, else the
+--gate FILE names the log of ./check, whose commit must be the one that is checked out, without changes, and in whose last line nothing failed; how
+much was skipped stands in PROVED. A check of named parts tells no commit, and won't do. Without a log PROVED says that nothing was passed. --output FOLDER gets the archive, else the
 folder out/. What isn't built of its sources as they are is proved and built first. With --programs FOLDER what a clone there has built is taken as
 it is, and PROVED says that.
 
@@ -44,7 +44,7 @@ CRATE = ("Cargo.toml", "Cargo.lock", "build.rs", "README.md", "src", "examples")
 # The section of the README for Java, which is its last.
 JAVA_SECTION = "\n## Java\n"
 COMMIT = re.compile(r"check: commit (\S+)")
-PASSED = re.compile(r"[1-9]\d* passed, 0 failed")
+PASSED = re.compile(r"[1-9]\d* passed, 0 failed, \d+ skipped")
 PROVED = """# zuphinka {version} for Linux on x86-64
 # ./check: {verdict}
 # commit {commit}, of {time}
@@ -82,7 +82,7 @@ def verdict(gate, commit):
     lines = gate.read_text(errors="replace").splitlines() or [""]
     of_commit = next((found[1] for found in map(COMMIT.fullmatch, lines) if found), "none")
     if not PASSED.fullmatch(lines[-1]):
-        sys.exit(f"{gate}: the last line of ./check that passed is 'N passed, 0 failed', and this is {lines[-1]!r}")
+        sys.exit(f"{gate}: the last line of ./check that passed is 'N passed, 0 failed, K skipped', and this is {lines[-1]!r}")
     if commit.endswith("-changed") or of_commit != commit:
         sys.exit(f"{gate}: a check of commit {of_commit}, and here is {commit}")
     return lines[-1]
@@ -118,7 +118,10 @@ def lay_out(stage, programs):
             shutil.copy(file, folder)
     for name in CRATE:
         whole = TOP / "bindings/rust" / name
-        (shutil.copytree if whole.is_dir() else shutil.copy)(whole, crate / name)
+        if whole.is_dir():
+            shutil.copytree(whole, crate / name, ignore=shutil.ignore_patterns("target*", "Cargo.lock"))
+        else:
+            shutil.copy(whole, crate / name)
 
 
 def lay_out_java(stage, programs):

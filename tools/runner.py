@@ -16,6 +16,8 @@ import sources
 from sources import TOP
 
 COUNT = re.compile(r"^(\d+) passed, (\d+) failed$", re.MULTILINE)
+# A line that says what a part has skipped, and why.
+SKIPPED = re.compile(r"^skipped: (.+)$", re.MULTILINE)
 # For how long to wait before looking again, in seconds.
 PAUSE = 0.05
 # For how long a command may go on that was told to end, in seconds.
@@ -25,13 +27,14 @@ GRACE = 10
 @dataclasses.dataclass(frozen=True)
 class Part:
     """A part of ./check: what it tests; its command, in which {NAME} is what a build of the crate NAME leaves; the crates that are built before
-    it; and the folders that are there before it."""
+    it; the folders that are there before it; and the command by which ./check --install fetches what it needs besides packages."""
 
     name: str
     tests: str
     command: str
     needs: tuple[str, ...] = ()
     folders: tuple[str, ...] = ()
+    fetch: str = ""
 
     def words(self):
         """The words of its command."""
@@ -41,23 +44,26 @@ class Part:
 
 @dataclasses.dataclass(frozen=True)
 class Result:
-    """What came of a part: what it wrote, the seconds that it took, how many passed and failed, and how it ended, where that alone is a failure."""
+    """What came of a part: what it wrote, the seconds that it took, how many passed and failed, how it ended, where that alone is a failure, and what
+    it skipped, with the reasons."""
 
     text: str
     seconds: int
     passed: int
     failed: int
     ending: str = ""
+    skipped: tuple[str, ...] = ()
 
 
 def result_of(text, seconds, status):
-    """The result of a command that ended with this status: by its last line 'N passed, M failed'. Without such a line it failed, and so it did where
-    only the status says so."""
-    counts = COUNT.findall(text)
+    """The result of a command that ended with this status: by its last line 'N passed, M failed', and its lines 'skipped: WHAT: REASON'. Without such a
+    last line it failed, and so it did where only the status says so, or where it counted nothing and skipped nothing."""
+    counts, skipped = COUNT.findall(text), tuple(SKIPPED.findall(text))
     passed, failed = map(int, counts[-1]) if counts else (0, 0)
-    if counts and (failed or not status):
-        return Result(text, seconds, passed, failed)
-    return Result(text, seconds, passed, 1, f"ended with status {status}" + ("" if counts else " and without a count"))
+    if counts and (failed or not status) and (passed or failed or skipped):
+        return Result(text, seconds, passed, failed, "", skipped)
+    ending = f"ended with status {status}" if status or not counts else "tested nothing, and skipped nothing"
+    return Result(text, seconds, passed, 1, ending + ("" if counts else " and without a count"), skipped)
 
 
 class Command:

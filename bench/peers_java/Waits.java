@@ -13,12 +13,13 @@ import zuphinka.ZuphinkaPool;
  * {@code bench/longest_waits}: {@code Waits POOL HOLD WAITS}. POOL is Zuphinka or Commons.
  *
  * <p>The one thread holds the object for HOLD microseconds each time. The other one borrows it WAITS times and returns it at once, with a pause of a
- * millisecond between two waits. Prints the longest wait and the median. Pairs of one thread and some waits before them warm up the virtual machine, and
- * do not count.
+ * millisecond between two waits. Prints the longest wait and the median. Pairs of one thread and three seconds of waits before them warm up the virtual
+ * machine, and do not count.
  */
 public final class Waits extends BasePooledObjectFactory<Object> {
     private static final int WARM_UP_PAIRS = 50_000;
-    private static final int WARM_UP_WAITS = 50;
+    /** In nanoseconds. */
+    private static final long WARM_UP = 3_000_000_000L;
     /** In microseconds; a longer hold sleeps. */
     private static final long LONGEST_SPIN = 10;
     private static final long PAUSE = 1_000_000;
@@ -88,7 +89,7 @@ public final class Waits extends BasePooledObjectFactory<Object> {
         warmUp();
         Thread thread = new Thread(this::borrowAgain);
         thread.start();
-        for (int wait = 0; wait < WARM_UP_WAITS; wait++) {
+        for (long end = System.nanoTime() + WARM_UP; System.nanoTime() - end < 0;) {
             waitOnce();
         }
         long[] times = new long[number];

@@ -459,7 +459,7 @@ uint32_t zuphinka_cut(struct zuphinka *pool);
 void zuphinka_drop(struct zuphinka *pool);
 
 /*
- * Opens a pool as `zuphinka_open` does, with options. With all options 0 it is the same. Sets aside the memory of 64 calls that wait and of one
+ * Opens a pool as `zuphinka_open` does, with options. With all options 0 it is the same. Sets aside the memory of 1,024 calls that wait and of one
  * call in progress.
  */
 uint32_t zuphinka_open_with(struct zuphinka *pool, const char *settings, size_t length, const struct zuphinka_options *options);

@@ -24,32 +24,38 @@ import zuphinka.Journal;
 import zuphinka.ZuphinkaPool;
 
 /**
- * Four threads transfer money between accounts in a database, over DBCP2's {@code PoolingDataSource} with a {@code ZuphinkaPool} of three
- * connections. Some connections break.
+ * Eight threads transfer money between accounts in a database, over DBCP2's {@code PoolingDataSource} with a {@code ZuphinkaPool} of four
+ * connections. What fails is printed, and tried again.
  *
- * <p>{@code Bank FOLDER} stores the journal of the pool in the folder, which must have none yet. It prints what the accounts have in all.
+ * <p>{@code Bank FOLDER} has a database of its own in memory. Each thread makes 125 transfers, and some connections break.
+ *
+ * <p>{@code Bank FOLDER URL SECONDS} has one in PostgreSQL, such as {@code jdbc:postgresql://localhost/bank?user=me&password=mine}.
+ *
+ * <p>Both store the journal of the pool in the folder, which must have none yet.
  */
 public final class Bank {
-    private static final String DATABASE = "jdbc:h2:mem:bank;DB_CLOSE_DELAY=-1;LOCK_TIMEOUT=60000";
+    private static final String IN_MEMORY = "jdbc:h2:mem:bank;MODE=PostgreSQL;DB_CLOSE_DELAY=-1;LOCK_TIMEOUT=60000";
     private static final int ACCOUNTS = 20;
-    private static final int THREADS = 4;
-    /** How many transfers each thread makes, and after how many of them its connection breaks. */
-    private static final int TRANSFERS = 250;
+    private static final int THREADS = 8;
+    /** How many transfers each thread makes in memory, and after how many of them its connection breaks. */
+    private static final int TRANSFERS = 125;
     private static final int BREAKS_AFTER = 50;
+    private static final Duration PAUSE_AFTER_FAILURE = Duration.ofMillis(50);
 
-    private static final AtomicInteger BROKEN = new AtomicInteger();
+    private static final AtomicInteger MADE = new AtomicInteger();
+    private static final AtomicInteger FAILED = new AtomicInteger();
 
     private Bank() {}
 
-    private static ZuphinkaPool<PoolableConnection> open(Path folder) throws IOException {
-        PoolableConnectionFactory factory = new PoolableConnectionFactory(new DriverManagerConnectionFactory(DATABASE, "sa", ""), null);
+    private static ZuphinkaPool<PoolableConnection> open(String url, Path folder) throws IOException {
+        PoolableConnectionFactory factory = new PoolableConnectionFactory(new DriverManagerConnectionFactory(url), null);
         factory.setDefaultAutoCommit(false);
         GenericObjectPoolConfig<PoolableConnection> config = new GenericObjectPoolConfig<>();
-        config.setMaxTotal(3);
+        config.setMaxTotal(4);
         config.setMinIdle(1);
         config.setTestOnBorrow(true);
         config.setMaxWait(Duration.ofSeconds(60));
-        config.setTimeBetweenEvictionRuns(Duration.ofMillis(5));
+        config.setTimeBetweenEvictionRuns(Duration.ofMillis(100));
         ZuphinkaPool<PoolableConnection> pool = new ZuphinkaPool<>(factory, config, null, Journal.inFolder(folder));
         // PoolingDataSource does that for a GenericObjectPool alone. Else each Connection.close throws, and the connection stays lent.
         factory.setPool(pool);
@@ -58,37 +64,49 @@ public final class Bank {
 
     private static void create(Connection connection) throws SQLException {
         try (Statement statement = connection.createStatement()) {
-            statement.execute("create table account (id int primary key, euros int not null)");
+            statement.execute("create table if not exists account (id int primary key, euros int not null)");
+            statement.execute("create table if not exists transfer (worker int not null, source int not null, target int not null, euros int not null)");
             for (int id = 0; id < ACCOUNTS; id++) {
-                statement.execute("insert into account values (" + id + ", 100)");
+                statement.execute("insert into account values (" + id + ", 100) on conflict do nothing");
             }
             connection.commit();
         }
     }
 
-    /** Transfers from one account to another with a greater id, so that no two transfers wait for each other. */
-    private static void transfer(Connection connection, int from, int to, int euros) throws SQLException {
-        try (PreparedStatement change = connection.prepareStatement("update account set euros = euros + ? where id = ?")) {
-            change.setInt(1, -euros);
-            change.setInt(2, from);
-            change.executeUpdate();
-            change.setInt(1, euros);
-            change.setInt(2, to);
-            change.executeUpdate();
-            connection.commit();
+    private static void execute(Connection connection, String command, int... numbers) throws SQLException {
+        try (PreparedStatement statement = connection.prepareStatement(command)) {
+            for (int place = 0; place < numbers.length; place++) {
+                statement.setInt(place + 1, numbers[place]);
+            }
+            statement.executeUpdate();
         }
     }
 
-    private static Void work(PoolingDataSource<PoolableConnection> source, Random random) throws SQLException {
-        for (int count = 1; count <= TRANSFERS; count++) {
+    /** Transfers from one account to another with a greater id, so that no two transfers wait for each other. */
+    private static void transfer(Connection connection, int worker, Random random) throws SQLException {
+        int source = random.nextInt(ACCOUNTS - 1);
+        int target = source + 1 + random.nextInt(ACCOUNTS - 1 - source);
+        int euros = random.nextInt(100);
+        execute(connection, "insert into transfer values (?, ?, ?, ?)", worker, source, target, euros);
+        execute(connection, "update account set euros = euros + ? where id = ?", -euros, source);
+        execute(connection, "update account set euros = euros + ? where id = ?", euros, target);
+        connection.commit();
+    }
+
+    /** Transfers until the time is over; in memory, a number of times. */
+    private static Void work(PoolingDataSource<PoolableConnection> source, int worker, boolean isInMemory, long end) throws InterruptedException {
+        Random random = new Random(worker);
+        for (int count = 1; isInMemory ? count <= TRANSFERS : System.nanoTime() - end < 0; count++) {
             try (Connection connection = source.getConnection()) {
-                int from = random.nextInt(ACCOUNTS - 1);
-                int to = from + 1 + random.nextInt(ACCOUNTS - 1 - from);
-                transfer(connection, from, to, random.nextInt(100));
-                if (count % BREAKS_AFTER == 0) {
+                transfer(connection, worker, random);
+                MADE.incrementAndGet();
+                if (isInMemory && count % BREAKS_AFTER == 0) {
                     ((DelegatingConnection<?>) connection).getInnermostDelegate().close();
-                    BROKEN.incrementAndGet();
                 }
+            } catch (SQLException failure) {
+                System.err.println("worker " + worker + ": " + failure.getMessage());
+                FAILED.incrementAndGet();
+                Thread.sleep(PAUSE_AFTER_FAILURE.toMillis());
             }
         }
         return null;
@@ -101,27 +119,45 @@ public final class Bank {
         }
     }
 
+    /** Runs the threads to their ends. */
+    private static void runAll(List<Callable<Void>> works) throws Exception {
+        ExecutorService threads = Executors.newFixedThreadPool(works.size());
+        List<Future<Void>> ended = threads.invokeAll(works);
+        threads.shutdown();
+        for (Future<Void> work : ended) {
+            work.get();
+        }
+    }
+
     public static void main(String[] words) throws Exception {
-        try (PoolingDataSource<PoolableConnection> source = new PoolingDataSource<>(open(Path.of(words[0])))) {
+        if (words.length != 1 && words.length != 3) {
+            System.err.println("usage: Bank FOLDER [URL SECONDS]");
+            System.exit(1);
+        }
+        boolean isInMemory = words.length == 1;
+        ZuphinkaPool<PoolableConnection> pool = open(isInMemory ? IN_MEMORY : words[1], Path.of(words[0]));
+        long begin = System.nanoTime();
+        long end = begin + Duration.ofSeconds(isInMemory ? 0 : Integer.parseInt(words[2])).toNanos();
+        int euros;
+        try (PoolingDataSource<PoolableConnection> source = new PoolingDataSource<>(pool)) {
             source.setAccessToUnderlyingConnectionAllowed(true);
             try (Connection connection = source.getConnection()) {
                 create(connection);
             }
             List<Callable<Void>> works = new ArrayList<>();
             for (int number = 0; number < THREADS; number++) {
-                Random random = new Random(number);
-                works.add(() -> work(source, random));
+                int worker = number;
+                works.add(() -> work(source, worker, isInMemory, end));
             }
-            ExecutorService threads = Executors.newFixedThreadPool(THREADS);
-            List<Future<Void>> ended = threads.invokeAll(works);
-            threads.shutdown();
-            for (Future<Void> work : ended) {
-                work.get();
-            }
+            runAll(works);
             try (Connection connection = source.getConnection()) {
-                String transfers = THREADS * TRANSFERS + " transfers, " + BROKEN + " broken connections, ";
-                System.out.println(transfers + sum(connection) + " euros in all");
+                euros = sum(connection);
             }
         }
+        long rate = MADE.get() * Duration.ofSeconds(1).toNanos() / (System.nanoTime() - begin);
+        System.out.println(MADE + " transfers, " + rate + " a second, " + FAILED + " failed");
+        System.out.println(euros + " euros in all");
+        String counts = "created %d, destroyed %d, idle %d, lent %d%n";
+        System.out.printf(counts, pool.getCreatedCount(), pool.getDestroyedCount(), pool.getNumIdle(), pool.getNumActive());
     }
 }

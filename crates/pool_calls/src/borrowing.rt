@@ -272,6 +272,7 @@ impl BorrowCall {
     }
 
     /// Returns what the host does next.
+    #[inline(always)]
     pub fn action(&self) -> Action
         ensures right { (stage : Stage) → IsAt self.now.plan self.now.state stage
             → IsRight self.now.plan self.now.began stage result }

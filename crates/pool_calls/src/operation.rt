@@ -41,6 +41,7 @@ impl Operation {
     }
 
     /// Returns what the host does next.
+    #[inline(always)]
     pub fn action(&self) -> Action
         ensures right { (turns : List Turn) → HasCome self.now turns
             → IsRight self.now turns result }

@@ -130,6 +130,7 @@ impl ReturnCall {
     }
 
     /// Returns what the host does next.
+    #[inline(always)]
     pub fn action(&self) -> Action
         ensures right { (stage : Stage) → IsAt self.now.plan self.now.state stage
             → IsRight self.now.plan self.now.id stage result }

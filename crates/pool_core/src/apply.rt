@@ -44,6 +44,7 @@ impl<T> State<T> {
     ghost use Rattle.pool_core.specs.Values.{TransfersValue, StoresValue, SameValues};
 
     // Moves the object that the input names to the phase of the answer, without a value.
+    #[inline(always)]
     fn bring(&mut self, now: StepContext, input: Input, answer: Answer)
         requires before { IsBefore now.position (records_in self.old.places.objects) self.old.next }
         requires moves { MovesInputObject input answer (records_in self.old.places.objects) }
@@ -66,6 +67,7 @@ impl<T> State<T> {
 
     // Makes the object that the input names idle, with its value: after an idle test at its position in the queue,
     // otherwise at the end.
+    #[inline(always)]
     fn keep(&mut self, now: StepContext, input: Input, answer: Answer, value: T)
         requires before { IsBefore now.position (records_in self.old.places.objects) self.old.next }
         requires moves { MovesInputObject input answer (records_in self.old.places.objects) }
@@ -85,6 +87,7 @@ impl<T> State<T> {
     }
 
     // Applies the answer to the objects and their values.
+    #[inline(always)]
     fn move_object(
         &mut self,
         now: StepContext,
@@ -127,6 +130,7 @@ impl<T> State<T> {
     }
 
     // The position after which the next eviction step continues.
+    #[inline(always)]
     fn cursor_after(&self, input: Input, answer: Answer) -> Option<u64>
         ensures { result
             ≡ cursor_after answer input (records_in self.now.places.objects) self.now.cursor }
@@ -167,6 +171,7 @@ impl<T> State<T> {
 
     /// Applies the answer. If it makes an object, a place is reserved for it. `value` is the value passed in; the
     /// result is the value returned.
+    #[inline(always)]
     pub fn apply(
         &mut self,
         now: StepContext,

@@ -211,6 +211,7 @@ impl<T> State<T> {
     }
 
     /// Returns the expected answer to `input` at time `at` (milliseconds).
+    #[inline(always)]
     pub fn decide(&self, at: u64, input: Input) -> Answer
         ensures { result ≡ reply_from_records self.now.settings (records_in self.now.places.objects)
             self.now.next self.now.closed self.now.cursor at input }

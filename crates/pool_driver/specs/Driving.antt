@@ -18,8 +18,8 @@ use Rattle.pool_core.specs.Fits.{limit_from, owed_from}
 use Rattle.pool_core.specs.Legal.{entry_of}
 use Rattle.pool_core.specs.Pool.{CoreModel}
 use Rattle.pool_core.specs.Reply.{has_reached, reply_from, takeable_from}
-use Rattle.pool_calls.specs.Operations.{HasCome, Follows, Proceeds, began_of, fits, is_making, is_waiting, lacks_room, step_at}
-use Rattle.pool_calls.specs.Turns.{Turn}
+use Rattle.pool_calls.specs.Operations.{HasCome, Follows, IsRight, Proceeds, began_of, fits, is_making, is_waiting, lacks_room, step_at}
+use Rattle.pool_calls.specs.Turns.{Turn, asks_room, step_of}
 use Rattle.pool_calls.specs.Waiting.{Queue, is_in, may_lend, signalled_of}
 use Rattle.pool_calls.specs.declared.action.Action.{Action}
 use Rattle.pool_calls.specs.declared.action.Action.TheVariants as actions
@@ -144,6 +144,12 @@ pub record Advances (caller at : ℕ) (drops : Bool) (old new : CoreModel ℕ) (
 -- a call of a pool that drops its journal lacks room only while no entry is stored
 abbrev pub LacksRoomOnlyEmpty : Bool → CoreModel ℕ → Operation → Type 0
 LacksRoomOnlyEmpty drops c op = lacks_room op ≡ true → drops ≡ true → c.journal ≡ []
+
+-- an action is what a call asks for next
+pub record IsNext (op : Operation) (action : Action) : Type 0 where
+  pub right : (turns : List Turn) → HasCome op turns → IsRight op turns action
+  pub step : step_of action ≡ step_at op
+  pub room : asks_room action ≡ lacks_room op
 
 -- the call is over
 abbrev pub is_done : Action → Bool

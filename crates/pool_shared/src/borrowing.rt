@@ -16,8 +16,9 @@ ghost use Rattle.pool_shared.specs.Borrows.{asks, readies, lent, after_asking, a
 
 use crate::faults::{BorrowFault, PoolFault};
 use crate::lent::Lent;
+use crate::pauses::Pauses;
 use crate::pool::SharedPool;
-use crate::spinning::{lock, wait};
+use crate::spinning::lock;
 use pool_history::{Caller, Room};
 use pool_journal::{Answer, Cause, Input, Outcome, When};
 use pool_lock::{Clock, Factory, LockedPool};
@@ -56,20 +57,23 @@ impl<T: Drop, E: Drop, F: Factory<T, E> + Drop, C: Clock + Drop, B: Room> Shared
     // Waits until the pool has changed. If the wait is unlimited, it keeps sleeping while a borrow would have to wait,
     // so a borrower that is woken in vain appends no entry.
     fn wait<'a, R: Wait>(
-        &self,
+        &'a self,
         rt: &R,
         locked_pool: MutexGuard<'a, LockedPool<T, E, F, B>>,
         began: u64,
     ) -> MutexGuard<'a, LockedPool<T, E, F, B>> {
         if self.settings.max_wait_millis >= 0 {
-            return self.changed.wait(rt, locked_pool);
+            return self.changed.sleep(rt, &self.locked_pool, locked_pool);
         }
         let mut locked_pool = locked_pool;
+        let mut pauses = Pauses::new();
         for _ in rt.forever() {
             if !locked_pool.would_wait(began) {
                 return locked_pool;
             }
-            locked_pool = wait(rt, &self.changed, locked_pool);
+            locked_pool = self
+                .changed
+                .wait(rt, &self.locked_pool, locked_pool, &mut pauses);
         }
         unreachable!()
     }

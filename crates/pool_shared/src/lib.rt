@@ -10,6 +10,7 @@ mod filling;
 mod invalidating;
 mod lent;
 mod maintaining;
+mod pauses;
 mod pool;
 mod reclaiming;
 mod returning;

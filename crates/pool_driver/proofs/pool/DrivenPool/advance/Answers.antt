@@ -13,8 +13,8 @@ returns-clause-told c =
     let time : ℕ = c.max-at.result in
     let step = step_at mid.operation in
     let fits : c.accept.result ≡ true = c.if-not-accept.false in
-    let ran = from_told c.args.caller time c.args.report step c.args.self.now c.accept.new.self c.run.new.self c.args.call.now mid c.run.new.call (c.accept.ensures.accepted fits) c.run.ensures.moves in
-    let left = from_left c.args.caller time step c.args.self.now c.run.new.self c.leave_at_end.new.self first c.run.new.call last ran c.leave_at_end.ensures.accepts c.leave_at_end.ensures.operation in
+    let ran = from_told c.args.caller time c.args.report step c.args.self.now c.accept.new.self c.run-action.new.self c.args.call.now mid c.run-action.new.call (c.accept.ensures.accepted fits) c.run-action.ensures.moves in
+    let left = from_left c.args.caller time step c.args.self.now c.run-action.new.self c.leave_at_end.new.self first c.run-action.new.call last ran c.leave_at_end.ensures.accepts c.leave_at_end.ensures.operation in
     let later = from_later c.args.caller time time step c.args.self.now c.leave_at_end.new.self first last left in
     let P : DrivenModel → Type 0 = λ d. GoesFrom step c.args.caller time c.args.self.now (record d { last = time }) first last in
     let Q : ℕ → Type 0 = λ n. GoesFrom step c.args.caller n c.args.self.now (record { core = c.self-2.inside.core; queue = c.self-2.inside.waiters; plan = c.self-2.inside.plan; drops = c.self-2.inside.drops; holds_back = c.self-2.inside.holds_back; last = time }) first last in
@@ -29,9 +29,9 @@ returns-clause-moves c =
     let last = c.leave_at_end.new.call in
     let time : ℕ = c.max-at.result in
     let fits : c.accept.result ≡ true = c.if-not-accept.false in
-    let steps = moves_from c.args.caller time (step_at c.accept.new.call.operation) c.accept.new.self c.run.new.self c.accept.new.call c.run.new.call c.run.ensures.moves in
-    let ran = moves_told c.args.report c.args.caller time c.args.self.now c.accept.new.self c.run.new.self c.args.call.now c.accept.new.call c.run.new.call (c.accept.ensures.accepted fits) steps in
-    let left = moves_on c.args.caller time c.args.self.now c.run.new.self c.leave_at_end.new.self first c.run.new.call last ran (moves_accepted c.args.caller time c.run.new.self c.leave_at_end.new.self c.run.new.call last c.leave_at_end.ensures.accepts) in
+    let steps = moves_from c.args.caller time (step_at c.accept.new.call.operation) c.accept.new.self c.run-action.new.self c.accept.new.call c.run-action.new.call c.run-action.ensures.moves in
+    let ran = moves_told c.args.report c.args.caller time c.args.self.now c.accept.new.self c.run-action.new.self c.args.call.now c.accept.new.call c.run-action.new.call (c.accept.ensures.accepted fits) steps in
+    let left = moves_on c.args.caller time c.args.self.now c.run-action.new.self c.leave_at_end.new.self first c.run-action.new.call last ran (moves_accepted c.args.caller time c.run-action.new.self c.leave_at_end.new.self c.run-action.new.call last c.leave_at_end.ensures.accepts) in
     let later = moves_later time c.args.caller time c.args.self.now c.leave_at_end.new.self first last left in
     let P : DrivenModel → Type 0 = λ d. Moves c.args.caller time c.args.self.now (record d { last = time }) first last in
     let Q : ℕ → Type 0 = λ n. Moves c.args.caller n c.args.self.now (record { core = c.self-2.inside.core; queue = c.self-2.inside.waiters; plan = c.self-2.inside.plan; drops = c.self-2.inside.drops; holds_back = c.self-2.inside.holds_back; last = time }) first last in

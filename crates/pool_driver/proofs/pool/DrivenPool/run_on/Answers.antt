@@ -9,6 +9,6 @@ loop-preserved c =
       λ before lacks drops. c.take_step.ensures.room lacks (so_far.rest.drops ∙ drops),
     )
 
-pub returns-in_default-clause-moves : goal.returns-in_default-clause-moves
-returns-in_default-clause-moves c =
+pub returns-then-not-take_step-clause-moves : goal.returns-then-not-take_step-clause-moves
+returns-then-not-take_step-clause-moves c =
     moves_on c.args.caller c.args.at c.args.self.now c.loop.self c.take_step.new.self c.args.call.now c.loop.call c.take_step.new.call c.loop.invariant.0 c.take_step.ensures.moves.moves

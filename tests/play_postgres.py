@@ -1,0 +1,386 @@
+#!/usr/bin/env python3
+"""Runs the examples over PostgreSQL, in Rust, Java and C, while the server fails in several ways.
+
+    play_postgres.py LIBRARY POOL
+
+LIBRARY is libzuphinka.a, and POOL the program `pool`. The server is one of this test's own, in a temporary folder. Eight workers of each example
+transfer money over four connections. Meanwhile the server's processes are ended at random, it is restarted, it is stopped for three seconds as in a
+crash, and it is restarted with a limit of two connections and without. Then
+
+- no money is lost, each transfer stands in the table of transfers, and each that the example counts is there;
+- no two workers use a connection at a time: triggers note the worker of a transaction under the process that serves it, and refuse another one;
+- no more than four processes serve the example, except while a process ends whose connection was closed;
+- a transfer begins within a second after each failure is over;
+- nothing is lent at the end, and no process serves the example once it has closed its pool, before it ends;
+- the journal is legal, has the counts that the example prints, and as many connections as the server has seen.
+
+What needs a package that is missing is skipped, with the reason. Prints what fails, and in the end the line 'N passed, M failed'.
+"""
+
+import dataclasses
+import fcntl
+import os
+import pathlib
+import re
+import signal
+import subprocess
+import sys
+import tempfile
+import threading
+import time
+
+import postgres_server
+from check_rust import CRATE, REGISTRY, runs_cargo
+from playing import play_checks
+from play_library import FLAGS, compiler, heap
+from postgres_server import ROLE, SHARED, Server, end_with_parent, sessions_of
+from skipping import NO_CARGO, has, skip
+
+TOP = pathlib.Path(__file__).resolve().parent.parent
+sys.path.append(str(TOP / "tools"))
+
+import java
+from install import heap_of_kit
+
+CONNECTIONS = 4
+# For how long an example transfers, in seconds. Its failures take some eleven; if they take longer than the first, all is done again with the second.
+SECONDS = (25, 150)
+# How long it may take to begin and to end, in seconds.
+SLACK = 120
+# How soon a transfer begins after a failure, in seconds, in one of how many tries.
+SOON, TRIES = 1.0, 3
+# How many processes are ended, and the time between two of them, in seconds.
+ENDED, APART = 8, 0.15
+STOPPED = 3
+FEW = 2
+# The time between two looks at the server's processes, in seconds, and how often that must have succeeded.
+PAUSE, LEAST_LOOKS = 0.1, 10
+# All of it ends after this time, in seconds.
+LONGEST = 900
+# The tables of the examples, and what watches them: the users of processes, those that were used, and a count of transfers that began.
+TABLES = f"""SET ROLE {ROLE};
+CREATE TABLE account (id int PRIMARY KEY, euros int NOT NULL);
+CREATE TABLE transfer (worker int NOT NULL, source int NOT NULL, target int NOT NULL, euros int NOT NULL);
+CREATE TABLE users (backend int PRIMARY KEY, worker int NOT NULL);
+CREATE TABLE used (backend int PRIMARY KEY);
+CREATE SEQUENCE begun;
+CREATE FUNCTION begin_use() RETURNS trigger LANGUAGE plpgsql AS $$ BEGIN
+  PERFORM nextval('begun');
+  INSERT INTO users VALUES (pg_backend_pid(), NEW.worker);
+  INSERT INTO used VALUES (pg_backend_pid()) ON CONFLICT DO NOTHING;
+  RETURN NEW;
+END $$;
+CREATE FUNCTION end_use() RETURNS trigger LANGUAGE plpgsql AS $$ BEGIN
+  DELETE FROM users WHERE backend = pg_backend_pid() AND worker = NEW.worker;
+  RETURN NULL;
+END $$;
+CREATE TRIGGER begin_use BEFORE INSERT ON transfer FOR EACH ROW EXECUTE FUNCTION begin_use();
+CREATE CONSTRAINT TRIGGER end_use AFTER INSERT ON transfer DEFERRABLE INITIALLY DEFERRED FOR EACH ROW EXECUTE FUNCTION end_use();
+"""
+# The accounts whose money is not that of the table of transfers.
+WRONG = """SELECT count(*) FROM account WHERE euros <> 100
+  + (SELECT coalesce(sum(transfer.euros), 0) FROM transfer WHERE target = account.id)
+  - (SELECT coalesce(sum(transfer.euros), 0) FROM transfer WHERE source = account.id)"""
+REPORT = re.compile(
+    r"(?P<made>\d+) transfers, \d+ a second, (?P<failed>\d+) failed\n(?P<sum>\d+) euros in all\n"
+    r"created (?P<created>\d+), destroyed (?P<destroyed>\d+), idle (?P<idle>\d+), lent (?P<lent>\d+)\n"
+)
+
+
+@dataclasses.dataclass
+class Example:
+    """An example: its name, its money, and the command that runs it over a database for some seconds, with a folder for its journal."""
+
+    name: str
+    euros: int
+    command: object
+
+
+def in_rust():
+    """Builds the example in Rust, if its dependencies are there."""
+    if not has("the example over PostgreSQL in Rust", "librust-tokio-postgres-dev"):
+        return None
+    if not runs_cargo():
+        return skip("the example over PostgreSQL in Rust", NO_CARGO)
+    target = CRATE / "target/postgres"
+    source = ["--config", 'source.crates-io.replace-with="debian"', "--config", f'source.debian.directory="{REGISTRY}"']
+    words = ["cargo", "build", "--release", "--offline", "--quiet", *source]
+    java.run(*words, cwd=CRATE / "examples/postgres", env=os.environ | {"CARGO_TARGET_DIR": str(target)})
+    program = target / "release/postgres"
+    return Example("rust", 10_000, lambda port, base, seconds, journal: [program, f"host=127.0.0.1 port={port} user={ROLE} dbname={base}", seconds, journal])
+
+
+def in_c(library, folder):
+    """Compiles the example in C, if libpq is there."""
+    if not has("the example over PostgreSQL in C", "libpq-dev"):
+        return None
+    program, sources = folder / "postgres", [TOP / "bindings/c" / name for name in ("postgres.c", "zuphinka_pool.c")]
+    words = [compiler(), *FLAGS, "-pthread", "-I", TOP / "bindings/c", "-I", "/usr/include/postgresql", "-o", program, *sources, library, heap(), "-lpq"]
+    java.run(*words)
+    return Example("c", 10_000, lambda port, base, seconds, journal: [program, f"host=127.0.0.1 port={port} user={ROLE} dbname={base}", seconds, journal])
+
+
+def in_java(library, folder):
+    """Builds the pool for Java, if what the example needs is there."""
+    packages = ("libpostgresql-jdbc-java", "libcommons-dbcp2-java", "default-jdk-headless", "libcommons-pool2-java")
+    if not has("the example over PostgreSQL in Java", *packages):
+        return None
+    path = f"{java.build(library, heap_of_kit(), folder / 'java')}:{java.DEBIAN_JAR.parent}/*"
+    words = [java.jdk() / "bin/java", "-XX:-UsePerfData", "-cp", path, TOP / "bindings/java/examples/Bank.java"]
+    return Example("java", 2_000, lambda port, base, seconds, journal: [*words, journal, f"jdbc:postgresql://127.0.0.1:{port}/{base}?user={ROLE}", seconds])
+
+
+class Watch(threading.Thread):
+    """Looks at the server's processes again and again, and notes those beyond the most that are still there at the next look."""
+
+    def __init__(self, server):
+        super().__init__()
+        self.server, self.is_over, self.excess, self.looks = server, threading.Event(), [], 0
+
+    def run(self):
+        before = set()
+        while not self.is_over.wait(PAUSE):
+            now = self.server.backends() or set()
+            self.excess += [kept for kept in [before & now] if len(kept) > CONNECTIONS]
+            self.looks += bool(now)
+            before = now
+
+
+class Program:
+    """A program that runs. Its standard output is full, so that it cannot end before that is read."""
+
+    def __init__(self, command, folder):
+        reader, writer = os.pipe()
+        self.filling = fcntl.fcntl(writer, fcntl.F_SETPIPE_SZ, os.sysconf("SC_PAGESIZE"))
+        os.write(writer, b"." * self.filling)
+        self.errors = folder / "errors"
+        with open(self.errors, "wb") as errors:
+            options = {"stdin": subprocess.DEVNULL, "stdout": writer, "stderr": errors}
+            self.process = subprocess.Popen(list(map(str, command)), preexec_fn=lambda: end_with_parent(signal.SIGKILL), **options)
+        os.close(writer)
+        self.output = open(reader, "rb")
+
+    def is_alive(self):
+        return self.process.poll() is None
+
+    def ended(self):
+        """Reads its output, and waits for its end. Returns its status and what it wrote."""
+        text = self.output.read()[self.filling :].decode()
+        return self.process.wait(SLACK), text
+
+    def stop(self):
+        self.process.kill()
+        self.process.wait()
+        self.output.close()
+
+
+def begun(server, base):
+    """How many transfers have begun."""
+    return int(server.ask("SELECT CASE WHEN is_called THEN last_value ELSE 0 END FROM begun", base))
+
+
+def seconds_until_transfer(server, base, longest):
+    """How long it takes until another transfer begins, in seconds; infinite if it takes longer than this."""
+    before, since = begun(server, base), time.monotonic()
+    while begun(server, base) == before:
+        if time.monotonic() - since > longest:
+            return float("inf")
+        time.sleep(0.01)
+    return time.monotonic() - since
+
+
+def end_some(server):
+    """Ends processes of the role at random."""
+    for _ in range(ENDED):
+        server.ask(f"SELECT pg_terminate_backend(pid) FROM pg_stat_activity WHERE usename = '{ROLE}' ORDER BY random() LIMIT 1")
+        time.sleep(APART)
+
+
+def restart(server):
+    server.stop()
+    server.start()
+
+
+def pause(server):
+    """Stops the server as in a crash, for a while."""
+    server.stop(signal.SIGQUIT)
+    time.sleep(STOPPED)
+    server.start()
+
+
+FAILURES = {
+    "processes that are ended": end_some,
+    "a restart": restart,
+    "a server that is away": pause,
+    "fewer connections than objects": lambda server: server.allow(FEW),
+    "enough connections again": lambda server: server.allow(CONNECTIONS),
+}
+
+
+def seconds_after(fail, server, base):
+    """Lets the server fail in a way, and returns how long it takes then until a transfer begins, in seconds. If that is long, this is done again, since
+    the machine may be busy; the least counts."""
+    least = float("inf")
+    for _ in range(TRIES):
+        fail(server)
+        least = min(least, seconds_until_transfer(server, base, 3 * SOON))
+        time.sleep(SOON)
+        if least <= SOON:
+            break
+    return least
+
+
+def failures(name, server, base, program):
+    """Lets the server fail in all ways, and yields what is wanted of the program meanwhile, and what came of it."""
+    has_begun = seconds_until_transfer(server, base, SLACK) < SLACK
+    yield f"{name}: it begins", True, has_begun
+    for failure, fail in FAILURES.items() if has_begun else []:
+        seconds = seconds_after(fail, server, base)
+        print(f"{name}: {failure}: a transfer after {1000 * seconds:.0f} ms")
+        yield f"{name}: {failure}: a transfer soon", True, seconds <= SOON or seconds
+    yield f"{name}: it still runs", True, program.is_alive()
+
+
+def closing(name, server, program):
+    """Waits until no process serves the program, and yields whether it is still there then."""
+    until = time.monotonic() + max(SECONDS) + SLACK
+    while server.backends() and time.monotonic() < until and program.is_alive():
+        time.sleep(PAUSE)
+    yield f"{name}: no process after the close, before its end", (set(), True), (server.backends(), program.is_alive())
+
+
+def entries_of(folder):
+    """The words of each entry of a journal that is stored in a folder, caller and time left out."""
+    lines = [line for segment in sorted(folder.glob("segment-*")) for line in segment.read_text().splitlines()]
+    return [line.split()[2:] for line in lines if " = " in line]
+
+
+def counts_of(entries):
+    """How many objects a journal says were asked for, how many freed their places, and how many were made."""
+    asked = sum(words[-2] == "make" for words in entries)
+    freed = sum(words[-1] == "freed" for words in entries)
+    failed = sum(words[0] in ("ready", "added") and words[2] == "makefail" for words in entries)
+    return asked, freed, asked - failed
+
+
+def journal(name, pool, folder, told, log, used):
+    """What is wanted of the journal, and what came of it."""
+    entries = entries_of(folder)
+    done = subprocess.run([pool, "check", folder / "settings.toml", *sorted(folder.glob("segment-*"))], capture_output=True, text=True)
+    yield f"{name}: its journal", (f"legal {len(entries)}\n", ""), (done.stdout, done.stderr)
+    asked, freed, made = counts_of(entries)
+    yield f"{name}: the counts of its journal", (asked, freed), (int(told["created"]), int(told["destroyed"]))
+    least, most = sessions_of(log)
+    print(f"{name}: {made} connections by the journal; by the server {len(least | used)} to {len(most)}; {asked - made} could not be made")
+    yield f"{name}: connections that the server saw", True, len(least | used) <= made <= len(most) or (len(least | used), made, len(most))
+    yield f"{name}: processes that were used are authorized", set(), used - most
+
+
+def money(name, euros, server, base, told):
+    """What is wanted of the tables, and what is there."""
+    rows, made, failed = int(server.ask("SELECT count(*) FROM transfer", base)), int(told["made"]), int(told["failed"])
+    yield f"{name}: the sum", (euros, euros), (int(told["sum"]), int(server.ask("SELECT sum(euros) FROM account", base)))
+    yield f"{name}: accounts that differ from the transfers", "0", server.ask(WRONG, base)
+    yield f"{name}: the number of transfers", True, 0 < made <= rows <= made + failed or (made, rows, failed)
+    yield f"{name}: users that are left", "0", server.ask("SELECT count(*) FROM users", base)
+
+
+def report(name, program):
+    """Reads what the program prints. Returns its words by their names, and what is wanted of it, and what came of it."""
+    status, text = program.ended()
+    found = REPORT.fullmatch(text)
+    print(f"{name}: {text.strip()!r}")
+    errors = program.errors.read_text(errors="replace")
+    checks = [(f"{name}: its status and report", (0, True), (status, found is not None) if status == 0 and found else (status, text, errors[-1000:]))]
+    if found:
+        ended = found["created"] == found["destroyed"], found["idle"], found["lent"]
+        checks.append((f"{name}: objects at the end", (True, "0", "0"), ended))
+    return found and found.groupdict(), checks
+
+
+def played(example, server, pool, folder):
+    """Plays an example, once more for longer if the machine is too busy. Returns what is wanted of it, and what came of it."""
+    for seconds in SECONDS:
+        since, time_left = time.monotonic(), []
+        found = list(attempt(example, seconds, server, pool, folder, lambda: time_left.append(seconds - (time.monotonic() - since))))
+        if time_left[0] > 0:
+            break
+        print(f"{example.name}: its failures took longer than {seconds} s")
+    return found
+
+
+def attempt(example, seconds, server, pool, folder, after_failures):
+    """Plays an example for some seconds. Yields what is wanted of it, and what came of it."""
+    name, base, place = example.name, f"{ROLE}_{example.name}_{seconds}", folder / f"run-{example.name}-{seconds}"
+    place.mkdir()
+    server.ask(f"CREATE DATABASE {base} OWNER {ROLE}")
+    server.ask(TABLES, base)
+    begin, watch = server.log.stat().st_size, Watch(server)
+    program = Program(example.command(server.port, base, seconds, place / "journal"), place)
+    watch.start()
+    try:
+        yield from failures(name, server, base, program)
+        after_failures()
+        yield from closing(name, server, program)
+        told, found = report(name, program)
+    finally:
+        watch.is_over.set()
+        watch.join()
+        program.stop()
+    yield from found
+    yield f"{name}: more than {CONNECTIONS} processes at a time", ([], True), (watch.excess, watch.looks >= LEAST_LOOKS)
+    log = server.noted(begin)
+    yield f"{name}: connections with two users", [], SHARED.findall(log)
+    if told:
+        used = set(server.ask("SELECT backend FROM used", base).split())
+        yield from money(name, example.euros, server, base, told)
+        yield from journal(name, pool, place / "journal", told, log, used)
+
+
+def watching(server):
+    """That a connection with two users is noticed, as are processes and connections that are too many or missing."""
+    base = f"{ROLE}_watched"
+    server.ask(f"CREATE DATABASE {base} OWNER {ROLE}")
+    server.ask(TABLES, base)
+    begin, once = server.log.stat().st_size, f"SET ROLE {ROLE}; BEGIN; INSERT INTO transfer VALUES (1, 0, 1, 1);"
+    yield "one user of a connection", ("", []), (server.answer(once + "COMMIT;", base), SHARED.findall(server.noted(begin)))
+    twice = server.answer(once + "INSERT INTO transfer VALUES (2, 0, 1, 1); COMMIT;", base)
+    yield "two users of a connection", (None, ["duplicate key value"]), (twice, SHARED.findall(server.noted(begin)))
+    server.ask(once + "BEGIN; COMMIT; COMMIT;", base)
+    yield "two users in turn", 3, len(SHARED.findall(server.noted(begin)))
+    authorized = "".join(f"{pid} LOG:  connection authorized: user={ROLE} database=x\n" for pid in (1, 2, 3))
+    log = authorized + "2 FATAL:  remaining connection slots are reserved for x\n3 FATAL:  terminating connection due to x\n"
+    yield "sessions of a log", ({"1"}, {"1", "3"}), sessions_of(log)
+    entries = [line.split() for line in ("borrow 1 = make 0", "ready 0 makefail = freed", "add = make 1", "added 1 good = parked")]
+    yield "counts of a journal", (2, 1, 1), counts_of(entries)
+
+
+def checks(library, pool):
+    with tempfile.TemporaryDirectory(prefix="zuphinka-", ignore_cleanup_errors=True) as name:
+        folder = pathlib.Path(name)
+        examples = [in_rust(), in_c(library, folder), in_java(library, folder)]
+        with Server(folder) as server:
+            yield from watching(server)
+            for example in filter(None, examples):
+                yield from played(example, server, pool, folder)
+
+
+def end(number, _):
+    """Ends by a signal, and the server with it."""
+    sys.exit(f"ended by {signal.Signals(number).name}\n0 passed, 1 failed")
+
+
+def main():
+    if len(sys.argv) != 3:
+        sys.exit(__doc__)
+    if not has("the examples over PostgreSQL", "postgresql"):
+        print("0 passed, 0 failed")
+        return 0
+    for number in signal.SIGTERM, signal.SIGHUP, signal.SIGALRM:
+        signal.signal(number, end)
+    signal.alarm(LONGEST)
+    return play_checks(checks(*map(pathlib.Path, sys.argv[1:])))
+
+
+if __name__ == "__main__":
+    sys.exit(main())
