@@ -24,7 +24,7 @@ pub enum Action {
 }
 
 /// What the host of a call reports.
-#[derive(Clone, Copy, Debug, PartialEq, Eq)]
+#[derive(Clone, Copy)]
 pub enum Event {
     /// The step was taken, with this answer.
     Answered(Answer),

@@ -15,7 +15,7 @@ use crate::plan::Plan;
 use pool_journal::{Answer, Cause, Input, Outcome};
 
 /// Where a call is that makes a new object.
-#[derive(Clone, Copy, Debug, PartialEq, Eq)]
+#[derive(Clone, Copy)]
 pub enum AddState {
     Asks,
     /// The journal has no room for the first step.
@@ -295,7 +295,7 @@ fn after_progress(progress: Progress) -> AddState
 /// A host takes the action, without a lock if it is the factory's, and reports what came of it. An object that fails its
 /// first test or is not passivated is destroyed, and so is a good one if the pool was closed meanwhile. The host may give
 /// the call up at any time: then the call ends after three more reports at most.
-#[derive(Clone, Copy, Debug, PartialEq, Eq)]
+#[derive(Clone, Copy)]
 pub struct AddCall {
     plan: Plan,
     state: AddState,

@@ -11,7 +11,7 @@ use crate::plan::Plan;
 use pool_journal::{Answer, Cause, Input, Outcome, When};
 
 /// A step that a borrow takes while it holds no object.
-#[derive(Clone, Copy, Debug, PartialEq, Eq)]
+#[derive(Clone, Copy)]
 pub enum FirstStep {
     /// Begins to reclaim abandoned objects.
     Begin,
@@ -22,7 +22,7 @@ pub enum FirstStep {
 }
 
 /// Where a borrow is. A `bool` says whether the object is new.
-#[derive(Clone, Copy, Debug, PartialEq, Eq)]
+#[derive(Clone, Copy)]
 pub enum BorrowState {
     Steps(FirstStep),
     /// The journal has no room for the step.
@@ -240,7 +240,7 @@ fn after_destroying(is_new: bool, outcome: Outcome, cancelled: bool, answer: Ans
 ///
 /// A host takes the action, without a lock if it is the factory's, and reports what came of it. It may give the call up
 /// at any time: then the call ends after three more reports at most.
-#[derive(Clone, Copy, Debug, PartialEq, Eq)]
+#[derive(Clone, Copy)]
 pub struct BorrowCall {
     plan: Plan,
     began: u64,

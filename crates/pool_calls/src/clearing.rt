@@ -12,7 +12,7 @@ use pool_journal::{Answer, Input};
 
 /// Where a clear or a close is. It destroys up to `left` more idle objects, after `taken`, one in progress included.
 /// `cancelled` says whether it was given up with an object in progress.
-#[derive(Clone, Copy, Debug, PartialEq, Eq)]
+#[derive(Clone, Copy)]
 pub enum ClearState {
     Begins,
     /// The journal has no room for the first step.
@@ -155,7 +155,7 @@ fn after_freeing(left: u64, taken: u64, cancelled: bool, answer: Answer) -> Clea
 /// The idle objects are destroyed one by one, and their places are free. It ends as `Complete` once no object is idle
 /// or as many were destroyed as were idle at first. It may be given up at any time: then it ends after two more
 /// reports at most, as `Cancelled`.
-#[derive(Clone, Copy, Debug, PartialEq, Eq)]
+#[derive(Clone, Copy)]
 pub struct ClearCall {
     /// The step with which it begins.
     first: Input,

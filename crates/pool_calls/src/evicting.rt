@@ -11,14 +11,14 @@ use crate::plan::Plan;
 use pool_journal::{Answer, Cause, Input, Outcome};
 
 /// The number of objects that an eviction run examined, and the number of these that it destroyed.
-#[derive(Clone, Copy, Debug, PartialEq, Eq)]
+#[derive(Clone, Copy)]
 pub struct EvictRun {
     pub examined: u64,
     pub destroyed: u64,
 }
 
 /// An idle object that an eviction run took.
-#[derive(Clone, Copy, Debug, PartialEq, Eq)]
+#[derive(Clone, Copy)]
 pub struct Examined {
     pub id: u64,
     /// The number of objects that may be examined after it.
@@ -28,7 +28,7 @@ pub struct Examined {
 }
 
 /// A step that an eviction run takes while it holds no object.
-#[derive(Clone, Copy, Debug, PartialEq, Eq)]
+#[derive(Clone, Copy)]
 pub enum EvictStep {
     /// Begins the run.
     Begin,
@@ -37,7 +37,7 @@ pub enum EvictStep {
 }
 
 /// Where an eviction run is.
-#[derive(Clone, Copy, Debug, PartialEq, Eq)]
+#[derive(Clone, Copy)]
 pub enum EvictState {
     Steps(EvictStep),
     /// The journal has no room for the step.
@@ -216,7 +216,7 @@ fn after_testing(cancelled: bool, object: Examined, outcome: Outcome, answer: An
 /// A run examines up to as many idle objects as the pool says when it begins. It destroys those that the pool says, and
 /// those that fail their test. A host takes the action, without a lock if it is the factory's, and reports what came of
 /// it. It may give the run up at any time: then the run ends after three more reports at most.
-#[derive(Clone, Copy, Debug, PartialEq, Eq)]
+#[derive(Clone, Copy)]
 pub struct EvictCall {
     plan: Plan,
     cancelled: bool,

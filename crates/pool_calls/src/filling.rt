@@ -15,7 +15,7 @@ use crate::plan::Plan;
 use pool_journal::{Answer, Input, Outcome};
 
 /// Where a fill is: the number of objects that it parked, and where its next addition is.
-#[derive(Clone, Copy, Debug, PartialEq, Eq)]
+#[derive(Clone, Copy)]
 pub struct FillState {
     pub parked: u64,
     pub addition: AddState,
@@ -115,7 +115,7 @@ fn after_asking(parked: u64, answer: Answer) -> FillState
 /// A host takes the action, without a lock if it is the factory's, and reports what came of it. The fill makes one object
 /// after another, until the pool has enough idle objects or no free place. The first object that fails ends it. The host
 /// may give the call up at any time: then the call ends after three more reports at most.
-#[derive(Clone, Copy, Debug, PartialEq, Eq)]
+#[derive(Clone, Copy)]
 pub struct FillCall {
     plan: Plan,
     cancelled: bool,

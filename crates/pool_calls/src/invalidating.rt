@@ -11,7 +11,7 @@ use crate::refusals::end_by;
 use pool_journal::{Answer, Input};
 
 /// Where an invalidation is.
-#[derive(Clone, Copy, Debug, PartialEq, Eq)]
+#[derive(Clone, Copy)]
 pub enum InvalidateState {
     Begins,
     /// The journal has no room for the first step.
@@ -86,7 +86,7 @@ fn after_freeing(answer: Answer) -> InvalidateState
 /// The pool does not test the object and does not park it: it is destroyed, and its place is free. It ends as
 /// `Destroyed`, as `Gone` if the object was reclaimed before, or as `NotLent`. One that is given up before its first
 /// step ends as `Cancelled`; one that has the object destroys it and ends as if it had not been given up.
-#[derive(Clone, Copy, Debug, PartialEq, Eq)]
+#[derive(Clone, Copy)]
 pub struct InvalidateCall {
     id: u64,
     /// Whether the holder keeps the object, and only its place is freed.

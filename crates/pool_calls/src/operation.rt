@@ -14,7 +14,7 @@ use crate::returning::ReturnCall;
 use crate::touching::TouchCall;
 
 /// A call of any kind.
-#[derive(Clone, Copy, Debug, PartialEq, Eq)]
+#[derive(Clone, Copy)]
 pub enum Operation {
     Borrow(BorrowCall),
     Return(ReturnCall),

@@ -11,7 +11,7 @@ use crate::action::{Action, End, Event, StepFailure};
 use pool_journal::{Answer, Input, When};
 
 /// A step of a removal of abandoned objects.
-#[derive(Clone, Copy, Debug, PartialEq, Eq)]
+#[derive(Clone, Copy)]
 pub enum ReclaimStep {
     /// Begins the removal.
     Begin,
@@ -20,7 +20,7 @@ pub enum ReclaimStep {
 }
 
 /// Where a removal of abandoned objects is.
-#[derive(Clone, Copy, Debug, PartialEq, Eq)]
+#[derive(Clone, Copy)]
 pub enum ReclaimState {
     Steps(ReclaimStep),
     /// The journal has no room for the step.
@@ -99,7 +99,7 @@ fn after_step(step: ReclaimStep, answer: Answer) -> ReclaimState
 ///
 /// The factory is asked for nothing: a reclaimed object belongs to its borrower, who destroys it when it is returned. A
 /// host takes the action, and reports what came of it. It may give the removal up at any time: then the removal ends.
-#[derive(Clone, Copy, Debug, PartialEq, Eq)]
+#[derive(Clone, Copy)]
 pub struct ReclaimCall {
     state: ReclaimState,
 }

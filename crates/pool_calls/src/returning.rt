@@ -11,7 +11,7 @@ use crate::plan::Plan;
 use pool_journal::{Answer, Cause, Input, Outcome};
 
 /// Where a return is.
-#[derive(Clone, Copy, Debug, PartialEq, Eq)]
+#[derive(Clone, Copy)]
 pub enum ReturnState {
     Gives,
     /// The journal has no room for the first step.
@@ -108,7 +108,7 @@ fn after_destroying(answer: Answer) -> ReturnState
 ///
 /// A host takes the action, without a lock if it is the factory's, and reports what came of it. Once the pool took the
 /// object back, or the call is given up, the call ends after a bounded number of reports.
-#[derive(Clone, Copy, Debug, PartialEq, Eq)]
+#[derive(Clone, Copy)]
 pub struct ReturnCall {
     plan: Plan,
     id: u64,

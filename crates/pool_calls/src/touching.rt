@@ -12,7 +12,7 @@ use crate::refusals::end_by;
 use pool_journal::{Answer, Input};
 
 /// Where the note of a use is.
-#[derive(Clone, Copy, Debug, PartialEq, Eq)]
+#[derive(Clone, Copy)]
 pub enum TouchState {
     Uses,
     /// The journal has no room for the step.
@@ -38,7 +38,7 @@ fn after_using(answer: Answer) -> TouchState
 ///
 /// It is one step, and asks the factory for nothing. It ends as `Noted`, as `Gone` if the object was reclaimed before,
 /// or as `NotLent`.
-#[derive(Clone, Copy, Debug, PartialEq, Eq)]
+#[derive(Clone, Copy)]
 pub struct TouchCall {
     id: u64,
     state: TouchState,

@@ -3,7 +3,7 @@ ghost use Rattle.std.specs.Prelude.{◌≡◌, None, false};
 use pool_calls::Operation;
 
 /// A call of a pool, between two reports of its host.
-#[derive(Clone, Copy, Debug, PartialEq, Eq)]
+#[derive(Clone, Copy)]
 pub struct Call {
     pub(crate) operation: Operation,
     // The token of its object.

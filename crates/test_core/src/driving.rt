@@ -64,9 +64,9 @@ fn advance(
 }
 
 fn misfits(rt: &impl Abort, pool: &mut DrivenPool, call: &mut Call, report: Report) {
-    let before = *call;
+    let before = call.operation().action();
     expect_equal(rt, pool.advance(call, 0, 0, report), None);
-    expect_equal(rt, *call, before);
+    expect_equal(rt, call.operation().action(), before);
 }
 
 // Wakes calls until none is left. Returns the first two tickets, and whether there were no more.
