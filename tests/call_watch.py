@@ -3,7 +3,7 @@
 # What is done with an object, in its order.
 WORK = ("make", "activate", "validate", "passivate", "destroy")
 # The calls to which a host hands over an object that is lent, and those that go on after an object is idle.
-HANDED, OF_SEVERAL = ("return", "invalidate", "detach"), ("fill", "evict")
+HANDED, OF_SEVERAL = ("return", "invalidate", "detach"), ("fill", "evict", "maintain")
 # The actions between which a call may have taken no step.
 UNTOUCHED = ("none", "make-room", "step")
 
@@ -30,16 +30,18 @@ class Watch:
         self.tickets, self.served = {}, set()
         # The id of the object that each slot makes, and the object that it holds with its token. The others are idle, or lent.
         self.making, self.held, self.idle, self.lent = {}, {}, {}, {}
+        # The ids of the objects that were made, and were neither idle nor lent yet.
+        self.new = set()
         # The kind and the words of the last action of the call in each slot, and the number of reports since it was given up.
         self.kinds, self.actions, self.since = {}, {}, {}
-        # What the call in each slot took, made idle and destroyed.
+        # How many idle objects the call in each slot took, and of these kept and destroyed; and how many new ones it made idle and discarded.
         self.tallies = {}
 
     def begins(self, slot, kind, id=None):
         """A call of this kind begins. If it is for a lent object, its host hands that over."""
         self.kinds[slot], self.actions[slot] = kind, ["none"]
         self.served.discard(slot)
-        self.tallies[slot] = dict.fromkeys(("took", "made", "destroyed"), 0)
+        self.tallies[slot] = dict.fromkeys(("took", "kept", "destroyed", "made", "discarded"), 0)
         if kind in HANDED:
             self.held[slot] = (id, self.lent.pop(id))
 
@@ -83,10 +85,15 @@ class Watch:
             id = self.making.pop(slot)
             if report == "made":
                 self.held[slot] = (id, token)
-                self.tallies[slot]["took"] += 1
+                self.new.add(id)
         elif before[0] == "destroy" and report != "given-up":
-            del self.held[slot]
-            self.tallies[slot]["destroyed"] += 1
+            id, _ = self.held.pop(slot)
+            self.count(slot, id, "discarded", "destroyed")
+            self.new.discard(id)
+
+    def count(self, slot, id, if_new, otherwise):
+        """Counts an object for a call, by whether it is new."""
+        self.tallies[slot][if_new if id in self.new else otherwise] += 1
 
     def settle(self, slot, before, report, action):
         """An object that failed is destroyed next. One with which a fill or an eviction run goes no further is idle."""
@@ -96,7 +103,7 @@ class Watch:
             return
         goes_on = action[0] in WORK and action[1] == before[1] and (action == before or WORK.index(action[0]) > WORK.index(before[0]))
         if not goes_on and action[0] != "step":
-            self.tallies[slot]["made"] += 1
+            self.count(slot, self.held[slot][0], "made", "kept")
             self.give_to(self.idle, slot)
 
     def take_action(self, slot, before, action):
@@ -137,6 +144,7 @@ class Watch:
     def give_to(self, others, slot):
         id, token = self.held.pop(slot)
         expect(f"object {id} becomes idle after the close", False, self.closed and others is self.idle)
+        self.new.discard(id)
         others[id] = token
 
     def count_overtake(self):
@@ -167,11 +175,11 @@ class Watch:
         kind, tally = self.kinds[slot], self.tallies[slot]
         words = (line.split(" ") for line in lines if line.startswith(("made ", "examined ", "destroyed ")))
         told = {word: int(number) for word, number in words}
-        if kind == "fill":
+        if kind in ("fill", "maintain"):
             expect("the objects that a fill made", tally["made"], told["made"])
-        elif kind in ("clear", "close"):
+        if kind in ("clear", "close"):
             expect("the objects that a clear took", tally["took"], told["destroyed"])
-        elif kind == "evict":
+        if kind in ("evict", "maintain"):
             expect("the objects that an eviction run destroyed", tally["destroyed"], told["destroyed"])
             expect("an eviction run examined what it took", True, tally["took"] <= told["examined"])
 
@@ -188,7 +196,8 @@ class Watch:
 
     def tested(self):
         """The number of idle objects that eviction runs test."""
-        return sum(self.kinds[slot] == "evict" and self.actions[slot][0] != "destroy" for slot in self.held)
+        examined = [slot for slot, (id, _) in self.held.items() if self.kinds[slot] in ("evict", "maintain") and id not in self.new]
+        return sum(self.actions[slot][0] != "destroy" for slot in examined)
 
     def take_wakes(self, lines):
         """The tickets to wake are the oldest that sleep, so that as many are signalled as there are free places and idle objects that are not under a

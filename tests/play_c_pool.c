@@ -1712,7 +1712,7 @@ static void test_calls_of_an_empty_handle(void) {
   struct zuphinka_call call = {.number = 0};
   struct zuphinka_activity state = {.waiting = 7};
   uint64_t ticket = 7;
-  for (uint32_t code = 0; code <= ZUPHINKA_KIND_CLOSE + 1; code++) {
+  for (uint32_t code = 0; code <= ZUPHINKA_KIND_MAINTAIN + 1; code++) {
     refuse(&pool, NULL, code, ZUPHINKA_STATUS_NOT_OPEN);
     refuse(&pool, &call, code, ZUPHINKA_STATUS_NOT_OPEN);
   }
@@ -1724,7 +1724,7 @@ static void test_calls_of_an_empty_handle(void) {
 static void test_unknown_kinds(void) {
   struct zuphinka pool = open_driven(1, "");
   refuse(&pool, NULL, 0, ZUPHINKA_STATUS_BAD_REQUEST);
-  refuse(&pool, NULL, ZUPHINKA_KIND_CLOSE + 1, ZUPHINKA_STATUS_BAD_REQUEST);
+  refuse(&pool, NULL, ZUPHINKA_KIND_MAINTAIN + 1, ZUPHINKA_STATUS_BAD_REQUEST);
   refuse(&pool, NULL, UINT32_MAX, ZUPHINKA_STATUS_BAD_REQUEST);
   zuphinka_drop(&pool);
 }
@@ -1809,6 +1809,30 @@ static void test_refused_reports_without_room(void) {
   check(advance(&pool, &call, ZUPHINKA_REPORT_NO_ROOM, &effects) == ZUPHINKA_STATUS_DONE);
   check(effects.action == ZUPHINKA_ACTION_DONE && effects.end == ZUPHINKA_END_JOURNAL_FULL);
   refuse_all(&pool, &call, effects.action);
+  zuphinka_drop(&pool);
+}
+
+static bool has_counts(const struct zuphinka_effects *effects, uint64_t examined, uint64_t destroyed, uint64_t reclaimed, uint64_t filled) {
+  return effects->count == examined && effects->destroyed == destroyed && effects->reclaimed == reclaimed && effects->filled == filled;
+}
+
+/* Maintenance is one call: it evicts, reclaims and fills, and ends with the first failure. */
+static void test_maintenance_in_one_call(void) {
+  struct zuphinka pool = open_driven(1, "maxTotal = 3\nminIdle = 2\ntestWhileIdle = true\n"
+                                        "[abandoned]\nremoveAbandonedOnMaintenance = true\nremoveAbandonedTimeoutMillis = 0\n");
+  struct zuphinka_effects effects;
+  struct zuphinka_call call;
+  check(drive_call(&pool, ZUPHINKA_KIND_MAINTAIN, "mpmp", &effects) == ZUPHINKA_END_COMPLETE && has_counts(&effects, 0, 0, 0, 2));
+  check(drive_call(&pool, ZUPHINKA_KIND_BORROW, "a", &effects) == ZUPHINKA_END_LENT && has_counts(&effects, 0, 0, 0, 0));
+  check(drive_call(&pool, ZUPHINKA_KIND_MAINTAIN, "avpmp", &effects) == ZUPHINKA_END_COMPLETE && has_counts(&effects, 1, 0, 1, 1));
+  check(begin(&pool, ZUPHINKA_KIND_MAINTAIN, &call, &effects) == ZUPHINKA_STATUS_DONE && effects.action == ZUPHINKA_ACTION_ACTIVATE);
+  check(advance(&pool, &call, ZUPHINKA_REPORT_FAILED, &effects) == ZUPHINKA_STATUS_DONE && effects.action == ZUPHINKA_ACTION_DESTROY);
+  check(has_counts(&effects, 1, 0, 0, 0));
+  for (const char *next = "avpm"; *next; next++) {
+    check(advance(&pool, &call, ZUPHINKA_REPORT_SUCCEEDED, &effects) == ZUPHINKA_STATUS_DONE && *next == "?grmavpds"[effects.action]);
+  }
+  check(advance(&pool, &call, ZUPHINKA_REPORT_FAILED, &effects) == ZUPHINKA_STATUS_DONE && effects.end == ZUPHINKA_END_MAKE_FAILED);
+  check(has_counts(&effects, 2, 1, 0, 0));
   zuphinka_drop(&pool);
 }
 
@@ -2221,6 +2245,7 @@ static const struct {
     TEST(unknown_kinds),
     TEST(refused_reports),
     TEST(refused_reports_without_room),
+    TEST(maintenance_in_one_call),
 };
 
 static void run_test(const char *name) {

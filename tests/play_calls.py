@@ -63,12 +63,13 @@ ENDS = {
     "add": f"parked closed no-place destroyed {OF_FACTORY}",
     "fill": f"complete {OF_FACTORY}",
     "evict": "complete closed",
+    "maintain": f"complete closed {OF_FACTORY}",
     **dict.fromkeys(("reclaim", "clear", "close"), "complete"),
 }
 # Whose answers wake others: all that free a place, or leave an object idle.
 WAKERS = set(ENDS) - {"touch"}
 # Those that destroy an object with which the factory succeeded.
-DISCARDERS = ("return", "add", "fill", "evict")
+DISCARDERS = ("return", "add", "fill", "evict", "maintain")
 WANTED = {*FITTING, "misfit", *(f"{kind} wakes" for kind in WAKERS), *(f"{kind} discards" for kind in DISCARDERS)} - {"done"}
 # The actions of each kind of call, besides that it has its journal cut: at each it may be given up, and the factory may fail.
 WORK = {
@@ -76,6 +77,7 @@ WORK = {
     "return": "validate passivate destroy",
     **dict.fromkeys(("add", "fill"), "make validate passivate destroy"),
     "evict": "activate validate passivate destroy",
+    "maintain": "activate validate passivate destroy make",
     **dict.fromkeys(("invalidate", "clear"), "destroy"),
 }
 WANTED.update(f"{kind} {report} at {action}" for kind, work in WORK.items() for action in work.split() for report in ("failed", "given-up"))
@@ -217,7 +219,7 @@ class Player:
         self.giving_up = dice.choice((0.0, 0.02, 0.1))
         self.most_held = 130 if most < 0 else 12
         # After how many commands the pool may be closed, and while which call works on an object: none if while one is idle.
-        self.open_for, self.closes_at = dice.uniform(0.3, 1.1) * commands, dice.choice(("add", "fill", "evict", None))
+        self.open_for, self.closes_at = dice.uniform(0.3, 1.1) * commands, dice.choice(("add", "fill", "evict", "evict", "maintain", None))
         self.clock, self.next_token = dice.choice((0, 1_000)), 100
         # The last call of each slot, the slots of those that go on, and of those for what their hosts do not hold; the tickets that were woken.
         self.calls, self.going, self.bogus, self.woken = {}, [], set(), set()
@@ -336,8 +338,8 @@ class Player:
 
     def maintain(self):
         """A call that is for the pool, and mostly one that leaves it as many objects."""
-        kinds = ["add", "fill", "evict", "reclaim", "clear"]
-        kind = self.dice.choices(kinds, [3, 3, 5, 4, 2])[0]
+        kinds = ["add", "fill", "evict", "reclaim", "maintain", "clear"]
+        kind = self.dice.choices(kinds, [3, 4, 5, 4, 4, 2])[0]
         if kind != "add" or len(self.watch.idle) < 4:
             self.begin_any(kind)
 

@@ -399,7 +399,8 @@ static enum zuphinka_pool_error error_of_end(struct zuphinka_pool *pool, const s
   if (end == ZUPHINKA_END_DESTROYED) return is_new ? ZUPHINKA_POOL_ERROR_CLOSED : ZUPHINKA_POOL_ERROR_NONE;
   if (end == ZUPHINKA_END_CANCELLED) return run->limit == AT_ONCE ? ZUPHINKA_POOL_ERROR_EXHAUSTED : ZUPHINKA_POOL_ERROR_TIMED_OUT;
   bool lacks = end == ZUPHINKA_END_JOURNAL_FULL || end == ZUPHINKA_END_OUT_OF_MEMORY;
-  bool fails_closed = kind == ZUPHINKA_KIND_BORROW || kind == ZUPHINKA_KIND_ADD || kind == ZUPHINKA_KIND_EVICT;
+  bool evicts = kind == ZUPHINKA_KIND_EVICT || kind == ZUPHINKA_KIND_MAINTAIN;
+  bool fails_closed = kind == ZUPHINKA_KIND_BORROW || kind == ZUPHINKA_KIND_ADD || evicts;
   if (lacks && fails_closed && state_of(pool).is_closed) return ZUPHINKA_POOL_ERROR_CLOSED;
   enum zuphinka_pool_error error = find_error(end, ZUPHINKA_STATUS_DONE);
   if (end == ZUPHINKA_END_NONE || !error) broken(run, ZUPHINKA_STATUS_DONE);
@@ -519,49 +520,56 @@ enum zuphinka_pool_error zuphinka_pool_touch(struct zuphinka_pool *pool, const s
   return error;
 }
 
-/* Makes a call that is for no object. Stores its counts, except in pointers that are null. */
-static enum zuphinka_pool_error call(struct zuphinka_pool *pool, uint32_t kind, uint64_t *count, uint64_t *destroyed) {
+/* Makes a call that is for no object. Stores what it came to. */
+static enum zuphinka_pool_error call(struct zuphinka_pool *pool, uint32_t kind, struct zuphinka_effects *last) {
   struct run run = {.start = {.at = time_of(pool), .kind = kind}, .limit = NEVER};
   lock(pool);
   enum zuphinka_pool_error error = drive(pool, &run);
   unlock(pool);
-  if (count) *count = run.next.count;
-  if (destroyed) *destroyed = run.next.destroyed;
+  *last = run.next;
   return error;
 }
 
-enum zuphinka_pool_error zuphinka_pool_add(struct zuphinka_pool *pool) { return call(pool, ZUPHINKA_KIND_ADD, NULL, NULL); }
+/* Makes such a call, and stores its count, unless the pointer is null. */
+static enum zuphinka_pool_error call_and_count(struct zuphinka_pool *pool, uint32_t kind, uint64_t *count) {
+  struct zuphinka_effects last;
+  enum zuphinka_pool_error error = call(pool, kind, &last);
+  if (count) *count = last.count;
+  return error;
+}
 
-enum zuphinka_pool_error zuphinka_pool_fill(struct zuphinka_pool *pool, uint64_t *filled) { return call(pool, ZUPHINKA_KIND_FILL, filled, NULL); }
+enum zuphinka_pool_error zuphinka_pool_add(struct zuphinka_pool *pool) { return call_and_count(pool, ZUPHINKA_KIND_ADD, NULL); }
+
+enum zuphinka_pool_error zuphinka_pool_fill(struct zuphinka_pool *pool, uint64_t *filled) { return call_and_count(pool, ZUPHINKA_KIND_FILL, filled); }
 
 enum zuphinka_pool_error zuphinka_pool_evict(struct zuphinka_pool *pool, struct zuphinka_pool_eviction *eviction) {
-  struct zuphinka_pool_eviction unused, *done = eviction ? eviction : &unused;
-  return call(pool, ZUPHINKA_KIND_EVICT, &done->examined, &done->destroyed);
+  struct zuphinka_effects last;
+  enum zuphinka_pool_error error = call(pool, ZUPHINKA_KIND_EVICT, &last);
+  if (eviction) *eviction = (struct zuphinka_pool_eviction){last.count, last.destroyed};
+  return error;
 }
 
 enum zuphinka_pool_error zuphinka_pool_reclaim(struct zuphinka_pool *pool, uint64_t *reclaimed) {
-  return call(pool, ZUPHINKA_KIND_RECLAIM, reclaimed, NULL);
+  return call_and_count(pool, ZUPHINKA_KIND_RECLAIM, reclaimed);
 }
 
 enum zuphinka_pool_error zuphinka_pool_maintain(struct zuphinka_pool *pool, struct zuphinka_pool_maintenance *done) {
-  struct zuphinka_pool_maintenance all = {.filled = 0};
+  struct zuphinka_effects last;
   lock(pool);
   keep_room(pool, 2 * pool->low, true);
   unlock(pool);
-  enum zuphinka_pool_error error = zuphinka_pool_evict(pool, &all.eviction);
-  if (!error) error = zuphinka_pool_reclaim(pool, &all.reclaimed);
-  if (!error) error = zuphinka_pool_fill(pool, &all.filled);
-  if (done) *done = all;
+  enum zuphinka_pool_error error = call(pool, ZUPHINKA_KIND_MAINTAIN, &last);
+  if (done) *done = (struct zuphinka_pool_maintenance){{last.count, last.destroyed}, last.reclaimed, last.filled};
   return error;
 }
 
 enum zuphinka_pool_error zuphinka_pool_clear(struct zuphinka_pool *pool, uint64_t *destroyed) {
-  return call(pool, ZUPHINKA_KIND_CLEAR, destroyed, NULL);
+  return call_and_count(pool, ZUPHINKA_KIND_CLEAR, destroyed);
 }
 
 uint64_t zuphinka_pool_close(struct zuphinka_pool *pool) {
   uint64_t destroyed = 0;
-  if (pool->process == getpid()) call(pool, ZUPHINKA_KIND_CLOSE, &destroyed, NULL);
+  if (pool->process == getpid()) call_and_count(pool, ZUPHINKA_KIND_CLOSE, &destroyed);
   return destroyed;
 }
 

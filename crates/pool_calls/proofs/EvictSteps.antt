@@ -15,7 +15,7 @@ asked_first p firsts.Begin stage at = let P : Stage → Type 0 = λ s. IsExpecte
 asked_first p (firsts.Next left run) stage at = let P : Stage → Type 0 = λ s. IsExpected p s inputs.EvictNext in subst P (sym at.0) refl
 
 -- the step that a state asks for is expected
-asked : (p : Plan) (state : EvictState) (stage : Stage) → IsAt p state stage → IfSome (step_at state) (IsExpected p stage)
+pub asked : (p : Plan) (state : EvictState) (stage : Stage) → IsAt p state stage → IfSome (step_at state) (IsExpected p stage)
 asked p (states.Steps first) stage at = asked_first p first stage at
 asked p (states.Reports object o) stage at = let P : Stage → Type 0 = λ s. IsExpected p s (inputs.Tested object.id o) in subst P (sym at.1.0) (refl, at.0)
 asked p (states.Frees object) stage at = let P : Stage → Type 0 = λ s. IsExpected p s (inputs.Destroyed object.id) in subst P (sym at.0) refl

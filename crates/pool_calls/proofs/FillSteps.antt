@@ -19,7 +19,7 @@ asked_at p n (states.Reports i o) stage at = let P : Stage → Type 0 = λ s. Is
 asked_at p n (states.Frees i o) stage at = let P : Stage → Type 0 = λ s. IsExpected p s (inputs.Destroyed i) in subst P (sym at.1) refl
 asked_at p n _ stage at = tt
 
-asked : (p : Plan) (state : FillState) (stage : Stage) → IsAt p state stage → IfSome (step_at state) (IsExpected p stage)
+pub asked : (p : Plan) (state : FillState) (stage : Stage) → IsAt p state stage → IfSome (step_at state) (IsExpected p stage)
 asked p state stage at = asked_at p state.parked state.addition stage at
 
 pub comes_on : (p : Plan) (event : Event) (before after : FillState) → GoesOn p event before after → ComesOn p event before after

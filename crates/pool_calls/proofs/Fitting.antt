@@ -1,5 +1,5 @@
 -- An answer fits each call that asks for a step.
-use Rattle.std.proofs.Common.{◌≡◌, ℕ, true, Some, refl, ap, ◌∙◌}
+use Rattle.std.proofs.Common.{◌≡◌, ℕ, Bool, true, Some, refl, ap, ◌∙◌}
 use Rattle.std.specs.Option.{is_some}
 use Rattle.pool_journal.specs.declared.input.Input.{Input}
 use Rattle.pool_journal.specs.declared.input.Input.TheVariants as inputs
@@ -15,6 +15,8 @@ use Rattle.pool_calls.specs.declared.evicting.EvictState.{EvictState}
 use Rattle.pool_calls.specs.declared.evicting.EvictState.TheVariants as evicting
 use Rattle.pool_calls.specs.declared.invalidating.InvalidateState.{InvalidateState}
 use Rattle.pool_calls.specs.declared.invalidating.InvalidateState.TheVariants as invalidating
+use Rattle.pool_calls.specs.declared.maintaining.MaintainState.{MaintainState}
+use Rattle.pool_calls.specs.declared.maintaining.MaintainState.TheVariants as maintaining
 use Rattle.pool_calls.specs.declared.reclaiming.ReclaimState.{ReclaimState}
 use Rattle.pool_calls.specs.declared.reclaiming.ReclaimState.TheVariants as reclaiming
 use Rattle.pool_calls.specs.declared.returning.ReturnState.{ReturnState}
@@ -28,6 +30,7 @@ use Rattle.pool_calls.specs.BorrowRules as borrows
 use Rattle.pool_calls.specs.ClearRules as clears
 use Rattle.pool_calls.specs.EvictRules as evicts
 use Rattle.pool_calls.specs.InvalidateRules as invalidates
+use Rattle.pool_calls.specs.MaintainRules as maintains
 use Rattle.pool_calls.specs.ReclaimRules as reclaims
 use Rattle.pool_calls.specs.ReturnRules as returns
 use Rattle.pool_calls.specs.TouchRules as touches
@@ -106,6 +109,11 @@ clear_asks ask (clearing.Destroys i l n c) = refl
 clear_asks ask (clearing.Frees i l n c) = refl
 clear_asks ask (clearing.Ended e n) = refl
 
+maintain_asks : (cancelled : Bool) (s : MaintainState) (a : Answer) → maintains.fits cancelled s (events.Answered a) ≡ is_some (maintains.step_at s)
+maintain_asks cancelled (maintaining.Evicts s) a = evict_asks s
+maintain_asks cancelled (maintaining.Reclaims run s) a = reclaim_asks s
+maintain_asks cancelled (maintaining.Fills run taken s) a = add_asks inputs.Fill s.addition
+
 asks : (op : Operation) (a : Answer) → fits op (events.Answered a) ≡ is_some (step_at op)
 asks (kinds.Borrow c) a = borrow_asks c.began c.state
 asks (kinds.Return c) a = return_asks c.id c.state
@@ -116,6 +124,7 @@ asks (kinds.Fill c) a = add_asks inputs.Fill c.state.addition
 asks (kinds.Evict c) a = evict_asks c.state
 asks (kinds.Reclaim c) a = reclaim_asks c.state
 asks (kinds.Clear c) a = clear_asks c.first c.state
+asks (kinds.Maintain c) a = maintain_asks c.cancelled c.state a
 
 pub answer_fits : (op : Operation) (input : Input) (a : Answer) → step_at op ≡ Some input → fits op (events.Answered a) ≡ true
 answer_fits op input a asked = asks op a ∙ ap (λ s. is_some s) asked

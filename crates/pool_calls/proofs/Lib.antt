@@ -7,6 +7,7 @@ pub mod FillSteps
 pub mod Fitting
 pub mod Found
 pub mod InvalidateSteps
+pub mod MaintainSteps
 pub mod Marked
 pub mod OperationSteps
 pub mod Orders

@@ -9,6 +9,7 @@ use Rattle.pool_calls.specs.declared.clearing.ClearCall.{ClearCall}
 use Rattle.pool_calls.specs.declared.evicting.EvictCall.{EvictCall}
 use Rattle.pool_calls.specs.declared.filling.FillCall.{FillCall}
 use Rattle.pool_calls.specs.declared.invalidating.InvalidateCall.{InvalidateCall}
+use Rattle.pool_calls.specs.declared.maintaining.MaintainCall.{MaintainCall}
 use Rattle.pool_calls.specs.declared.reclaiming.ReclaimCall.{ReclaimCall}
 use Rattle.pool_calls.specs.declared.returning.ReturnCall.{ReturnCall}
 use Rattle.pool_calls.specs.declared.touching.TouchCall.{TouchCall}
@@ -20,6 +21,7 @@ use Rattle.pool_calls.specs.ClearRules as clears
 use Rattle.pool_calls.specs.EvictRules as evicts
 use Rattle.pool_calls.specs.FillRules as fills
 use Rattle.pool_calls.specs.InvalidateRules as invalidates
+use Rattle.pool_calls.specs.MaintainRules as maintains
 use Rattle.pool_calls.specs.ReclaimRules as reclaims
 use Rattle.pool_calls.specs.ReturnRules as returns
 use Rattle.pool_calls.specs.TouchRules as touches
@@ -108,3 +110,12 @@ clear_step event b c same_first comes turns come =
 
 pub clear_comes : (event : Event) (op : Operation) (b c : ClearCall) → op ≡ kinds.Clear b → c.first ≡ b.first → clears.ComesOn b.first event b.state c.state → ComesOn event op (kinds.Clear c)
 clear_comes event op b c is same_first comes = subst (λ o. ComesOn event o (kinds.Clear c)) (sym is) (clear_step event b c same_first comes)
+
+maintain_step : (event : Event) (b c : MaintainCall) → c.plan ≡ b.plan → maintains.ComesOn b.plan event b.state c.state → ComesOn event (kinds.Maintain b) (kinds.Maintain c)
+maintain_step event b c same_plan comes turns come =
+    let after : List Turn = turns_after (maintains.step_at b.state) event turns in
+    let P1 : Plan → Type 0 = λ x. maintains.HasCome x c.state after in
+    subst P1 (sym same_plan) (comes turns come)
+
+pub maintain_comes : (event : Event) (op : Operation) (b c : MaintainCall) → op ≡ kinds.Maintain b → c.plan ≡ b.plan → maintains.ComesOn b.plan event b.state c.state → ComesOn event op (kinds.Maintain c)
+maintain_comes event op b c is same_plan comes = subst (λ o. ComesOn event o (kinds.Maintain c)) (sym is) (maintain_step event b c same_plan comes)

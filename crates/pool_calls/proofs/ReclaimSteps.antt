@@ -15,7 +15,7 @@ asked_first firsts.Begin stage at = let P : Stage → Type 0 = λ s. IsExpected 
 asked_first (firsts.Next left taken) stage at = let P : Stage → Type 0 = λ s. IsExpected s inputs.ReclaimNext in subst P (sym at.0) refl
 
 -- the step that a state asks for is expected
-asked : (state : ReclaimState) (stage : Stage) → IsAt state stage → IfSome (step_at state) (IsExpected stage)
+pub asked : (state : ReclaimState) (stage : Stage) → IsAt state stage → IfSome (step_at state) (IsExpected stage)
 asked (states.Steps first) stage at = asked_first first stage at
 asked _ stage at = tt
 

@@ -21,7 +21,7 @@ use Rattle.pool_calls.specs.declared.evicting.EvictStep.TheVariants as firsts
 use Rattle.pool_calls.specs.declared.evicting.EvictState.{EvictState}
 use Rattle.pool_calls.specs.declared.evicting.EvictState.TheVariants as states
 use Rattle.pool_calls.specs.Turns as turns
-use Rattle.pool_calls.specs.Turns.{Turn, but_first}
+use Rattle.pool_calls.specs.Turns.{Turn, but_first, is_complete}
 
 -- the stage of an eviction run: it begins; it examines up to this many more objects, with these counts; it tests one; it
 -- destroys one; it is complete; the pool is closed; it ended with this answer
@@ -309,6 +309,11 @@ has_work (states.Validates object) = true
 has_work (states.Passivates object) = true
 has_work (states.Destroys object) = true
 has_work _ = false
+
+-- the run is complete
+abbrev pub is_through : EvictState → Bool
+is_through (states.Ended e run) = is_complete e
+is_through _ = false
 
 -- the run may be given up
 abbrev pub is_going : Bool → EvictState → Bool

@@ -140,3 +140,8 @@ Ends cancelled events.Succeeded before after = events_left after < events_left b
 Ends cancelled events.Failed before after = events_left after < events_left before
 Ends cancelled events.Cancelled before after = events_left after ≤ 3
 Ends cancelled _ before after = cancelled ≡ true → events_left after < events_left before
+
+-- what an event does to a fill
+abbrev pub Takes : Plan → Bool → Event → FillState → FillState → Type 0
+Takes p cancelled event before after =
+    GoesOn p event before after × add_rules.Works p event before.addition after.addition × Ends cancelled event before.addition after.addition × add_rules.Steps event before.addition after.addition × add_rules.Pauses event after.addition

@@ -5,6 +5,7 @@ pub mod EvictRules
 pub mod FillRules
 pub mod InvalidateRules
 pub mod Lines
+pub mod MaintainRules
 pub mod Operations
 pub mod Order
 pub mod Places

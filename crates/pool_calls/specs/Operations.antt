@@ -12,6 +12,7 @@ use Rattle.pool_calls.specs.ClearRules as clears
 use Rattle.pool_calls.specs.EvictRules as evicts
 use Rattle.pool_calls.specs.FillRules as fills
 use Rattle.pool_calls.specs.InvalidateRules as invalidates
+use Rattle.pool_calls.specs.MaintainRules as maintains
 use Rattle.pool_calls.specs.ReclaimRules as reclaims
 use Rattle.pool_calls.specs.ReturnRules as returns
 use Rattle.pool_calls.specs.TouchRules as touches
@@ -28,6 +29,7 @@ HasCome (kinds.Fill c) turns = fills.HasCome c.plan c.state turns
 HasCome (kinds.Evict c) turns = evicts.HasCome c.plan c.state turns
 HasCome (kinds.Reclaim c) turns = reclaims.HasCome c.state turns
 HasCome (kinds.Clear c) turns = clears.HasCome c.first c.state turns
+HasCome (kinds.Maintain c) turns = maintains.HasCome c.plan c.state turns
 
 -- the step that it asks for
 abbrev pub step_at : Operation → Option Input
@@ -40,6 +42,7 @@ step_at (kinds.Fill c) = fills.step_at c.state
 step_at (kinds.Evict c) = evicts.step_at c.state
 step_at (kinds.Reclaim c) = reclaims.step_at c.state
 step_at (kinds.Clear c) = clears.step_at c.first c.state
+step_at (kinds.Maintain c) = maintains.step_at c.state
 
 -- a call that has come so far comes on with this event
 abbrev pub ComesOn : Event → Operation → Operation → Type 0
@@ -56,6 +59,7 @@ IsRight (kinds.Fill c) turns action = fills.IsRight c.plan c.state.parked (run_s
 IsRight (kinds.Evict c) turns action = evicts.IsRight c.plan (run_stages evicts.next evicts.begins turns) action
 IsRight (kinds.Reclaim c) turns action = reclaims.IsRight (run_stages reclaims.next reclaims.begins turns) action
 IsRight (kinds.Clear c) turns action = clears.IsRight c.first (run_stages clears.next clears.begins turns) action
+IsRight (kinds.Maintain c) turns action = maintains.IsRight c.plan (run_stages maintains.next maintains.begins turns) action
 
 -- an event fits what the host was asked to do
 abbrev pub fits : Operation → Event → Bool
@@ -68,6 +72,7 @@ fits (kinds.Fill c) event = fills.fits c.cancelled c.state.addition event
 fits (kinds.Evict c) event = evicts.fits c.cancelled c.state event
 fits (kinds.Reclaim c) event = reclaims.fits c.state event
 fits (kinds.Clear c) event = clears.fits c.state event
+fits (kinds.Maintain c) event = maintains.fits c.cancelled c.state event
 
 -- the journal has no room for its step
 abbrev pub lacks_room : Operation → Bool
@@ -80,12 +85,14 @@ lacks_room (kinds.Fill c) = adds.lacks_room c.state.addition
 lacks_room (kinds.Evict c) = evicts.lacks_room c.state
 lacks_room (kinds.Reclaim c) = reclaims.lacks_room c.state
 lacks_room (kinds.Clear c) = clears.lacks_room c.state
+lacks_room (kinds.Maintain c) = maintains.lacks_room c.state
 
 -- it has an object made
 abbrev pub is_making : Operation → Bool
 is_making (kinds.Borrow c) = borrows.is_making c.state
 is_making (kinds.Add c) = adds.is_making c.state
 is_making (kinds.Fill c) = adds.is_making c.state.addition
+is_making (kinds.Maintain c) = maintains.is_making c.state
 is_making _ = false
 
 -- it waits, as only a borrow does
@@ -114,6 +121,7 @@ Follows p (kinds.Fill c) = c.plan ≡ p
 Follows p (kinds.Evict c) = c.plan ≡ p
 Follows p (kinds.Reclaim c) = Unit {0}
 Follows p (kinds.Clear c) = Unit {0}
+Follows p (kinds.Maintain c) = c.plan ≡ p
 
 -- what an event changes, and what it leaves
 abbrev pub Proceeds : Event → Operation → Operation → Type 0
@@ -135,4 +143,6 @@ Proceeds event (kinds.Reclaim b) (kinds.Reclaim c) =
     reclaims.Ends event c.state × reclaims.Pauses event c.state
 Proceeds event (kinds.Clear b) (kinds.Clear c) =
     (c.first ≡ b.first) × clears.Works event b.state c.state × clears.Ends event b.state c.state × clears.Pauses event b.state c.state
+Proceeds event (kinds.Maintain b) (kinds.Maintain c) =
+    (c.plan ≡ b.plan) × (c.cancelled ≡ maintains.is_given_up b.cancelled event) × maintains.Takes b.plan b.cancelled event b.state c.state
 Proceeds event _ _ = ⊥

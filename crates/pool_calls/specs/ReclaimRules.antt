@@ -17,7 +17,7 @@ use Rattle.pool_calls.specs.declared.reclaiming.ReclaimStep.TheVariants as first
 use Rattle.pool_calls.specs.declared.reclaiming.ReclaimState.{ReclaimState}
 use Rattle.pool_calls.specs.declared.reclaiming.ReclaimState.TheVariants as states
 use Rattle.pool_calls.specs.Turns as turns
-use Rattle.pool_calls.specs.Turns.{Turn}
+use Rattle.pool_calls.specs.Turns.{Turn, is_complete}
 
 -- the stage of a removal: it begins; it reclaims up to this many more objects, after this many; it is complete; it ended with
 -- this answer, after this many
@@ -131,6 +131,11 @@ has_step _ = false
 abbrev pub lacks_room : ReclaimState → Bool
 lacks_room (states.LacksRoom first) = true
 lacks_room _ = false
+
+-- the removal is complete
+abbrev pub is_through : ReclaimState → Bool
+is_through (states.Ended e taken) = is_complete e
+is_through _ = false
 
 abbrev pub is_going : ReclaimState → Bool
 is_going (states.Ended e taken) = false

@@ -72,6 +72,16 @@ abbrev pub IsFirst : List Action → Action → Type 0
 IsFirst [] action = Unit {0}
 IsFirst (a ∷ rest) action = action ≡ a
 
+-- a call did all that it was to do
+abbrev pub is_complete : End → Bool
+is_complete ends.Complete = true
+is_complete _ = false
+
+-- the host is told that
+abbrev pub tells_complete : Action → Bool
+tells_complete (actions.Done e) = is_complete e
+tells_complete _ = false
+
 -- ---- pauses
 -- the host is asked to make an object
 abbrev pub asks_make : Action → Bool

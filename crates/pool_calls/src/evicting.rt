@@ -3,8 +3,8 @@ ghost use Rattle.std.specs.Option.{is_some};
 ghost use Rattle.pool_journal.specs.declared.input.Input.TheVariants as inputs;
 ghost use Rattle.pool_calls.specs.declared.action.Event.TheVariants as events;
 ghost use Rattle.pool_calls.specs.EvictRules as spec;
-ghost use Rattle.pool_calls.specs.EvictRules.{Stage, IsAt, IsAtFirst, HasRange, IsCounted, ComesOn, HasCome, Takes, HoldsNothing, IsRight, IsGood, Works, Pauses, Ends, EndsByAnswer, Proceeds, examines, tests, none_yet, one_more, one_gone, run_of, step_at, work_left, to_test, to_passivate, fits, has_step, has_first_step, lacks_room, has_work, is_going, more_left, first_left, events_left, first_steps_left, steps_left};
-ghost use Rattle.pool_calls.specs.Turns.{step_of, asks_make, asks_room, asks_wait, IsFirst};
+ghost use Rattle.pool_calls.specs.EvictRules.{Stage, IsAt, IsAtFirst, HasRange, IsCounted, ComesOn, HasCome, Takes, HoldsNothing, IsRight, IsGood, Works, Pauses, Ends, EndsByAnswer, Proceeds, examines, tests, none_yet, one_more, one_gone, run_of, step_at, work_left, to_test, to_passivate, fits, has_step, has_first_step, lacks_room, has_work, is_going, is_through, more_left, first_left, events_left, first_steps_left, steps_left};
+ghost use Rattle.pool_calls.specs.Turns.{step_of, asks_make, asks_room, asks_wait, tells_complete, IsFirst};
 
 use crate::action::{Action, End, Event, StepFailure};
 use crate::plan::Plan;
@@ -237,6 +237,17 @@ impl EvictCall {
         }
     }
 
+    /// Returns a run that has come to this state.
+    pub(crate) fn at(plan: Plan, cancelled: bool, state: EvictState) -> EvictCall
+        ensures { result ≡ record { plan = plan; cancelled = cancelled; state = state } }
+    {
+        EvictCall {
+            plan,
+            cancelled,
+            state,
+        }
+    }
+
     /// Returns what the host does next.
     pub fn action(&self) -> Action
         ensures right { (stage : Stage) → IsAt self.now.plan self.now.state stage
@@ -246,6 +257,7 @@ impl EvictCall {
         ensures room { asks_room result ≡ lacks_room self.now.state }
         ensures wait { asks_wait result ≡ false }
         ensures make { asks_make result ≡ false }
+        ensures complete { tells_complete result ≡ is_through self.now.state }
     {
         match self.state {
             EvictState::Steps(EvictStep::Begin) => Action::Step(Input::Evict),
@@ -266,8 +278,8 @@ impl EvictCall {
         }
     }
 
-    // The counts so far.
-    fn run(&self) -> EvictRun
+    /// Returns the counts so far.
+    pub(crate) fn run(&self) -> EvictRun
         ensures { (stage : Stage) → IsAt self.now.plan self.now.state stage
             → result ≡ run_of stage }
     {
@@ -454,7 +466,8 @@ impl EvictCall {
         }
     }
 
-    fn after(&self, event: Event) -> Option<EvictState>
+    /// Returns the state after an event; `None` if it does not fit what the host was asked to do.
+    pub(crate) fn after(&self, event: Event) -> Option<EvictState>
         ensures takes { IfSome result (Takes self.now.plan self.now.cancelled event self.now.state) }
         ensures fits { is_some result ≡ fits self.now.cancelled self.now.state event }
     {

@@ -140,6 +140,20 @@ impl FillCall {
         }
     }
 
+    /// Returns a fill that has come to this state.
+    pub(crate) fn at(plan: Plan, cancelled: bool, state: FillState) -> FillCall
+        requires { cancelled ≡ true → events_left state.addition ≤ 3 }
+        ensures plan { result.plan ≡ plan }
+        ensures cancelled { result.cancelled ≡ cancelled }
+        ensures state { result.state ≡ state }
+    {
+        FillCall {
+            plan,
+            cancelled,
+            state,
+        }
+    }
+
     /// Returns the number of objects that the fill has parked until now, also if it ended with a failure. It stays at
     /// 2^64 - 1.
     pub fn parked(&self) -> u64
@@ -214,7 +228,8 @@ impl FillCall {
         Some(self.moved(self.state.addition.after_cancelling()?))
     }
 
-    fn after(&self, event: Event) -> Option<FillState>
+    /// Returns the state after an event; `None` if it does not fit what the host was asked to do.
+    pub(crate) fn after(&self, event: Event) -> Option<FillState>
         ensures goes { IfSome result (GoesOn self.now.plan event self.now.state) }
         ensures works { IfSome result (λ s. Works self.now.plan event self.now.state.addition s.addition) }
         ensures fits { is_some result ≡ fits self.now.cancelled self.now.state.addition event }

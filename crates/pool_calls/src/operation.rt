@@ -9,6 +9,7 @@ use crate::clearing::ClearCall;
 use crate::evicting::EvictCall;
 use crate::filling::FillCall;
 use crate::invalidating::InvalidateCall;
+use crate::maintaining::MaintainCall;
 use crate::reclaiming::ReclaimCall;
 use crate::returning::ReturnCall;
 use crate::touching::TouchCall;
@@ -27,6 +28,7 @@ pub enum Operation {
     Reclaim(ReclaimCall),
     /// A clear, or a close.
     Clear(ClearCall),
+    Maintain(MaintainCall),
 }
 
 impl Operation {
@@ -60,6 +62,7 @@ impl Operation {
             Operation::Evict(call) => call.action(),
             Operation::Reclaim(call) => call.action(),
             Operation::Clear(call) => call.action(),
+            Operation::Maintain(call) => call.action(),
         }
     }
 
@@ -82,6 +85,7 @@ impl Operation {
             Operation::Evict(call) => call.tell(event),
             Operation::Reclaim(call) => call.tell(event),
             Operation::Clear(call) => call.tell(event),
+            Operation::Maintain(call) => call.tell(event),
         }
     }
 }

@@ -4,8 +4,8 @@ ghost use Rattle.pool_journal.specs.declared.input.Input.TheVariants as inputs;
 ghost use Rattle.pool_journal.specs.declared.input.When.TheVariants as times;
 ghost use Rattle.pool_calls.specs.declared.action.Event.TheVariants as events;
 ghost use Rattle.pool_calls.specs.ReclaimRules as spec;
-ghost use Rattle.pool_calls.specs.ReclaimRules.{Stage, IsAt, IsAtFirst, IsGoing, ComesOn, HasCome, Takes, IsRight, Pauses, Ends, EndsByAnswer, Proceeds, reclaims, taken_of, step_at, fits, has_step, lacks_room, is_going, first_steps_left, steps_left};
-ghost use Rattle.pool_calls.specs.Turns.{step_of, asks_make, asks_room, asks_wait};
+ghost use Rattle.pool_calls.specs.ReclaimRules.{Stage, IsAt, IsAtFirst, IsGoing, ComesOn, HasCome, Takes, IsRight, Pauses, Ends, EndsByAnswer, Proceeds, reclaims, taken_of, step_at, fits, has_step, lacks_room, is_going, is_through, first_steps_left, steps_left};
+ghost use Rattle.pool_calls.specs.Turns.{step_of, asks_make, asks_room, asks_wait, tells_complete};
 
 use crate::action::{Action, End, Event, StepFailure};
 use pool_journal::{Answer, Input, When};
@@ -115,6 +115,13 @@ impl ReclaimCall {
         }
     }
 
+    /// Returns a removal that has come to this state.
+    pub(crate) fn at(state: ReclaimState) -> ReclaimCall
+        ensures { result ≡ record { state = state } }
+    {
+        ReclaimCall { state }
+    }
+
     /// Returns what the host does next.
     pub fn action(&self) -> Action
         ensures right { (stage : Stage) → IsAt self.now.state stage → IsRight stage result }
@@ -122,6 +129,7 @@ impl ReclaimCall {
         ensures room { asks_room result ≡ lacks_room self.now.state }
         ensures wait { asks_wait result ≡ false }
         ensures make { asks_make result ≡ false }
+        ensures complete { tells_complete result ≡ is_through self.now.state }
     {
         match self.state {
             ReclaimState::Steps(ReclaimStep::Begin) => Action::Step(Input::Reclaim {
@@ -212,7 +220,8 @@ impl ReclaimCall {
         }
     }
 
-    fn after(&self, event: Event) -> Option<ReclaimState>
+    /// Returns the state after an event; `None` if it does not fit what the host was asked to do.
+    pub(crate) fn after(&self, event: Event) -> Option<ReclaimState>
         ensures takes { IfSome result (Takes event self.now.state) }
         ensures fits { is_some result ≡ fits self.now.state event }
     {

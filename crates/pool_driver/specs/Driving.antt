@@ -84,6 +84,11 @@ abbrev pub detaches : Operation → Bool
 detaches (operations.Invalidate c) = c.detaches
 detaches _ = false
 
+-- the call is maintenance, which begins as an eviction run does
+abbrev pub is_maintenance : Operation → Bool
+is_maintenance (operations.Maintain c) = true
+is_maintenance _ = false
+
 -- the settings stay, what the calls have to know, and whether the journal is dropped
 pub record KeepsRest (old new : DrivenModel) : Type 0 where
   pub settings : new.core.settings ≡ old.core.settings

@@ -4,13 +4,13 @@ ghost use Rattle.std.specs.Option.{is_some};
 ghost use Rattle.pool_journal.specs.declared.input.Input.TheVariants as inputs;
 ghost use Rattle.pool_journal.specs.declared.input.When.TheVariants as times;
 ghost use Rattle.pool_calls.specs.Operations.{began_of, step_at};
-ghost use Rattle.pool_driver.specs.Driving.{Begins, detaches};
+ghost use Rattle.pool_driver.specs.Driving.{Begins, detaches, is_maintenance};
 
 use crate::call::Call;
 use crate::pool::DrivenPool;
 use pool_calls::{
-    AddCall, BorrowCall, ClearCall, EvictCall, FillCall, InvalidateCall, Operation, ReclaimCall,
-    ReturnCall, TouchCall,
+    AddCall, BorrowCall, ClearCall, EvictCall, FillCall, InvalidateCall, MaintainCall, Operation,
+    ReclaimCall, ReturnCall, TouchCall,
 };
 
 impl DrivenPool {
@@ -80,6 +80,7 @@ impl DrivenPool {
 
     /// Returns an eviction run.
     pub fn evict(&self) -> Call
+        ensures evicts { is_maintenance result.operation ≡ false }
         ensures begins { Begins self.now.plan result }
         ensures first { step_at result.operation ≡ Some inputs.Evict }
     {
@@ -108,5 +109,15 @@ impl DrivenPool {
         ensures first { step_at result.operation ≡ Some inputs.Close }
     {
         Call::new(Operation::Clear(ClearCall::close()), 0)
+    }
+
+    /// Returns maintenance: an eviction run, then a removal of abandoned objects, then a fill up to the least number of
+    /// idle objects. The first of them that fails ends it.
+    pub fn maintain(&self) -> Call
+        ensures maintains { is_maintenance result.operation ≡ true }
+        ensures begins { Begins self.now.plan result }
+        ensures first { step_at result.operation ≡ Some inputs.Evict }
+    {
+        Call::new(Operation::Maintain(MaintainCall::new(self.plan)), 0)
     }
 }

@@ -37,6 +37,7 @@ pub(crate) enum Start {
     Fill,
     Evict,
     Reclaim,
+    Maintain,
     Clear,
     Close,
 }
@@ -111,6 +112,7 @@ fn start_of(word: &str) -> Result<Start, LineFault> {
         "fill" => Ok(Start::Fill),
         "evict" => Ok(Start::Evict),
         "reclaim" => Ok(Start::Reclaim),
+        "maintain" => Ok(Start::Maintain),
         "clear" => Ok(Start::Clear),
         "close" => Ok(Start::Close),
         _ => Err(LineFault::NotACommand),

@@ -31,6 +31,12 @@ fn write_tally<W: Write>(out: &mut W, operation: Operation) -> io::Result<()> {
         }
         Operation::Reclaim(call) => write_number(out, "reclaimed", call.reclaimed()),
         Operation::Clear(call) => write_number(out, "destroyed", call.destroyed()),
+        Operation::Maintain(call) => {
+            write_number(out, "examined", call.examined())?;
+            write_number(out, "destroyed", call.destroyed())?;
+            write_number(out, "reclaimed", call.reclaimed())?;
+            write_number(out, "made", call.parked())
+        }
         _ => Ok(()),
     }
 }

@@ -15,6 +15,8 @@ mod evict_calls;
 #[cfg(test)]
 mod journal;
 #[cfg(test)]
+mod maintain_calls;
+#[cfg(test)]
 mod places;
 #[cfg(test)]
 mod settings;

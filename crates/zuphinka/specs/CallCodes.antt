@@ -26,7 +26,8 @@ kind_at code =
     else (if code == 9 then Some kinds.Reclaim
     else (if code == 10 then Some kinds.Clear
     else (if code == 11 then Some kinds.Close
-    else None))))))))))
+    else (if code == 12 then Some kinds.Maintain
+    else None)))))))))))
 
 -- the reports that their codes alone determine
 abbrev pub plain_report : ℕ → Option Report

@@ -1,6 +1,6 @@
 ghost use Rattle.std.specs.Prelude.{◌≡◌};
 ghost use Rattle.zuphinka.specs.CallCodes.{action_code, action_end, action_number, end_code};
-ghost use Rattle.zuphinka.specs.Calling.{IsCount, IsDestroyed, IsReadAs};
+ghost use Rattle.zuphinka.specs.Calling.{IsCount, IsDestroyed, IsFilled, IsReadAs, IsReclaimed};
 
 use pool_calls::{Action, End, Operation, StepFailure};
 use pool_driver::Effects;
@@ -19,11 +19,15 @@ pub struct CallEffects {
     pub until: u64,
     /// The ticket of the call to wake first, if there is one; otherwise 0.
     pub wake: u64,
-    /// The number of objects that a fill made, a removal reclaimed, an eviction run examined, or a clear or a close
-    /// destroyed so far; otherwise 0.
+    /// The number of objects that a fill made, a removal reclaimed, an eviction run or that of maintenance examined, or
+    /// a clear or a close destroyed so far; otherwise 0.
     pub count: u64,
-    /// The number of objects that an eviction run destroyed so far; otherwise 0.
+    /// The number of objects that an eviction run, or that of maintenance, destroyed so far; otherwise 0.
     pub destroyed: u64,
+    /// The number of objects that maintenance reclaimed so far; otherwise 0.
+    pub reclaimed: u64,
+    /// The number of objects that the fill of maintenance made so far; otherwise 0.
+    pub filled: u64,
     /// The code of the action.
     pub action: u32,
     /// The code of the end, if the call is over; otherwise 0.
@@ -112,6 +116,7 @@ fn count_of(operation: &Operation) -> u64
         Operation::Evict(call) => call.examined(),
         Operation::Reclaim(call) => call.reclaimed(),
         Operation::Clear(call) => call.destroyed(),
+        Operation::Maintain(call) => call.examined(),
         _ => 0,
     }
 }
@@ -121,6 +126,25 @@ fn destroyed_by(operation: &Operation) -> u64
 {
     match operation {
         Operation::Evict(call) => call.destroyed(),
+        Operation::Maintain(call) => call.destroyed(),
+        _ => 0,
+    }
+}
+
+fn reclaimed_by(operation: &Operation) -> u64
+    ensures { IsReclaimed operation.now result }
+{
+    match operation {
+        Operation::Maintain(call) => call.reclaimed(),
+        _ => 0,
+    }
+}
+
+fn filled_by(operation: &Operation) -> u64
+    ensures { IsFilled operation.now result }
+{
+    match operation {
+        Operation::Maintain(call) => call.parked(),
         _ => 0,
     }
 }
@@ -140,6 +164,8 @@ impl CallEffects {
             wake: wake.unwrap_or(0),
             count: count_of(operation),
             destroyed: destroyed_by(operation),
+            reclaimed: reclaimed_by(operation),
+            filled: filled_by(operation),
             action: code_of_action(effects.action),
             end: end_of_action(effects.action),
             has_ticket,

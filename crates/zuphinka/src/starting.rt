@@ -21,6 +21,7 @@ pub enum Kind {
     Reclaim,
     Clear,
     Close,
+    Maintain,
 }
 
 /// What begins a call. The kind determines which fields are read.
@@ -55,6 +56,7 @@ fn kind_at(code: u32) -> Option<Kind>
         9 => Some(Kind::Reclaim),
         10 => Some(Kind::Clear),
         11 => Some(Kind::Close),
+        12 => Some(Kind::Maintain),
         _ => None,
     }
 }
@@ -85,6 +87,7 @@ impl CallStart {
             Kind::Reclaim => pool.reclaim(),
             Kind::Clear => pool.clear(),
             Kind::Close => pool.close(),
+            Kind::Maintain => pool.maintain(),
         }
     }
 }

@@ -1,4 +1,4 @@
-use Rattle.pool_calls.proofs.OperationSteps.{add_comes, borrow_comes, clear_comes, evict_comes, fill_comes, invalidate_comes, reclaim_comes, return_comes, touch_comes}
+use Rattle.pool_calls.proofs.OperationSteps.{add_comes, borrow_comes, clear_comes, evict_comes, fill_comes, invalidate_comes, maintain_comes, reclaim_comes, return_comes, touch_comes}
 use Rattle.pool_calls.proofs.operation.Operation.tell.Goals as goal
 
 pub returns-in-Borrow-clause-comes : goal.returns-in-Borrow-clause-comes
@@ -36,3 +36,7 @@ returns-in-Reclaim-clause-comes c t =
 pub returns-in-Clear-clause-comes : goal.returns-in-Clear-clause-comes
 returns-in-Clear-clause-comes c t =
     clear_comes c.args.event c.args.self.now c.in-Clear.call c.tell-in-Clear.new.self c.in-Clear.is c.tell-in-Clear.ensures.kept (c.tell-in-Clear.ensures.comes t)
+
+pub returns-in-Maintain-clause-comes : goal.returns-in-Maintain-clause-comes
+returns-in-Maintain-clause-comes c t =
+    maintain_comes c.args.event c.args.self.now c.in-Maintain.call c.tell-in-Maintain.new.self c.in-Maintain.is c.tell-in-Maintain.ensures.kept (c.tell-in-Maintain.ensures.comes t)
