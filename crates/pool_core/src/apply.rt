@@ -155,6 +155,7 @@ impl<T> State<T> {
     }
 
     // Stores the object after which an eviction run continues, and what a removal that found nothing has learned.
+    #[inline(always)]
     fn update_hints(&mut self, at: u64, input: Input, answer: Answer)
         ensures { self.new ≡ self.old }
     {

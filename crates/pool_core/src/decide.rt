@@ -47,8 +47,9 @@ impl<T> State<T> {
         is_below_limit(self.settings.max_total, self.places.present() as u64)
     }
 
-    // Whether the queue takes one more object.
-    fn has_idle_room(&self) -> bool
+    /// Returns whether the queue takes one more object.
+    #[inline(always)]
+    pub fn has_idle_room(&self) -> bool
         ensures { result
             ≡ has_room self.now.settings self.now.closed (records_in self.now.places.objects) }
     {
@@ -167,6 +168,7 @@ impl<T> State<T> {
     }
 
     // The answer, at time `at`, to a borrow that began at time `began` (milliseconds).
+    #[inline(always)]
     fn decide_borrow(&self, at: u64, began: u64) -> Answer
         ensures { result ≡ reply_from_records self.now.settings (records_in self.now.places.objects)
             self.now.next self.now.closed self.now.cursor at (Input.Borrow began) }

@@ -1,4 +1,5 @@
 pub mod FirstSteps
+pub mod Following
 pub mod Moving
 pub mod Queueing
 pub mod Running

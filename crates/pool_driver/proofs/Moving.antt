@@ -151,11 +151,23 @@ module _ (input : Input) (caller at : ℕ) where
   starts_on [] us starts has = absurd (cc)
   starts_on (t ∷ ts) us starts has = starts
 
+  has_on : (ts us : List Turn) → has_turn ts ≡ true → has_turn (ts ++ us) ≡ true
+  has_on [] us has = absurd (cc)
+  has_on (t ∷ ts) us has = refl
+
   -- the steps after the first one
   pub starts_then : (a b c : DrivenModel) (first mid last : Call) → TakesFirst input true caller at a b first mid → Moves caller at b c mid last → StartsBy input caller at a c first last
   starts_then a b c first mid last p q = record {
     moves = moves_on caller at a b c first mid last p.moves q;
     starts = starts_on p.moves.advances.turns _ p.starts (p.took refl);
+  }
+
+  -- more steps after one that was taken
+  pub takes_on : (taken : Bool) (a b c : DrivenModel) (first mid last : Call) → taken ≡ true → TakesFirst input taken caller at a b first mid → Moves caller at b c mid last → TakesFirst input taken caller at a c first last
+  takes_on taken a b c first mid last is p q = record {
+    moves = moves_on caller at a b c first mid last p.moves q;
+    starts = starts_on p.moves.advances.turns _ p.starts (p.took is);
+    took = λ took. has_on p.moves.advances.turns _ (p.took is);
   }
 
   -- a step that was not taken

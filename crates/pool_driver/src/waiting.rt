@@ -5,6 +5,7 @@ ghost use Rattle.pool_calls.specs.Operations.{Proceeds, fits, is_waiting, lacks_
 ghost use Rattle.pool_calls.specs.Waiting.{may_lend};
 ghost use Rattle.pool_core.specs.Reply.{has_reached};
 ghost use Rattle.pool_journal.specs.Base.{closed_from};
+ghost use Rattle.pool_journal.specs.declared.input.Input.TheVariants as inputs;
 ghost use Rattle.pool_calls.specs.declared.action.Event.TheVariants as events;
 ghost use Rattle.pool_driver.specs.declared.report.Report.TheVariants as reports;
 ghost use Rattle.pool_driver.specs.Queueing.{Queues};
@@ -321,11 +322,14 @@ impl DrivenPool {
         self.leave(call);
     }
 
-    /// A borrow asks for an object, or waits behind those that come first. Returns whether it asked.
-    pub(crate) fn ask(&mut self, call: &mut Call, caller: u32, at: u64, input: Input) -> bool
-        requires asked { step_at call.old.operation ≡ Some input }
+    /// A borrow asks for an object, or waits behind those that come first. It lends an object that it took at once if the
+    /// host need not be asked. Returns whether it took a step.
+    #[inline(never)]
+    pub(crate) fn ask(&mut self, call: &mut Call, caller: u32, at: u64, began: u64) -> bool
+        requires asked { step_at call.old.operation ≡ Some (inputs.Borrow began) }
         requires room { lacks_room call.old.operation ≡ false }
-        ensures moves { TakesFirst input result caller at self.old self.new call.old call.new }
+        ensures moves { TakesFirst (inputs.Borrow began) result caller at self.old self.new call.old
+            call.new }
         ensures room { LacksRoomOnlyEmpty self.old.drops self.new.core call.new.operation }
     {
         if !self.reserve_ticket() {
@@ -337,8 +341,15 @@ impl DrivenPool {
             self.queue_up(call);
             return false;
         }
-        let is_taken = self.step_for(call, caller, at, input);
+        let answer = self.step_for(call, caller, at, Input::Borrow { began });
         self.note_answer(call, available);
-        is_taken
+        match answer {
+            Some(Answer::Take(id)) => {
+                self.lend(call, caller, at, id);
+                true
+            }
+            Some(_) => true,
+            None => false,
+        }
     }
 }

@@ -1,4 +1,5 @@
 // A pool whose calls a host drives: whole calls, waits, and a journal without room or dropped.
+use crate::playing::entries;
 use pool_calls::{Action, End, Operation, StepFailure};
 use pool_driver::{Call, DrivenPool, Effects, Hooks, Options, Report};
 use pool_journal::{Answer, Cause, Input};
@@ -503,6 +504,64 @@ fn objects_that_leave_no_room_are_told(rt: HostRuntime) {
         Report::NoRoom,
         Action::Done(end),
     );
+}
+
+// Both steps of a borrow of an idle object, and of its return, are taken by one report each, in a journal that has room
+// for the object's end and for the close alone.
+#[test]
+fn a_pair_fits_where_a_borrow_fits(rt: HostRuntime) {
+    let mut pool = opened(&rt, rt.alloc(), false, 11);
+    let _ = lend_new(&rt, &mut pool, 0, 7);
+    give_back(&rt, &mut pool, 1, 7);
+    expect_equal(&rt, pool.core().room(), 4);
+    let mut call = pool.borrow(2);
+    let lent = Action::Done(End::Lent(0));
+    goes_on(&rt, &mut pool, &mut call, 2, Report::GoOn, lent);
+    expect_equal(&rt, pool.core().room(), 0);
+    give_back(&rt, &mut pool, 3, 7);
+    expect_equal(&rt, pool.core().room(), 0);
+    let wanted = entries(
+        &rt,
+        rt.alloc(),
+        "0 2 borrow 2 = take 0
+0 2 ready 0 good = lent
+0 3 return 0 = check
+0 3 park 0 good = parked
+",
+    );
+    let found = pool.core().journal().get(4..).expect(&rt, "four entries");
+    assert!(&rt; found == wanted.as_slice());
+}
+
+// A returned object is destroyed where the queue takes none, or the pool is closed.
+#[test]
+fn a_return_that_finds_no_room_destroys(rt: HostRuntime) {
+    let settings = Settings {
+        max_idle: 0,
+        ..settings_with(1_000)
+    };
+    let options = options_with(false, 1);
+    let mut full = DrivenPool::open(rt.alloc(), settings, options).expect(&rt, "memory");
+    let mut closed = opened(&rt, rt.alloc(), false, 1_000);
+    let _ = lend_new(&rt, &mut full, 0, 7);
+    let _ = lend_new(&rt, &mut closed, 0, 7);
+    let mut call = closed.close();
+    let complete = Action::Done(End::Complete);
+    goes_on(&rt, &mut closed, &mut call, 1, Report::GoOn, complete);
+    destroys_what_is_returned(&rt, &mut full);
+    destroys_what_is_returned(&rt, &mut closed);
+}
+
+// Returns the object 0, which is destroyed.
+fn destroys_what_is_returned(rt: &impl Abort, pool: &mut DrivenPool) {
+    let before = pool.core().journal().len();
+    let mut call = pool.give_back(0, 7);
+    let asked = advance(rt, pool, &mut call, 2, Report::GoOn);
+    expect_equal(rt, (asked.action, asked.token), (Action::Destroy(0), 7));
+    expect_equal(rt, pool.core().journal().len(), before + 2);
+    let end = Action::Done(End::Destroyed);
+    goes_on(rt, pool, &mut call, 2, Report::Succeeded, end);
+    expect_equal(rt, pool.core().counts().lent, 0);
 }
 
 #[test]

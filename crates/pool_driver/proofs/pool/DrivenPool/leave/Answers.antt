@@ -1,4 +1,4 @@
-use Rattle.std.proofs.Common.{◌≡◌, None, ap, subst}
+use Rattle.std.proofs.Common.{None, ap, subst}
 use Rattle.pool_driver.specs.Driving.{DrivenModel}
 use Rattle.pool_driver.specs.Queueing.{Queues}
 use Rattle.pool_driver.proofs.Queueing.{queues_leave}

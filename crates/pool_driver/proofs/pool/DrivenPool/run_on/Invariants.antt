@@ -1,4 +1,3 @@
-use Rattle.std.proofs.Common.{◌≡◌}
 use Rattle.pool_driver.specs.Driving.{LacksRoomOnlyEmpty, Moves}
 use Rattle.pool_driver.proofs.pool.DrivenPool.run_on.Given as goal
 
