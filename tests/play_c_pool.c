@@ -1721,6 +1721,53 @@ static void test_calls_of_an_empty_handle(void) {
   check(!pool.at);
 }
 
+/* The line of the journal at a position, without its line feed. */
+static struct told line_at(struct zuphinka *pool, uint64_t position) {
+  struct told line = {""};
+  uint64_t size = 0;
+  check(zuphinka_line(pool, position, line.text, sizeof line.text - 1, &size) == ZUPHINKA_STATUS_DONE);
+  line.text[size - 1] = 0;
+  return line;
+}
+
+/* No loan begins or ends at once; nothing changes. */
+static void refuse_at_once(struct zuphinka *pool, uint32_t status, uint64_t id) {
+  struct zuphinka_loan loan = {id, &maker};
+  struct told before = tell(pool);
+  check(zuphinka_lend(pool, 3, 9, &loan) == status && loan.id == id && loan.object == &maker);
+  check(zuphinka_take_back(pool, 3, 9, &loan) == status);
+  check_text(tell(pool).text, before.text);
+}
+
+/* A loan and its end take one call of the library each while the host has nothing to do and no call waits. */
+static void test_loans_at_once(void) {
+  static int token;
+  struct zuphinka pool = {.at = NULL};
+  struct zuphinka_call call;
+  struct zuphinka_effects effects;
+  struct zuphinka_loan loan = {0, &token};
+  refuse_at_once(&pool, ZUPHINKA_STATUS_NOT_OPEN, 7);
+  check(zuphinka_open(&pool, "maxTotal = 1\n", 13) == ZUPHINKA_STATUS_DONE);
+  refuse_at_once(&pool, ZUPHINKA_STATUS_NOT_AT_ONCE, 0);
+  check(begin(&pool, ZUPHINKA_KIND_BORROW, &call, &effects) == ZUPHINKA_STATUS_DONE);
+  check(advance(&pool, &call, ZUPHINKA_REPORT_MADE, &effects) == ZUPHINKA_STATUS_DONE && effects.end == ZUPHINKA_END_LENT);
+  refuse_at_once(&pool, ZUPHINKA_STATUS_NOT_AT_ONCE, 7);
+  check(zuphinka_take_back(&pool, 1, 5, &loan) == ZUPHINKA_STATUS_DONE);
+  loan = (struct zuphinka_loan){7, NULL};
+  check(zuphinka_lend(&pool, 2, 6, &loan) == ZUPHINKA_STATUS_DONE && loan.id == 0 && loan.object == &token);
+  check_text(line_at(&pool, 2).text, "1 5 return 0 = check");
+  check_text(line_at(&pool, 3).text, "1 5 park 0 good = parked");
+  check_text(line_at(&pool, 4).text, "2 6 borrow 6 = take 0");
+  check_text(line_at(&pool, 5).text, "2 6 ready 0 good = lent");
+  check(begin(&pool, ZUPHINKA_KIND_BORROW, &call, &effects) == ZUPHINKA_STATUS_DONE && effects.action == ZUPHINKA_ACTION_SLEEP);
+  uint64_t ticket = effects.ticket + 1;
+  check(zuphinka_take_back(&pool, 2, 7, &loan) == ZUPHINKA_STATUS_DONE);
+  refuse_at_once(&pool, ZUPHINKA_STATUS_NOT_AT_ONCE, 0);
+  check(zuphinka_next_wake(&pool, &ticket) == ZUPHINKA_STATUS_DONE && ticket == effects.ticket);
+  check(advance(&pool, &call, ZUPHINKA_REPORT_WOKEN, &effects) == ZUPHINKA_STATUS_DONE && effects.end == ZUPHINKA_END_LENT);
+  zuphinka_drop(&pool);
+}
+
 static void test_unknown_kinds(void) {
   struct zuphinka pool = open_driven(1, "");
   refuse(&pool, NULL, 0, ZUPHINKA_STATUS_BAD_REQUEST);
@@ -2242,6 +2289,7 @@ static const struct {
     TEST(forked_in_any_call),
     TEST(callers),
     TEST(calls_of_an_empty_handle),
+    TEST(loans_at_once),
     TEST(unknown_kinds),
     TEST(refused_reports),
     TEST(refused_reports_without_room),

@@ -101,7 +101,8 @@ enum zuphinka_status {
   ZUPHINKA_STATUS_OUT_OF_RANGE = 12,    /* the number of a key is out of its range */
   ZUPHINKA_STATUS_NO_CALL = 13,         /* the pool has no such call in progress */
   ZUPHINKA_STATUS_MISFIT = 14,          /* the report does not fit the last action of the call */
-  ZUPHINKA_STATUS_NO_WAKE = 15          /* no call is to be woken */
+  ZUPHINKA_STATUS_NO_WAKE = 15,         /* no call is to be woken */
+  ZUPHINKA_STATUS_NOT_AT_ONCE = 16      /* the call is not over at once: it is to be begun */
 };
 
 /* The input of a request. `number`, `outcome` and `object` are fields of the request. */
@@ -326,6 +327,12 @@ enum zuphinka_end {
   ZUPHINKA_END_CONTRADICTED = 20       /* the host broke a rule: it returned an object that another call works on, or the like */
 };
 
+/* A lent object. */
+struct zuphinka_loan {
+  uint64_t id;
+  void *object; /* its token */
+};
+
 /* What the host does next, with the numbers that it needs. */
 struct zuphinka_effects {
   uint64_t number;    /* the id of the object that the action is for, or that is lent; else 0 */
@@ -500,6 +507,25 @@ uint32_t zuphinka_advance(struct zuphinka *pool, const struct zuphinka_call *cal
                           struct zuphinka_effects *effects);
 
 /*
+ * Lends an idle object at once, if a borrow that begins now would end so: it takes both steps of that, `borrow` and `ready`, and stores the object's id
+ * and token in `loan`. Times count as in `zuphinka_begin`.
+ *
+ * Returns ZUPHINKA_STATUS_DONE. Otherwise the pool and `loan` are unchanged: ZUPHINKA_STATUS_NOT_OPEN; or ZUPHINKA_STATUS_NOT_AT_ONCE, and the
+ * borrow is to be begun: a hook or a test is to run, or abandoned objects are to be removed; a call waits; no object is idle; the journal is to be cut,
+ * or has no room; or there is no memory.
+ */
+uint32_t zuphinka_lend(struct zuphinka *pool, uint32_t caller, uint64_t at, struct zuphinka_loan *loan);
+
+/*
+ * Takes a lent object back at once, if its return would end so: it takes both steps of that, `return` and `park`, and the object is idle, with its
+ * token. Then the host wakes the calls of `zuphinka_next_wake`.
+ *
+ * Returns ZUPHINKA_STATUS_DONE. Otherwise the pool is unchanged: ZUPHINKA_STATUS_NOT_OPEN; or ZUPHINKA_STATUS_NOT_AT_ONCE, and the return is
+ * to be begun: a hook or a test is to run; the object is not lent; the pool is closed, or has as many idle objects as it may; or the journal is to be cut.
+ */
+uint32_t zuphinka_take_back(struct zuphinka *pool, uint32_t caller, uint64_t at, const struct zuphinka_loan *loan);
+
+/*
  * Stores in `ticket` the ticket of the next call to wake: the oldest that sleeps, one for each idle object and each free place, and all once the pool
  * is closed. Returns ZUPHINKA_STATUS_DONE; or ZUPHINKA_STATUS_NOT_OPEN, or ZUPHINKA_STATUS_NO_WAKE if no call is to be woken, and `ticket` is
  * unchanged.
@@ -540,6 +566,7 @@ static inline const char *zuphinka_status_text(uint32_t status) {
     case ZUPHINKA_STATUS_NO_CALL: return "the pool has no such call in progress";
     case ZUPHINKA_STATUS_MISFIT: return "the report does not fit the last action of the call";
     case ZUPHINKA_STATUS_NO_WAKE: return "no call is to be woken";
+    case ZUPHINKA_STATUS_NOT_AT_ONCE: return "the call is not over at once: it is to be begun";
     default: return "the code is no status";
   }
 }

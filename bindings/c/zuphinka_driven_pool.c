@@ -432,11 +432,10 @@ static uint32_t act(struct zuphinka_pool *pool, struct run *run) {
   return succeeds ? report : ZUPHINKA_REPORT_FAILED;
 }
 
-/* Wakes the calls that may find something now, with the lock held: the one with a ticket, and more. */
-static void wake_all(struct zuphinka_pool *pool, uint64_t ticket) {
-  do {
-    wake(pool, &pool->conditions[ticket % CUT]);
-  } while (zuphinka_next_wake(&pool->core, &ticket) == ZUPHINKA_STATUS_DONE);
+/* Wakes the calls that may find something now, with the lock held. */
+static void wake_more(struct zuphinka_pool *pool) {
+  uint64_t ticket;
+  while (zuphinka_next_wake(&pool->core, &ticket) == ZUPHINKA_STATUS_DONE) wake(pool, &pool->conditions[ticket % CUT]);
 }
 
 /* Begins a call and goes on with it to its end, with the lock held before and after, and not while a callback runs. Returns its error. */
@@ -449,7 +448,10 @@ static enum zuphinka_pool_error drive(struct zuphinka_pool *pool, struct run *ru
   if (status == ZUPHINKA_STATUS_OUT_OF_MEMORY) return error_of_end(pool, run);
   while (status == ZUPHINKA_STATUS_DONE) {
     if (run->next.action == ZUPHINKA_ACTION_SLEEP) run->wakes = pool->conditions[run->next.ticket % CUT].wakes;
-    if (run->next.has_wake) wake_all(pool, run->next.wake);
+    if (run->next.has_wake) {
+      wake(pool, &pool->conditions[run->next.wake % CUT]);
+      wake_more(pool);
+    }
     if (run->next.action == ZUPHINKA_ACTION_DONE) return error_of_end(pool, run);
     run->event.report = act(pool, run);
     status = zuphinka_advance(&pool->core, &call, &run->event, &run->next);
@@ -459,13 +461,32 @@ static enum zuphinka_pool_error drive(struct zuphinka_pool *pool, struct run *ru
 
 /* ---- the calls */
 
+/* Lends an idle object, if that needs no callback and no wait. */
+static bool lend(struct zuphinka_pool *pool, struct run *run) {
+  struct zuphinka_loan loan;
+  if (zuphinka_lend(&pool->core, zuphinka_pool_caller(), run->start.at, &loan) != ZUPHINKA_STATUS_DONE) return false;
+  run->next.number = loan.id;
+  run->next.object = loan.object;
+  return true;
+}
+
+/* Takes an object back, if that needs no callback, and wakes who may have it. */
+static bool take_back(struct zuphinka_pool *pool, const struct run *run) {
+  struct zuphinka_loan loan = {run->start.id, run->start.object};
+  if (zuphinka_take_back(&pool->core, zuphinka_pool_caller(), run->start.at, &loan) != ZUPHINKA_STATUS_DONE) return false;
+  wake_more(pool);
+  return true;
+}
+
 static enum zuphinka_pool_error borrow(struct zuphinka_pool *pool, int64_t limit, struct zuphinka_pool_loan *loan) {
   struct run run = {.start = {.at = time_of(pool), .kind = ZUPHINKA_KIND_BORROW}, .next = {.end = ZUPHINKA_END_OUT_OF_MEMORY}, .limit = limit};
   uint64_t place = 0;
   lock(pool);
   keep_room(pool, pool->low, false);
   bool has_place = take_place(pool, &place);
-  enum zuphinka_pool_error error = has_place ? drive(pool, &run) : error_of_end(pool, &run);
+  enum zuphinka_pool_error error = ZUPHINKA_POOL_ERROR_NONE;
+  if (!has_place) error = error_of_end(pool, &run);
+  else if (!lend(pool, &run)) error = drive(pool, &run);
   if (!error) {
     pool->places[place] = ++pool->last_loan;
     *loan = (struct zuphinka_pool_loan){run.next.object, run.next.number, pool->number, place, pool->last_loan};
@@ -492,7 +513,7 @@ static enum zuphinka_pool_error end_loan(struct zuphinka_pool *pool, uint32_t ki
   enum zuphinka_pool_error error = error_of_loan(pool, loan);
   if (!error) {
     pool->places[place] = 0;
-    error = drive(pool, &run);
+    if (kind != ZUPHINKA_KIND_RETURN || !take_back(pool, &run)) error = drive(pool, &run);
     pool->places[place] = number;
     if (!error || error == ZUPHINKA_POOL_ERROR_GONE) {
       free_place(pool, place);

@@ -1,3 +1,4 @@
+pub mod AtOnce
 pub mod FirstSteps
 pub mod Following
 pub mod Moving

@@ -1,10 +1,11 @@
 -- The pool that a host drives, and the steps of its calls.
-use Rattle.std.specs.Prelude.{◌≡◌, ℕ, zero, suc, ◌+◌, ◌-◌, ◌^◌, ◌/◌, ◌&&◌, not, nat_lt, nat_le, min, if◌then◌else◌, Bool, true, false, List, [], ◌∷◌, ◌++◌, map, Option, Some, None, unwrap_or, option_and_then, length, Result, Ok, Err, ℤ, pos, negsuc, ◌⊎◌}
+use Rattle.std.specs.Prelude.{◌≡◌, ℕ, zero, suc, ◌+◌, ◌-◌, ◌^◌, ◌/◌, ◌&&◌, ◌||◌, not, nat_lt, nat_le, min, if◌then◌else◌, Bool, true, false, List, [], ◌∷◌, ◌++◌, map, Option, Some, None, unwrap_or, option_and_then, length, Result, Ok, Err, ℤ, pos, negsuc, ◌⊎◌}
 use Rattle.std.specs.Option.{is_some}
 use Rattle.pool_journal.specs.declared.answer.Answer.{Answer}
 use Rattle.pool_journal.specs.declared.answer.Answer.TheVariants as answers
 use Rattle.pool_journal.specs.declared.input.Input.{Input}
 use Rattle.pool_journal.specs.declared.input.Input.TheVariants as inputs
+use Rattle.pool_journal.specs.declared.input.Outcome.TheVariants as outcomes
 use Rattle.pool_journal.specs.declared.entry.Entry.{Entry}
 use Rattle.pool_journal.specs.Base.{base_after, empty_base, closed_from}
 use Rattle.pool_journal.specs.Carrying.{carries}
@@ -220,6 +221,32 @@ fits_report reports.GivenUp op = fits op events.Cancelled
 pub record EndsWith (e : Entry) (J : List Entry) : Type 0 where
   pub earlier : List Entry
   pub is : J ≡ earlier ++ e ∷ []
+
+-- ---- calls that are over at once
+-- a borrow of an idle object has its host do something, or removes abandoned objects first
+abbrev pub asks_at_borrow : Plan → Bool
+asks_at_borrow p = p.activates || p.test_on_borrow || p.remove_abandoned_on_borrow
+
+-- a return has its host do something
+abbrev pub asks_at_return : Plan → Bool
+asks_at_return p = p.passivates || p.test_on_return
+
+-- while no call waits, a borrow lends an idle object by its two steps, and its host is asked nothing
+pub record LendsAtOnce (caller at id token : ℕ) (old new : DrivenModel) : Type 0 where
+  pub silent : asks_at_borrow old.plan ≡ false
+  pub alone : length old.queue.waiting ≡ 0
+  pub mid : CoreModel ℕ
+  pub taken : Answered caller at (inputs.Borrow at) None old.core mid (answers.Take id) (Some token)
+  pub lent : Answered caller at (inputs.Ready id outcomes.Good) None mid new.core answers.Lent None
+  pub rest : new ≡ record old { core = new.core; last = at }
+
+-- a returned object is idle again by its two steps, and its host is asked nothing
+pub record TakesBackAtOnce (caller at id token : ℕ) (old new : DrivenModel) : Type 0 where
+  pub silent : asks_at_return old.plan ≡ false
+  pub mid : CoreModel ℕ
+  pub checked : Answered caller at (inputs.GiveBack id) None old.core mid answers.Check None
+  pub parked : Answered caller at (inputs.Park id outcomes.Good) (Some token) mid new.core answers.Parked None
+  pub rest : new ≡ record old { core = new.core; last = at }
 
 -- ---- waits
 -- the present objects

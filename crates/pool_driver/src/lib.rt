@@ -2,6 +2,7 @@
 //! here.
 #![tactic(auto)]
 
+mod at_once;
 mod beginning;
 mod call;
 mod effects;

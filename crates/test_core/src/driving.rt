@@ -548,6 +548,7 @@ fn a_return_that_finds_no_room_destroys(rt: HostRuntime) {
     let mut call = closed.close();
     let complete = Action::Done(End::Complete);
     goes_on(&rt, &mut closed, &mut call, 1, Report::GoOn, complete);
+    expect_equal(&rt, full.take_back_at_once(0, 2, 0, 7), false);
     destroys_what_is_returned(&rt, &mut full);
     destroys_what_is_returned(&rt, &mut closed);
 }
@@ -562,6 +563,74 @@ fn destroys_what_is_returned(rt: &impl Abort, pool: &mut DrivenPool) {
     let end = Action::Done(End::Destroyed);
     goes_on(rt, pool, &mut call, 2, Report::Succeeded, end);
     expect_equal(rt, pool.core().counts().lent, 0);
+}
+
+// Where the host has nothing to do, a loan and its end take one call each, with the entries of the steps.
+#[test]
+fn what_asks_nothing_is_over_at_once(rt: HostRuntime) {
+    let mut pool = opened(&rt, rt.alloc(), false, 1_000);
+    expect_equal(&rt, pool.lend_at_once(1, 0), None);
+    let _ = lend_new(&rt, &mut pool, 0, 7);
+    expect_equal(&rt, pool.lend_at_once(1, 0), None);
+    expect_equal(&rt, pool.take_back_at_once(1, 4, 1, 8), false);
+    expect_equal(&rt, pool.core().journal().len(), 2);
+    expect_equal(&rt, pool.take_back_at_once(1, 4, 0, 8), true);
+    expect_equal(&rt, pool.take_back_at_once(1, 4, 0, 8), false);
+    // An earlier time counts as the greatest one.
+    expect_equal(&rt, pool.lend_at_once(2, 3), Some((0, 8)));
+    let wanted = entries(
+        &rt,
+        rt.alloc(),
+        "1 4 return 0 = check
+1 4 park 0 good = parked
+2 4 borrow 4 = take 0
+2 4 ready 0 good = lent
+",
+    );
+    let found = pool.core().journal().get(2..).expect(&rt, "four entries");
+    assert!(&rt; found == wanted.as_slice());
+}
+
+// A call that waits has what comes back, and no later one.
+#[test]
+fn nothing_is_lent_at_once_while_a_call_waits(rt: HostRuntime) {
+    let mut pool = opened(&rt, rt.alloc(), false, 1_000);
+    let _ = lend_new(&rt, &mut pool, 0, 7);
+    let mut waiting = wait(&rt, &mut pool, 1, 0);
+    expect_equal(&rt, pool.take_back_at_once(0, 2, 0, 7), true);
+    expect_equal(&rt, wake(&mut pool), (Some(0), None, true));
+    expect_equal(&rt, pool.lend_at_once(0, 2), None);
+    let lent = Action::Done(End::Lent(0));
+    goes_on(&rt, &mut pool, &mut waiting, 2, Report::Woken, lent);
+}
+
+// Hooks, a full or closed queue, and a journal without room take a call.
+#[test]
+fn what_asks_something_is_begun(rt: HostRuntime) {
+    let mut hooked = opened(&rt, rt.alloc(), true, 1_000);
+    let mut addition = hooked.add();
+    let reports = [
+        (Report::GoOn, Action::Make(0)),
+        (Report::Made(7), Action::Validate(0)),
+        (Report::Succeeded, Action::Passivate(0)),
+        (Report::Succeeded, Action::Done(End::Parked)),
+    ];
+    for (report, action) in reports {
+        goes_on(&rt, &mut hooked, &mut addition, 0, report, action);
+    }
+    expect_equal(&rt, hooked.lend_at_once(0, 1), None);
+    let mut full = opened(&rt, rt.alloc(), false, 8);
+    let _ = lend_new(&rt, &mut full, 0, 7);
+    give_back(&rt, &mut full, 1, 7);
+    expect_equal(&rt, full.lend_at_once(0, 2), None);
+    expect_equal(&rt, full.core().journal().len(), 4);
+    let mut closed = opened(&rt, rt.alloc(), false, 1_000);
+    let _ = lend_new(&rt, &mut closed, 0, 7);
+    let mut call = closed.close();
+    let complete = Action::Done(End::Complete);
+    goes_on(&rt, &mut closed, &mut call, 1, Report::GoOn, complete);
+    expect_equal(&rt, closed.take_back_at_once(0, 2, 0, 7), false);
+    destroys_what_is_returned(&rt, &mut closed);
 }
 
 #[test]

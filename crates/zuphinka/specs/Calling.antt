@@ -18,7 +18,7 @@ use Rattle.pool_calls.specs.Turns.{Turn, asks_room}
 use Rattle.pool_calls.specs.Waiting.{IsSettled, Signals}
 use Rattle.pool_calls.specs.declared.operation.Operation.{Operation}
 use Rattle.pool_calls.specs.declared.operation.Operation.TheVariants as operations
-use Rattle.pool_driver.specs.Driving.{DrivenModel, Begins, GoesFrom, IsTold, Moves, available_in, detaches, fits_report, is_done, is_low_in, is_maintenance, told, until_of}
+use Rattle.pool_driver.specs.Driving.{DrivenModel, Begins, GoesFrom, IsTold, LendsAtOnce, Moves, TakesBackAtOnce, available_in, detaches, fits_report, is_done, is_low_in, is_maintenance, told, until_of}
 use Rattle.pool_driver.specs.declared.call.Call.{Call}
 use Rattle.pool_driver.specs.declared.effects.Effects.{Effects}
 use Rattle.pool_driver.specs.declared.report.Report.{Report}
@@ -30,12 +30,13 @@ use Rattle.zuphinka.specs.Status.{status_code}
 use Rattle.zuphinka.specs.declared.call_effects.CallEffects.{CallEffects}
 use Rattle.zuphinka.specs.declared.call_name.CallName.{CallName}
 use Rattle.zuphinka.specs.declared.event.CallEvent.{CallEvent}
+use Rattle.zuphinka.specs.declared.loan.Loan.{Loan}
 use Rattle.zuphinka.specs.declared.pool_state.PoolState.{PoolState}
 use Rattle.zuphinka.specs.declared.starting.CallStart.{CallStart}
 use Rattle.zuphinka.specs.declared.starting.Kind.{Kind}
 use Rattle.zuphinka.specs.declared.starting.Kind.TheVariants as kinds
 use Rattle.zuphinka.specs.declared.status.Status.{Status}
-use Rattle.zuphinka.specs.declared.status.Status.TheVariants.{Done, NotOpen, OutOfMemory, BadRequest, NoCall, Misfit, NoWake}
+use Rattle.zuphinka.specs.declared.status.Status.TheVariants.{Done, NotOpen, OutOfMemory, BadRequest, NoCall, Misfit, NoWake, NotAtOnce}
 
 -- ---- what the host is told
 -- the number of objects that a fill made, a removal reclaimed, an eviction run or that of maintenance examined, or a clear or a
@@ -211,7 +212,33 @@ pub record ReportsState (p : OpenModel) (reported : PoolState) : Type 0 where
   pub running : reported.running ≡ count_by is_some p.calls.slots
   pub closed : reported.is_closed ≡ closed_from p.driven.core.base p.driven.core.journal
 
+-- ---- calls that are over at once
+-- the result of a borrow that is not begun as a call. A place is set aside for the return of what is lent
+abbrev pub LendsTo : ℕ → ℕ → OpenModel → OpenModel → Loan → Loan → Status → Type 0
+LendsTo caller at old new loan loan' Done =
+    LendsAtOnce caller (max at old.driven.last) loan'.id loan'.object old.driven new.driven
+    × (new ≡ record old { driven = new.driven; calls = record old.calls { spare = new.calls.spare } })
+LendsTo caller at old new loan loan' NotAtOnce = SameButSpare old new × (loan' ≡ loan)
+LendsTo caller at old new loan loan' _ = ⊥
+
+-- the result of a return that is not begun as a call
+abbrev pub TakesBackTo : ℕ → ℕ → Loan → OpenModel → OpenModel → Status → Type 0
+TakesBackTo caller at loan old new Done =
+    TakesBackAtOnce caller (max at old.driven.last) loan.id loan.object old.driven new.driven × (new ≡ record old { driven = new.driven })
+TakesBackTo caller at loan old new NotAtOnce = new ≡ old
+TakesBackTo caller at loan old new _ = ⊥
+
 -- ---- handles
+-- the result of lending an object of the pool in a handle
+abbrev pub LendsIn : ℕ → ℕ → Option OpenModel → Option OpenModel → Loan → Loan → Status → Type 0
+LendsIn caller at None new loan loan' s = (s ≡ NotOpen) × (new ≡ None) × (loan' ≡ loan)
+LendsIn caller at (Some old) new loan loan' s = IsSomeAnd new (λ p. LendsTo caller at old p loan loan' s)
+
+-- the result of taking an object back into the pool in a handle
+abbrev pub TakesBackIn : ℕ → ℕ → Loan → Option OpenModel → Option OpenModel → Status → Type 0
+TakesBackIn caller at loan None new s = (s ≡ NotOpen) × (new ≡ None)
+TakesBackIn caller at loan (Some old) new s = IsSomeAnd new (λ p. TakesBackTo caller at loan old p s)
+
 -- the result of beginning a call of the pool in a handle
 abbrev pub BeginsIn : CallStart → Option OpenModel → Option OpenModel → CallName → CallName → CallEffects → CallEffects → Status → Type 0
 BeginsIn start None new name name' out out' s = (s ≡ NotOpen) × (new ≡ None) × (name' ≡ name) × (out' ≡ out)

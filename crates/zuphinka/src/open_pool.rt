@@ -1,13 +1,14 @@
 ghost use Rattle.std.specs.Prelude.{◌≡◌, true, IfNone, IfOk, IfSome};
 ghost use Rattle.std.specs.Option.{is_some};
 ghost use Rattle.pool_driver.specs.Driving.{Opened, fits_report, is_done};
-ghost use Rattle.zuphinka.specs.Calling.{AdvancesTo, BeginsTo, GoesOn, ReportsState, WakesTo, ends_loan, is_set_aside};
+ghost use Rattle.zuphinka.specs.Calling.{AdvancesTo, BeginsTo, GoesOn, LendsTo, ReportsState, TakesBackTo, WakesTo, ends_loan, is_set_aside};
 ghost use Rattle.zuphinka.specs.Opening.{call_at, options_of};
 ghost use Rattle.zuphinka.specs.Tables.{HasSpare, IsEmpty};
 
 use crate::call_effects::CallEffects;
 use crate::call_name::CallName;
 use crate::event::CallEvent;
+use crate::loan::Loan;
 use crate::pool_options::PoolOptions;
 use crate::pool_state::PoolState;
 use crate::starting::{CallStart, Kind};
@@ -213,6 +214,37 @@ impl OpenPool {
                 Status::Done
             }
             None => Status::Misfit,
+        }
+    }
+
+    /// Lends an idle object at once, with a place set aside for its return.
+    pub(crate) fn lend(&mut self, caller: u32, at: u64, loan: &mut Loan) -> Status
+        ensures { LendsTo caller at self.old self.new loan.old loan.new result }
+    {
+        let lent = self.driven.core().counts().lent;
+        if !self.calls.reserve(lent.saturating_add(2)) {
+            return Status::NotAtOnce;
+        }
+        match self.driven.lend_at_once(caller, at) {
+            Some((id, object)) => {
+                *loan = Loan { id, object };
+                Status::Done
+            }
+            None => Status::NotAtOnce,
+        }
+    }
+
+    /// Takes a lent object back at once.
+    pub(crate) fn take_back(&mut self, caller: u32, at: u64, loan: &Loan) -> Status
+        ensures { TakesBackTo caller at loan.now self.old self.new result }
+    {
+        if self
+            .driven
+            .take_back_at_once(caller, at, loan.id, loan.object)
+        {
+            Status::Done
+        } else {
+            Status::NotAtOnce
         }
     }
 

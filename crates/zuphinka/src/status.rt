@@ -38,6 +38,8 @@ pub(crate) enum Status {
     Misfit,
     /// No call is to be woken.
     NoWake,
+    /// The call is not over at once: it is to be begun.
+    NotAtOnce,
 }
 
 impl Status {
@@ -61,6 +63,7 @@ impl Status {
             Status::NoCall => 13,
             Status::Misfit => 14,
             Status::NoWake => 15,
+            Status::NotAtOnce => 16,
         }
     }
 }

@@ -1,0 +1,9 @@
+/// A loan of an object to C.
+#[repr(C)]
+#[derive(Clone, Copy)]
+pub struct Loan {
+    /// The object's id.
+    pub id: u64,
+    /// The object's token.
+    pub object: u64,
+}
