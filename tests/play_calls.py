@@ -449,7 +449,9 @@ class Player:
         if not self.drops:
             expect("the journal", self.model.entries, self.journal)
         text = "".join(line + "\n" for line in self.model.entries).encode()
-        expect("the verdict", b"legal %d\n" % len(self.model.entries), verdict_of_segments(self.settings, [text]))
+        # The journal that a pool stores has a limit, and all entries have none.
+        settings = self.settings | {"journalLimit": 2**32}
+        expect("the verdict", b"legal %d\n" % len(self.model.entries), verdict_of_segments(settings, [text]))
         expect("the end", ("", "", 0), self.program.end())
 
     def play(self):
