@@ -1,13 +1,15 @@
 #!/usr/bin/env python3
 """Holds the table of moves in docs/guide/concepts.md against the journals of the cases, and the picture against the table.
 
-check_life.py CASES..  Each move that a journal makes stands in the table, each outcome in the table is met by some move (but those
-that no case has), and docs/pictures/life.svg is what docs/pictures/draw_life.py draws. The last line is 'N passed, M failed'.
+check_life.py CASES..  Each move that a journal makes stands in the table, each outcome in the table is met by some move, and
+docs/pictures/life.svg is what docs/pictures/draw_life.py draws. The last line is 'N passed, M failed'.
 """
 
 import pathlib
 import subprocess
 import sys
+
+from case_files import read_cases
 
 TOP = pathlib.Path(__file__).resolve().parent.parent
 sys.path.insert(0, str(TOP / "docs/pictures"))
@@ -16,14 +18,12 @@ import draw_life  # noqa: E402
 # What an answer moves its object to. Those of the first table name the object, those of the second stand for the input's.
 NAMED = {"take": "Readying", "test": "Testing", "destroyidle": "Destroying", "reclaimed": "Gone"}
 OF_INPUT = {"lent": "Lent", "check": "Returning", "parked": "Idle", "kept": "Idle", "destroy": "Destroying", "freed": "Gone"}
-# Lawful, and in no case.
-NOT_MET = {("Testing", "tested", "testfail", "destroy", "Destroying"), ("Testing", "tested", "passivatefail", "destroy", "Destroying")}
 
 
 def moves(journal):
     """Each move of a journal: phase before, input, outcome or nothing, answer, phase after."""
     phases = {}
-    for line in journal.read_text().splitlines():
+    for line in journal.decode().splitlines():
         words = line.split(" ")
         equals = words.index("=")
         asked, (answer, *told) = words[2:equals], words[equals + 1 :]
@@ -45,14 +45,13 @@ def main():
         for before, (name, *outcomes), answer, after in draw_life.rows((TOP / "docs/guide/concepts.md").read_text())
         for outcome in outcomes or [""]
     }
-    journals = [path for folder in sys.argv[1:] for path in sorted(pathlib.Path(folder).glob("*.journal")) if path.with_suffix(".script").exists()]
+    journals = {case.name: case.journal for case in read_cases(*sys.argv[1:]) if case.journal is not None}
     seen = {}
-    for journal in journals:
+    for name, journal in journals.items():
         for move in moves(journal):
-            seen.setdefault(move, journal)
-    wrong = [f"{path}: {' '.join(move)}: not in the table" for move, path in seen.items() if move not in table]
-    wrong += [f"docs/guide/concepts.md: {' '.join(move)}: in no journal" for move in sorted(table - set(seen) - NOT_MET)]
-    wrong += [f"{' '.join(move)}: is in a journal now" for move in sorted(NOT_MET & set(seen))]
+            seen.setdefault(move, name)
+    wrong = [f"{name}: {' '.join(move)}: not in the table" for move, name in seen.items() if move not in table]
+    wrong += [f"docs/guide/concepts.md: {' '.join(move)}: in no journal" for move in sorted(table - set(seen))]
     wrong += [] if journals else ["no journal"]
     drawn = subprocess.run([sys.executable, TOP / "docs/pictures/draw_life.py", "--check"], capture_output=True, text=True)
     wrong += [drawn.stdout.strip()] if drawn.returncode else []

@@ -6,7 +6,7 @@ check_picture.py PROGRAM CASES..  The last line is 'N passed, M failed'.
 - A picture is well-formed XML. That of a short journal has a bar for each phase of each object and for each wait, with its caller and times,
   and each bar is where its times are. That of a long one (over 10,000 entries) has the least and greatest levels and the marks of each bucket,
   areas and bars of the right heights, the quantiles within the error that it states, the longest loans, and the objects held at the end.
-- The journals are those of the folders CASES, journals of up to 100,000 entries as a pool makes them, journals of random entries and times, and
+- The journals are those of the scripts of CASES, journals of up to 100,000 entries as a pool makes them, journals of random entries and times, and
   all of them again in segments, in one stream or in several files.
 - Damaged and missing files, segments that do not continue one another, other arguments, failed reads and writes and each failed allocation
   must end with the right status and message, and with no picture.
@@ -21,6 +21,7 @@ import tempfile
 import xml.etree.ElementTree as xml
 
 import picture_model
+from case_files import unpacked
 from play_damaged import SETTINGS, Chance, journal_by_chance
 from pool_model import cut_at, settings_of
 from preloading import preloaded
@@ -354,10 +355,10 @@ def refusal_differences(program, journal, folder):
             yield f"allocation {number} of {journal}: {done.returncode}, {done.stderr}, {len(done.stdout)} bytes"
 
 
-def checks(program, folders, scratch):
+def checks(program, paths, scratch):
     """Each check by its name, with the differences that it finds."""
-    cases = [path for folder in folders for path in sorted(pathlib.Path(folder).glob("*.journal"))]
-    for journal in [path for path in cases if path.with_suffix(".script").exists()] + list(made_journals(scratch)):
+    cases = [folder / "journal" for case, folder in unpacked(scratch / "cases", *paths) if case.journal is not None]
+    for journal in cases + list(made_journals(scratch)):
         yield journal, differences(program, journal)
     for whole, files, stream in pool_journals(scratch):
         yield whole, segment_differences(program, whole, files, stream)
@@ -369,10 +370,10 @@ def checks(program, folders, scratch):
         yield f"failed allocations, {journal}", refusal_differences(program, scratch / journal, scratch)
 
 
-def main(program, folders):
+def main(program, paths):
     played, wrong = 0, []
     with tempfile.TemporaryDirectory() as scratch:
-        for name, found in checks(program, folders, pathlib.Path(scratch)):
+        for name, found in checks(program, paths, pathlib.Path(scratch)):
             found = list(found)
             played += 1
             if found:

@@ -20,6 +20,7 @@ import sys
 import tempfile
 import tomllib
 
+from case_files import CASES, unpacked
 from skipping import NO_CARGO, has, skip
 
 TOP = pathlib.Path(__file__).resolve().parent.parent
@@ -125,14 +126,15 @@ def check_settings(settings):
     """What the example writes of each file that can be taken, and what Python reads there. The crate has a default of its own for the wait."""
     plain, abandoned = defaults()
     plain["maxWaitMillis"] = 30_000
-    taken = [path for path in sorted((TOP / "tests/cases/settings").glob("*.toml")) if path.with_suffix(".answer").read_bytes() == b"ok\n"]
-    for path in [*sorted((TOP / "examples").glob("*.toml")), *taken]:
-        wanted = plain | tomllib.loads(path.read_text())
-        if "abandoned" in wanted:
-            wanted["abandoned"] = abandoned | wanted["abandoned"]
-        done = subprocess.run([settings, path], capture_output=True, text=True)
-        same = done.returncode == 0 and tomllib.loads(done.stdout) == wanted
-        yield None if same else f"settings {path}: {done.stdout + done.stderr!r}"
+    with tempfile.TemporaryDirectory() as room:
+        taken = [folder / "settings.toml" for case, folder in unpacked(room, CASES / "settings") if case.answer == b"ok\n"]
+        for path in [*sorted((TOP / "examples").glob("*.toml")), *taken]:
+            wanted = plain | tomllib.loads(path.read_text())
+            if "abandoned" in wanted:
+                wanted["abandoned"] = abandoned | wanted["abandoned"]
+            done = subprocess.run([settings, path], capture_output=True, text=True)
+            same = done.returncode == 0 and tomllib.loads(done.stdout) == wanted
+            yield None if same else f"settings {path}: {done.stdout + done.stderr!r}"
 
 
 def check_binding():

@@ -16,6 +16,7 @@ import re
 import sys
 import tomllib
 
+from case_files import CASES, read_cases
 from check_names import TOP, backquoted, rows_in, tables
 from play_mutants import function_at, replacements
 
@@ -84,12 +85,19 @@ def check_answers():
         yield None if here == there else f"docs/guide/program.md: {name}: {here}, docs/proof/definitions.md: {there}"
 
 
+def journals_of_cases():
+    """The journals of the scripts of tests/cases, by the names of their cases; of a worked case the last part."""
+    for case in read_cases(CASES):
+        if case.journal is not None:
+            yield re.sub("^worked/.*/", "", case.name), case.journal.decode()
+
+
 def check_cases():
+    journals = dict(journals_of_cases())
     for row in tables(DEFINITIONS):
         name = row.get("Input", "").strip("`")
         for answer, case in re.findall(r"`([a-z ]+)` ([\w/-]+)", row.get("Answers", "")):
-            journal = TOP / "tests/cases" / (f"{case}.journal" if "/" in case else f"rows/{case}.journal")
-            given = journal.exists() and re.search(rf"^\d+ \d+ {name}\b.* = {answer}\b", journal.read_text(), re.MULTILINE)
+            given = re.search(rf"^\d+ \d+ {name}\b.* = {answer}\b", journals.get(case, ""), re.MULTILINE)
             yield None if given else f"docs/proof/definitions.md: {name}: {case} has no answer {answer}"
 
 

@@ -1,21 +1,21 @@
 #!/usr/bin/env python3
 """Judges segments of journals by themselves, in any order, and joins what was found, as many machines would.
 
-    play_judge.py JUDGE POOL FOLDER
+    play_judge.py JUDGE POOL CASES..
 
 `JUDGE SETTINGS SEGMENT` must write the lines of the base that a segment reaches, with status 0, or nothing, with another status. The
 segments of a journal are one legal journal where each is legal by itself, the first begins at the base before all entries, and each begins
 with the lines that were written of the one before it.
 
-- In FOLDER, for files NAME.toml, NAME.0.journal, NAME.1.journal, .. and NAME.verdict, all segments are judged, in an order by chance. Joined,
-  they must be legal exactly where the verdict says so; where it does, what is written of each must be the lines of the next one's base.
+- Of each case with segments and a verdict all segments are judged, in an order by chance. Joined, they must be legal exactly where the verdict
+  says so; where it does, what is written of each must be the lines of the next one's base.
 - Three segments are damaged: in each place a byte is changed, dropped or doubled. Joined, they must be legal exactly where those of
   tests/pool_model.py are, and where `POOL check` over all of them says so.
-- The commands of docs/guide/audits.md that check segments and join them are run on those of FOLDER: they must find them legal where the verdict does.
+- The commands of docs/guide/audits.md that check segments and join them are run on these: they must find them legal where the verdict does.
   The command for GNU parallel is run here for each segment, and so is the array job for each of its tasks.
 - Other arguments, requests for help or the version, and files that cannot be opened, read or taken, must have the line, which names the file,
   and the status that crates/judge/specs/Messages.antt says.
-- Segments of FOLDER that another one follows are judged once for each allocation, which is refused then: nothing is written, the status is 3 and
+- Segments that another one follows are judged once for each allocation, which is refused then: nothing is written, the status is 3 and
   the line tells of memory, as no other fault; or all is written, where it can do without what was refused.
 
 Prints what differs, and in the end the line 'N passed, M failed'.
@@ -30,9 +30,10 @@ import sys
 import tempfile
 
 from argument_rules import version
+from case_files import unpacked
 from play_commands import TOP, blocks, commands
 from play_damaged import Chance
-from play_segments import THREE, damaged, told_by
+from play_segments import THREE, damaged, segmented, told_by
 from pool_model import settings_of, verdict_of_segments
 from preloading import preloaded
 
@@ -79,19 +80,25 @@ def reached_by(judge, settings, paths, chance):
     return [reached[index] for index in range(len(paths))]
 
 
-def of_folder(judge, folder):
+def is_legal(case):
+    """Whether the segments of a case are one legal journal."""
+    return case.verdict.startswith(b"legal ")
+
+
+def texts_of(case):
+    return [text for text, _ in case.segments]
+
+
+def of_cases(judge, cases):
     chance = Chance(5)
-    for verdict in sorted(folder.glob("*.verdict")):
-        paths = sorted(folder.glob(f"{verdict.stem}.*.journal"), key=lambda path: int(path.suffixes[0][1:]))
-        yield lambda verdict=verdict, paths=paths: of_case(judge, verdict, paths, chance)
+    for case, settings, paths in segmented(cases):
+        yield lambda case=case, settings=settings, paths=paths: of_case(judge, case, settings, paths, chance)
 
 
-def of_case(judge, verdict, paths, chance):
-    segments = [path.read_bytes() for path in paths]
-    reached = reached_by(judge, verdict.with_suffix(".toml"), paths, chance)
-    is_legal = verdict.read_bytes().startswith(b"0\nlegal")
-    if are_joined(segments, reached) != is_legal:
-        return f"{verdict}: legal is {is_legal}, reached {reached}"
+def of_case(judge, case, settings, paths, chance):
+    reached = reached_by(judge, settings, paths, chance)
+    if are_joined(texts_of(case), reached) != is_legal(case):
+        return f"{case.name}: legal is {is_legal(case)}, reached {reached}"
     return None
 
 
@@ -108,15 +115,13 @@ def scripts_of_page():
     return ["\n".join([made, *way, *join]) for way in ([processes], by_parallel, by_tasks)], job
 
 
-def of_page(judge, folder):
+def of_page(judge, cases):
     scripts, job = scripts_of_page()
-    for verdict in sorted(folder.glob("*.verdict")):
-        paths = sorted(folder.glob(f"{verdict.stem}.*.journal"), key=lambda path: int(path.suffixes[0][1:]))
-        for script in scripts:
-            yield lambda verdict=verdict, paths=paths, script=script: of_commands(judge, script, job, verdict, [path.read_bytes() for path in paths])
+    for (case, _, _), script in itertools.product(segmented(cases), scripts):
+        yield lambda case=case, script=script: of_commands(judge, script, job, case)
 
 
-def of_commands(judge, script, job, verdict, segments):
+def of_commands(judge, script, job, case):
     """Checks and joins segments by the page's commands. A first one without a base gets the line of the base before all entries."""
     with tempfile.TemporaryDirectory() as name:
         room = pathlib.Path(name)
@@ -125,16 +130,15 @@ def of_commands(judge, script, job, verdict, segments):
         for place in ("crates/judge/out/judge", "judge"):
             (room / place).symlink_to(pathlib.Path(judge).resolve())
         (room / "judge.job").write_text(job)
-        (room / "archived/archive.toml").write_bytes(verdict.with_suffix(".toml").read_bytes())
-        for index, text in enumerate(segments):
+        (room / "archived/archive.toml").write_bytes(case.settings)
+        for index, text in enumerate(texts_of(case)):
             bare = index == 0 and not text.startswith(b"pool-journal")
             (room / f"archived/segment-{index:04}").write_bytes(EMPTY * bare + text)
         done = subprocess.run(["bash", "-c", script], cwd=room, capture_output=True, timeout=60, stdin=subprocess.DEVNULL)
-    is_legal = verdict.read_bytes().startswith(b"0\nlegal")
-    wanted = b"one legal journal\n" if is_legal else b"not legal from archived/segment-"
-    if (done.returncode == 0) == is_legal and done.stdout.startswith(wanted):
+    wanted = b"one legal journal\n" if is_legal(case) else b"not legal from archived/segment-"
+    if (done.returncode == 0) == is_legal(case) and done.stdout.startswith(wanted):
         return None
-    return f"{verdict}, by the commands of the page: legal is {is_legal}, {done}"
+    return f"{case.name}, by the commands of the page: legal is {is_legal(case)}, {done}"
 
 
 def of_damage(judge, pool, settings):
@@ -143,21 +147,21 @@ def of_damage(judge, pool, settings):
         for at in range(len(text)):
             for changed in damaged(text, at, chance):
                 segments = [*THREE[:index], changed, *THREE[index + 1 :]]
-                is_legal = verdict_of_segments(read, segments).startswith(b"legal")
-                yield lambda name=f"segment {index}, byte {at}", segments=segments, is_legal=is_legal: of_segments(
-                    judge, pool, name, settings, segments, is_legal
+                legal = verdict_of_segments(read, segments).startswith(b"legal")
+                yield lambda name=f"segment {index}, byte {at}", segments=segments, legal=legal: of_segments(
+                    judge, pool, name, settings, segments, legal
                 )
 
 
-def of_segments(judge, pool, name, settings, segments, is_legal):
+def of_segments(judge, pool, name, settings, segments, legal):
     with tempfile.TemporaryDirectory() as room:
         paths = [pathlib.Path(room) / str(index) for index in range(len(segments))]
         for path, text in zip(paths, segments):
             path.write_bytes(text)
         joined = are_joined(segments, reached_by(judge, settings, paths, Chance(len(name))))
         checked = run(pool, "check", settings, *paths)[2] == 0
-    if (joined, checked) != (is_legal, is_legal):
-        return f"{name}: legal is {is_legal}, joined {joined}, checked {checked}"
+    if (joined, checked) != (legal, legal):
+        return f"{name}: legal is {legal}, joined {joined}, checked {checked}"
     return None
 
 
@@ -220,15 +224,14 @@ def is_help(output, told, status):
     return (uses, told, status) == (["judge SETTINGS SEGMENT", "judge --help", "judge --version"], b"", 0)
 
 
-def of_refusals(judge, folder, library, room):
+def of_refusals(judge, cases, library, room):
     """The segments that another one follows, of the legal journals among the first twelve."""
-    for verdict in sorted(folder.glob("*.verdict"))[:12]:
-        paths = sorted(folder.glob(f"{verdict.stem}.*.journal"), key=lambda path: int(path.suffixes[0][1:]))
-        if verdict.read_bytes().startswith(b"0\nlegal"):
-            for path, following in zip(paths, paths[1:]):
-                wanted = base_lines(following.read_bytes())
-                command, mark = (judge, verdict.with_suffix(".toml"), path), room / path.name
-                yield lambda command=command, wanted=wanted, mark=mark: of_wanting(command, wanted, library, mark)
+    marks = itertools.count()
+    for case, settings, paths in itertools.islice(segmented(cases), 12):
+        followed = zip(paths, texts_of(case)[1:]) if is_legal(case) else ()
+        for path, following in followed:
+            command, wanted, mark = (judge, settings, path), base_lines(following), room / f"refused-{next(marks)}"
+            yield lambda command=command, wanted=wanted, mark=mark: of_wanting(command, wanted, library, mark)
 
 
 def of_wanting(command, wanted, library, mark):
@@ -245,15 +248,15 @@ def of_wanting(command, wanted, library, mark):
             return f"{command[2]}: it did without its first allocation"
 
 
-def main(judge, pool, folder):
+def main(judge, pool, *words):
     with tempfile.NamedTemporaryFile("w", suffix=".toml") as defaults, tempfile.TemporaryDirectory() as room:
-        library = str(preloaded("refuse", pathlib.Path(room)))
+        library, cases = str(preloaded("refuse", pathlib.Path(room))), unpacked(room, *words)
         trials = [
-            *of_folder(judge, pathlib.Path(folder)),
-            *of_page(judge, pathlib.Path(folder)),
+            *of_cases(judge, cases),
+            *of_page(judge, cases),
             *of_damage(judge, pool, defaults.name),
             lambda: of_uses(judge, defaults.name),
-            *of_refusals(judge, pathlib.Path(folder), library, pathlib.Path(room)),
+            *of_refusals(judge, cases, library, pathlib.Path(room)),
         ]
         return told_by(trials)
 

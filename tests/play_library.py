@@ -1,10 +1,10 @@
 #!/usr/bin/env python3
 """Plays the C library by its programs, and compares all that is answered.
 
-    play_library.py programs LIBRARY FOLDER
-    play_library.py cases LIBRARY FOLDER..
-    play_library.py refused LIBRARY FOLDER..
-    play_library.py segments LIBRARY POOL FOLDER..
+    play_library.py programs LIBRARY CASES
+    play_library.py cases LIBRARY CASES..
+    play_library.py refused LIBRARY CASES..
+    play_library.py segments LIBRARY POOL CASES..
     play_library.py many LIBRARY POOL
     play_library.py crowd LIBRARY
 
@@ -12,13 +12,13 @@ LIBRARY is libzuphinka.a, as `rt lib` builds it. The programs bindings/c/plain_l
 bindings/c/zuphinka.h by the C compiler that CC names, or cc, and linked with it and with the kit's heap.
 
 - programs: `plain_life examples/settings.toml` must write the journal of examples/plain-life.script, which stands here, and end with status 0;
-  and so it must, and `play` with the first case of the folder, whole and cut, under valgrind, with no fault and nothing
+  and so it must, and `play` with the first case that ends with status 0, whole and cut, under valgrind, with no fault and nothing
   left behind. `plain_life` and `long_life` must take settings of LONGEST_SETTINGS bytes and no more, and must free each object before they
   report it as destroyed (tests/destroy_first.c). `play` must find a line with a null at fault. The header must compile by itself, as C and C++,
   without one of the warnings of STRICT. The C++ compilers are g++ and clang++, or the one that CXX names.
-- cases: for files NAME.toml and NAME.script `play NAME.toml NAME.script` must write NAME.journal, and end with status 0 and nothing on standard
-  error; or, where there is a file NAME.err, with status 3 and that line. For files NAME.toml and NAME.answer `play` of an empty script must
-  end with status 0 where the answer is 'ok', and else with status 3 and that line.
+- cases: `play` of the settings and the script of a case must write its journal, and end with status 0 and nothing on standard error; or, if the
+  case has an error, with status 3 and that line. `play` of an empty script must end with status 0 if the answer to the settings is 'ok', and else
+  with status 3 and that line.
 - refused: each case that ends with status 0, whole and, where it has no more than SHORT entries, cut, is played once for each of the library's
   allocations, which is refused then, and must write the same.
 - segments: each case that ends with status 0 is cut every so many entries, for each of EVERY, and must write the segments that
@@ -44,7 +44,7 @@ import tempfile
 
 from many_objects import segments_of
 from play_cases import wanted_of_script, wanted_of_settings
-from playing import differing, play_folders
+from playing import differing, play_unpacked
 from pool_model import cut_at, settings_of
 from skipping import has, skip
 
@@ -95,12 +95,14 @@ def run(*words):
     return subprocess.run(words, stdin=subprocess.DEVNULL, capture_output=True, timeout=LONGEST)
 
 
-def cases(folder):
-    """Each case of a folder: its file, its settings, its script, and what is wanted."""
-    for script in sorted(folder.glob("*.script")):
-        yield script, script.with_suffix(".toml"), script, wanted_of_script(script)
-    for answer in sorted(folder.glob("*.answer")):
-        yield answer, answer.with_suffix(".toml"), "/dev/null", wanted_of_settings(answer)
+def plays(cases):
+    """What is played of cases: the name, the settings, the script, and what is wanted."""
+    for case, folder in cases:
+        settings = folder / "settings.toml"
+        if case.journal is not None:
+            yield case.name, settings, folder / "script", wanted_of_script(case)
+        if case.answer is not None:
+            yield case.name, settings, "/dev/null", wanted_of_settings(case)
 
 
 def segments(settings, journal, every):
@@ -230,8 +232,9 @@ def refusals(play, case):
     return whole + differing(f"{name}: cut and refused", (b"".join(parts), error, status), run(play, settings, script, str(EVERY[1]), "each"))
 
 
-def refused_cases(folder):
-    return (case for case in cases(folder) if case[3][2] == 0)
+def whole_runs(cases):
+    """What is played of the scripts that run to their ends."""
+    return plays((case, folder) for case, folder in cases if case.is_run)
 
 
 def odd_runs(life, long, play, folder):
@@ -277,9 +280,9 @@ def ordered_runs(library, folder):
     yield "long_life destroys first", [long, settings, segments, "3"], (b"", b"", 0)
 
 
-def runs(life, play, folder):
+def runs(life, play, cases):
     """What the programs are run on by themselves, and what is wanted of each; under valgrind too."""
-    name, settings, script, wanted = next(refused_cases(folder))
+    name, settings, script, wanted = next(whole_runs(cases))
     parts = b"".join(segments(settings, wanted[0], EVERY[1])), b"", 0
     alone = [
         ("plain_life", [life, TOP / "examples" / "settings.toml"], (PLAIN_LIFE, b"", 0)),
@@ -301,13 +304,13 @@ def main(kind, library, words):
         if kind == "programs":
             life, long = (compiled(name, library, built, []) for name in ("plain_life", "long_life"))
             others = [*odd_runs(life, long, play, built), *ordered_runs(library, built), *header_runs(built, "zuphinka.h", "return zuphinka_status_text(0) == 0;")]
-            plays = lambda folder: itertools.chain(runs(life, play, folder), others)
-            return play_folders(words, plays, lambda case: differing(case[0], case[2], run(*case[1])))
+            all_runs = lambda cases: itertools.chain(runs(life, play, cases), others)
+            return play_unpacked(words, all_runs, lambda case: differing(case[0], case[2], run(*case[1])))
         if kind == "refused":
-            return play_folders(words, refused_cases, lambda case: refusals(play, case))
+            return play_unpacked(words, whole_runs, lambda case: refusals(play, case))
         if kind == "segments":
-            return play_folders(words[1:], refused_cases, lambda case: cut_cases(play, words[0], case))
-        return play_folders(words, cases, lambda case: differing(case[0], case[3], run(play, case[1], case[2])))
+            return play_unpacked(words[1:], whole_runs, lambda case: cut_cases(play, words[0], case))
+        return play_unpacked(words, plays, lambda case: differing(case[0], case[3], run(play, case[1], case[2])))
 
 
 if __name__ == "__main__":

@@ -1,14 +1,13 @@
 #!/usr/bin/env python3
 """Judges journals that were cut into segments by the program, and compares its verdicts with what is wanted.
 
-    play_segments.py POOL FOLDER CASES..
+    play_segments.py POOL CASES..
 
-- In FOLDER, for files NAME.toml, NAME.0.journal, NAME.1.journal, .. and NAME.verdict: `POOL check NAME.toml NAME.0.journal ..` must answer
-  what the verdict says: a line with the status, and then what it writes, to standard error where the status is 3, else to standard
-  output. For each NAME.N.stats the same of `POOL stats NAME.N.journal`.
-- Each legal journal NAME.journal of the folders CASES, whose script has no NAME.err, is cut before each of its entries, into as many
-  segments of one entry; `check` over all of them must find it legal. It is cut at three places besides, and one of the segments is left
-  out, repeated or exchanged with the next: the verdict must be that of tests/pool_model.py.
+- For each case with segments and a verdict `POOL check` over all of them must answer the verdict: to standard error with status 3 if it begins
+  with `pool:`, else to standard output.
+- The journal of each case whose script runs to its end is cut before each of its entries, into as many segments of one entry; `check` over all
+  of them must find it legal. It is cut at three places besides, and one of the segments is left out, repeated or exchanged with the next: the
+  verdict must be that of tests/pool_model.py.
 - Three segments are damaged: in each place a byte is changed, dropped or doubled; the verdict must be the model's.
 - `check` over a thousand segments must take no more memory on one processor than over the longest of them alone, with a tenth and 512 KiB
   for the files' names and what differs from run to run; and on all, for each of the files that are judged at once, no more than
@@ -26,6 +25,7 @@ import subprocess
 import sys
 import tempfile
 
+from case_files import unpacked, wanted_of
 from measuring import launcher
 from play_damaged import Chance, journal_by_chance
 from pool_model import cut_at, settings_of, verdict_of_segments
@@ -58,19 +58,6 @@ THREE = [
 ]
 
 
-def wanted_of(verdict):
-    """What the program must write, to standard output and to standard error, and its status."""
-    if verdict.startswith(b"pool: "):
-        return b"", verdict, 3
-    return verdict, b"", 0 if verdict.startswith(b"legal") else 1
-
-
-def stated(path):
-    """What a file says that begins with a line for the status."""
-    status, _, text = path.read_bytes().partition(b"\n")
-    return (b"", text, 3) if status == b"3" else (text, b"", int(status))
-
-
 def on_one():
     """Leaves one processor to the run, so that files are judged one after the other."""
     os.sched_setaffinity(0, {min(os.sched_getaffinity(0))})
@@ -96,13 +83,17 @@ def judged(pool, name, settings, segments, verdict, compare=differing):
         return compare(name, [pool, "check", settings, *paths], wanted_of(verdict))
 
 
-def of_folder(pool, folder):
-    for verdict in sorted(folder.glob("*.verdict")):
-        segments = sorted(folder.glob(f"{verdict.stem}.*.journal"), key=lambda path: int(path.suffixes[0][1:]))
-        command = [pool, "check", verdict.with_suffix(".toml"), *segments]
-        yield lambda name=verdict, command=command: differing_anyhow(name, command, stated(name))
-    for stats in sorted(folder.glob("*.stats")):
-        yield lambda name=stats: differing(name, [pool, "stats", name.with_suffix(".journal")], stated(name))
+def segmented(cases):
+    """The cases that are segments with a verdict: each with the paths of its settings and of its segments."""
+    for case, folder in cases:
+        if case.segments and case.verdict is not None:
+            yield case, folder / "settings.toml", [folder / f"{number}.journal" for number in range(len(case.segments))]
+
+
+def of_segmented(pool, cases):
+    for case, settings, segments in segmented(cases):
+        command = [pool, "check", settings, *segments]
+        yield lambda case=case, command=command: differing_anyhow(case.name, command, wanted_of(case.verdict))
 
 
 def ways(segments, chance):
@@ -115,27 +106,24 @@ def ways(segments, chance):
     yield "two exchanged", segments[:at] + segments[at : at + 2][::-1] + segments[at + 2 :]
 
 
-def of_journal(pool, settings, path, chance):
-    read = settings_of(settings.read_text())
-    text = path.read_bytes()
+def of_journal(pool, case, settings, chance):
+    read, text = settings_of(case.settings.decode()), case.journal
     count = text.count(b"\n")
     step = max(1, count // MOST_SEGMENTS)
     every = cut_at(read, text, set(range(1, count, step)))
-    yield lambda: judged(pool, f"{path}, cut everywhere", settings, every, b"legal %d\n" % count)
+    yield lambda: judged(pool, f"{case.name}, cut everywhere", settings, every, b"legal %d\n" % count)
     some = cut_at(read, text, {1 + chance.below(max(1, count)) for _ in range(3)})
     for how, segments in ways(some, chance):
         yield lambda how=how, segments=segments: judged(
-            pool, f"{path}, {how}", settings, segments, verdict_of_segments(read, segments)
+            pool, f"{case.name}, {how}", settings, segments, verdict_of_segments(read, segments)
         )
 
 
-def of_cases(pool, folders):
+def of_cases(pool, cases):
     chance = Chance(7)
-    for folder in folders:
-        for path in sorted(folder.glob("*.journal")):
-            settings = path.with_suffix(".toml")
-            if settings.exists() and not path.with_suffix(".err").exists():
-                yield from of_journal(pool, settings, path, chance)
+    for case, folder in cases:
+        if case.is_run:
+            yield from of_journal(pool, case, folder / "settings.toml", chance)
 
 
 def damaged(text, at, chance):
@@ -197,11 +185,12 @@ def told_by(trials):
     return 1 if found or passed < 100 else 0
 
 
-def main(pool, folder, *cases):
-    with tempfile.NamedTemporaryFile("w", suffix=".toml") as defaults:
+def main(pool, *paths):
+    with tempfile.NamedTemporaryFile("w", suffix=".toml") as defaults, tempfile.TemporaryDirectory() as room:
+        cases = unpacked(room, *paths)
         trials = [
-            *of_folder(pool, pathlib.Path(folder)),
-            *of_cases(pool, map(pathlib.Path, cases)),
+            *of_segmented(pool, cases),
+            *of_cases(pool, cases),
             *of_damage(pool, defaults.name),
             lambda: of_memory(pool, defaults.name),
         ]

@@ -3,9 +3,10 @@
 import concurrent.futures
 import itertools
 import os
-import pathlib
 import subprocess
 import tempfile
+
+from case_files import unpacked
 
 KINDS = ("output", "standard error", "status")
 # How much of a difference is printed, in characters.
@@ -18,17 +19,17 @@ def differing(name, wanted, done):
     return [f"{name}: {kind}: wanted {want!r}, got {have!r}" for kind, want, have in zip(KINDS, wanted, got) if want != have]
 
 
-def play_folders(folders, cases, differences):
-    """Plays the cases of each folder, side by side, prints what differs and how many passed and failed, and gives the status
-    to end with. A folder without cases counts as failed."""
+def play_unpacked(paths, plays, differences):
+    """Unpacks the cases of each file, or of all files below a folder. Makes the `plays` of them side by side, prints what differs and how many passed
+    and failed, and gives the status to end with. A path without a play counts as failed."""
     passed, failed = 0, 0
-    with concurrent.futures.ThreadPoolExecutor(os.cpu_count()) as workers:
-        for folder in map(pathlib.Path, folders):
-            found = list(workers.map(differences, cases(folder)))
+    with tempfile.TemporaryDirectory() as room, concurrent.futures.ThreadPoolExecutor(os.cpu_count()) as workers:
+        for path in paths:
+            found = list(workers.map(differences, plays(unpacked(room, path))))
             for difference in (line for lines in found for line in lines):
                 print(difference)
             if not found:
-                print(f"{folder}: no case")
+                print(f"{path}: no case")
             bad = sum(map(bool, found))
             passed, failed = passed + len(found) - bad, failed + bad + (not found)
     print(f"{passed} passed, {failed} failed")

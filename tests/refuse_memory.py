@@ -3,9 +3,11 @@
 
     refuse_memory.py ends PROGRAM OUTPUT ARGUMENTS..
     refuse_memory.py goes-on PROGRAM OUTPUT ARGUMENTS..
+    refuse_memory.py run PROGRAM CASE
 
 The file OUTPUT has what PROGRAM writes with ARGUMENTS where all allocations are granted. It is run once for each of its
-allocations, which is refused then (tests/refuse.c, built with the C compiler that CC names, or cc).
+allocations, which is refused then (tests/refuse.c, built with the C compiler that CC names, or cc). To `run` a case is to run its
+script, as one that `ends`; CASE is its name, as worked/loans/plain_life.
 
 - One that `ends` must end with status 3 and the line 'pool: out of memory', or 'pool: no thread' where it starts threads, or
   'pool: cannot open ..' for one of its files, after
@@ -23,6 +25,7 @@ import subprocess
 import sys
 import tempfile
 
+from case_files import case_named, unpack
 from preloading import preloaded
 
 FAULTS = {b"pool: out of memory", b"pool: no thread"}
@@ -81,8 +84,11 @@ def runs(program, may_end):
 def main(kind, path, output_file, *arguments):
     passed, failed = 0, 0
     with tempfile.TemporaryDirectory() as folder:
+        if kind == "run":
+            case = unpack(case_named(output_file), folder)
+            output_file, arguments = case / "journal", ["run", case / "settings.toml", case / "script"]
         program = Program(pathlib.Path(folder), path, output_file, arguments)
-        for number, (output, error, status), is_right in runs(program, {"ends": True, "goes-on": False}[kind]):
+        for number, (output, error, status), is_right in runs(program, {"ends": True, "run": True, "goes-on": False}[kind]):
             if is_right:
                 passed += 1
             else:

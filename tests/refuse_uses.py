@@ -22,19 +22,14 @@ import sys
 import tempfile
 
 from argument_rules import WRONG, version
+from case_files import CASES, TOP, unpacked, wanted_of
 from preloading import preloaded
 
-CASES = pathlib.Path(__file__).resolve().parent / "cases"
-
 # The file with the uses of the program, one constant.
-HELP = CASES.parent.parent / "crates/pool_tasks/src/help.rt"
+HELP = TOP / "crates/pool_tasks/src/help.rt"
 
+# Of the scripts, the statistics, and the journals in segments every such one is played.
 EACH = 4
-
-# Journals that were cut, of which every EACH_CUT-th is checked.
-SEGMENTS = CASES / "7-cut"
-
-EACH_CUT = 4
 
 # Longer scripts take the same allocations, and more time.
 LONGEST = 20_000
@@ -139,36 +134,34 @@ def printed_uses():
     return HELP.read_text().partition('USES: &str = "\\\n')[2].partition('";')[0].encode()
 
 
-def uses_of_cases():
-    """Runs and checks of every EACH-th script, and the statistics of every journal that has them."""
-    scripts = [path for path in sorted(CASES.glob("*/*.script")) if path.stat().st_size < LONGEST]
-    for script in scripts[::EACH]:
-        settings, journal, error = (script.with_suffix(suffix) for suffix in (".toml", ".journal", ".err"))
-        if error.exists():
-            output = journal.read_bytes() if journal.exists() else b""
-            yield Use(["run", str(settings), str(script)], (output, error.read_bytes(), 3))
-            continue
-        text = journal.read_bytes()
-        yield Use(["run", str(settings), str(script)], (text, b"", 0))
-        yield Use(["check", str(settings), str(journal)], (b"legal %d\n" % text.count(b"\n"), b"", 0))
-    for statistics in sorted(path for path in CASES.glob("*/*.stats") if path.parent != SEGMENTS)[::EACH]:
-        yield Use(["stats", str(statistics.with_suffix(".journal"))], (statistics.read_bytes(), b"", 0))
+def uses_of_script(case, folder):
+    """A run of a script; and a check of its journal and the statistics, if it runs to its end."""
+    settings, script, journal = (str(folder / name) for name in ("settings.toml", "script", "journal"))
+    if not case.is_run:
+        return [Use(["run", settings, script], (case.journal, case.error, 3))]
+    return [
+        Use(["run", settings, script], (case.journal, b"", 0)),
+        Use(["check", settings, journal], (b"legal %d\n" % case.journal.count(b"\n"), b"", 0)),
+        Use(["stats", journal], wanted_of(case.statistics)),
+    ]
 
 
-def stated(path):
-    """What a file says that begins with a line for the status."""
-    status, _, text = path.read_bytes().partition(b"\n")
-    return (b"", text, 3) if status == b"3" else (text, b"", int(status))
+def uses_of_segments(cases):
+    """Checks of every EACH-th journal in several files, and the statistics of every EACH-th segment."""
+    for case, folder in [(case, folder) for case, folder in cases if case.verdict is not None][::EACH]:
+        paths = [str(folder / f"{number}.journal") for number in range(len(case.segments))]
+        yield Use(["check", str(folder / "settings.toml"), *paths], wanted_of(case.verdict))
+    segments = [(folder / f"{number}.journal", statistics) for case, folder in cases for number, (_, statistics) in enumerate(case.segments)]
+    yield from (Use(["stats", str(path)], wanted_of(statistics)) for path, statistics in segments[::EACH])
 
 
-def uses_of_segments():
-    """Checks of journals in several files, and the statistics of every EACH-th segment."""
-    for verdict in sorted(SEGMENTS.glob("*.verdict"))[::EACH_CUT]:
-        segments = sorted(SEGMENTS.glob(f"{verdict.stem}.*.journal"), key=lambda path: int(path.suffixes[0][1:]))
-        if segments:
-            yield Use(["check", str(verdict.with_suffix(".toml")), *map(str, segments)], stated(verdict))
-    for statistics in sorted(SEGMENTS.glob("*.stats"))[::EACH]:
-        yield Use(["stats", str(statistics.with_suffix(".journal"))], stated(statistics))
+def uses_of_cases(room):
+    """Uses of every EACH-th script that isn't long, and of segments."""
+    cases = unpacked(room, CASES)
+    scripts = [(case, folder) for case, folder in cases if case.journal is not None and len(case.script) < LONGEST]
+    for case, folder in scripts[::EACH]:
+        yield from uses_of_script(case, folder)
+    yield from uses_of_segments([(case, folder) for case, folder in cases if case.segments])
 
 
 def is_refused(use, answer):
@@ -222,7 +215,7 @@ def main(pool):
         for name, text in FILES.items():
             (refuser.folder / name).write_bytes(text)
         with concurrent.futures.ThreadPoolExecutor(os.cpu_count()) as workers:
-            for right, wrong in workers.map(refuser.runs, [*uses(), *uses_of_cases(), *uses_of_segments()]):
+            for right, wrong in workers.map(refuser.runs, [*uses(), *uses_of_cases(refuser.folder / "cases")]):
                 passed, failed = passed + right, failed + len(wrong)
                 for told in wrong:
                     print(told)

@@ -7,9 +7,7 @@ from runner import Part
 
 # Cargo makes this folder under another name first, on which a build beside it may come that lists the files of the Rust crate. So it is there before.
 CARGO = ("bindings/rust/target",)
-# The cases that are scripts with their journals.
-SCRIPTS = " ".join(f"tests/cases/{name}" for name in ("1-life", "3-settings", "4-close", "5-idle", "6-whole", "rows"))
-ROW = "tests/cases/rows/two_objects_fifo"
+CASES = "tests/cases"
 
 
 def libraries_of(*crates):
@@ -38,14 +36,14 @@ PARTS = (
     Part(
         "segments",
         "segments that are checked together, and the memory of that",
-        f"python3 tests/play_segments.py {{pool}} tests/cases/7-cut {SCRIPTS}",
+        f"python3 tests/play_segments.py {{pool}} {CASES}",
         ("pool",),
     ),
     Part("refused-uses", "each use of the program, with each allocation failing in turn", "python3 tests/refuse_uses.py {pool}", ("pool",)),
     Part(
         "refused-run",
         "a run of a script, with each allocation failing in turn",
-        f"python3 tests/refuse_memory.py ends {{pool}} {ROW}.journal run {ROW}.toml {ROW}.script",
+        "python3 tests/refuse_memory.py run {pool} worked/loans/two_objects_fifo",
         ("pool",),
     ),
     Part(
@@ -82,7 +80,7 @@ PARTS = (
     Part(
         "judge",
         "segments that are checked independently and joined",
-        "python3 tests/play_judge.py {judge} {pool} tests/cases/7-cut",
+        f"python3 tests/play_judge.py {{judge}} {{pool}} {CASES}",
         ("judge", "pool"),
     ),
     Part("rust", "the Rust crate: its tests, its examples, its binding", "python3 tests/check_rust.py {pool}", ("pool", "zuphinka"), CARGO),
@@ -129,16 +127,12 @@ PARTS = (
         ("test_calls",),
     ),
     Part("killed", "runs of the program that are killed", "python3 tests/play_killed.py {pool}", ("pool",)),
-    Part(
-        "cases",
-        "all cases of tests/cases on the program",
-        f"python3 tests/play_cases.py {{pool}} {SCRIPTS} tests/cases/laws tests/cases/settings tests/cases/stats",
-        ("pool",),
-    ),
+    Part("cases", "all cases of tests/cases on the program", f"python3 tests/play_cases.py {{pool}} {CASES}", ("pool",)),
+    Part("case-files", "the files of tests/cases are as tests/make_cases.py makes them, and in their format", "python3 tests/check_cases.py"),
     Part(
         "counts",
         "the counts of the core, and of pools that are cut after each entry, against those computed from the journal",
-        f"python3 tests/play_counts.py {{test_counts}} {SCRIPTS}",
+        f"python3 tests/play_counts.py {{test_counts}} {CASES}",
         ("test_counts",),
     ),
     Part("program", "arguments, files, statuses and messages of the program", "python3 tests/play_program.py {pool}", ("pool",)),
@@ -149,8 +143,8 @@ PARTS = (
         "python3 tests/play_examples.py {pool} {journal_picture}",
         ("pool", "journal_picture"),
     ),
-    Part("life", "the table of phases against all journals of the cases", f"python3 tests/check_life.py {SCRIPTS}"),
-    Part("picture", "the pictures of journal_picture", f"python3 tests/check_picture.py {{journal_picture}} {SCRIPTS}", ("journal_picture",)),
+    Part("life", "the table of phases against all journals of the cases", f"python3 tests/check_life.py {CASES}"),
+    Part("picture", "the pictures of journal_picture", f"python3 tests/check_picture.py {{journal_picture}} {CASES}", ("journal_picture",)),
     Part(
         "archive",
         "the example of an archive, and its segments",
@@ -182,23 +176,23 @@ PARTS = (
     ),
     Part("eviction", "many objects that are evicted", "python3 tests/play_eviction.py {pool}", ("pool",)),
     Part("clear", "many objects that are cleared", "python3 tests/play_clear.py {pool}", ("pool",)),
-    Part("c-cases", "the cases on the C library", f"python3 tests/play_library.py cases {{zuphinka}} {SCRIPTS} tests/cases/settings", ("zuphinka",)),
+    Part("c-cases", "the cases on the C library", f"python3 tests/play_library.py cases {{zuphinka}} {CASES}", ("zuphinka",)),
     Part(
         "c-segments",
         "the cases on the C library, with the journal cut",
-        f"python3 tests/play_library.py segments {{zuphinka}} {{pool}} {SCRIPTS}",
+        f"python3 tests/play_library.py segments {{zuphinka}} {{pool}} {CASES}",
         ("zuphinka", "pool"),
     ),
     Part(
         "c-refused",
         "the cases on the C library, with each allocation failing in turn",
-        "python3 tests/play_library.py refused {zuphinka} tests/cases/rows",
+        f"python3 tests/play_library.py refused {{zuphinka}} {CASES}/worked",
         ("zuphinka",),
     ),
     Part(
         "c-programs",
         "the C examples, the header, and a run under valgrind",
-        "python3 tests/play_library.py programs {zuphinka} tests/cases/rows",
+        f"python3 tests/play_library.py programs {{zuphinka}} {CASES}/worked",
         ("zuphinka",),
     ),
     Part("c-crowd", "calls that wait on the C library", "python3 tests/play_library.py crowd {zuphinka}", ("zuphinka",)),

@@ -2,8 +2,9 @@
 
 mod common;
 
-use common::top;
+use common::{new_folder, top};
 use std::fs;
+use std::process::Command;
 use std::time::Duration;
 use zuphinka::{Abandoned, Builder, Journal, Manager, OpenError, Pool, SettingsError};
 
@@ -38,23 +39,31 @@ fn line_of(settings: &Result<String, SettingsError>) -> String {
     }
 }
 
+/// The settings and the answer of each case of settings. A script of the repository unpacks them.
+fn cases() -> Vec<(Vec<u8>, String)> {
+    let (tests, room) = (top().join("tests"), new_folder());
+    let mut unpack = Command::new("python3");
+    unpack.arg(tests.join("case_files.py"));
+    let status = unpack.arg(tests.join("cases/settings")).arg(&room).status();
+    assert!(status.unwrap().success());
+    let files = fs::read_dir(room.join("settings")).unwrap();
+    let folders = files.flat_map(|file| fs::read_dir(file.unwrap().path()).unwrap());
+    let read = folders.map(|folder| {
+        let folder = folder.unwrap().path();
+        let settings = fs::read(folder.join("settings.toml")).unwrap();
+        (settings, fs::read_to_string(folder.join("answer")).unwrap())
+    });
+    let cases = read.collect();
+    fs::remove_dir_all(room).unwrap();
+    cases
+}
+
 #[test]
 fn settings_are_taken_and_refused_as_the_cases_say() {
-    let folder = top().join("tests/cases/settings");
     let (mut seen, mut no_text) = (0, 0);
-    for file in fs::read_dir(folder).unwrap() {
-        let path = file.unwrap().path();
-        if path.extension().map_or(true, |end| end != "toml") {
-            continue;
-        }
-        let wanted = fs::read_to_string(path.with_extension("answer")).unwrap();
-        match String::from_utf8(fs::read(&path).unwrap()) {
-            Ok(text) => assert_eq!(
-                line_of(&settings_of(&text)),
-                wanted,
-                "{}:\n{text}",
-                path.display()
-            ),
+    for (settings, wanted) in cases() {
+        match String::from_utf8(settings) {
+            Ok(text) => assert_eq!(line_of(&settings_of(&text)), wanted, "{text}"),
             // No text at all is handed to the crate then.
             Err(_) => no_text += usize::from(wanted == "pool: settings: not TOML\n"),
         }

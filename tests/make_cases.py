@@ -1,0 +1,208 @@
+#!/usr/bin/env python3
+"""Makes the files of tests/cases anew, in the format that tests/cases/README.md explains.
+
+    make_cases.py
+
+The files of SEEDED are made from their seeds. In the others settings, scripts and changes stay, and so do journals that no script makes. Answers,
+errors, verdicts and statistics are made anew, by tests/pool_model.py and tests/case_model.py. Segments that are legal together are made anew too: the
+journal of their script is cut at the same positions. Prints the name of each file that was changed.
+
+So if a rule has changed, change the model, run this, and read the difference.
+"""
+
+import dataclasses
+import sys
+
+from case_files import CASES, TOP, Case, CaseError, files_of, lines_of, read_file, written
+from case_model import answer_to_settings, run, statistics_of
+from play_damaged import Chance, next_input
+from pool_model import INPUTS, WORDS, Pool, cut_at, settings_of, verdict_of_segments, words_of
+
+# Values of settings, besides the defaults.
+VALUES = {
+    "blockWhenExhausted": ("false",), "journalLimit": ("30", "60", "200"), "lifo": ("false",), "maxIdle": ("-1", "0", "1", "3"),
+    "maxTotal": ("-1", "1", "2", "3", "5"), "maxWaitMillis": ("0", "10", "30"), "minEvictableIdleMillis": ("-1", "1", "20"),
+    "minIdle": ("1", "2", "4"), "numTestsPerEvictionRun": ("-2", "0", "1", "9"), "softMinEvictableIdleMillis": ("1", "20"),
+    "testWhileIdle": ("true",),
+}
+OF_ABANDONED = {
+    "removeAbandonedOnBorrow": ("true",), "removeAbandonedOnMaintenance": ("true",), "removeAbandonedTimeoutMillis": ("0", "20", "60"),
+}
+# Lengths of scripts, in lines.
+SHORTEST, LONGEST = 30, 80
+
+
+# Cases from seeds.
+
+
+def lines_by_chance(values, chance):
+    """A line of settings for each key, with one of its values, or none."""
+    return [f"{key} = {chance.one_of(values[key])}\n" for key in values if chance.below(3) == 0]
+
+
+def settings_by_chance(chance):
+    lines = lines_by_chance(VALUES, chance)
+    if chance.below(2):
+        lines += ["[abandoned]\n", *lines_by_chance(OF_ABANDONED, chance)]
+    return "".join(lines).encode()
+
+
+def input_by_chance(pool, at, chance):
+    """An input that has something to do, mostly; or one with words at random."""
+    if chance.below(6):
+        return next_input(pool, at, chance)
+    name = chance.one_of(sorted(INPUTS))
+    numbers = {b"borrow": at - chance.below(at + 1)}
+    id = chance.below(pool.drawn + 2)
+    return name, *(numbers.get(name, id) if kind == "number" else chance.one_of(sorted(WORDS[kind])) for kind in INPUTS[name])
+
+
+def script_by_chance(settings, chance):
+    """The lines of a script. In half of them the pool is closed in the last third."""
+    pool, at, lines = Pool({**settings, "journalLimit": 2**32}), 1000, []
+    length = SHORTEST + chance.below(LONGEST - SHORTEST)
+    closed_at = chance.one_of([length, length - 1 - chance.below(length // 3)])
+    for position in range(length):
+        at += chance.below(12)
+        asked = (b"close",) if position == closed_at else input_by_chance(pool, at, chance)
+        lines.append(b"%d %d %s\n" % (chance.below(20), at, words_of(asked)))
+        pool.take(at, asked, 0)
+    return lines
+
+
+def with_other_byte(text, chance):
+    """The text with one byte replaced by another one of lines, a line feed or one that is in no line."""
+    at, byte = chance.below(len(text)), chance.one_of(b"0123456789 =\nadeklmnoprstuvw\x00\xff")
+    return text[:at] + bytes([byte]) + text[at + 1 :]
+
+
+def wrong_line(line, chance):
+    """The line of a journal with another answer, or with another byte."""
+    if chance.below(3) == 0:
+        return with_other_byte(line, chance)
+    asked, _, answer = line.partition(b" = ")
+    others = [b"wait", b"lent", b"check", b"parked", b"kept", b"destroy", b"freed", b"nothing", b"count 1", b"make 1", b"take 0", b"refused closed"]
+    other = chance.one_of([word for word in others if word + b"\n" != answer])
+    return asked + b" = " + other + b"\n"
+
+
+def life(name, seed):
+    """A script with settings, and its journal with a wrong line."""
+    chance = Chance(seed)
+    settings = settings_by_chance(chance)
+    lines = script_by_chance(settings_of(settings.decode()), chance)
+    if chance.below(8) == 0:
+        at = chance.below(len(lines))
+        lines[at] = with_other_byte(lines[at], chance)
+    case = run_again(Case(name, settings=settings, rest=b"".join(lines), journal=b""))
+    made = lines_of(case.journal)
+    if not made:
+        return case
+    at = chance.below(len(made))
+    return remade(dataclasses.replace(case, changes=[(at + 1, at + 1, wrong_line(made[at], chance))], verdict=b""))
+
+
+def with_fault(segments, chance):
+    """The segments as they are, mostly; or one is lost, repeated, exchanged with the next, or damaged."""
+    at, kind = chance.below(len(segments)), chance.below(9)
+    if kind == 0 and len(segments) > 1:
+        return segments[:at] + segments[at + 1 :]
+    if kind == 1:
+        return segments[: at + 1] + segments[at:]
+    if kind == 2:
+        return segments[:at] + segments[at : at + 2][::-1] + segments[at + 2 :]
+    if kind == 3 and segments[at]:
+        return segments[:at] + [with_other_byte(segments[at], chance)] + segments[at + 1 :]
+    return segments
+
+
+def cut_life(name, seed):
+    """The segments of a journal. Some of the first ones begin with no base."""
+    chance = Chance(seed)
+    settings = settings_by_chance(chance)
+    read = settings_of(settings.decode())
+    journal, _ = run(Pool(read), b"".join(script_by_chance(read, chance)), 0)
+    positions = {1 + chance.below(LONGEST) for _ in range(1 + chance.below(6))}
+    segments = cut_at(read, journal, positions)
+    if chance.below(2):
+        segments[0] = segments[0].partition(b"\n")[2]
+    return remade(Case(name, settings=settings, segments=[(text, b"") for text in with_fault(segments, chance)], verdict=b""))
+
+
+# The files that are made from seeds: what makes a case, the first seed, the number of cases, each with the next seed, and the heading.
+SEEDED = {
+    "seeded/lives.txt": (life, 800, 40, "# Lives of objects, by chance. Most inputs have something to do. A journal is checked with a wrong line."),
+    "seeded/segments.txt": (cut_life, 2_300, 30, "# Lives of objects, cut by chance. Some segments are damaged, lost, repeated or exchanged."),
+}
+
+
+# All cases anew.
+
+
+def settings_in(case):
+    """The settings of a case that the program takes."""
+    answer = answer_to_settings(case.settings)
+    if answer != b"ok\n":
+        raise CaseError(f"{case.place}: the program does not take the settings: {answer.decode().strip()}")
+    return settings_of(case.settings.decode())
+
+
+def run_again(case):
+    """The case with the journal of its script, the lines that are read after it, the error and the statistics."""
+    journal, error = run(Pool(settings_in(case)), case.script, 0)
+    rest = lines_of(case.script)[journal.count(b"\n") :]
+    return dataclasses.replace(case, journal=journal, rest=b"".join(rest), error=error, statistics=statistics_of(journal))
+
+
+def cut_again(case):
+    """The case with the segments of the journal of its script, cut where its segments end. A first one may have no base."""
+    pool, segments = Pool(settings_in(case)), []
+    for text, _ in case.segments:
+        base = b"".join(pool.base()) if text.startswith(b"pool-journal ") else b""
+        script = b"".join(line.partition(b" = ")[0] + b"\n" for line in lines_of(text) if b" = " in line)
+        journal, error = run(pool, script, pool.position)
+        if error:
+            raise CaseError(f"{case.place}: the script of the segments ends with '{error.decode().strip()}'; change its settings or segments")
+        segments.append((base + journal, b""))
+    return dataclasses.replace(case, segments=segments)
+
+
+def remade(case):
+    """The case with all that is written for its settings, its script or its segments."""
+    if case.answer is not None:
+        return dataclasses.replace(case, answer=answer_to_settings(case.settings))
+    if case.journal is not None:
+        case = run_again(case)
+    if case.verdict is not None and case.verdict.startswith(b"legal ") and case.segments:
+        case = cut_again(case)
+    case = dataclasses.replace(case, segments=[(text, statistics_of(text)) for text, _ in case.segments])
+    if case.verdict is None:
+        return case
+    files = [text for text, _ in case.segments] or [case.claimed]
+    return dataclasses.replace(case, verdict=verdict_of_segments(settings_in(case), files))
+
+
+def files_made():
+    """Each file of cases, and its text as it is made anew."""
+    for name, (make, seed, number, heading) in SEEDED.items():
+        yield CASES / name, written([heading], [make(str(index), seed + index) for index in range(number)])
+    for path in files_of([CASES]):
+        if path.relative_to(CASES).as_posix() not in SEEDED:
+            heading, cases = read_file(path)
+            yield path, written(heading, map(remade, cases))
+
+
+def main():
+    try:
+        made = list(files_made())
+    except CaseError as error:
+        sys.exit(f"make_cases.py: {error}")
+    for path, text in made:
+        if not path.exists() or path.read_text() != text:
+            path.parent.mkdir(exist_ok=True)
+            path.write_text(text)
+            print(path.relative_to(TOP))
+
+
+if __name__ == "__main__":
+    main()
