@@ -1,13 +1,14 @@
 #!/usr/bin/env python3
-"""Sees that bench/peers, bench/longest_waits and bench/soak find what is wrong, and that bench/two_pools runs.
+"""Sees that bench/peers, bench/longest_waits, bench/database and bench/soak find what is wrong, and that bench/two_pools runs.
 
     play_bench.py POOL
 
 POOL is the program. bench/peers must end with an error after a run with a pair too few or of a pool for Java with a wrong report, name and leave
 out the pools whose packages are missing, and show the columns alone that it is asked for. Where all packages are installed, all its columns must
 come, in both tables. HikariCP's bag must be in the first one alone, also without Commons Pool 2. bench/longest_waits must end with an error after a
-report with a wait too few, name what it leaves out, and tell the waits that are too long. bench/soak must fail each report in which one number is
-wrong.
+report with a wait too few, name what it leaves out, and tell the waits that are too long. bench/database must end with an error after a turn whose
+transfers are not in the database, name what it leaves out, show all its columns whose packages are installed, and tell the ratios that are too small.
+bench/soak must fail each report in which one number is wrong.
 
 Prints what fails, and in the end the line 'N passed, M failed'.
 """
@@ -25,10 +26,13 @@ from skipping import NO_CARGO, has, skip
 TOP = pathlib.Path(__file__).resolve().parent.parent
 sys.path.append(str(TOP / "bench"))
 
+import database_programs as database
+import database_turns
 from entrants import (
     C, CLOCK, COMMONS, COMMONS_HOOKS, COUNTER, HIKARI, HIKARI_JAR, HOOKS, JAR, JAVA, JAVA_HOOKS, LIBRARY, LOAD, PLAIN, R2D2, REGISTRY,
     Row, is_right_contestant, runs_cargo,
 )
+from postgres_server import Server
 from soaking import ROUNDS, THREADS, Length, fault_of_load, faults_of
 from waiting import C as C_WAITS, JAVA as JAVA_WAITS, TASKS, THREADS as THREAD_WAITS, Miscounted, looked_at, waited, waits_of
 
@@ -65,6 +69,20 @@ WRONG = {
 # What a program of bench/longest_waits reports of 200 waits, and reports that are wrong.
 WAITED = "200 waits, longest 30 us, median 4 us\n"
 WRONG_WAITS = ["", WAITED.replace("200", "199"), WAITED.replace("30", "3"), WAITED.replace("4 us", "four us"), WAITED + WAITED]
+# What a program of bench/database reports of a turn, and reports that are wrong.
+PLAYED = "200 transfers in 1000000 us, longest wait 900 us\n"
+WRONG_TURNS = ["", PLAYED.replace("200", "0"), PLAYED.replace("900", "1000001"), PLAYED.replace("900", "no"), PLAYED + PLAYED]
+# What the server has after it: rows of transfers, wrong accounts, connections that were opened; and numbers that are wrong.
+SEEN, WRONG_SEEN = (200, 0, 4), [(199, 0, 4), (201, 0, 4), (200, 1, 4), (200, 0, 3), (200, 0, 6)]
+DATABASE_ROWS = ["4 workers", "16 workers", "64 workers"]
+# The packages that the columns of bench/database need.
+OVER_DBCP = "default-jdk-headless", "libpostgresql-jdbc-java", "libcommons-dbcp2-java", "libcommons-pool2-java"
+OVER_POSTGRES = {
+    **dict.fromkeys(database.RUST_KINDS, ("librust-tokio-postgres-dev", "librust-r2d2-dev")),
+    **{database.JAVA: OVER_DBCP, database.DBCP: OVER_DBCP},
+    database.HIKARI: ("default-jdk-headless", "libpostgresql-jdbc-java", "libhikaricp-java", "libslf4j-java"),
+    **dict.fromkeys(database.C_KINDS, ("libpq-dev",)),
+}
 LOADED = {"status": "0", "refused": "0", "borrowed": str(THREADS * ROUNDS), "returned": str(THREADS * ROUNDS), "created": "4", "destroyed": "4"}
 WRONG_LOAD = {"status": "3", "refused": "1", "borrowed": "1", "returned": "1", "created": "5", "destroyed": "3"}
 
@@ -257,8 +275,83 @@ def check_two_pools():
         yield None if is_right else f"bench/two_pools --instructions: {done.stdout}{done.stderr}"
 
 
+def database_run(*words):
+    command = [TOP / "bench/database", "--rounds", "1", "--seconds", "0.1", *words]
+    return subprocess.run(command, capture_output=True, text=True, timeout=LONGEST)
+
+
+def check_turns():
+    """A right report of a turn passes, and a wrong one is an error. A ratio to the best other pool of the language that is too small is told."""
+    turn = database_turns.turn_of(PLAYED)
+    yield None if turn == database_turns.Turn(200, 1_000_000, 900) and turn.rate == 200 else f"a right turn is {turn}"
+    for report in WRONG_TURNS:
+        yield f"a report of a turn passes: {report!r}" if database_turns.turn_of(report) else None
+    yield from list(database_turns.faults_of(turn, *SEEN)) or [None]
+    for seen in WRONG_SEEN:
+        yield None if len(list(database_turns.faults_of(turn, *seen))) == 1 else f"a turn passes that the server saw as {seen}"
+    rates = {database.JAVA: 969, database.DBCP: 1_000, database.HIKARI: 999, database.C: 970, database.LIST: 1_000, database.CRATE: 1}
+    looked = list(database.looked_at(4, {column: (rate, 1) for column, rate in rates.items()}))
+    yield None if looked == [f"short: 4 workers: {JAVA} / {database.DBCP} is 0.969, target 0.97", ""] else f"other ratios are too small: {looked}"
+
+
+def fault_of_player(command, bank, folder, wanted):
+    """Why a program whose turn is wrong is not found, if it isn't."""
+    with database_turns.Player("a player", command, folder) as player:
+        try:
+            return f"{command} passes: {player.play(bank, 1, 0.1)}"
+        except Miscounted as error:
+            return None if wanted in str(error) else f"{command}: {wanted!r} isn't said: {error}"
+
+
+def check_players():
+    """A program that reports transfers that were not made, or none, is an error."""
+    with tempfile.TemporaryDirectory(ignore_cleanup_errors=True) as name:
+        folder = pathlib.Path(name)
+        with Server(folder) as server:
+            bank = database_turns.Bank(server)
+            yield fault_of_player(["sed", "-u", f"s/.*/{PLAYED.strip()}/"], bank, folder, "200 transfers are reported, and 0 were made")
+            yield fault_of_player(["false"], bank, folder, "its report is ''")
+
+
+def check_missing_database():
+    """Without the crates and jars the pools over them are named and left out, and without all others nothing runs."""
+    done = database_run("--registry", "/nowhere", "--jars", "/nowhere", "--library", "/nowhere/libzuphinka.a")
+    is_told = all(f"left out: {column}: no " in done.stderr for column in database.COLUMNS) and done.returncode == 2
+    yield None if is_told else f"status {done.returncode}: {done.stdout}{done.stderr}"
+    if has("bench/database without jars", "postgresql", *OVER_POSTGRES[database.LIST]):
+        done = database_run("--jars", "/nowhere", "--only", database.LIST, "--only", database.JAVA)
+        line = f"left out: {database.JAVA}: no libpostgresql-jdbc-java (/nowhere/postgresql.jar)"
+        yield None if line in done.stdout.splitlines() else f"{line!r} isn't said: {done.stdout}{done.stderr}"
+        yield None if (done.returncode, last_line(done)) == (0, "0 rows, 0 short") else f"status {done.returncode}: {last_line(done)}"
+
+
+def fault_of_transfers(done, columns):
+    """Why a run of bench/database does not show these columns, with their ratios, if it doesn't."""
+    (head, *rows), *ratios = tables(done.stdout) or [[[]]]
+    has_cells = all(re.fullmatch(r"[\d,]+ \([\d,]+\.\d\)", cell) for row in rows for cell in row[1:])
+    if head[1:] != columns or [row[0] for row in rows] != DATABASE_ROWS or not has_cells:
+        return f"bench/database shows {head} and {rows}: {done.stdout}{done.stderr}"
+    ours = [our for our, peers in database.PEERS.items() if our in columns and not set(peers).isdisjoint(columns)]
+    short = {line.split(": ")[1] for line in done.stdout.splitlines() if line.startswith("short: ")}
+    is_told = [table[0][1:] for table in ratios] == [ours] * bool(ours) and short <= set(DATABASE_ROWS)
+    is_ended = done.returncode == bool(short) and last_line(done) == f"{len(DATABASE_ROWS) * bool(ours)} rows, {len(short)} short"
+    return None if is_told and is_ended else f"status {done.returncode}: {done.stdout}{done.stderr}"
+
+
+def check_database():
+    """All columns come whose packages are installed, and their turns are right."""
+    columns = [column for column in database.COLUMNS if has(f"the column {column} of bench/database", *OVER_POSTGRES[column])]
+    if not runs_cargo():
+        skip("the columns of bench/database in Rust", NO_CARGO)
+        columns = [column for column in columns if column not in database.RUST_KINDS]
+    if columns:
+        yield fault_of_transfers(database_run(), columns)
+
+
 def main(pool):
-    checks = [*check_soak(), *check_java(), *check_waits(), *check_two_pools()]
+    checks = [*check_soak(), *check_java(), *check_waits(), *check_two_pools(), *check_turns(), *check_missing_database()]
+    if has("bench/database", "postgresql"):
+        checks += [*check_players(), *check_database()]
     if runs_cargo():
         checks += [*check_missing_waits(), *check_missing(pool), *check_counting(), *check_only(), *check_bag(), *check_present(pool)]
     else:

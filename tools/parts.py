@@ -118,7 +118,13 @@ PARTS = (
         CARGO,
     ),
     Part("c-pool", "both C pools for threads, also with failing allocations", "python3 tests/play_c_pool.py {zuphinka} {pool}", ("pool", "zuphinka")),
-    Part("benchmarks", "bench/peers, bench/longest_waits and bench/soak notice what is wrong", "python3 tests/play_bench.py {pool}", ("pool", "zuphinka"), CARGO),
+    Part(
+        "benchmarks",
+        "bench/peers, bench/longest_waits, bench/database and bench/soak notice what is wrong",
+        "python3 tests/play_bench.py {pool}",
+        ("pool", "zuphinka"),
+        CARGO,
+    ),
     Part("soak", "ten seconds of bench/soak", "python3 bench/soak --seconds 10 --pool {pool}", ("pool", "zuphinka"), CARGO),
     Part(
         "calls",
@@ -208,6 +214,7 @@ PARTS = (
 
 JARS, CRATES = "/usr/share/java", "/usr/share/cargo/registry"
 IN_JAVA = ("java", "java-random", "commons-pool", "benchmarks", "release", "postgres")
+OVER_POSTGRES = ("postgres", "benchmarks")
 
 PACKAGES = (
     Package("gcc", "cc", variable="CC"),
@@ -222,14 +229,14 @@ PACKAGES = (
     Package("librust-r2d2-dev", f"{CRATES}/r2d2-[0-9]*", ("benchmarks",)),
     Package("default-jdk-headless", "javac", IN_JAVA, "JAVA_HOME"),
     Package("libcommons-pool2-java", f"{JARS}/commons-pool2.jar", IN_JAVA, "COMMONS_POOL2"),
-    Package("libcommons-dbcp2-java", f"{JARS}/commons-dbcp2.jar", ("java", "release", "postgres")),
+    Package("libcommons-dbcp2-java", f"{JARS}/commons-dbcp2.jar", ("java", "release", "postgres", "benchmarks")),
     Package("libh2-java", f"{JARS}/h2.jar", ("java", "release")),
     Package("junit5", f"{JARS}/junit-jupiter-engine.jar", ("commons-pool",)),
     Package("libcglib-java", f"{JARS}/cglib.jar", ("commons-pool",)),
     Package("libhikaricp-java", f"{JARS}/HikariCP.jar", ("benchmarks",)),
     Package("libslf4j-java", f"{JARS}/slf4j-api.jar", ("benchmarks",)),
-    Package("postgresql", "/usr/lib/postgresql/*/bin/initdb", ("postgres",)),
-    Package("libpq-dev", "/usr/include/postgresql/libpq-fe.h", ("postgres",)),
-    Package("libpostgresql-jdbc-java", f"{JARS}/postgresql.jar", ("postgres",)),
-    Package("librust-tokio-postgres-dev", f"{CRATES}/tokio-postgres-[0-9]*", ("postgres",)),
+    Package("postgresql", "/usr/lib/postgresql/*/bin/initdb", OVER_POSTGRES),
+    Package("libpq-dev", "/usr/include/postgresql/libpq-fe.h", OVER_POSTGRES),
+    Package("libpostgresql-jdbc-java", f"{JARS}/postgresql.jar", OVER_POSTGRES),
+    Package("librust-tokio-postgres-dev", f"{CRATES}/tokio-postgres-[0-9]*", OVER_POSTGRES),
 )

@@ -1,0 +1,25 @@
+import java.time.Duration;
+import javax.sql.DataSource;
+import org.apache.commons.dbcp2.DriverManagerConnectionFactory;
+import org.apache.commons.dbcp2.PoolableConnection;
+import org.apache.commons.dbcp2.PoolableConnectionFactory;
+import org.apache.commons.dbcp2.PoolingDataSource;
+import org.apache.commons.pool2.impl.GenericObjectPoolConfig;
+import zuphinka.ZuphinkaPool;
+
+/** DBCP2's {@code PoolingDataSource} over a {@code ZuphinkaPool}. */
+final class Zuphinka implements Opener {
+    @Override
+    public DataSource open(String url) {
+        PoolableConnectionFactory factory = new PoolableConnectionFactory(new DriverManagerConnectionFactory(url), null);
+        factory.setDefaultAutoCommit(false);
+        GenericObjectPoolConfig<PoolableConnection> config = new GenericObjectPoolConfig<>();
+        config.setMaxTotal(CONNECTIONS);
+        config.setMaxIdle(CONNECTIONS);
+        config.setTestOnBorrow(true);
+        config.setMaxWait(Duration.ofMillis(LONGEST_WAIT));
+        ZuphinkaPool<PoolableConnection> pool = new ZuphinkaPool<>(factory, config);
+        factory.setPool(pool);
+        return new PoolingDataSource<>(pool);
+    }
+}
