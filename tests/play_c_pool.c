@@ -5,11 +5,12 @@
  *     play_c_pool sink AT FOLDER                        a pool whose `store` fails at call AT, from 1
  *     play_c_pool random SEED THREADS CALLS FOLDER      threads that call a pool at random, over callbacks that fail at random
  *     play_c_pool soak PAIRS THREADS                    threads that borrow and return PAIRS times together, without a journal
+ *     play_c_pool metrics PAIRS THREADS                 the same, while the metrics are read
  *
  * `sink` and `random` write the journal's segments to files of the folder, each named for its first position, and the settings to the file
  * `settings`. They print `steps N`, how many entries there were; `sink` prints also how often `store` was called, and `random` a line
  * `caller NUMBER lent N` for each thread. In `soak` the memory of the process must not grow by more than a tenth, or SLACK bytes, after the
- * first tenth of the pairs. Exits with status 0; or with status 4 and a line on standard error that says what is wrong. */
+ * first tenth of the pairs. `metrics` prints the texts of the metrics, the last one after all pairs. Exits with status 0; or with status 4 and a line on standard error that says what is wrong. */
 #define _POSIX_C_SOURCE 200809L
 
 #include <inttypes.h>
@@ -29,7 +30,7 @@ enum {
   WRONG = 4,
   LONG = 60000, /* milliseconds, after which a wait has failed */
   LONGEST_TEXT = 1 << 16,
-  LAST_ERROR = ZUPHINKA_POOL_ERROR_FOREIGN,
+  LAST_ERROR = ZUPHINKA_POOL_ERROR_BUFFER_TOO_SMALL,
   SLACK = 1 << 20,
 };
 
@@ -783,6 +784,122 @@ static void test_texts(void) {
     check(*text && strcmp(text, none) != 0);
     for (int other = 0; other < n; other++) check(strcmp(text, zuphinka_pool_error_text((enum zuphinka_pool_error)other)) != 0);
   }
+}
+
+/* ---- metrics */
+
+/* Returns the metrics of some pools, up to `size`. */
+static enum zuphinka_pool_error read_metrics(const struct zuphinka_pool_named *pools, size_t count, char text[LONGEST_TEXT]) {
+  size_t size = 0;
+  enum zuphinka_pool_error error = zuphinka_pool_metrics(pools, count, text, LONGEST_TEXT - 1, &size);
+  text[error ? 0 : size] = 0;
+  return error;
+}
+
+/* Appends the samples of a histogram of a pool whose name is written "n": before each of two bounds it has so many times, and after the second all. */
+static void append_histogram(char *text, const char *name, const char *bounds[2], const int counts[3], const char *sum) {
+  static const char *const all[] = {"0.0001", "0.00025", "0.0005", "0.001", "0.0025", "0.005", "0.01", "0.025", "0.05", "0.1",
+                                    "0.25",   "0.5",     "1.0",    "2.5",   "5.0",    "10.0",  "25.0", "50.0",  "100.0"};
+  int stage = 0;
+  for (size_t n = 0; n < sizeof all / sizeof *all; n++) {
+    while (stage < 2 && strcmp(all[n], bounds[stage]) == 0) stage++;
+    text += sprintf(text, "%s_bucket{pool=\"n\",le=\"%s\"} %d\n", name, all[n], counts[stage]);
+  }
+  sprintf(text, "%s_bucket{pool=\"n\",le=\"+Inf\"} %d\n%s_count{pool=\"n\"} %d\n%s_sum{pool=\"n\"} %s\n", name, counts[2], name, counts[2], name, sum);
+}
+
+/* A loan of 3 ms that is returned and one of 2 s that is invalidated; waits of what the clock moves while an object is made and of none; and a borrow
+ * that times out at once. Returns a third loan, which lasts. */
+static struct zuphinka_pool_loan lend_measured(struct zuphinka_pool *pool) {
+  struct zuphinka_pool_loan other;
+  atomic_store(&maker.now, 1000);
+  atomic_store(&maker.ticks, 11);
+  struct zuphinka_pool_loan loan = lend(pool);
+  atomic_store(&maker.ticks, 0);
+  atomic_store(&maker.now, 1003 + 11 * LOOKS_AFTER_MAKE);
+  give_back(pool, &loan);
+  loan = lend(pool);
+  check_error(zuphinka_pool_get(pool, &other), ZUPHINKA_POOL_ERROR_TIMED_OUT);
+  atomic_fetch_add(&maker.now, 2000);
+  invalidate(pool, &loan);
+  return lend(pool);
+}
+
+static void test_metrics(void) {
+  static char wanted[LONGEST_TEXT], found[LONGEST_TEXT];
+  const struct zuphinka_pool_named named = {open_kept("maxTotal = 1\nmaxWaitMillis = 0\n", 1), "n"};
+  struct zuphinka_pool_loan loan = lend_measured(named.pool);
+  strcpy(wanted, "# TYPE zuphinka_idle_objects gauge\n# UNIT zuphinka_idle_objects objects\n# HELP zuphinka_idle_objects Idle objects.\n"
+                 "zuphinka_idle_objects{pool=\"n\"} 0\n"
+                 "# TYPE zuphinka_lent_objects gauge\n# UNIT zuphinka_lent_objects objects\n# HELP zuphinka_lent_objects Lent objects.\n"
+                 "zuphinka_lent_objects{pool=\"n\"} 1\n"
+                 "# TYPE zuphinka_waiting_borrows gauge\n# UNIT zuphinka_waiting_borrows borrows\n"
+                 "# HELP zuphinka_waiting_borrows Borrows that wait for an object.\nzuphinka_waiting_borrows{pool=\"n\"} 0\n"
+                 "# TYPE zuphinka_created_objects counter\n# UNIT zuphinka_created_objects objects\n"
+                 "# HELP zuphinka_created_objects Objects that the pool began to make.\nzuphinka_created_objects_total{pool=\"n\"} 2\n"
+                 "# TYPE zuphinka_destroyed_objects counter\n# UNIT zuphinka_destroyed_objects objects\n"
+                 "# HELP zuphinka_destroyed_objects Objects that were destroyed, reclaimed, or could not be made.\n"
+                 "zuphinka_destroyed_objects_total{pool=\"n\"} 1\n"
+                 "# TYPE zuphinka_borrows counter\n# UNIT zuphinka_borrows borrows\n# HELP zuphinka_borrows Borrows that got an object.\n"
+                 "zuphinka_borrows_total{pool=\"n\"} 3\n"
+                 "# TYPE zuphinka_timeouts counter\n# UNIT zuphinka_timeouts timeouts\n# HELP zuphinka_timeouts Borrows that timed out.\n"
+                 "zuphinka_timeouts_total{pool=\"n\"} 1\n"
+                 "# TYPE zuphinka_wait_seconds histogram\n# UNIT zuphinka_wait_seconds seconds\n"
+                 "# HELP zuphinka_wait_seconds How long borrows took that got an object.\n");
+  append_histogram(wanted + strlen(wanted), "zuphinka_wait_seconds", (const char *[]){"0.025", "0.025"}, (const int[]){2, 2, 3},
+                   LOOKS_AFTER_MAKE == 1 ? "0.011000000" : "0.022000000");
+  strcat(wanted, "# TYPE zuphinka_loan_seconds histogram\n# UNIT zuphinka_loan_seconds seconds\n"
+                 "# HELP zuphinka_loan_seconds How long objects were lent that were not reclaimed, by the end of their loans.\n");
+  append_histogram(wanted + strlen(wanted), "zuphinka_loan_seconds", (const char *[]){"0.005", "2.5"}, (const int[]){0, 1, 2}, "2.003000000");
+  strcat(wanted, "# EOF\n");
+  check_error(read_metrics(&named, 1, found), ZUPHINKA_POOL_ERROR_NONE);
+  check_text(found, wanted);
+  give_back(named.pool, &loan);
+  end_pool(named.pool);
+}
+
+/* A text is stored as far as there is room for it, and its size always. The name of a pool may have any bytes. */
+static void test_metrics_of_some_pools(void) {
+  static char whole[LONGEST_TEXT], part[LONGEST_TEXT];
+  struct zuphinka_pool *pool = open_kept("", 8);
+  const struct zuphinka_pool_named named[] = {{pool, "a"}, {pool, "say \"b\\\"\nc"}};
+  size_t size = 7, needed = 0;
+  check_error(zuphinka_pool_metrics(named, 2, NULL, 0, &size), ZUPHINKA_POOL_ERROR_BUFFER_TOO_SMALL);
+  check_error(read_metrics(named, 2, whole), ZUPHINKA_POOL_ERROR_NONE);
+  check(size == strlen(whole));
+  check(strstr(whole, "zuphinka_idle_objects{pool=\"a\"} 0\nzuphinka_idle_objects{pool=\"say \\\"b\\\\\\\"\\nc\"} 0\n# TYPE "));
+  check(strcmp(whole + size - strlen(ZUPHINKA_POOL_METRICS_END), ZUPHINKA_POOL_METRICS_END) == 0);
+  check_error(zuphinka_pool_metrics(named, 2, part, size, &needed), ZUPHINKA_POOL_ERROR_NONE);
+  check(needed == size && strcmp(part, whole) == 0);
+  memset(part, 'u', size);
+  check_error(zuphinka_pool_metrics(named, 2, part, size - 1, &needed), ZUPHINKA_POOL_ERROR_BUFFER_TOO_SMALL);
+  check(needed == size && memcmp(part, whole, size - 1) == 0 && part[size - 1] == 'u');
+  check_error(zuphinka_pool_metrics(NULL, 0, part, size, &needed), ZUPHINKA_POOL_ERROR_NONE);
+  check(needed < size && memcmp(part, "# TYPE ", 7) == 0);
+  check_error(zuphinka_pool_metrics(NULL, 1, part, size, &needed), ZUPHINKA_POOL_ERROR_NULL_POINTER);
+  check_error(zuphinka_pool_metrics(named, 1, part, size, NULL), ZUPHINKA_POOL_ERROR_NULL_POINTER);
+  end_pool(pool);
+}
+
+/* Returns the number of a pool named "n" behind the name of a sample. */
+static uint64_t number_of(const char *text, const char *sample) {
+  char line[128];
+  snprintf(line, sizeof line, "\n%s{pool=\"n\"} ", sample);
+  const char *found = strstr(text, line);
+  check(found);
+  return strtoull(found + strlen(line), NULL, 10);
+}
+
+/* The metrics of a pool in which nothing is lent agree with its counts. */
+static void check_metrics(struct zuphinka_pool *pool, const struct zuphinka_tally *counts, bool is_short) {
+  static char text[LONGEST_TEXT];
+  enum zuphinka_pool_error error = read_metrics(&(struct zuphinka_pool_named){pool, "n"}, 1, text);
+  if (error == ZUPHINKA_POOL_ERROR_OUT_OF_MEMORY && is_short) return;
+  check_error(error, ZUPHINKA_POOL_ERROR_NONE);
+  check(number_of(text, "zuphinka_created_objects_total") == counts->created);
+  check(number_of(text, "zuphinka_destroyed_objects_total") == counts->destroyed + counts->reclaimed);
+  check(number_of(text, "zuphinka_loan_seconds_count") == number_of(text, "zuphinka_borrows_total") - counts->reclaimed);
+  check(number_of(text, "zuphinka_waiting_borrows") == 0 && number_of(text, "zuphinka_lent_objects") == 0);
 }
 
 /* ---- journals */
@@ -2136,6 +2253,7 @@ static void close_table(struct table *table) {
   struct zuphinka_tally counts = counts_of(table->pool);
   check(counts.idle == 0 && counts.lent == 0 && counts.reserved == 0 && counts.created == counts.destroyed + counts.reclaimed);
   check(atomic_load(&maker.alive) == 0);
+  check_metrics(table->pool, &counts, table->is_short);
   enum zuphinka_pool_error error = ZUPHINKA_POOL_ERROR_STORE_FAILED;
   for (int tries = 0; table->journal == ZUPHINKA_POOL_JOURNAL_MEMORY && error && tries < 1000; tries++) {
     error = zuphinka_pool_cut(table->pool, store_segment, &maker, NULL);
@@ -2220,6 +2338,34 @@ static void run_soak(uint64_t pairs, int threads) {
   end_pool(pool);
 }
 
+/* Prints the metrics of a pool, which has the name "a", a quote, a backslash and a line feed. */
+static void print_metrics(struct zuphinka_pool *pool) {
+  static char text[LONGEST_TEXT];
+  check_error(read_metrics(&(struct zuphinka_pool_named){pool, "a\"\\\n"}, 1, text), ZUPHINKA_POOL_ERROR_NONE);
+  fputs(text, stdout);
+}
+
+static void run_metrics(uint64_t pairs, int threads) {
+  static struct borrower borrowers[MOST_THREADS];
+  struct zuphinka_pool_host host = host_of(&maker);
+  struct zuphinka_pool *pool;
+  check(threads > 0 && threads <= MOST_THREADS);
+  host.now = NULL;
+  check_error(zuphinka_pool_open(&pool, "maxTotal = 3\n", 13, &host, ZUPHINKA_POOL_JOURNAL_OFF), ZUPHINKA_POOL_ERROR_NONE);
+  for (int n = 0; n < threads; n++) {
+    borrowers[n].pool = pool;
+    borrowers[n].rounds = pairs / (uint64_t)threads;
+    check(pthread_create(&borrowers[n].thread, NULL, borrow_for_long, &borrowers[n]) == 0);
+  }
+  while (pairs_of(borrowers, threads) < pairs) {
+    print_metrics(pool);
+    sleep_for(1);
+  }
+  for (int n = 0; n < threads; n++) check(pthread_join(borrowers[n].thread, NULL) == 0);
+  print_metrics(pool);
+  end_pool(pool);
+}
+
 /* ---- the run */
 
 #define TEST(name) \
@@ -2256,6 +2402,8 @@ static const struct {
     TEST(closed),
     TEST(opens),
     TEST(texts),
+    TEST(metrics),
+    TEST(metrics_of_some_pools),
     TEST(full_journal),
     TEST(closed_with_a_full_journal),
     TEST(dropped_journal),
@@ -2317,6 +2465,8 @@ int main(int count, char **arguments) {
     run_random(strtoull(arguments[2], NULL, 10), atoi(arguments[3]), atoi(arguments[4]), arguments[5]);
   } else if (strcmp(kind, "soak") == 0 && count == 4) {
     run_soak(strtoull(arguments[2], NULL, 10), atoi(arguments[3]));
+  } else if (strcmp(kind, "metrics") == 0 && count == 4) {
+    run_metrics(strtoull(arguments[2], NULL, 10), atoi(arguments[3]));
   } else {
     check(!"a kind of run");
   }

@@ -13,6 +13,7 @@ of its codes is named after its enum. All that follows is of each source.
   ended takes none, no more objects exist than maxTotal allows, and none is left; the program `pool` must judge the journal legal, whatever segments
   it has; it must have each loan that the threads counted; and all journals together must have each answer.
 - A pool without a journal lends SOAKED times to THREADS threads, in memory that does not grow.
+- While THREADS threads borrow MEASURED times, each text of its metrics is in the format, and in the end their sums are right (tests/openmetrics.py).
 - bindings/c/shared_life.c must write the segments of a legal journal, with SHARED_ROUNDS loans for each thread. A second run over the same folder
   must fail, and leave them as they are.
 - The same must hold while one allocation in REFUSE_OF fails (tests/refuse.c), and some must have failed in each of FEW_SEEDS runs.
@@ -31,6 +32,7 @@ import subprocess
 import sys
 import tempfile
 
+import openmetrics
 from play_library import FLAGS, TOP, VALGRIND, compiler, header_runs, heap
 from playing import differing
 from preloading import preloaded
@@ -41,6 +43,7 @@ POOL_FLAGS = [*FLAGS, "-pthread", "-I", TOP / "bindings/c"]
 SOURCES = {"zuphinka_pool.c": [], "zuphinka_driven_pool.c": ["-DDRIVEN"]}
 SEEDS, THREADS, CALLS = 15, 4, 2_000
 SHARED_ROUNDS, SOAKED = 5_000, 3_000_000
+MEASURED = 400_000
 # Under valgrind and ThreadSanitizer, and while allocations fail.
 FEW_SEEDS, FEW_CALLS, MORE_THREADS = 6, 400, 8
 REFUSE_OF = 20
@@ -129,6 +132,13 @@ class Runs:
         """What differs in a long life without a journal."""
         return differing(f"{self.name}, {SOAKED} pairs", (b"", b"", 0), self.run("soak", str(SOAKED), str(THREADS)))
 
+    def metrics(self):
+        """What differs in the metrics that are read while threads borrow."""
+        done = self.run("metrics", str(MEASURED), str(THREADS))
+        texts = openmetrics.texts_of(done.stdout.decode())
+        fault = openmetrics.fault_of(openmetrics.check_course, texts, MEASURED) or ("" if len(texts) > 2 else f"{len(texts)} texts")
+        return differing(f"{self.name}, metrics", (done.stdout, b"", 0), done) + ([f"{self.name}, metrics: {fault}"] if fault else [])
+
     def shared(self, program):
         """What differs where the example lends connections to threads."""
         with tempfile.TemporaryDirectory() as path:
@@ -198,7 +208,7 @@ def differences(source, library, pool, folder, watches):
     with concurrent.futures.ThreadPoolExecutor(os.cpu_count()) as workers:
         found = list(workers.map(lambda call: call[0](*call[1:]), calls))
     shared = built(folder, "shared_life", source, library, [], TOP / "bindings/c/shared_life.c")
-    found += [plain.soak(), plain.shared(shared), *plain.sinks()]
+    found += [plain.soak(), plain.metrics(), plain.shared(shared), *plain.sinks()]
     missing = ANSWERS - plain.answers
     return [*found, [f"{source}: no journal has {sorted(missing)}"] if missing else []]
 

@@ -3,7 +3,7 @@
 
     play_install.py LIBRARY
 
-LIBRARY is libzuphinka.a, as `rt lib` builds it. The headers and the source of the pool must be those of bindings/c, and pkg-config must have the
+LIBRARY is libzuphinka.a, as `rt lib` builds it. The headers and the sources of the pool must be those of bindings/c, and pkg-config must have the
 version of the header. bindings/c/plain_life.c and bindings/c/shared_life.c, copied to a folder by themselves, must compile with the flags that
 pkg-config prints, and run. If pkg-config isn't installed, nothing is compiled, which is printed. Without a library nothing is installed, with status 1.
 
@@ -28,6 +28,7 @@ INSTALLED = {
     "include/zuphinka.h": SOURCES / "zuphinka.h",
     "include/zuphinka_pool.h": SOURCES / "zuphinka_pool.h",
     "share/zuphinka/zuphinka_pool.c": SOURCES / "zuphinka_pool.c",
+    "share/zuphinka/zuphinka_pool_metrics.h": SOURCES / "zuphinka_pool_metrics.h",
 }
 THREADS, ROUNDS = 4, 500
 # A run that takes longer hangs, in seconds.

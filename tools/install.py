@@ -10,7 +10,7 @@ archive. Installed are
     include/zuphinka.h, include/zuphinka_pool.h
     lib/libzuphinka.a             the library, what it allocates by, and the pool for threads
     lib/pkgconfig/zuphinka.pc
-    share/zuphinka/zuphinka_pool.c
+    share/zuphinka/zuphinka_pool.c, share/zuphinka/zuphinka_pool_metrics.h
 
 so that a program is built by
 
@@ -30,6 +30,8 @@ import tempfile
 TOP = pathlib.Path(__file__).resolve().parent.parent
 HEADERS = [TOP / "bindings/c/zuphinka.h", TOP / "bindings/c/zuphinka_pool.h"]
 POOL = TOP / "bindings/c/zuphinka_pool.c"
+# The source, and the header that it alone includes.
+SOURCES = [POOL, TOP / "bindings/c/zuphinka_pool_metrics.h"]
 PKG_CONFIG = """prefix={prefix}
 includedir=${{prefix}}/include
 libdir=${{prefix}}/lib
@@ -88,7 +90,7 @@ def install(prefix, named, library, heap):
     for folder in include, lib / "pkgconfig", share:
         folder.mkdir(parents=True, exist_ok=True)
     merge(lib / "libzuphinka.a", library, heap)
-    installed = [shutil.copy(header, include) for header in HEADERS] + [shutil.copy(POOL, share)]
+    installed = [shutil.copy(header, include) for header in HEADERS] + [shutil.copy(source, share) for source in SOURCES]
     description = lib / "pkgconfig/zuphinka.pc"
     description.write_text(PKG_CONFIG.format(prefix=named, version=version()))
     return [*installed, lib / "libzuphinka.a", description]

@@ -17,6 +17,8 @@
 #include <time.h>
 #include <unistd.h>
 
+#include "zuphinka_pool_metrics.h"
+
 enum {
   CUT = 256, /* the condition of threads that wait for a cut; those before it are for threads that wait for an object */
   CONDITIONS,
@@ -48,6 +50,11 @@ struct condition {
   atomic_uint_least64_t wakes; /* how often it was to be signalled; a thread that pauses reads it without the lock */
 };
 
+/* A place of a loan: its number, or 0 while a call begins or ends it, and when its object was lent, in nanoseconds; or the next free place. */
+struct place {
+  uint64_t number, lent_at;
+};
+
 struct zuphinka_pool {
   struct zuphinka_pool_host host;
   enum zuphinka_pool_journal journal;
@@ -61,7 +68,8 @@ struct zuphinka_pool {
 
   pthread_mutex_t lock; /* of all that follows */
   struct zuphinka core;
-  uint64_t *places;        /* each has the number of its loan, or 0 while a call begins or ends it; or the next free place */
+  struct measures measures;
+  struct place *places;    /* of loans */
   uint64_t capacity, free; /* how many places there are; the first free one, or `capacity` */
   uint64_t last_loan;      /* its number, which is greater than that of any place */
   uint64_t cuts;           /* how often the journal was cut */
@@ -76,6 +84,7 @@ struct run {
   struct zuphinka_start start;
   struct zuphinka_effects next; /* what the thread does next */
   struct zuphinka_event event;  /* what became of its last action */
+  struct moment first, at;      /* when the clock was first and last read */
   uint64_t wakes;               /* of the condition that it is to sleep on, before that */
   int64_t limit;                /* when it waits no longer, besides what the settings say */
 };
@@ -112,6 +121,7 @@ static const struct {
     [ZUPHINKA_POOL_ERROR_NULL_POINTER] = {.text = "a pointer is null"},
     [ZUPHINKA_POOL_ERROR_UNKNOWN_JOURNAL] = {.text = "the journal has no such use"},
     [ZUPHINKA_POOL_ERROR_FOREIGN] = {.text = "the object is not one of the pool's"},
+    [ZUPHINKA_POOL_ERROR_BUFFER_TOO_SMALL] = {.text = "the text does not fit into the buffer"},
 };
 
 /* ---- time and numbers of threads */
@@ -129,9 +139,17 @@ static int64_t after(uint64_t milliseconds) {
   return monotonic() + (int64_t)(milliseconds < LONGEST_WAIT ? milliseconds : LONGEST_WAIT) * MILLISECOND;
 }
 
-/* Returns the time by the pool's clock, in milliseconds, without the lock. */
-static uint64_t time_of(const struct zuphinka_pool *pool) {
-  return pool->host.now ? pool->host.now(pool->host.context) : (uint64_t)((monotonic() - pool->opened) / MILLISECOND);
+/* Returns the time by the pool's clock, without the lock. */
+static struct moment time_of(const struct zuphinka_pool *pool) {
+  struct moment now;
+  if (pool->host.now) {
+    now.milliseconds = pool->host.now(pool->host.context);
+    now.nanoseconds = now.milliseconds * (uint64_t)MILLISECOND;
+  } else {
+    now.nanoseconds = (uint64_t)(monotonic() - pool->opened);
+    now.milliseconds = now.nanoseconds / (uint64_t)MILLISECOND;
+  }
+  return now;
 }
 
 uint32_t zuphinka_pool_caller(void) {
@@ -175,10 +193,10 @@ static void unlock(struct zuphinka_pool *pool) {
 }
 
 /* Reads the clock with the lock held. A clock of the host's runs without it. */
-static uint64_t time_under_lock(struct zuphinka_pool *pool) {
+static struct moment time_under_lock(struct zuphinka_pool *pool) {
   if (!pool->host.now) return time_of(pool);
   unlock(pool);
-  uint64_t at = time_of(pool);
+  struct moment at = time_of(pool);
   lock(pool);
   return at;
 }
@@ -203,6 +221,20 @@ static struct zuphinka_activity state_of(struct zuphinka_pool *pool) {
   struct zuphinka_activity state = {.running = 0};
   zuphinka_state(&pool->core, &state);
   return state;
+}
+
+/* Notes what the clock says to a call. */
+static void set_time(struct run *run, struct moment at) {
+  run->at = at;
+  run->event.at = at.milliseconds;
+}
+
+/* Returns a call that begins now, and waits until a limit. It lacks memory if it does not get on. */
+static struct run begin_run(const struct zuphinka_pool *pool, struct zuphinka_start start, int64_t limit) {
+  struct run run = {.start = start, .next = {.end = ZUPHINKA_END_OUT_OF_MEMORY}, .first = time_of(pool), .limit = limit};
+  run.start.at = run.first.milliseconds;
+  set_time(&run, run.first);
+  return run;
 }
 
 /* Returns when the wait of a call ends, by the settings or by its caller. */
@@ -230,7 +262,7 @@ static uint32_t wait_for_wake(struct zuphinka_pool *pool, struct run *run) {
   int64_t end = end_of_wait(run);
   pause_until_woken(pool, condition, run->wakes, end);
   while (condition->wakes == run->wakes && sleep_on(pool, condition, end)) continue;
-  run->event.at = time_under_lock(pool);
+  set_time(run, time_under_lock(pool));
   return ZUPHINKA_REPORT_WOKEN;
 }
 
@@ -240,20 +272,20 @@ static uint32_t wait_for_wake(struct zuphinka_pool *pool, struct run *run) {
 static bool take_place(struct zuphinka_pool *pool, uint64_t *place) {
   if (pool->free == pool->capacity) {
     uint64_t capacity = 2 * pool->capacity + FIRST_PLACES;
-    uint64_t *places = realloc(pool->places, capacity * sizeof *places);
+    struct place *places = realloc(pool->places, capacity * sizeof *places);
     if (!places) return false;
-    for (uint64_t n = pool->capacity; n < capacity; n++) places[n] = n + 1;
+    for (uint64_t n = pool->capacity; n < capacity; n++) places[n].number = n + 1;
     pool->places = places;
     pool->capacity = capacity;
   }
   *place = pool->free;
-  pool->free = pool->places[*place];
-  pool->places[*place] = 0;
+  pool->free = pool->places[*place].number;
+  pool->places[*place].number = 0;
   return true;
 }
 
 static void free_place(struct zuphinka_pool *pool, uint64_t place) {
-  pool->places[place] = pool->free;
+  pool->places[place].number = pool->free;
   pool->free = place;
 }
 
@@ -261,7 +293,7 @@ static void free_place(struct zuphinka_pool *pool, uint64_t place) {
 static enum zuphinka_pool_error error_of_loan(const struct zuphinka_pool *pool, const struct zuphinka_pool_loan *loan) {
   if (loan->id == ZUPHINKA_POOL_NO_LOAN) return ZUPHINKA_POOL_ERROR_NOT_LENT;
   if (loan->pool != pool->number) return ZUPHINKA_POOL_ERROR_FOREIGN;
-  bool is_lent = loan->place < pool->capacity && pool->places[loan->place] == loan->number;
+  bool is_lent = loan->place < pool->capacity && pool->places[loan->place].number == loan->number;
   return is_lent ? ZUPHINKA_POOL_ERROR_NONE : ZUPHINKA_POOL_ERROR_NOT_LENT;
 }
 
@@ -371,7 +403,7 @@ static uint32_t make_room(struct zuphinka_pool *pool, struct run *run) {
   uint64_t cuts = pool->cuts;
   if (pool->journal != ZUPHINKA_POOL_JOURNAL_SEGMENTS) return ZUPHINKA_REPORT_NO_ROOM;
   if (wait_for_cut(pool, end_of_wait(run)) && pool->cuts == cuts) cut_and_store(pool, pool->host.store, pool->host.context, NULL);
-  run->event.at = time_under_lock(pool);
+  set_time(run, time_under_lock(pool));
   return pool->cuts != cuts ? ZUPHINKA_REPORT_ROOM_MADE : ZUPHINKA_REPORT_NO_ROOM;
 }
 
@@ -427,7 +459,7 @@ static uint32_t act(struct zuphinka_pool *pool, struct run *run) {
     case ZUPHINKA_ACTION_DESTROY: host->destroy(context, object); break;
     default: broken(run, ZUPHINKA_STATUS_DONE);
   }
-  run->event.at = time_of(pool);
+  set_time(run, time_of(pool));
   lock(pool);
   return succeeds ? report : ZUPHINKA_REPORT_FAILED;
 }
@@ -442,8 +474,6 @@ static void wake_more(struct zuphinka_pool *pool) {
 static enum zuphinka_pool_error drive(struct zuphinka_pool *pool, struct run *run) {
   struct zuphinka_call call;
   run->start.caller = run->event.caller = zuphinka_pool_caller();
-  run->event.at = run->start.at;
-  run->next.end = ZUPHINKA_END_OUT_OF_MEMORY; /* if it can't begin */
   uint32_t status = zuphinka_begin(&pool->core, &run->start, &call, &run->next);
   if (status == ZUPHINKA_STATUS_OUT_OF_MEMORY) return error_of_end(pool, run);
   while (status == ZUPHINKA_STATUS_DONE) {
@@ -479,7 +509,7 @@ static bool take_back(struct zuphinka_pool *pool, const struct run *run) {
 }
 
 static enum zuphinka_pool_error borrow(struct zuphinka_pool *pool, int64_t limit, struct zuphinka_pool_loan *loan) {
-  struct run run = {.start = {.at = time_of(pool), .kind = ZUPHINKA_KIND_BORROW}, .next = {.end = ZUPHINKA_END_OUT_OF_MEMORY}, .limit = limit};
+  struct run run = begin_run(pool, (struct zuphinka_start){.kind = ZUPHINKA_KIND_BORROW}, limit);
   uint64_t place = 0;
   lock(pool);
   keep_room(pool, pool->low, false);
@@ -488,11 +518,13 @@ static enum zuphinka_pool_error borrow(struct zuphinka_pool *pool, int64_t limit
   if (!has_place) error = error_of_end(pool, &run);
   else if (!lend(pool, &run)) error = drive(pool, &run);
   if (!error) {
-    pool->places[place] = ++pool->last_loan;
+    pool->places[place] = (struct place){.number = ++pool->last_loan, .lent_at = run.at.nanoseconds};
     *loan = (struct zuphinka_pool_loan){run.next.object, run.next.number, pool->number, place, pool->last_loan};
+    measure(&pool->measures.waits, run.first.nanoseconds, run.at.nanoseconds);
   } else if (has_place) {
     free_place(pool, place);
   }
+  pool->measures.timeouts += error == ZUPHINKA_POOL_ERROR_TIMED_OUT;
   unlock(pool);
   return error;
 }
@@ -507,14 +539,15 @@ enum zuphinka_pool_error zuphinka_pool_get_timed(struct zuphinka_pool *pool, uin
 
 /* Ends a loan by a return or an invalidation. Meanwhile no copy of it is a loan. It has not ended if the call lacked something. */
 static enum zuphinka_pool_error end_loan(struct zuphinka_pool *pool, uint32_t kind, struct zuphinka_pool_loan *loan) {
-  struct run run = {.start = {.at = time_of(pool), .id = loan->id, .object = loan->object, .kind = kind}, .limit = NEVER};
+  struct run run = begin_run(pool, (struct zuphinka_start){.id = loan->id, .object = loan->object, .kind = kind}, NEVER);
   uint64_t place = loan->place, number = loan->number;
   lock(pool);
   enum zuphinka_pool_error error = error_of_loan(pool, loan);
   if (!error) {
-    pool->places[place] = 0;
+    pool->places[place].number = 0;
     if (kind != ZUPHINKA_KIND_RETURN || !take_back(pool, &run)) error = drive(pool, &run);
-    pool->places[place] = number;
+    pool->places[place].number = number;
+    if (!error) measure(&pool->measures.loans, pool->places[place].lent_at, run.first.nanoseconds);
     if (!error || error == ZUPHINKA_POOL_ERROR_GONE) {
       free_place(pool, place);
       *loan = (struct zuphinka_pool_loan){.id = ZUPHINKA_POOL_NO_LOAN};
@@ -533,7 +566,7 @@ enum zuphinka_pool_error zuphinka_pool_invalidate(struct zuphinka_pool *pool, st
 }
 
 enum zuphinka_pool_error zuphinka_pool_touch(struct zuphinka_pool *pool, const struct zuphinka_pool_loan *loan) {
-  struct run run = {.start = {.at = time_of(pool), .id = loan->id, .kind = ZUPHINKA_KIND_TOUCH}, .limit = NEVER};
+  struct run run = begin_run(pool, (struct zuphinka_start){.id = loan->id, .kind = ZUPHINKA_KIND_TOUCH}, NEVER);
   lock(pool);
   enum zuphinka_pool_error error = error_of_loan(pool, loan);
   if (!error) error = drive(pool, &run);
@@ -543,7 +576,7 @@ enum zuphinka_pool_error zuphinka_pool_touch(struct zuphinka_pool *pool, const s
 
 /* Makes a call that is for no object. Stores what it came to. */
 static enum zuphinka_pool_error call(struct zuphinka_pool *pool, uint32_t kind, struct zuphinka_effects *last) {
-  struct run run = {.start = {.at = time_of(pool), .kind = kind}, .limit = NEVER};
+  struct run run = begin_run(pool, (struct zuphinka_start){.kind = kind}, NEVER);
   lock(pool);
   enum zuphinka_pool_error error = drive(pool, &run);
   unlock(pool);
@@ -604,6 +637,14 @@ bool zuphinka_pool_is_closed(struct zuphinka_pool *pool) {
 void zuphinka_pool_counts(struct zuphinka_pool *pool, struct zuphinka_tally *counts) {
   lock(pool);
   zuphinka_counts(&pool->core, counts);
+  unlock(pool);
+}
+
+static void take_snapshot(struct zuphinka_pool *pool, struct snapshot *snapshot) {
+  lock(pool);
+  snapshot->measures = pool->measures;
+  snapshot->waiting = state_of(pool).waiting;
+  zuphinka_counts(&pool->core, &snapshot->counts);
   unlock(pool);
 }
 
@@ -717,5 +758,5 @@ enum zuphinka_pool_error zuphinka_pool_end(struct zuphinka_pool *pool) {
 }
 
 const char *zuphinka_pool_error_text(enum zuphinka_pool_error error) {
-  return (unsigned)error <= ZUPHINKA_POOL_ERROR_FOREIGN ? errors[error].text : "the code is no error";
+  return (unsigned)error <= ZUPHINKA_POOL_ERROR_BUFFER_TOO_SMALL ? errors[error].text : "the code is no error";
 }

@@ -14,6 +14,8 @@
 #include <time.h>
 #include <unistd.h>
 
+#include "zuphinka_pool_metrics.h"
+
 enum {
   KEPT = 1024,          /* entries that a pool without a journal keeps at least before it drops them */
   FIRST_PLACES = 16,    /* of loans */
@@ -41,9 +43,14 @@ struct segment {
   uint64_t first, entries;
 };
 
-/* The loans that have not ended. Each has a place, which has the number of the loan; a free place has the next free one, with the bit FREE. */
+/* A place of a loan: the number of the loan, and when its object was lent, in nanoseconds; or the next free place, with the bit FREE. */
+struct place {
+  uint64_t number, lent_at;
+};
+
+/* The loans that have not ended. */
 struct loans {
-  uint64_t *places;
+  struct place *places;
   uint64_t capacity, free; /* the first free place; or `capacity`, if none is free */
   uint64_t begun;
 };
@@ -90,6 +97,7 @@ struct zuphinka_pool {
   uint64_t idle;    /* objects whose tokens the core has */
   struct loans loans;
   struct queue queue;
+  struct measures measures;
   uint64_t stored, dropped; /* entries in the journal; entries cut off before them */
   uint64_t most;            /* entries from which on a pool without a journal drops them */
   uint64_t low;             /* the room below which a segment is stored */
@@ -105,7 +113,9 @@ enum patience { AS_SET, NOT_AT_ALL, UNTIL };
 
 /* A borrow, while it looks for an object. */
 struct wait {
-  uint64_t began, at; /* by the pool's clock: when it began, and when the clock was read last */
+  uint64_t began;       /* when it began, in milliseconds by the pool's clock, but not before the last entry */
+  struct moment first;   /* when it began */
+  struct moment at;     /* when the clock was read last */
   enum patience patience;
   struct timespec until; /* for UNTIL, by CLOCK_MONOTONIC */
   bool is_back;          /* it took an idle object, which failed: it goes before those that wait */
@@ -140,12 +150,18 @@ static bool is_before(struct timespec one, struct timespec other) {
   return one.tv_sec != other.tv_sec ? one.tv_sec < other.tv_sec : one.tv_nsec < other.tv_nsec;
 }
 
+/* Returns the time by a clock of the host's. */
+static struct moment time_of_host(const struct zuphinka_pool_host *host) {
+  uint64_t milliseconds = host->now(host->context);
+  return (struct moment){.milliseconds = milliseconds, .nanoseconds = milliseconds * 1000000};
+}
+
 /* Returns the time by the pool's clock, without the lock. */
-static uint64_t time_of(const struct zuphinka_pool *pool) {
-  if (pool->host.now) return pool->host.now(pool->host.context);
+static struct moment time_of(const struct zuphinka_pool *pool) {
+  if (pool->host.now) return time_of_host(&pool->host);
   struct timespec now = monotonic();
   int64_t nanoseconds = (int64_t)(now.tv_sec - pool->opened.tv_sec) * 1000000000 + (now.tv_nsec - pool->opened.tv_nsec);
-  return (uint64_t)(nanoseconds / 1000000);
+  return (struct moment){.milliseconds = (uint64_t)(nanoseconds / 1000000), .nanoseconds = (uint64_t)nanoseconds};
 }
 
 uint32_t zuphinka_pool_caller(void) {
@@ -217,10 +233,10 @@ static void lock(struct zuphinka_pool *pool) {
 }
 
 /* Reads the clock while the lock is held. A clock of the host's runs without it. */
-static uint64_t time_under_lock(struct zuphinka_pool *pool) {
+static struct moment time_under_lock(struct zuphinka_pool *pool) {
   if (!pool->host.now) return time_of(pool);
   pthread_mutex_unlock(&pool->lock);
-  uint64_t at = time_of(pool);
+  struct moment at = time_of(pool);
   lock(pool);
   return at;
 }
@@ -236,9 +252,9 @@ static uint64_t next_pool_number(void) {
 static bool has_free_place(struct loans *loans) {
   if (loans->free < loans->capacity) return true;
   uint64_t capacity = 2 * loans->capacity + FIRST_PLACES;
-  uint64_t *places = realloc(loans->places, capacity * sizeof *places);
+  struct place *places = realloc(loans->places, capacity * sizeof *places);
   if (!places) return false;
-  for (uint64_t place = loans->capacity; place < capacity; place++) places[place] = FREE | (place + 1);
+  for (uint64_t place = loans->capacity; place < capacity; place++) places[place].number = FREE | (place + 1);
   loans->places = places;
   loans->capacity = capacity;
   return true;
@@ -248,14 +264,20 @@ static bool has_free_place(struct loans *loans) {
 static struct zuphinka_pool_loan begin_loan(struct zuphinka_pool *pool, uint64_t id, void *object) {
   struct loans *loans = &pool->loans;
   uint64_t place = loans->free;
-  loans->free = loans->places[place] & ~FREE;
-  loans->places[place] = ++loans->begun;
+  loans->free = loans->places[place].number & ~FREE;
+  loans->places[place].number = ++loans->begun;
   return (struct zuphinka_pool_loan){.object = object, .id = id, .pool = pool->number, .place = place, .number = loans->begun};
+}
+
+/* Notes that the object of a loan is lent, to a borrow that began at `first`, with the lock held. */
+static void note_lent(struct zuphinka_pool *pool, const struct zuphinka_pool_loan *loan, struct moment first, struct moment now) {
+  pool->loans.places[loan->place].lent_at = now.nanoseconds;
+  measure(&pool->measures.waits, first.nanoseconds, now.nanoseconds);
 }
 
 /* Ends a loan, with the lock held: no copy of it is a loan any more. */
 static void free_place(struct loans *loans, const struct zuphinka_pool_loan *loan) {
-  loans->places[loan->place] = FREE | loans->free;
+  loans->places[loan->place].number = FREE | loans->free;
   loans->free = loan->place;
 }
 
@@ -263,7 +285,7 @@ static void free_place(struct loans *loans, const struct zuphinka_pool_loan *loa
 static enum zuphinka_pool_error error_of_loan(const struct zuphinka_pool *pool, const struct zuphinka_pool_loan *loan) {
   if (loan->id == ZUPHINKA_POOL_NO_LOAN) return ZUPHINKA_POOL_ERROR_NOT_LENT;
   if (loan->pool != pool->number) return ZUPHINKA_POOL_ERROR_FOREIGN;
-  bool is_lent = loan->place < pool->loans.capacity && pool->loans.places[loan->place] == loan->number;
+  bool is_lent = loan->place < pool->loans.capacity && pool->loans.places[loan->place].number == loan->number;
   return is_lent ? ZUPHINKA_POOL_ERROR_NONE : ZUPHINKA_POOL_ERROR_NOT_LENT;
 }
 
@@ -567,7 +589,7 @@ static enum zuphinka_pool_error store_all(struct zuphinka_pool *pool, zuphinka_p
 /* Returns for how many milliseconds a borrow may still wait by the settings; UINT64_MAX: no limit. */
 static uint64_t time_left(const struct zuphinka_pool *pool, const struct wait *wait) {
   int64_t most = pool->settings.max_wait_millis;
-  uint64_t waited = wait->at > wait->began ? wait->at - wait->began : 0;
+  uint64_t waited = wait->at.milliseconds > wait->began ? wait->at.milliseconds - wait->began : 0;
   if (most < 0) return UINT64_MAX;
   return (uint64_t)most > waited ? (uint64_t)most - waited : 0;
 }
@@ -664,7 +686,7 @@ static enum zuphinka_pool_error error_of_step(const struct zuphinka_pool *pool, 
 /* One critical section of one step, of a borrow or of another call. */
 static enum zuphinka_pool_error ask_for(struct zuphinka_pool *pool, struct wait *wait, struct zuphinka_request request,
                                         struct zuphinka_reply *reply) {
-  request.at = time_of(pool);
+  request.at = time_of(pool).milliseconds;
   lock(pool);
   enum zuphinka_pool_error error = error_of_step(pool, &request, step_with_room(pool, wait, &request, reply));
   unlock(pool);
@@ -788,7 +810,7 @@ static enum zuphinka_pool_error sleep_for_change(struct zuphinka_pool *pool, str
 
 /* Asks for an object with the lock held. */
 static enum zuphinka_pool_error ask_for_object(struct zuphinka_pool *pool, struct wait *wait, struct zuphinka_reply *reply) {
-  struct zuphinka_request request = {.at = wait->at, .number = wait->began, .input = ZUPHINKA_INPUT_BORROW};
+  struct zuphinka_request request = {.at = wait->at.milliseconds, .number = wait->began, .input = ZUPHINKA_INPUT_BORROW};
   enum zuphinka_pool_error error = error_of_step(pool, &request, step_with_room(pool, wait, &request, reply));
   if (error) return error;
   if (is_found(reply->answer)) note_overtake(pool, wait);
@@ -809,12 +831,14 @@ static enum zuphinka_pool_error wait_for_object(struct zuphinka_pool *pool, stru
 }
 
 /* Lends a taken object with the lock held, if no callback runs before. */
-static void lend_at_once(struct zuphinka_pool *pool, const struct wait *wait, struct zuphinka_reply *reply) {
+static void lend_at_once(struct zuphinka_pool *pool, const struct wait *wait, const struct zuphinka_pool_loan *loan, struct zuphinka_reply *reply) {
   if (reply->answer != ZUPHINKA_ANSWER_TAKE || pool->works_on_borrow) return;
-  struct zuphinka_request request = {.at = wait->at, .number = reply->number, .input = ZUPHINKA_INPUT_READY, .outcome = ZUPHINKA_OUTCOME_GOOD};
+  struct zuphinka_request request = {
+      .at = wait->at.milliseconds, .number = loan->id, .input = ZUPHINKA_INPUT_READY, .outcome = ZUPHINKA_OUTCOME_GOOD};
   struct zuphinka_reply lent = {0};
   uint32_t status = take_step(pool, &request, &lent);
   if (status != ZUPHINKA_STATUS_DONE || lent.answer != ZUPHINKA_ANSWER_LENT) broken(&request, status, lent.answer);
+  note_lent(pool, loan, wait->first, wait->at);
   reply->answer = ZUPHINKA_ANSWER_LENT;
 }
 
@@ -827,31 +851,40 @@ static enum zuphinka_pool_error look(struct zuphinka_pool *pool, struct wait *wa
   enum zuphinka_pool_error error = wait_for_object(pool, wait, reply);
   if (!error && is_found(reply->answer)) {
     *loan = begin_loan(pool, reply->number, reply->object);
-    lend_at_once(pool, wait, reply);
+    lend_at_once(pool, wait, loan, reply);
+  } else if (error == ZUPHINKA_POOL_ERROR_TIMED_OUT || (!error && reply->answer == ZUPHINKA_ANSWER_TIMED_OUT)) {
+    pool->measures.timeouts++;
   }
   unlock(pool);
   return error;
 }
 
-/* Reports the object of a loan as ready, or not. Returns whether it is lent; else it is destroyed, and its loan has ended. */
-static bool lend(struct zuphinka_pool *pool, const struct zuphinka_pool_loan *loan, uint32_t outcome) {
-  if (report(pool, ZUPHINKA_INPUT_READY, loan->id, outcome, loan->object) == ZUPHINKA_ANSWER_LENT) return true;
+/* Reports the object of a loan as ready, or not, which never fails. Returns whether it is lent; else its loan has ended, and it is destroyed. */
+static bool lend(struct zuphinka_pool *pool, const struct wait *wait, const struct zuphinka_pool_loan *loan, uint32_t outcome) {
+  struct moment now = time_of(pool);
+  struct zuphinka_request request = {.at = now.milliseconds, .number = loan->id, .input = ZUPHINKA_INPUT_READY, .outcome = outcome};
+  struct zuphinka_reply reply = {0};
   lock(pool);
-  free_place(&pool->loans, loan);
-  pthread_mutex_unlock(&pool->lock);
-  return false;
+  uint32_t status = step_with_room(pool, NULL, &request, &reply);
+  if (status != ZUPHINKA_STATUS_DONE || reply.answer == ZUPHINKA_ANSWER_REFUSED) broken(&request, status, reply.answer);
+  bool is_lent = reply.answer == ZUPHINKA_ANSWER_LENT;
+  if (is_lent) note_lent(pool, loan, wait->first, now);
+  if (!is_lent) free_place(&pool->loans, loan);
+  unlock(pool);
+  if (reply.answer == ZUPHINKA_ANSWER_DESTROY) destroy(pool, loan->id, loan->object);
+  return is_lent;
 }
 
 /* Makes an object for a borrower. */
-static enum zuphinka_pool_error lend_made(struct zuphinka_pool *pool, struct zuphinka_pool_loan *loan) {
+static enum zuphinka_pool_error lend_made(struct zuphinka_pool *pool, const struct wait *wait, struct zuphinka_pool_loan *loan) {
   uint32_t outcome = make(pool, loan->id, &loan->object);
   if (outcome == ZUPHINKA_OUTCOME_GOOD) outcome = activate(pool, pool->settings.test_on_borrow, loan->object);
-  return lend(pool, loan, outcome) ? ZUPHINKA_POOL_ERROR_NONE : error_of_outcome(outcome);
+  return lend(pool, wait, loan, outcome) ? ZUPHINKA_POOL_ERROR_NONE : error_of_outcome(outcome);
 }
 
 /* Makes a taken object ready for a borrower. Returns whether it is lent. */
-static bool lend_taken(struct zuphinka_pool *pool, const struct zuphinka_pool_loan *loan) {
-  return lend(pool, loan, activate(pool, pool->settings.test_on_borrow, loan->object));
+static bool lend_taken(struct zuphinka_pool *pool, const struct wait *wait, const struct zuphinka_pool_loan *loan) {
+  return lend(pool, wait, loan, activate(pool, pool->settings.test_on_borrow, loan->object));
 }
 
 static enum zuphinka_pool_error reclaim(struct zuphinka_pool *pool, struct wait *wait, uint32_t input, uint64_t *reclaimed);
@@ -864,13 +897,13 @@ static enum zuphinka_pool_error find(struct zuphinka_pool *pool, struct wait *wa
     if (error) return error;
     switch (reply.answer) {
       case ZUPHINKA_ANSWER_LENT: return error;
-      case ZUPHINKA_ANSWER_MAKE: return lend_made(pool, loan);
+      case ZUPHINKA_ANSWER_MAKE: return lend_made(pool, wait, loan);
       case ZUPHINKA_ANSWER_EXHAUSTED: return ZUPHINKA_POOL_ERROR_EXHAUSTED;
       case ZUPHINKA_ANSWER_TIMED_OUT: return ZUPHINKA_POOL_ERROR_TIMED_OUT;
       case ZUPHINKA_ANSWER_REFUSED: return ZUPHINKA_POOL_ERROR_CLOSED;
       default: break;
     }
-    if (lend_taken(pool, loan)) return error;
+    if (lend_taken(pool, wait, loan)) return error;
     wait->is_back = true;
     wait->at = time_of(pool);
   }
@@ -879,7 +912,8 @@ static enum zuphinka_pool_error find(struct zuphinka_pool *pool, struct wait *wa
 static enum zuphinka_pool_error borrow(struct zuphinka_pool *pool, struct wait *wait, struct zuphinka_pool_loan *loan) {
   struct zuphinka_pool_loan found = {.id = ZUPHINKA_POOL_NO_LOAN};
   uint64_t reclaimed = 0;
-  wait->began = wait->at = time_of(pool);
+  wait->first = wait->at = time_of(pool);
+  wait->began = wait->first.milliseconds;
   if (pool->settings.abandoned && pool->settings.remove_abandoned_on_borrow) {
     enum zuphinka_pool_error error = reclaim(pool, wait, ZUPHINKA_INPUT_RECLAIM_ON_BORROW, &reclaimed);
     if (error) return zuphinka_pool_is_closed(pool) ? ZUPHINKA_POOL_ERROR_CLOSED : error;
@@ -926,12 +960,14 @@ static void park_at_once(struct zuphinka_pool *pool, const struct zuphinka_reque
 /* The first critical section of a return or an invalidation: the answer, which may be that of the parking. Ends the loan. */
 static enum zuphinka_pool_error take_back(struct zuphinka_pool *pool, uint32_t input, const struct zuphinka_pool_loan *loan,
                                           struct zuphinka_reply *reply) {
-  struct zuphinka_request request = {.at = time_of(pool), .number = loan->id, .input = input};
+  struct moment now = time_of(pool);
+  struct zuphinka_request request = {.at = now.milliseconds, .number = loan->id, .input = input};
   lock(pool);
   enum zuphinka_pool_error error = error_of_loan(pool, loan);
   if (!error) error = error_of_step(pool, &request, step_with_room(pool, NULL, &request, reply));
   if (!error) {
     if (reply->answer == ZUPHINKA_ANSWER_REFUSED) broken(&request, ZUPHINKA_STATUS_DONE, reply->answer);
+    if (reply->answer != ZUPHINKA_ANSWER_GONE) measure(&pool->measures.loans, pool->loans.places[loan->place].lent_at, now.nanoseconds);
     free_place(&pool->loans, loan);
     park_at_once(pool, &request, loan->object, reply);
   }
@@ -968,7 +1004,7 @@ enum zuphinka_pool_error zuphinka_pool_invalidate(struct zuphinka_pool *pool, st
 }
 
 enum zuphinka_pool_error zuphinka_pool_touch(struct zuphinka_pool *pool, const struct zuphinka_pool_loan *loan) {
-  struct zuphinka_request request = {.at = time_of(pool), .number = loan->id, .input = ZUPHINKA_INPUT_USE};
+  struct zuphinka_request request = {.at = time_of(pool).milliseconds, .number = loan->id, .input = ZUPHINKA_INPUT_USE};
   struct zuphinka_reply reply = {0};
   lock(pool);
   enum zuphinka_pool_error error = error_of_loan(pool, loan);
@@ -1126,6 +1162,14 @@ bool zuphinka_pool_is_closed(struct zuphinka_pool *pool) {
 void zuphinka_pool_counts(struct zuphinka_pool *pool, struct zuphinka_tally *counts) {
   lock(pool);
   zuphinka_counts(&pool->core, counts);
+  pthread_mutex_unlock(&pool->lock);
+}
+
+static void take_snapshot(struct zuphinka_pool *pool, struct snapshot *snapshot) {
+  lock(pool);
+  snapshot->measures = pool->measures;
+  snapshot->waiting = pool->queue.length;
+  zuphinka_counts(&pool->core, &snapshot->counts);
   pthread_mutex_unlock(&pool->lock);
 }
 
@@ -1299,6 +1343,7 @@ const char *zuphinka_pool_error_text(enum zuphinka_pool_error error) {
     case ZUPHINKA_POOL_ERROR_NULL_POINTER: return "a pointer is null";
     case ZUPHINKA_POOL_ERROR_UNKNOWN_JOURNAL: return "the journal has no such use";
     case ZUPHINKA_POOL_ERROR_FOREIGN: return "the object is not one of the pool's";
+    case ZUPHINKA_POOL_ERROR_BUFFER_TOO_SMALL: return "the text does not fit into the buffer";
     default: return "the code is no error";
   }
 }

@@ -77,7 +77,8 @@ enum zuphinka_pool_error {
   ZUPHINKA_POOL_ERROR_OUT_OF_RANGE = 22,      /* a number in the settings is out of range */
   ZUPHINKA_POOL_ERROR_NULL_POINTER = 23,      /* the place for the pool, the settings or the host is null */
   ZUPHINKA_POOL_ERROR_UNKNOWN_JOURNAL = 24,   /* the use of the journal is none of `enum zuphinka_pool_journal` */
-  ZUPHINKA_POOL_ERROR_FOREIGN = 25            /* the loan is one of another pool */
+  ZUPHINKA_POOL_ERROR_FOREIGN = 25,           /* the loan is one of another pool */
+  ZUPHINKA_POOL_ERROR_BUFFER_TOO_SMALL = 26   /* the text does not fit into the buffer */
 };
 
 /* The use of the journal, as explained above. */
@@ -137,6 +138,15 @@ struct zuphinka_pool_loan {
 
 /* The id in a loan that has ended. */
 #define ZUPHINKA_POOL_NO_LOAN UINT64_MAX
+
+/* A pool, and its name in a text of metrics: UTF-8, ended by a null. */
+struct zuphinka_pool_named {
+  struct zuphinka_pool *pool;
+  const char *name;
+};
+
+/* The last line of a text of metrics. */
+#define ZUPHINKA_POOL_METRICS_END "# EOF\n"
 
 /* What an eviction run did, in objects. */
 struct zuphinka_pool_eviction {
@@ -262,6 +272,30 @@ bool zuphinka_pool_is_closed(struct zuphinka_pool *pool);
 
 /* Stores the counts, all of one time, in `counts`. */
 void zuphinka_pool_counts(struct zuphinka_pool *pool, struct zuphinka_tally *counts);
+
+/*
+ * Writes the state of `count` pools as a text in the OpenMetrics format, of the media type "application/openmetrics-text; version=1.0.0;
+ * charset=utf-8". The numbers of a pool are all of one time, and have its name as the label `pool`; no two pools have the same name. The text is
+ * stored in `text`, a buffer of `capacity` bytes, without a null after it, and its size in `size`. It takes some 5,000 bytes and 55 names for each
+ * pool. A program that adds metrics of its own puts them before ZUPHINKA_POOL_METRICS_END, the last line.
+ *
+ *   zuphinka_idle_objects, zuphinka_lent_objects    objects, as `zuphinka_pool_counts` has them
+ *   zuphinka_waiting_borrows                        threads that wait for an object
+ *   zuphinka_created_objects_total                  objects that the pool asked to make
+ *   zuphinka_destroyed_objects_total                objects that were destroyed or could not be made, and those that were reclaimed
+ *   zuphinka_borrows_total                          borrows that got an object
+ *   zuphinka_timeouts_total                         borrows with the error ZUPHINKA_POOL_ERROR_TIMED_OUT
+ *   zuphinka_wait_seconds                           a histogram of how long the borrows took that got an object, callbacks included
+ *   zuphinka_loan_seconds                           a histogram of how long objects were lent, until they were returned or invalidated; those that
+ *                                                   were reclaimed do not count
+ *
+ * The buckets of both histograms have the bounds 1, 2.5 and 5 times each power of ten from 0.0001 to 10 seconds, and 100 seconds. With a clock of
+ * the host's each time is as exact as that clock, in milliseconds.
+ *
+ * Errors: ZUPHINKA_POOL_ERROR_BUFFER_TOO_SMALL: `text` has the beginning, and `size` what is needed; `text` may be null if `capacity` is 0.
+ * ZUPHINKA_POOL_ERROR_NULL_POINTER, _OUT_OF_MEMORY: nothing is stored.
+ */
+enum zuphinka_pool_error zuphinka_pool_metrics(const struct zuphinka_pool_named *pools, size_t count, char *text, size_t capacity, size_t *size);
 
 /* Returns whether to cut the journal: it stores entries, and less than a quarter of journalLimit is left. */
 bool zuphinka_pool_is_low(struct zuphinka_pool *pool);
