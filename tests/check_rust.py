@@ -5,7 +5,8 @@
 
 POOL is the program. The crate's tests are cargo's: those in its files, in tests/ and in its pages. The segments that the example `servers` stores are
 judged by the program; what the example `settings` writes of a file must be what Python reads there; the example `pairs` must make as many
-entries as its rounds are, whatever becomes of its journal, and the segments that it stores are judged too; and the codes, the fields and the functions
+entries as its rounds are, whatever becomes of its journal, and the segments that it stores are judged too; the metrics that a test writes must be in
+the format and agree with each other (tests/openmetrics.py); and the codes, the fields and the functions
 of `src/sys.rs` must be those of `bindings/c/zuphinka.h`. The tests under tokio run where Debian has its source; everywhere the files that they name
 must be there. What cannot be tested is skipped, with the reason: all of it if no cargo runs.
 
@@ -20,6 +21,7 @@ import sys
 import tempfile
 import tomllib
 
+import openmetrics
 from case_files import CASES, unpacked
 from skipping import NO_CARGO, has, skip
 
@@ -37,6 +39,8 @@ UNUSED = {"zuphinka_version", *(f"zuphinka_{name}" for name in ("open_with", "be
 # A run that takes longer hangs.
 LONGEST = 1200
 WORKERS, ROUNDS = 4, 20_000
+# How many borrows the test of the metrics makes.
+MEASURED = 80_000
 
 
 def cargo(environment, *words, package=CRATE):
@@ -186,15 +190,25 @@ def check_pairs(pairs, pool):
         yield None if verdict == f"legal {steps}\n" and entries == steps else f"pairs: {entries} of {steps} entries, {verdict!r}"
 
 
+def check_metrics(file):
+    """The metrics that a test has read while threads borrow."""
+    texts = openmetrics.texts_of(file.read_text()) if file.exists() else []
+    yield openmetrics.fault_of(openmetrics.check_course, texts, MEASURED) or (None if len(texts) > 2 else f"{len(texts)} texts of metrics")
+
+
 def main(pool):
     if not runs_cargo():
         skip("bindings/rust", NO_CARGO)
         print("0 passed, 0 failed")
         return 0
     environment = os.environ | {"ZUPHINKA_POOL": str(pathlib.Path(pool).resolve())}
-    passed, failed = (sum(column) for column in zip(run_tests(environment), run_trial(environment)))
+    with tempfile.TemporaryDirectory() as folder:
+        metrics = pathlib.Path(folder) / "metrics"
+        tested = run_tests(environment | {"ZUPHINKA_METRICS": str(metrics)})
+        faults = list(check_metrics(metrics))
+    passed, failed = (sum(column) for column in zip(tested, run_trial(environment)))
     examples = built_examples(environment)
-    checks = [check_servers(examples / "servers", pool), check_settings(examples / "settings"), check_pairs(examples / "pairs", pool)]
+    checks = [faults, check_servers(examples / "servers", pool), check_settings(examples / "settings"), check_pairs(examples / "pairs", pool)]
     checks += [check_examples(), check_trial(), check_binding(), check_version()]
     for check in checks:
         for fault in check:

@@ -1,4 +1,4 @@
-//! Times of steps, in milliseconds.
+//! Times of steps.
 
 use crate::panics::unless_it_panics;
 use std::time::Instant;
@@ -6,7 +6,23 @@ use std::time::Instant;
 /// A clock of the user's.
 pub(crate) type GivenClock = Box<dyn Fn() -> u64 + Send + Sync>;
 
-/// Returns times, in milliseconds.
+/// A time by a clock.
+#[derive(Clone, Copy, Debug)]
+pub(crate) struct Moment {
+    /// In milliseconds, as entries have it.
+    pub millis: u64,
+    /// In nanoseconds modulo 2^64; the differences count.
+    pub nanos: u64,
+}
+
+impl Moment {
+    pub fn of_millis(millis: u64) -> Moment {
+        let nanos = millis.wrapping_mul(1_000_000);
+        Moment { millis, nanos }
+    }
+}
+
+/// Returns times.
 pub(crate) enum Clock {
     /// The time since this instant.
     Since(Instant),
@@ -16,34 +32,42 @@ pub(crate) enum Clock {
 impl Clock {
     /// Returns the time, or none if the clock panicked.
     #[inline]
-    pub fn read(&self) -> Option<u64> {
+    pub fn read(&self) -> Option<Moment> {
         match self {
             Clock::Since(start) => {
                 let passed = start.elapsed();
-                Some(passed.as_secs() * 1_000 + u64::from(passed.subsec_millis()))
+                let nanos = passed.as_secs().wrapping_mul(1_000_000_000);
+                Some(Moment {
+                    millis: passed.as_secs() * 1_000 + u64::from(passed.subsec_millis()),
+                    nanos: nanos.wrapping_add(u64::from(passed.subsec_nanos())),
+                })
             }
-            Clock::Given(clock) => unless_it_panics(clock),
+            Clock::Given(clock) => unless_it_panics(clock).map(Moment::of_millis),
         }
     }
 }
 
-/// When a borrow began, in milliseconds.
+/// When a borrow began.
 #[derive(Clone, Copy, Debug)]
 pub(crate) struct Began {
+    /// In nanoseconds, by the clock.
+    pub nanos: u64,
+    /// In milliseconds, as its entries have it.
     time: u64,
     is_fixed: bool,
 }
 
 impl Began {
     /// A borrow begins at this time by the clock.
-    pub fn at(time: u64) -> Began {
+    pub fn at(moment: Moment) -> Began {
         Began {
-            time,
+            nanos: moment.nanos,
+            time: moment.millis,
             is_fixed: false,
         }
     }
 
-    /// Returns when the borrow began, where the last entry before its first one has this time. A time before that counts as that one.
+    /// Returns when the borrow began, in milliseconds, where the last entry before its first one has this time. A time before that counts as that one.
     pub fn fix(&mut self, last_time: u64) -> u64 {
         if !self.is_fixed {
             self.time = self.time.max(last_time);
@@ -53,18 +77,31 @@ impl Began {
     }
 }
 
-/// An object, and when it was made.
+/// An object, and when it was made and lent.
 #[derive(Debug)]
 pub(crate) struct Aged<T> {
     pub object: T,
     /// In milliseconds; 0 if no lifetime is set.
     pub made: u64,
+    /// When it was last lent, in nanoseconds; 0 if it never was.
+    pub lent: u64,
+}
+
+impl<T> Aged<T> {
+    /// Returns the object, lent at a time.
+    #[inline]
+    pub fn lent_at(mut self, at: Moment) -> Aged<T> {
+        self.lent = at.nanos;
+        self
+    }
 }
 
 /// Who takes a step, and when.
 #[derive(Clone, Copy, Debug)]
 pub(crate) struct Stamp {
     pub caller: u32,
-    /// In milliseconds. A time before that of the last entry counts as that one.
-    pub time: u64,
+    /// A time before that of the last entry counts as that one.
+    pub at: Moment,
+    /// When the borrow or the loan began that the step may end, in nanoseconds.
+    pub since: u64,
 }

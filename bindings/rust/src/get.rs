@@ -98,10 +98,10 @@ impl<M: Manager + 'static> Get<M> {
                     acquired if M::AWAITS => {
                         // It owns the object once it is polled, which is at once.
                         let pool = self.pool.clone();
-                        self.preparation = Some(Box::pin(prepare(pool, call.caller, acquired)));
+                        self.preparation = Some(Box::pin(prepare(pool, call, acquired)));
                         continue;
                     }
-                    acquired => self.pool.prepare(call.caller, acquired),
+                    acquired => self.pool.prepare(call.caller, call.began, acquired),
                 },
             };
             self.preparation = None;
@@ -148,15 +148,16 @@ impl<M: Manager> fmt::Debug for Get<M> {
 /// Makes an object ready for its holder, and awaits the manager. If this is dropped or panics, it destroys the object and frees its place.
 async fn prepare<M: Manager>(
     pool: Handle<M>,
-    caller: u32,
+    call: Call,
     acquired: Acquired<Item<M>>,
 ) -> Prepared<M> {
+    let (caller, began) = (call.caller, call.began.nanos);
     match acquired {
         Acquired::Lent(id, object) => Ok(Some((id, object))),
         Acquired::Taken(id, object) => {
             let mut object = InProgress::of(&pool, caller, id, Work::Lend, object);
             match ready_async(&pool, &mut object).await {
-                Ok(()) => Ok(Some((id, object.lend()))),
+                Ok(()) => Ok(Some((id, object.lend(began)))),
                 Err(unready) => {
                     object.give_up();
                     pool.report_unready(id, unready);
@@ -172,7 +173,7 @@ async fn prepare<M: Manager>(
                 tested.map_err(|_| Error::CreateTest)?;
             }
             ready_async(&pool, &mut object).await?;
-            Ok(Some((id, object.lend())))
+            Ok(Some((id, object.lend(began))))
         }
     }
 }

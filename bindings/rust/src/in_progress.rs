@@ -1,6 +1,6 @@
 //! An object that a call owns while it is made, readied, put away or destroyed.
 
-use crate::clock::Aged;
+use crate::clock::{Aged, Moment, Stamp};
 use crate::manager::Manager;
 use crate::shared::{unexpected, Item, Shared};
 use crate::step::{Answer, Input, Outcome};
@@ -117,10 +117,11 @@ impl<'a, M: Manager> InProgress<'a, M> {
     /// Owns the object that was made, and notes the time if its age matters.
     fn own(&mut self, object: M::Object) {
         let made = match self.pool.policy.max_lifetime {
-            Some(_) => self.pool.now(),
+            Some(_) => self.pool.now().millis,
             None => 0,
         };
-        self.object = Some(Aged { object, made });
+        let lent = 0;
+        self.object = Some(Aged { object, made, lent });
     }
 
     pub fn activate(&mut self) -> Result<(), M::Error> {
@@ -182,7 +183,8 @@ impl<'a, M: Manager> InProgress<'a, M> {
     pub fn is_too_old(&mut self) -> bool {
         let object = self.object.as_ref().expect(MADE);
         let pool = self.pool;
-        let is_too_old = pool.policy.max_lifetime.is_some() && pool.is_too_old(object, pool.now());
+        let is_too_old =
+            pool.policy.max_lifetime.is_some() && pool.is_too_old(object, pool.now().millis);
         if let (true, Stage::Working(_, outcome)) = (is_too_old, &mut self.stage) {
             *outcome = Outcome::TestFailed;
         }
@@ -199,10 +201,11 @@ impl<'a, M: Manager> InProgress<'a, M> {
         drop(self);
     }
 
-    /// The object is ready, and its holder's.
-    pub fn lend(mut self) -> Item<M> {
-        match self.succeed(None) {
-            (_, Answer::Lent, _) => self.object.take().expect(MADE),
+    /// The object is ready, and its holder's, whose borrow began at a time in nanoseconds.
+    pub fn lend(mut self, began: u64) -> Item<M> {
+        let at = self.pool.now();
+        match self.succeed(at, began, None) {
+            (_, Answer::Lent, _) => self.object.take().expect(MADE).lent_at(at),
             (input, answer, _) => unexpected(input, answer),
         }
     }
@@ -210,7 +213,7 @@ impl<'a, M: Manager> InProgress<'a, M> {
     /// The object is ready to be idle. Returns whether the pool keeps it; otherwise it is destroyed.
     pub fn park(mut self) -> bool {
         let object = self.object.take();
-        match self.succeed(object) {
+        match self.succeed(self.pool.now(), 0, object) {
             (_, Answer::Parked | Answer::Kept, _) => true,
             (_, Answer::Destroy, object) => {
                 self.object = object;
@@ -222,13 +225,22 @@ impl<'a, M: Manager> InProgress<'a, M> {
         }
     }
 
-    /// Reports that the work is done.
-    fn succeed(&mut self, object: Option<Item<M>>) -> (Input, Answer, Option<Item<M>>) {
+    /// Reports that the work is done at a time, by a borrow that began at a time in nanoseconds or by another call.
+    fn succeed(
+        &mut self,
+        at: Moment,
+        since: u64,
+        object: Option<Item<M>>,
+    ) -> (Input, Answer, Option<Item<M>>) {
         let Stage::Working(work, _) = self.stage else {
             unreachable!("an object that is destroyed is not worked on");
         };
         let input = work.report(self.id, Outcome::Good);
-        match self.pool.run_section(self.caller, input, object) {
+        let caller = self.caller;
+        match self
+            .pool
+            .try_section(Stamp { caller, at, since }, input, object)
+        {
             Ok((answer, out)) => {
                 self.stage = Stage::Ended;
                 (input, answer, out)

@@ -177,7 +177,7 @@ impl<M: Manager> Shared<M> {
 
     /// Reclaims abandoned objects. Returns their number. It waits for a thread that writes a segment as far as the limit allows.
     pub fn reclaim(&self, caller: u32, on: When, limit: WaitLimit) -> Result<u64, Error<M::Error>> {
-        let run = |input| self.run_section_within(caller, input, None, limit);
+        let run = |input| self.run_section_since(0, caller, input, None, limit);
         let count = match run(Input::Reclaim { on })? {
             (Answer::Count(count), _) => count,
             (answer, _) => unexpected(Input::Reclaim { on }, answer),

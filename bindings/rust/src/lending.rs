@@ -9,7 +9,7 @@ use crate::in_progress::{InProgress, Work};
 use crate::locked_pool::TakenBack;
 use crate::manager::Manager;
 use crate::pooled::Pooled;
-use crate::shared::{unexpected, Acquired, Item, Shared, WaitLimit};
+use crate::shared::{unexpected, Acquired, Item, Shared, Stepped, WaitLimit};
 use crate::step::{Answer, Input, Outcome, When};
 
 /// What became of an object that was returned or invalidated.
@@ -59,17 +59,17 @@ impl<M: Manager> Handle<M> {
     /// Lends an object: an idle one, or a new one if a place is free.
     pub fn borrow(&self, limit: WaitLimit) -> Result<Pooled<M>, Error<M::Error>> {
         let caller = caller_number();
-        let mut time = self.now();
-        let mut began = Began::at(time);
+        let mut at = self.now();
+        let mut began = Began::at(at);
         if self.settings.removes_on_borrow() {
             self.reclaim(caller, When::Borrow, limit)?;
         }
         loop {
-            let acquired = self.acquire(caller, &mut began, time, limit)?;
-            if let Some((id, object)) = self.prepare(caller, acquired)? {
+            let acquired = self.acquire(caller, &mut began, at, limit)?;
+            if let Some((id, object)) = self.prepare(caller, began, acquired)? {
                 return Ok(Pooled::new(self.clone(), id, object));
             }
-            time = self.now();
+            at = self.now();
         }
     }
 }
@@ -77,20 +77,20 @@ impl<M: Manager> Handle<M> {
 impl<M: Manager> Shared<M> {
     /// Makes an object ready for its holder, if it is not. Returns none if it was idle and failed: then it was destroyed.
     #[inline]
-    pub fn prepare(&self, caller: u32, acquired: Acquired<Item<M>>) -> Prepared<M> {
+    pub fn prepare(&self, caller: u32, began: Began, acquired: Acquired<Item<M>>) -> Prepared<M> {
         let (id, object) = match acquired {
             Acquired::Lent(id, object) => (id, Some(object)),
-            Acquired::Taken(id, object) => (id, self.ready_taken(caller, id, object)),
-            Acquired::New(id) => (id, Some(self.ready_new(caller, id)?)),
+            Acquired::Taken(id, object) => (id, self.ready_taken(caller, began, id, object)),
+            Acquired::New(id) => (id, Some(self.ready_new(caller, began, id)?)),
         };
         Ok(object.map(|object| (id, object)))
     }
 
     /// Makes an idle object ready for its holder. Returns none if that failed: then the object was destroyed.
-    fn ready_taken(&self, caller: u32, id: u64, object: Item<M>) -> Option<Item<M>> {
+    fn ready_taken(&self, caller: u32, began: Began, id: u64, object: Item<M>) -> Option<Item<M>> {
         let mut object = InProgress::of(self, caller, id, Work::Lend, object);
         match self.ready(&mut object) {
-            Ok(()) => Some(object.lend()),
+            Ok(()) => Some(object.lend(began.nanos)),
             Err(unready) => {
                 object.give_up();
                 self.report_unready(id, unready);
@@ -108,12 +108,12 @@ impl<M: Manager> Shared<M> {
     }
 
     /// Makes a new object, and makes it ready for its holder.
-    fn ready_new(&self, caller: u32, id: u64) -> Result<Item<M>, Error<M::Error>> {
+    fn ready_new(&self, caller: u32, began: Began, id: u64) -> Result<Item<M>, Error<M::Error>> {
         let mut object = InProgress::new(self, caller, id, Work::Lend);
         object.make().map_err(Error::Make)?;
         self.test_new(&mut object)?;
         self.ready(&mut object)?;
-        Ok(object.lend())
+        Ok(object.lend(began.nanos))
     }
 
     /// Tests a new object, if that is set.
@@ -180,7 +180,7 @@ impl<M: Manager> Shared<M> {
     /// Takes an object back that cannot be used any more.
     pub fn invalidate(&self, id: u64, object: Item<M>) -> Returned {
         let caller = caller_number();
-        match self.run_section(caller, Input::Invalidate { id }, None) {
+        match self.end_loan(caller, id, object.lent) {
             Ok((Answer::Destroy, _)) => {
                 InProgress::destroying(self, caller, id, object).destroy();
                 Returned::Destroyed
@@ -191,10 +191,16 @@ impl<M: Manager> Shared<M> {
         }
     }
 
-    /// Frees the place of an object that its holder keeps. One that was reclaimed has none.
-    pub fn detach(&self, id: u64) {
+    /// Ends a loan, which began at a time in nanoseconds, of an object that is not returned.
+    fn end_loan(&self, caller: u32, id: u64, lent: u64) -> Result<Stepped<M>, Error<M::Error>> {
+        let input = Input::Invalidate { id };
+        self.run_section_since(lent, caller, input, None, WaitLimit::AsSet)
+    }
+
+    /// Frees the place of an object that its holder keeps, to whom it was lent at a time in nanoseconds. One that was reclaimed has none.
+    pub fn detach(&self, id: u64, lent: u64) {
         let caller = caller_number();
-        match self.run_section(caller, Input::Invalidate { id }, None) {
+        match self.end_loan(caller, id, lent) {
             Ok((Answer::Destroy, _)) => {
                 let input = Input::Destroyed { id };
                 match self.complete(caller, input) {

@@ -2,6 +2,7 @@
 
 use crate::clock::Stamp;
 use crate::idle_values::IdleValues;
+use crate::metrics::Measures;
 use crate::proved_core::Core;
 use crate::step::{Answer, Input, Outcome, StepFault};
 use crate::stored_journal::{Care, Mode, StoredJournal};
@@ -20,6 +21,7 @@ pub(crate) struct LockedPool<T> {
     /// The latest time of an entry, in milliseconds.
     last_time: u64,
     pub waiters: Waiters,
+    pub measures: Measures,
 }
 
 /// A step that failed, with the value that was passed in.
@@ -58,6 +60,7 @@ impl<T> LockedPool<T> {
             is_closed: false,
             last_time: 0,
             waiters,
+            measures: Measures::default(),
         }
     }
 
@@ -85,10 +88,13 @@ impl<T> LockedPool<T> {
         if self.reserve_place(input).is_err() {
             return Err((StepFault::OutOfMemory, None));
         }
-        self.last_time = self.last_time.max(stamp.time);
+        self.last_time = self.last_time.max(stamp.at.millis);
         let token = value.map(|value| self.idle.put(value));
         match self.core.step(stamp.caller, self.last_time, input, token) {
-            Ok((answer, out)) => Ok(self.note(input, answer, out)),
+            Ok((answer, out)) => {
+                self.measure(stamp, input, answer);
+                Ok(self.note(input, answer, out))
+            }
             Err(fault) => Err((fault, token.map(|token| self.idle.take(token)))),
         }
     }
@@ -112,6 +118,20 @@ impl<T> LockedPool<T> {
             self.drop_entries();
         }
         self.journal.first != first
+    }
+
+    /// Counts the borrow or the loan that a step ends.
+    #[inline(always)]
+    fn measure(&mut self, stamp: Stamp, input: Input, answer: Answer) {
+        let histogram = match (input, answer) {
+            (Input::Ready { .. }, Answer::Lent) => &mut self.measures.waits,
+            (Input::GiveBack { .. }, Answer::Check)
+            | (Input::GiveBack { .. } | Input::Invalidate { .. }, Answer::Destroy) => {
+                &mut self.measures.loans
+            }
+            _ => return,
+        };
+        histogram.count(stamp.since, stamp.at.nanos);
     }
 
     /// Notes a step. Returns its answer, and the value that comes with it.
@@ -290,6 +310,7 @@ impl<T> LockedPool<T> {
 #[cfg(test)]
 mod tests {
     use super::{LockedPool, Mode, Stamp};
+    use crate::clock::Moment;
     use crate::proved_core::Core;
     use crate::step::{Input, Outcome};
     use crate::waiters::{Alarm, Ticket, Waiters};
@@ -305,7 +326,11 @@ mod tests {
     /// Takes steps that each need one object or none.
     fn take(pool: &mut LockedPool<()>, inputs: &[(Input, Option<()>)]) {
         for &(input, value) in inputs {
-            let stamp = Stamp { caller: 0, time: 0 };
+            let stamp = Stamp {
+                caller: 0,
+                at: Moment::of_millis(0),
+                since: 0,
+            };
             pool.step(stamp, input, value).unwrap();
         }
     }

@@ -5,6 +5,7 @@ use crate::get::Get;
 use crate::handle::{Handle, WeakHandle};
 use crate::keeping::{Addition, Eviction, Maintenance};
 use crate::manager::Manager;
+use crate::metrics::Metrics;
 use crate::pooled::Pooled;
 use crate::shared::WaitLimit;
 use crate::step::{Counts, When};
@@ -219,6 +220,26 @@ impl<M: Manager> Pool<M> {
     /// Returns the number of entries since the pool was opened, and the numbers of objects, all of one time. It takes the lock.
     pub fn counts(&self) -> Counts {
         self.shared.lock().core.counts()
+    }
+
+    /// Returns the state of the pool, all of one time, to be written as a text in the OpenMetrics format. The name tells the pool from others there,
+    /// and may be any text. It takes the lock, and not while the text is written.
+    ///
+    /// ```
+    /// # struct Numbers;
+    /// # impl zuphinka::Manager for Numbers {
+    /// #     type Object = u64;
+    /// #     type Error = ();
+    /// #     fn make(&self, id: u64) -> Result<u64, ()> { Ok(id) }
+    /// # }
+    /// let pool = zuphinka::Pool::new(Numbers)?;
+    /// let lent = pool.get().unwrap();
+    /// let text = pool.metrics("numbers").to_string();
+    /// assert!(text.contains("\nzuphinka_lent_objects{pool=\"numbers\"} 1\n"));
+    /// # Ok::<(), zuphinka::OpenError>(())
+    /// ```
+    pub fn metrics(&self, name: &str) -> Metrics {
+        Metrics::of(self.shared.snapshot(name))
     }
 
     /// Returns how many borrows, of threads and of tasks, wait for an object. It takes the lock.

@@ -55,7 +55,7 @@ impl<M: Manager> Pooled<M> {
     /// Takes the object out of the pool: its place is free, and the object is the caller's. The manager does not destroy it.
     pub fn detach(mut this: Pooled<M>) -> M::Object {
         let object = this.object.take().expect(LENT);
-        this.pool.detach(this.id);
+        this.pool.detach(this.id, object.lent);
         object.object
     }
 

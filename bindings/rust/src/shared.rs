@@ -1,13 +1,14 @@
 //! What all handles of a pool share, and its critical sections: each is one step of the core under the lock, or two if nothing lies
 //! between them.
 
-use crate::clock::{Aged, Began, Clock, Stamp};
+use crate::clock::{Aged, Began, Clock, Moment, Stamp};
 use crate::error::Error;
 use crate::failure::Failure;
 use crate::locked::{Guard, Locked};
 use crate::locked_pool::{Borrowed, LockedPool, TakenBack};
 use crate::maintenance::Maintainer;
 use crate::manager::Manager;
+use crate::metrics::Snapshot;
 use crate::panics::unless_it_panics;
 use crate::pauses::{count_processors, Pauses};
 use crate::reports::Reports;
@@ -133,6 +134,18 @@ impl<M: Manager> Shared<M> {
         maintainer.unwrap_or_else(PoisonError::into_inner)
     }
 
+    /// Returns what a text of metrics says of the pool, under this name.
+    pub fn snapshot(&self, name: &str) -> Snapshot {
+        let name = name.to_owned();
+        let mut state = self.lock();
+        Snapshot {
+            name,
+            counts: state.core.counts(),
+            waiting: state.waiters.len() as u64,
+            measures: state.measures.clone(),
+        }
+    }
+
     /// Returns whether this is a forked child, which has a copy of its parent's pool.
     pub fn is_of_parent(&self) -> bool {
         process::id() != self.process
@@ -158,18 +171,19 @@ impl<M: Manager> Shared<M> {
         most.is_some_and(|most| time.saturating_sub(object.made) >= most)
     }
 
-    /// Returns the time, in milliseconds. If the clock panics, it is that of the last entry.
+    /// Returns the time. If the clock panics, it is that of the last entry.
     #[inline]
-    pub fn now(&self) -> u64 {
+    pub fn now(&self) -> Moment {
         match self.clock.read() {
-            Some(time) => time,
-            None => self.lock().last_time(),
+            Some(moment) => moment,
+            None => Moment::of_millis(self.lock().last_time()),
         }
     }
 
-    /// Returns the time, in milliseconds, to a thread that holds the lock.
-    fn now_under_lock(&self, state: &LockedPool<Item<M>>) -> u64 {
-        self.clock.read().unwrap_or_else(|| state.last_time())
+    /// Returns the time to a thread that holds the lock.
+    fn now_under_lock(&self, state: &LockedPool<Item<M>>) -> Moment {
+        let read = self.clock.read();
+        read.unwrap_or_else(|| Moment::of_millis(state.last_time()))
     }
 
     /// Destroys an object. If this thread panics already, a panic of the manager ends here, since a second one would end the process.
@@ -203,36 +217,39 @@ impl<M: Manager> Shared<M> {
         input: Input,
         value: Option<Item<M>>,
     ) -> Result<Stepped<M>, Error<M::Error>> {
-        self.run_section_within(caller, input, value, WaitLimit::AsSet)
+        self.run_section_since(0, caller, input, value, WaitLimit::AsSet)
     }
 
-    /// Does the same, and waits for a thread that writes a segment only as far as the limit allows.
-    pub fn run_section_within(
+    /// Does the same, and waits for a thread that writes a segment only as far as the limit allows. The step may end a loan that began at a time,
+    /// in nanoseconds.
+    pub fn run_section_since(
         &self,
+        since: u64,
         caller: u32,
         input: Input,
         mut value: Option<Item<M>>,
         limit: WaitLimit,
     ) -> Result<Stepped<M>, Error<M::Error>> {
         loop {
-            match self.try_section(caller, input, value.take()) {
+            let at = self.now();
+            match self.try_section(Stamp { caller, at, since }, input, value.take()) {
                 Err(Error::JournalFull) if self.make_room(limit) => {}
                 stepped => return stepped,
             }
         }
     }
 
+    /// Does the same once, at a time.
     #[inline]
-    fn try_section(
+    pub fn try_section(
         &self,
-        caller: u32,
+        stamp: Stamp,
         input: Input,
         mut value: Option<Item<M>>,
     ) -> Result<Stepped<M>, Error<M::Error>> {
-        let time = self.now();
         let mut state = self.lock();
         loop {
-            match state.step(Stamp { caller, time }, input, value.take()) {
+            match state.step(stamp, input, value.take()) {
                 Ok((answer, out)) => {
                     self.leave(state, Wakes::of(input, answer));
                     return Ok((answer, out));
@@ -253,11 +270,11 @@ impl<M: Manager> Shared<M> {
 
     /// Takes an object back, and makes it idle if nothing is to be done before.
     pub fn take_back(&self, caller: u32, id: u64, value: Item<M>) -> TakenBack<Item<M>> {
-        let time = self.now();
+        let (at, since) = (self.now(), value.lent);
         let parks_at_once =
-            !M::PASSIVATES && !self.settings.test_on_return && !self.is_too_old(&value, time);
+            !M::PASSIVATES && !self.settings.test_on_return && !self.is_too_old(&value, at.millis);
         let mut state = self.lock();
-        let taken = state.take_back(Stamp { caller, time }, id, value, parks_at_once);
+        let taken = state.take_back(Stamp { caller, at, since }, id, value, parks_at_once);
         let wakes = match taken {
             TakenBack::Parked => Wakes::One,
             _ => Wakes::None,
@@ -304,13 +321,15 @@ impl<M: Manager> Shared<M> {
         &self,
         caller: u32,
         began: &mut Began,
-        mut time: u64,
+        mut at: Moment,
         limit: WaitLimit,
     ) -> Acquisition<M> {
         let mut ticket = None;
         loop {
-            match self.try_to_acquire(caller, began, time, limit, &mut ticket) {
-                Err(Error::JournalFull) if self.make_room(limit) => time = self.now(),
+            let since = began.nanos;
+            let stamp = Stamp { caller, at, since };
+            match self.try_to_acquire(stamp, began, limit, &mut ticket) {
+                Err(Error::JournalFull) if self.make_room(limit) => at = self.now(),
                 acquired => return acquired,
             }
         }
@@ -319,9 +338,8 @@ impl<M: Manager> Shared<M> {
     #[inline]
     fn try_to_acquire(
         &self,
-        caller: u32,
+        mut stamp: Stamp,
         began: &mut Began,
-        mut time: u64,
         limit: WaitLimit,
         ticket: &mut Option<Ticket>,
     ) -> Acquisition<M> {
@@ -331,27 +349,43 @@ impl<M: Manager> Shared<M> {
         let input = Input::Borrow { began };
         loop {
             if !state.is_behind(*ticket, self.settings.max_total) {
-                match state.borrow(Stamp { caller, time }, began, lends_at_once) {
+                match state.borrow(stamp, began, lends_at_once) {
                     Ok(Borrowed::Without(Answer::Wait)) => {}
-                    Ok(borrowed) => {
-                        let acquired = acquired(input, borrowed);
-                        self.end_wait(state, *ticket, acquired.is_ok());
-                        return acquired;
-                    }
+                    Ok(borrowed) => match acquired(input, stamp.at, borrowed) {
+                        Ok(acquired) => {
+                            self.end_wait(state, *ticket, true);
+                            return Ok(acquired);
+                        }
+                        Err(error) => return Err(self.fail(state, limit, *ticket, error)),
+                    },
                     Err(StepFault::OutOfMemory) if state.free_memory() => continue,
                     Err(fault) => {
                         let error = error_of(&state, input, fault);
-                        self.end_wait(state, *ticket, false);
-                        return Err(error);
+                        return Err(self.fail(state, limit, *ticket, error));
                     }
                 }
             } else if self.time_left(&state, began) == Some(Duration::ZERO) {
-                self.end_wait(state, *ticket, false);
-                return Err(Error::TimedOut);
+                return Err(self.fail(state, limit, *ticket, Error::TimedOut));
             }
             state = self.sleep(state, began, limit, ticket)?;
-            time = self.now_under_lock(&state);
+            stamp.at = self.now_under_lock(&state);
         }
+    }
+
+    /// Ends the wait of a borrow that gets no object, and returns why. One that was not to wait has not timed out.
+    #[cold]
+    pub fn fail(
+        &self,
+        mut state: Held<'_, M>,
+        limit: WaitLimit,
+        ticket: Option<Ticket>,
+        error: Error<M::Error>,
+    ) -> Error<M::Error> {
+        if matches!(error, Error::TimedOut) && !matches!(limit, WaitLimit::None) {
+            state.measures.timeouts += 1;
+        }
+        self.end_wait(state, ticket, false);
+        error
     }
 
     /// Returns how long a borrow sleeps at most, by the limit and the settings, or why it does not sleep.
@@ -385,10 +419,7 @@ impl<M: Manager> Shared<M> {
         loop {
             let longest = match self.longest_sleep(&state, began, limit) {
                 Ok(longest) => longest,
-                Err(error) => {
-                    self.end_wait(state, *ticket, false);
-                    return Err(error);
-                }
+                Err(error) => return Err(self.fail(state, limit, *ticket, error)),
             };
             let threads = state.threads_before(*ticket);
             let own = self
@@ -441,17 +472,21 @@ impl<M: Manager> Shared<M> {
     /// Returns how long a borrow that began at a time may still wait, by the settings.
     fn time_left(&self, state: &LockedPool<Item<M>>, began: u64) -> Option<Duration> {
         let most = u64::try_from(self.settings.max_wait_millis).ok()?;
-        let time = self.now_under_lock(state).max(state.last_time());
+        let time = self.now_under_lock(state).millis.max(state.last_time());
         let waited = time.saturating_sub(began);
         Some(Duration::from_millis(most.saturating_sub(waited)))
     }
 }
 
-/// Returns the object that a borrow got, or why it got none.
+/// Returns the object that a borrow got at a time, or why it got none.
 #[inline]
-pub(crate) fn acquired<T, E>(input: Input, borrowed: Borrowed<T>) -> Result<Acquired<T>, Error<E>> {
+pub(crate) fn acquired<T, E>(
+    input: Input,
+    at: Moment,
+    borrowed: Borrowed<Aged<T>>,
+) -> Result<Acquired<Aged<T>>, Error<E>> {
     match borrowed {
-        Borrowed::Lent(id, value) => Ok(Acquired::Lent(id, value)),
+        Borrowed::Lent(id, value) => Ok(Acquired::Lent(id, value.lent_at(at))),
         Borrowed::Taken(id, value) => Ok(Acquired::Taken(id, value)),
         Borrowed::Without(Answer::Make(id)) => Ok(Acquired::New(id)),
         Borrowed::Without(Answer::Exhausted) => Err(Error::Exhausted),

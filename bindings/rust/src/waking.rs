@@ -38,8 +38,8 @@ impl<M: Manager> Shared<M> {
         waker: &Waker,
     ) -> Poll<Acquisition<M>> {
         loop {
-            let time = self.now();
-            match self.look(Stamp { caller, time }, began, ticket, waker.clone()) {
+            let (at, since) = (self.now(), began.nanos);
+            match self.look(Stamp { caller, at, since }, began, ticket, waker.clone()) {
                 Poll::Ready(Err(Error::JournalFull)) if self.make_room(WaitLimit::AsSet) => {}
                 Poll::Ready(acquired) => {
                     *ticket = None;
@@ -62,7 +62,7 @@ impl<M: Manager> Shared<M> {
     ) -> Poll<Acquisition<M>> {
         let mut state = self.lock();
         let began = began.fix(state.last_time());
-        let is_over = self.is_over(began, stamp.time.max(state.last_time()));
+        let is_over = self.is_over(began, stamp.at.millis.max(state.last_time()));
         let is_behind = state.is_behind(*ticket, self.settings.max_total);
         let has_nothing = ticket.is_some() && state.has_nothing(self.settings.max_total);
         if !is_over && (is_behind || has_nothing) {
@@ -75,7 +75,13 @@ impl<M: Manager> Shared<M> {
                 None => return self.wait_for_wake(state, ticket, waker),
             },
         };
-        self.end_wait(state, *ticket, acquired.is_ok());
+        let acquired = match acquired {
+            Ok(acquired) => {
+                self.end_wait(state, *ticket, true);
+                Ok(acquired)
+            }
+            Err(error) => Err(self.fail(state, WaitLimit::AsSet, *ticket, error)),
+        };
         // The object has no guard yet.
         drop_quietly(waker);
         Poll::Ready(acquired)
@@ -95,7 +101,7 @@ impl<M: Manager> Shared<M> {
         }
         match borrowed {
             Ok(Borrowed::Without(Answer::Wait)) => None,
-            Ok(borrowed) => Some(acquired(input, borrowed)),
+            Ok(borrowed) => Some(acquired(input, stamp.at, borrowed)),
             Err(fault) => Some(Err(error_of(state, input, fault))),
         }
     }
