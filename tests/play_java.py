@@ -5,13 +5,13 @@
 
 LIBRARY is libzuphinka.a, and the other two are programs. tests/java/Calls.java makes each call of a pool, with what the factory throws.
 tests/java/Errors.java lets everything that a pool calls end in an error, and calls pools on a full stack. tests/java/Waits.java lets threads wait,
-and counts who overtakes. tests/java/Stress.java makes random calls in eight threads over a factory that fails at random. tests/java/Refusals.java
-refuses the native library each of its allocations in turn. tests/java/Folders.java has pools that want one folder, and folders that are removed;
-tests/java/Loaders.java has pools in two class loaders, where temporary folders are unfit. The journals that they write must be legal. A stored file
-must be synced before it has its name, and its folder afterwards. The jar must have the version of all products and load nothing but the C library,
-and the codes of zuphinka.Core must be those of bindings/c/zuphinka.h. Each public and protected item must have documentation in which javac finds
-nothing wrong. The examples are run by the commands of bindings/java/README.md; the journal of that over DBCP2 must be drawn. What needs a JDK or a jar
-that is missing is skipped, with the reason.
+and counts who overtakes. tests/java/Measures.java reads metrics, whose texts must be in the format. tests/java/Stress.java makes random calls in
+eight threads over a factory that fails at random. tests/java/Refusals.java refuses the native library each of its allocations in turn.
+tests/java/Folders.java has pools that want one folder, and folders that are removed; tests/java/Loaders.java has pools in two class loaders, where
+temporary folders are unfit. The journals that they write must be legal. A stored file must be synced before it has its name, and its folder
+afterwards. The jar must have the version of all products and load nothing but the C library, and the codes of zuphinka.Core must be those of
+bindings/c/zuphinka.h. Each public and protected item must have documentation in which javac finds nothing wrong. The examples are run by the commands
+of bindings/java/README.md; the journal of that over DBCP2 must be drawn. What needs a JDK or a jar that is missing is skipped, with the reason.
 
 Prints what fails, and in the end the line 'N passed, M failed'.
 """
@@ -26,6 +26,7 @@ import sys
 import tempfile
 import zipfile
 
+import openmetrics
 from check_picture import differences
 from playing import play_checks
 from preloading import preloaded
@@ -47,6 +48,8 @@ UNFINISHED = re.compile(r"\.unfinished-[0-9a-f-]{36}")
 SEEDS, MILLIS = range(8), 700
 # Test programs that need nothing but the library.
 PROGRAMS = "Errors", "Waits"
+# How many borrows tests/java/Measures.java makes while it reads metrics, and the names of its pools.
+MEASURED, NAMES = 80_000, ["a", 'say "b\\"\nc']
 # The functions by which the native library allocates, which tests/refuse_java.c wraps.
 ALLOCATORS = ("malloc", "calloc", "realloc")
 # The most bytes of a part of a text there.
@@ -124,6 +127,19 @@ def found(jar, classes, folder):
         told = [words in done.stdout for words in ("UnsatisfiedLinkError", "The property zuphinka.library names its file")]
         yield name, (1, [True, True]), (done.returncode, told)
     yield "copies that are left", [], [*good.iterdir(), *other.iterdir()]
+
+
+def measures(jar, classes, folder):
+    """What is wanted of the metrics, and what came of it."""
+    place = folder / "measures"
+    place.mkdir()
+    yield from program("measures", run(jar, classes, "Measures", place))
+    course = openmetrics.texts_of((place / "course").read_text())
+    yield "measures: texts in their course", True, len(course) > 2 or len(course)
+    yield "measures: their course", "", openmetrics.fault_of(openmetrics.check_course, course, MEASURED)
+    text = (place / "pools").read_text()
+    yield "measures: two pools", "", openmetrics.fault_of(openmetrics.pools_of, text)
+    yield "measures: their names", NAMES, list(openmetrics.pools_of(text))
 
 
 def refusing(library, folder):
@@ -251,6 +267,7 @@ def checks(library, pool, picture):
         yield from calls(jar, classes, pool, folder)
         for name in PROGRAMS:
             yield from program(name.lower(), run(jar, classes, name))
+        yield from measures(jar, classes, folder)
         native = refusing(library, folder)
         yield from refusals(jar, classes, native, pool, folder)
         yield from folders(jar, classes, native, pool, folder)

@@ -38,6 +38,11 @@ final class Member<T> {
         returnedAt = nanoTime;
     }
 
+    /** Returns how long its loan is that ends at this time of {@link System#nanoTime}, in nanoseconds. */
+    long loanNanos(long nanoTime) {
+        return Math.max(0, nanoTime - lentAt);
+    }
+
     /** Returns its loans until now. */
     Loans loans() {
         return new Loans(loans, isLent, lentAt, returnedAt);

@@ -39,8 +39,12 @@ final class Sections<T> {
     private long borrowed;
     private long returned;
     private long failedOnBorrow;
-    private long waitedNanos;
     private long longestWaitNanos;
+    private long timeouts;
+    /** How long the borrows took that got an object. */
+    private final Histogram waits = new Histogram();
+    /** How long the loans were that ended, except those of objects that were taken from their holders. */
+    private final Histogram loans = new Histogram();
 
     Sections(CoreSettings settings, Journal journal) {
         this.settings = settings;
@@ -288,6 +292,7 @@ final class Sections<T> {
         for (;;) {
             long left = left(first, longestNanos);
             if (left <= 0 && longestNanos >= 0) {
+                timeouts++;
                 throw refusal(Core.TIMED_OUT);
             }
             waiters.sleepOn(waiter);
@@ -429,6 +434,9 @@ final class Sections<T> {
                 return members.at(Core.value(reply));
             case Core.MAKE:
                 return members.add(Core.value(reply));
+            case Core.TIMED_OUT:
+                timeouts++;
+                throw refusal(reply);
             default:
                 throw refusal(reply);
         }
@@ -485,7 +493,7 @@ final class Sections<T> {
     /** Notes that a borrow has lent an object, and how long it took. */
     private Member<T> lent(Member<T> member, long now, long nanos) {
         borrowed++;
-        waitedNanos += nanos;
+        waits.count(nanos);
         longestWaitNanos = Math.max(longestWaitNanos, nanos);
         member.lend(now);
         return member;
@@ -536,6 +544,7 @@ final class Sections<T> {
         int answer = Core.answer(reply);
         if (answer != Core.REFUSED && answer != Core.GONE) {
             returned++;
+            loans.count(member.loanNanos(now));
             member.giveBack(now);
         }
         return reply;
@@ -546,18 +555,26 @@ final class Sections<T> {
         long now = System.nanoTime();
         begin();
         try {
-            return step(now, input, member.id, 0, 0);
+            return noteInvalidation(input, step(now, input, member.id, 0, 0), member, now);
         } finally {
             release();
         }
     }
 
-    /** Reports on an object that stays present. Returns the answer. */
+    /** Notes the end of a loan, if an answer is that to its invalidation. */
+    private long noteInvalidation(int input, long reply, Member<T> member, long now) {
+        if (input == Core.INVALIDATE && Core.answer(reply) == Core.DESTROY) {
+            loans.count(member.loanNanos(now));
+        }
+        return reply;
+    }
+
+    /** Reports on an object that stays present, or is invalidated. Returns the answer. */
     long report(int input, Member<T> member, int outcome) {
         long now = System.nanoTime();
         acquire();
         try {
-            return step(now, input, member.id, member.slot, outcome);
+            return noteInvalidation(input, step(now, input, member.id, member.slot, outcome), member, now);
         } finally {
             release();
         }
@@ -766,7 +783,17 @@ final class Sections<T> {
     Usage usage() {
         begin();
         try {
-            return new Usage(borrowed, returned, failedOnBorrow, waitedNanos, longestWaitNanos, waiters.size());
+            return new Usage(borrowed, returned, failedOnBorrow, waits.sum(), longestWaitNanos, waiters.size());
+        } finally {
+            release();
+        }
+    }
+
+    /** Returns the metrics of the pool, with this label. */
+    Metrics metrics(String label) {
+        begin();
+        try {
+            return new Metrics(new Metrics.Snapshot(label, journal.counts(), waiters.size(), timeouts, waits.copy(), loans.copy()));
         } finally {
             release();
         }

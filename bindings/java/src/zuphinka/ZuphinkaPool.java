@@ -843,6 +843,17 @@ public class ZuphinkaPool<T> implements ObjectPool<T>, UsageTracking<T> {
     }
 
     /**
+     * Returns the state of the pool at one moment, to be written as a text in the OpenMetrics format.
+     *
+     * @param name what tells the pool from others in that text, any text
+     * @return the metrics, which later calls do not change
+     * @throws NullPointerException if the name is null
+     */
+    public Metrics metrics(String name) {
+        return sections.metrics(Metrics.label(name));
+    }
+
+    /**
      * Returns the number of idle objects, including those under an idle test.
      *
      * @return a number from 0
