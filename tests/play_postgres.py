@@ -11,6 +11,7 @@ crash, and it is restarted with a limit of two connections and without. Then
 - no two workers use a connection at a time: triggers note the worker of a transaction under the process that serves it, and refuse another one;
 - no more than four processes serve the example, except while a process ends whose connection was closed;
 - a transfer begins within a second after each failure is over;
+- the pool's metrics, which the example serves by HTTP, are in the OpenMetrics format while transfers run (tests/openmetrics.py), and tell of them;
 - nothing is lent at the end, and no process serves the example once it has closed its pool, before it ends;
 - the journal is legal, has the counts that the example prints, and as many connections as the server has seen.
 
@@ -28,12 +29,14 @@ import sys
 import tempfile
 import threading
 import time
+import urllib.request
 
+import openmetrics
 import postgres_server
 from check_rust import CRATE, REGISTRY, runs_cargo
 from playing import play_checks
 from play_library import FLAGS, compiler, heap
-from postgres_server import ROLE, SHARED, Server, end_with_parent, sessions_of
+from postgres_server import ROLE, SHARED, Server, end_with_parent, free_port, sessions_of
 from skipping import NO_CARGO, has, skip
 
 TOP = pathlib.Path(__file__).resolve().parent.parent
@@ -55,6 +58,8 @@ STOPPED = 3
 FEW = 2
 # The time between two looks at the server's processes, in seconds, and how often that must have succeeded.
 PAUSE, LEAST_LOOKS = 0.1, 10
+# How long an answer of an example may take, in seconds.
+LONGEST_ANSWER = 30
 # All of it ends after this time, in seconds.
 LONGEST = 900
 # The tables of the examples, and what watches them: the users of processes, those that were used, and a count of transfers that began.
@@ -89,11 +94,17 @@ REPORT = re.compile(
 
 @dataclasses.dataclass
 class Example:
-    """An example: its name, its money, and the command that runs it over a database for some seconds, with a folder for its journal."""
+    """An example: its name, its money, and the command that runs it over a database for some seconds, with a folder for its journal and a port for its
+    metrics."""
 
     name: str
     euros: int
     command: object
+
+
+def over_connection_string(program):
+    """The command of a program that takes a connection string as libpq does."""
+    return lambda port, base, *words: [program, f"host=127.0.0.1 port={port} user={ROLE} dbname={base}", *words]
 
 
 def in_rust():
@@ -107,7 +118,7 @@ def in_rust():
     words = ["cargo", "build", "--release", "--offline", "--quiet", *source]
     java.run(*words, cwd=CRATE / "examples/postgres", env=os.environ | {"CARGO_TARGET_DIR": str(target)})
     program = target / "release/postgres"
-    return Example("rust", 10_000, lambda port, base, seconds, journal: [program, f"host=127.0.0.1 port={port} user={ROLE} dbname={base}", seconds, journal])
+    return Example("rust", 10_000, over_connection_string(program))
 
 
 def in_c(library, folder):
@@ -117,7 +128,7 @@ def in_c(library, folder):
     program, sources = folder / "postgres", [TOP / "bindings/c" / name for name in ("postgres.c", "zuphinka_pool.c")]
     words = [compiler(), *FLAGS, "-pthread", "-I", TOP / "bindings/c", "-I", "/usr/include/postgresql", "-o", program, *sources, library, heap(), "-lpq"]
     java.run(*words)
-    return Example("c", 10_000, lambda port, base, seconds, journal: [program, f"host=127.0.0.1 port={port} user={ROLE} dbname={base}", seconds, journal])
+    return Example("c", 10_000, over_connection_string(program))
 
 
 def in_java(library, folder):
@@ -126,8 +137,12 @@ def in_java(library, folder):
     if not has("the example over PostgreSQL in Java", *packages):
         return None
     path = f"{java.build(library, heap_of_kit(), folder / 'java')}:{java.DEBIAN_JAR.parent}/*"
-    words = [java.jdk() / "bin/java", "-XX:-UsePerfData", "-cp", path, TOP / "bindings/java/examples/Bank.java"]
-    return Example("java", 2_000, lambda port, base, seconds, journal: [*words, journal, f"jdbc:postgresql://127.0.0.1:{port}/{base}?user={ROLE}", seconds])
+    begin, program = [java.jdk() / "bin/java", "-XX:-UsePerfData", "-cp", path], TOP / "bindings/java/examples/Bank.java"
+
+    def command(port, base, seconds, journal, metrics):
+        return [*begin, f"-Dmetrics.port={metrics}", program, journal, f"jdbc:postgresql://127.0.0.1:{port}/{base}?user={ROLE}", seconds]
+
+    return Example("java", 2_000, command)
 
 
 class Watch(threading.Thread):
@@ -230,10 +245,36 @@ def seconds_after(fail, server, base):
     return least
 
 
-def failures(name, server, base, program):
+def served(port):
+    """The type and the text of the metrics that a program serves, or why there are none and no text."""
+    try:
+        with urllib.request.urlopen(f"http://127.0.0.1:{port}/metrics", timeout=LONGEST_ANSWER) as answer:
+            return answer.headers["Content-Type"], answer.read().decode()
+    except OSError as error:
+        return str(error), ""
+
+
+def metrics(name, port):
+    """What is wanted of the metrics that a program serves while transfers run, and what they are."""
+    kind, text = served(port)
+    yield f"{name}: the type of its metrics", "application/openmetrics-text; version=1.0.0; charset=utf-8", kind
+    fault = openmetrics.fault_of(openmetrics.pools_of, text)
+    yield f"{name}: its metrics", "", fault
+    if not fault:
+        pools = openmetrics.pools_of(text)
+        yield f"{name}: pools of its metrics", ["bank"], list(pools)
+        numbers = {sample: pools["bank"][f"zuphinka_{sample}"] for sample in ("created_objects_total", "destroyed_objects_total", "lent_objects")}
+        present = numbers["created_objects_total"] - numbers["destroyed_objects_total"]
+        yield f"{name}: objects of its metrics", True, 1 <= present <= CONNECTIONS and numbers["lent_objects"] <= present or numbers
+        ended = pools["bank"]["zuphinka_loan_seconds_count"], pools["bank"]["zuphinka_loan_seconds_sum"]
+        yield f"{name}: loans of its metrics", True, 0 < ended[0] <= pools["bank"]["zuphinka_borrows_total"] and ended[1] > 0 or ended
+
+
+def failures(name, server, base, program, port):
     """Lets the server fail in all ways, and yields what is wanted of the program meanwhile, and what came of it."""
     has_begun = seconds_until_transfer(server, base, SLACK) < SLACK
     yield f"{name}: it begins", True, has_begun
+    yield from metrics(name, port) if has_begun else []
     for failure, fail in FAILURES.items() if has_begun else []:
         seconds = seconds_after(fail, server, base)
         print(f"{name}: {failure}: a transfer after {1000 * seconds:.0f} ms")
@@ -315,11 +356,11 @@ def attempt(example, seconds, server, pool, folder, after_failures):
     place.mkdir()
     server.ask(f"CREATE DATABASE {base} OWNER {ROLE}")
     server.ask(TABLES, base)
-    begin, watch = server.log.stat().st_size, Watch(server)
-    program = Program(example.command(server.port, base, seconds, place / "journal"), place)
+    begin, watch, port = server.log.stat().st_size, Watch(server), free_port()
+    program = Program(example.command(server.port, base, seconds, place / "journal", port), place)
     watch.start()
     try:
-        yield from failures(name, server, base, program)
+        yield from failures(name, server, base, program, port)
         after_failures()
         yield from closing(name, server, program)
         told, found = report(name, program)

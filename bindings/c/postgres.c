@@ -1,23 +1,29 @@
 /* Eight threads transfer money between accounts in PostgreSQL, over a pool of four connections. What fails is printed, and tried again.
  *
- *     postgres SERVER SECONDS FOLDER
+ *     postgres SERVER SECONDS FOLDER [PORT]
  *
  * SERVER is a connection string of libpq, such as "host=localhost dbname=bank". FOLDER is new, and gets the pool's settings and its journal:
- * `pool check FOLDER/settings.toml FOLDER/segment-*` checks them. Exits with status 0; or with status 1 if there is no pool, no table or no sum.
+ * `pool check FOLDER/settings.toml FOLDER/segment-*` checks them. With a PORT it serves the pool's metrics at http://127.0.0.1:PORT/metrics. Exits with
+ * status 0; or with status 1 if the port is not free, or there is no pool, no table or no sum.
  *
  *     cc -pthread -I bindings/c -I "$(pg_config --includedir)" bindings/c/postgres.c bindings/c/zuphinka_pool.c LIBRARY -lpq -o postgres
  *
  * zuphinka.h says what LIBRARY is. */
 #define _POSIX_C_SOURCE 200809L
 
+#include <arpa/inet.h>
+#include <errno.h>
 #include <inttypes.h>
 #include <libpq-fe.h>
 #include <pthread.h>
 #include <stdio.h>
 #include <stdlib.h>
 #include <string.h>
+#include <sys/socket.h>
 #include <sys/stat.h>
+#include <sys/time.h>
 #include <time.h>
+#include <unistd.h>
 
 #include "zuphinka_pool.h"
 
@@ -142,6 +148,66 @@ static int start(struct worker *workers) {
   return started;
 }
 
+/* ---- metrics */
+
+static bool send_all(int client, const char *text, size_t size) {
+  while (size > 0) {
+    ssize_t sent = send(client, text, size, MSG_NOSIGNAL);
+    if (sent <= 0) return false;
+    text += sent;
+    size -= (size_t)sent;
+  }
+  return true;
+}
+
+/* Answers a request with the metrics, whatever it asks for. A client that is too slow gets nothing. */
+static void answer(int client) {
+  static const char form[] = "HTTP/1.1 200 OK\r\nContent-Type: application/openmetrics-text; version=1.0.0; charset=utf-8\r\n"
+                             "Content-Length: %zu\r\nConnection: close\r\n\r\n";
+  static const struct timeval patience = {.tv_sec = 5};
+  static char text[1 << 14];
+  const struct zuphinka_pool_named named = {pool, "bank"};
+  char head[256], request[4096];
+  size_t size = 0;
+  setsockopt(client, SOL_SOCKET, SO_RCVTIMEO, &patience, sizeof patience);
+  setsockopt(client, SOL_SOCKET, SO_SNDTIMEO, &patience, sizeof patience);
+  if (recv(client, request, sizeof request, 0) <= 0) return;
+  if (!is_done(zuphinka_pool_metrics(&named, 1, text, sizeof text, &size), "metrics")) return;
+  int length = snprintf(head, sizeof head, form, size);
+  if (send_all(client, head, (size_t)length)) send_all(client, text, size);
+}
+
+/* Answers one client after the other, until the socket is shut down. */
+static void *serve_metrics(void *argument) {
+  int listener = *(int *)argument;
+  for (;;) {
+    int client = accept(listener, NULL, NULL);
+    if (client >= 0) {
+      answer(client);
+      close(client);
+    } else if (errno != EINTR && errno != ECONNABORTED) {
+      return NULL;
+    }
+  }
+}
+
+/* Starts a thread that serves the metrics at a port of this machine, and stores its socket. */
+static bool start_metrics(int port, int *listener, pthread_t *thread) {
+  const struct sockaddr_in address = {.sin_family = AF_INET, .sin_port = htons((uint16_t)port), .sin_addr.s_addr = htonl(INADDR_LOOPBACK)};
+  *listener = socket(AF_INET, SOCK_STREAM, 0);
+  bool listens = *listener >= 0 && bind(*listener, (const struct sockaddr *)&address, sizeof address) == 0 && listen(*listener, 16) == 0;
+  if (listens && pthread_create(thread, NULL, serve_metrics, listener) == 0) return true;
+  perror("metrics");
+  return false;
+}
+
+/* Ends that thread, which calls the pool no more. */
+static void end_metrics(int listener, pthread_t thread) {
+  shutdown(listener, SHUT_RDWR);
+  pthread_join(thread, NULL);
+  close(listener);
+}
+
 /* ---- the whole */
 
 /* Makes the folder, and stores the settings beside the journal to come. */
@@ -181,14 +247,16 @@ static long sum(void) {
 int main(int count, char **words) {
   static struct worker workers[WORKERS];
   struct zuphinka_tally counts;
-  int seconds = count == 4 ? atoi(words[2]) : 0, made = 0, failed = 0;
-  if (seconds < 1) {
-    fprintf(stderr, "usage: postgres SERVER SECONDS FOLDER\n");
+  int seconds = count == 4 || count == 5 ? atoi(words[2]) : 0, port = count == 5 ? atoi(words[4]) : 0, made = 0, failed = 0, listener;
+  pthread_t metrics;
+  if (seconds < 1 || port < (count == 5) || port > UINT16_MAX) {
+    fprintf(stderr, "usage: postgres SERVER SECONDS FOLDER [PORT]\n");
     return 1;
   }
   server = words[1];
   folder = words[3];
   if (!store_settings() || !open_pool() || !make_tables()) return 1;
+  if (port && !start_metrics(port, &listener, &metrics)) return 1;
   deadline = time(NULL) + seconds;
   int started = start(workers);
   for (int n = 0; n < started; n++) {
@@ -201,6 +269,7 @@ int main(int count, char **words) {
   zuphinka_pool_counts(pool, &counts);
   printf("%d transfers, %d a second, %d failed\n%ld euros in all\n", made, made / seconds, failed, euros);
   printf("created %" PRIu64 ", destroyed %" PRIu64 ", idle %" PRIu64 ", lent %" PRIu64 "\n", counts.created, counts.destroyed, counts.idle, counts.lent);
+  if (port) end_metrics(listener, metrics);
   bool has_ended = is_done(zuphinka_pool_end(pool), "end");
   return has_ended && started == WORKERS && euros >= 0 ? 0 : 1;
 }

@@ -1,4 +1,8 @@
+import com.sun.net.httpserver.HttpServer;
 import java.io.IOException;
+import java.net.InetAddress;
+import java.net.InetSocketAddress;
+import java.nio.charset.StandardCharsets;
 import java.nio.file.Path;
 import java.sql.Connection;
 import java.sql.PreparedStatement;
@@ -31,7 +35,8 @@ import zuphinka.ZuphinkaPool;
  *
  * <p>{@code Bank FOLDER URL SECONDS} has one in PostgreSQL, such as {@code jdbc:postgresql://localhost/bank?user=me&password=mine}.
  *
- * <p>Both store the journal of the pool in the folder, which must have none yet.
+ * <p>Both store the journal of the pool in the folder, which must have none yet. With the property {@code metrics.port} they serve the pool's
+ * metrics at {@code http://127.0.0.1:PORT/metrics}.
  */
 public final class Bank {
     private static final String IN_MEMORY = "jdbc:h2:mem:bank;MODE=PostgreSQL;DB_CLOSE_DELAY=-1;LOCK_TIMEOUT=60000";
@@ -60,6 +65,24 @@ public final class Bank {
         // PoolingDataSource does that for a GenericObjectPool alone. Else each Connection.close throws, and the connection stays lent.
         factory.setPool(pool);
         return pool;
+    }
+
+    /** Serves the pool's metrics at the port of this machine that the property names, if it is set, until what is returned is closed. */
+    private static AutoCloseable serveMetrics(ZuphinkaPool<?> pool) throws IOException {
+        Integer port = Integer.getInteger("metrics.port");
+        if (port == null) {
+            return () -> {};
+        }
+        HttpServer server = HttpServer.create(new InetSocketAddress(InetAddress.getLoopbackAddress(), port), 0);
+        server.createContext("/metrics", exchange -> {
+            byte[] text = pool.metrics("bank").toString().getBytes(StandardCharsets.UTF_8);
+            exchange.getResponseHeaders().set("Content-Type", "application/openmetrics-text; version=1.0.0; charset=utf-8");
+            exchange.sendResponseHeaders(200, text.length);
+            exchange.getResponseBody().write(text);
+            exchange.close();
+        });
+        server.start();
+        return () -> server.stop(0);
     }
 
     private static void create(Connection connection) throws SQLException {
@@ -139,7 +162,7 @@ public final class Bank {
         long begin = System.nanoTime();
         long end = begin + Duration.ofSeconds(isInMemory ? 0 : Integer.parseInt(words[2])).toNanos();
         int euros;
-        try (PoolingDataSource<PoolableConnection> source = new PoolingDataSource<>(pool)) {
+        try (PoolingDataSource<PoolableConnection> source = new PoolingDataSource<>(pool); AutoCloseable metrics = serveMetrics(pool)) {
             source.setAccessToUnderlyingConnectionAllowed(true);
             try (Connection connection = source.getConnection()) {
                 create(connection);

@@ -3,10 +3,12 @@
 //!     cargo run --release -- "host=localhost user=me dbname=bank" 10 journal
 //!
 //! Run it in the folder `postgres` beside this file, which has its dependencies. The words are the server, the seconds, and the folder that gets
-//! the pool's journal.
+//! the pool's journal. With a port as the fourth word it serves the pool's metrics at `http://127.0.0.1:PORT/metrics`.
 
-use std::env;
+use std::io::{self, Read, Write};
+use std::net::{Ipv4Addr, TcpListener, TcpStream};
 use std::time::{Duration, Instant};
+use std::{env, thread};
 use tokio::time::{sleep, timeout};
 use tokio_postgres::{Client, Config, NoTls};
 use zuphinka::{Async, AsyncManager, Journal, Pool, Segments};
@@ -92,10 +94,37 @@ async fn work(pool: Pool<Async<Connector>>, worker: i32, end: Instant) -> (i32, 
     (made, failed)
 }
 
+/// Answers a request with a text of metrics, whatever it asks for.
+fn answer(mut client: TcpStream, metrics: &str) -> io::Result<()> {
+    client.set_read_timeout(Some(PATIENCE))?;
+    client.set_write_timeout(Some(PATIENCE))?;
+    let _ = client.read(&mut [0; 4096])?;
+    let kind = "application/openmetrics-text; version=1.0.0; charset=utf-8";
+    let size = metrics.len();
+    let head = format!("HTTP/1.1 200 OK\r\nContent-Type: {kind}\r\nContent-Length: {size}\r\n");
+    write!(client, "{head}Connection: close\r\n\r\n{metrics}")
+}
+
+/// Serves the pool's metrics at a port of this machine, to one client at a time, until the pool is gone.
+fn serve_metrics(pool: &Pool<Async<Connector>>, port: &str) -> Result<(), Failure> {
+    let listener = TcpListener::bind((Ipv4Addr::LOCALHOST, port.parse()?))?;
+    let pool = pool.downgrade();
+    thread::spawn(move || {
+        for client in listener.incoming() {
+            let Some(pool) = pool.upgrade() else { return };
+            let metrics = pool.metrics("bank").to_string();
+            if let Err(error) = client.and_then(|client| answer(client, &metrics)) {
+                eprintln!("metrics: {error}");
+            }
+        }
+    });
+    Ok(())
+}
+
 #[tokio::main]
 async fn main() -> Result<(), Failure> {
     let words: Vec<String> = env::args().skip(1).collect();
-    let [server, seconds, folder] = &words[..] else {
+    let ([server, seconds, folder] | [server, seconds, folder, _]) = &words[..] else {
         return Err("which server, how many seconds, and which folder for the journal?".into());
     };
     let seconds: u32 = seconds.parse()?;
@@ -104,6 +133,9 @@ async fn main() -> Result<(), Failure> {
         .test_on_borrow(true)
         .journal(Journal::Segments(Segments::in_folder(folder)?))
         .build(Async(Connector(server.parse()?)))?;
+    if let Some(port) = words.get(3) {
+        serve_metrics(&pool, port)?;
+    }
     pool.get_async().await?.batch_execute(TABLES).await?;
     let end = Instant::now() + Duration::from_secs(seconds.into());
     let start = |worker| tokio::spawn(work(pool.clone(), worker, end));
