@@ -8,9 +8,10 @@
  *     play_c_pool metrics PAIRS THREADS                 the same, while the metrics are read
  *
  * `sink` and `random` write the journal's segments to files of the folder, each named for its first position, and the settings to the file
- * `settings`. They print `steps N`, how many entries there were; `sink` prints also how often `store` was called, and `random` a line
- * `caller NUMBER lent N` for each thread. In `soak` the memory of the process must not grow by more than a tenth, or SLACK bytes, after the
- * first tenth of the pairs. `metrics` prints the texts of the metrics, the last one after all pairs. Exits with status 0; or with status 4 and a line on standard error that says what is wrong. */
+ * `settings`. They print `steps N`, how many entries there were; `sink` prints also how often `store` was called, and `random` a line `caller
+ * NUMBER lent N` for each thread. In `soak` the memory of the process must not grow by more than a tenth, or SLACK bytes, after the first tenth of
+ * the pairs. `metrics` prints the texts of the metrics, the last one after all pairs. Exits with status 0; or with status 4 and a line on standard
+ * error that says what is wrong. */
 #define _POSIX_C_SOURCE 200809L
 
 #include <inttypes.h>
@@ -796,7 +797,7 @@ static enum zuphinka_pool_error read_metrics(const struct zuphinka_pool_named *p
   return error;
 }
 
-/* Appends the samples of a histogram of a pool whose name is written "n": before each of two bounds it has so many times, and after the second all. */
+/* Appends the samples of a histogram of a pool named "n": as many times below the first of two bounds, below the second, and from it on. */
 static void append_histogram(char *text, const char *name, const char *bounds[2], const int counts[3], const char *sum) {
   static const char *const all[] = {"0.0001", "0.00025", "0.0005", "0.001", "0.0025", "0.005", "0.01", "0.025", "0.05", "0.1",
                                     "0.25",   "0.5",     "1.0",    "2.5",   "5.0",    "10.0",  "25.0", "50.0",  "100.0"};
@@ -805,7 +806,8 @@ static void append_histogram(char *text, const char *name, const char *bounds[2]
     while (stage < 2 && strcmp(all[n], bounds[stage]) == 0) stage++;
     text += sprintf(text, "%s_bucket{pool=\"n\",le=\"%s\"} %d\n", name, all[n], counts[stage]);
   }
-  sprintf(text, "%s_bucket{pool=\"n\",le=\"+Inf\"} %d\n%s_count{pool=\"n\"} %d\n%s_sum{pool=\"n\"} %s\n", name, counts[2], name, counts[2], name, sum);
+  text += sprintf(text, "%s_bucket{pool=\"n\",le=\"+Inf\"} %d\n", name, counts[2]);
+  sprintf(text, "%s_count{pool=\"n\"} %d\n%s_sum{pool=\"n\"} %s\n", name, counts[2], name, sum);
 }
 
 /* A loan of 3 ms that is returned and one of 2 s that is invalidated; waits of what the clock moves while an object is made and of none; and a borrow

@@ -94,8 +94,8 @@ REPORT = re.compile(
 
 @dataclasses.dataclass
 class Example:
-    """An example: its name, its money, and the command that runs it over a database for some seconds, with a folder for its journal and a port for its
-    metrics."""
+    """An example: its name, its money, and the command that runs it over a database for some seconds, with a folder for its journal and a port for
+    its metrics."""
 
     name: str
     euros: int

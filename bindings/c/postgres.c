@@ -3,8 +3,8 @@
  *     postgres SERVER SECONDS FOLDER [PORT]
  *
  * SERVER is a connection string of libpq, such as "host=localhost dbname=bank". FOLDER is new, and gets the pool's settings and its journal:
- * `pool check FOLDER/settings.toml FOLDER/segment-*` checks them. With a PORT it serves the pool's metrics at http://127.0.0.1:PORT/metrics. Exits with
- * status 0; or with status 1 if the port is not free, or there is no pool, no table or no sum.
+ * `pool check FOLDER/settings.toml FOLDER/segment-*` checks them. With a PORT it serves the pool's metrics at http://127.0.0.1:PORT/metrics. Exits
+ * with status 0; or with status 1 if the port is not free, or there is no pool, no table or no sum.
  *
  *     cc -pthread -I bindings/c -I "$(pg_config --includedir)" bindings/c/postgres.c bindings/c/zuphinka_pool.c LIBRARY -lpq -o postgres
  *
