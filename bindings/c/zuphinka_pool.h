@@ -276,8 +276,9 @@ void zuphinka_pool_counts(struct zuphinka_pool *pool, struct zuphinka_tally *cou
 /*
  * Writes the state of `count` pools as a text in the OpenMetrics format, of the media type "application/openmetrics-text; version=1.0.0;
  * charset=utf-8". The numbers of a pool are all of one time, and have its name as the label `pool`; no two pools have the same name. The text is
- * stored in `text`, a buffer of `capacity` bytes, without a null after it, and its size in `size`. It takes some 5,000 bytes and 55 names for each
- * pool. A program that adds metrics of its own puts them before ZUPHINKA_POOL_METRICS_END, the last line.
+ * stored in `text`, a buffer of `capacity` bytes, without a null after it, and its size in `size`. For each pool it takes at most 5,000 bytes and 51
+ * times the name, in which each quote, backslash and line feed takes two bytes. A program that adds metrics of its own puts them before
+ * ZUPHINKA_POOL_METRICS_END, the last line.
  *
  *   zuphinka_idle_objects, zuphinka_lent_objects    objects, as `zuphinka_pool_counts` has them
  *   zuphinka_waiting_borrows                        threads that wait for an object
