@@ -892,6 +892,12 @@ static uint64_t number_of(const char *text, const char *sample) {
   return strtoull(found + strlen(line), NULL, 10);
 }
 
+/* The number of threads that wait, or 0 without memory for the text that has it. */
+static uint64_t waiting_in(struct zuphinka_pool *pool) {
+  char text[LONGEST_TEXT];
+  return read_metrics(&(struct zuphinka_pool_named){pool, "n"}, 1, text) ? 0 : number_of(text, "zuphinka_waiting_borrows");
+}
+
 /* The metrics of a pool in which nothing is lent agree with its counts. */
 static void check_metrics(struct zuphinka_pool *pool, const struct zuphinka_tally *counts, bool is_short) {
   static char text[LONGEST_TEXT];
@@ -1142,14 +1148,14 @@ static void *wait_for_ever(void *argument) {
   return NULL;
 }
 
-/* Starts threads, and returns once each has made its entry and sleeps. */
+/* Starts threads, and returns once each waits, or has made an entry. */
 static void start(struct waiter *waiters, int count, struct zuphinka_pool *pool, void *(*run)(void *)) {
-  uint64_t steps = counts_of(pool).steps;
+  uint64_t steps = counts_of(pool).steps + (uint64_t)count, waiting = waiting_in(pool) + (uint64_t)count;
   for (int n = 0; n < count; n++) {
     waiters[n].pool = pool;
     check(pthread_create(&waiters[n].thread, NULL, run, &waiters[n]) == 0);
   }
-  while (counts_of(pool).steps < steps + (uint64_t)count) sleep_for(1);
+  while (counts_of(pool).steps < steps && waiting_in(pool) < waiting) sleep_for(1);
 }
 
 static void join(struct waiter *waiters, int count, enum zuphinka_pool_error wanted) {
