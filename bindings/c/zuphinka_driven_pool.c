@@ -229,12 +229,12 @@ static void set_time(struct run *run, struct moment at) {
   run->event.at = at.milliseconds;
 }
 
-/* Returns a call that begins now, and waits until a limit. It lacks memory if it does not get on. */
-static struct run begin_run(const struct zuphinka_pool *pool, struct zuphinka_start start, int64_t limit) {
-  struct run run = {.start = start, .next = {.end = ZUPHINKA_END_OUT_OF_MEMORY}, .first = time_of(pool), .limit = limit};
-  run.start.at = run.first.milliseconds;
-  set_time(&run, run.first);
-  return run;
+/* A call begins now. It lacks memory if it does not get on. */
+static void begin_run(const struct zuphinka_pool *pool, struct run *run) {
+  run->next.end = ZUPHINKA_END_OUT_OF_MEMORY;
+  run->first = time_of(pool);
+  run->start.at = run->first.milliseconds;
+  set_time(run, run->first);
 }
 
 /* Returns when the wait of a call ends, by the settings or by its caller. */
@@ -509,7 +509,8 @@ static bool take_back(struct zuphinka_pool *pool, const struct run *run) {
 }
 
 static enum zuphinka_pool_error borrow(struct zuphinka_pool *pool, int64_t limit, struct zuphinka_pool_loan *loan) {
-  struct run run = begin_run(pool, (struct zuphinka_start){.kind = ZUPHINKA_KIND_BORROW}, limit);
+  struct run run = {.start = {.kind = ZUPHINKA_KIND_BORROW}, .limit = limit};
+  begin_run(pool, &run);
   uint64_t place = 0;
   lock(pool);
   keep_room(pool, pool->low, false);
@@ -539,7 +540,8 @@ enum zuphinka_pool_error zuphinka_pool_get_timed(struct zuphinka_pool *pool, uin
 
 /* Ends a loan by a return or an invalidation. Meanwhile no copy of it is a loan. It has not ended if the call lacked something. */
 static enum zuphinka_pool_error end_loan(struct zuphinka_pool *pool, uint32_t kind, struct zuphinka_pool_loan *loan) {
-  struct run run = begin_run(pool, (struct zuphinka_start){.id = loan->id, .object = loan->object, .kind = kind}, NEVER);
+  struct run run = {.start = {.id = loan->id, .object = loan->object, .kind = kind}, .limit = NEVER};
+  begin_run(pool, &run);
   uint64_t place = loan->place, number = loan->number;
   lock(pool);
   enum zuphinka_pool_error error = error_of_loan(pool, loan);
@@ -566,7 +568,8 @@ enum zuphinka_pool_error zuphinka_pool_invalidate(struct zuphinka_pool *pool, st
 }
 
 enum zuphinka_pool_error zuphinka_pool_touch(struct zuphinka_pool *pool, const struct zuphinka_pool_loan *loan) {
-  struct run run = begin_run(pool, (struct zuphinka_start){.id = loan->id, .kind = ZUPHINKA_KIND_TOUCH}, NEVER);
+  struct run run = {.start = {.id = loan->id, .kind = ZUPHINKA_KIND_TOUCH}, .limit = NEVER};
+  begin_run(pool, &run);
   lock(pool);
   enum zuphinka_pool_error error = error_of_loan(pool, loan);
   if (!error) error = drive(pool, &run);
@@ -576,7 +579,8 @@ enum zuphinka_pool_error zuphinka_pool_touch(struct zuphinka_pool *pool, const s
 
 /* Makes a call that is for no object. Stores what it came to. */
 static enum zuphinka_pool_error call(struct zuphinka_pool *pool, uint32_t kind, struct zuphinka_effects *last) {
-  struct run run = begin_run(pool, (struct zuphinka_start){.kind = kind}, NEVER);
+  struct run run = {.start = {.kind = kind}, .limit = NEVER};
+  begin_run(pool, &run);
   lock(pool);
   enum zuphinka_pool_error error = drive(pool, &run);
   unlock(pool);
