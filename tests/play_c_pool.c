@@ -31,6 +31,7 @@ enum {
   WRONG = 4,
   LONG = 60000, /* milliseconds, after which a wait has failed */
   LONGEST_TEXT = 1 << 16,
+  MANY_LOANS = 20000,
   LAST_ERROR = ZUPHINKA_POOL_ERROR_BUFFER_TOO_SMALL,
   SLACK = 1 << 20,
 };
@@ -1893,6 +1894,28 @@ static void test_loans_at_once(void) {
   zuphinka_drop(&pool);
 }
 
+/* The same with many objects, which are idle at once and lent at once. */
+static void test_many_loans_at_once(void) {
+  const char *settings = "maxTotal = -1\nmaxIdle = -1\njournalLimit = 10000000\n";
+  struct zuphinka pool = {.at = NULL};
+  struct zuphinka_call call;
+  struct zuphinka_effects effects;
+  struct zuphinka_tally counts;
+  struct zuphinka_loan loan = {0, &maker};
+  check(zuphinka_open(&pool, settings, strlen(settings)) == ZUPHINKA_STATUS_DONE);
+  for (uint64_t n = 0; n < MANY_LOANS; n++) {
+    check(begin(&pool, ZUPHINKA_KIND_BORROW, &call, &effects) == ZUPHINKA_STATUS_DONE && effects.number == n);
+    check(advance(&pool, &call, ZUPHINKA_REPORT_MADE, &effects) == ZUPHINKA_STATUS_DONE && effects.end == ZUPHINKA_END_LENT);
+  }
+  for (int turn = 0; turn < 2; turn++) {
+    for (loan.id = 0; loan.id < MANY_LOANS; loan.id++) check(zuphinka_take_back(&pool, 0, 1, &loan) == ZUPHINKA_STATUS_DONE);
+    check(zuphinka_counts(&pool, &counts) == ZUPHINKA_STATUS_DONE && counts.idle == MANY_LOANS && counts.lent == 0);
+    for (uint64_t n = MANY_LOANS; n-- > 0;) check(zuphinka_lend(&pool, 0, 1, &loan) == ZUPHINKA_STATUS_DONE && loan.id == n);
+    check(zuphinka_counts(&pool, &counts) == ZUPHINKA_STATUS_DONE && counts.idle == 0 && counts.lent == MANY_LOANS);
+  }
+  zuphinka_drop(&pool);
+}
+
 static void test_unknown_kinds(void) {
   struct zuphinka pool = open_driven(1, "");
   refuse(&pool, NULL, 0, ZUPHINKA_STATUS_BAD_REQUEST);
@@ -2324,8 +2347,8 @@ static uint64_t pairs_of(struct borrower *borrowers, int threads) {
   return pairs;
 }
 
-static void run_soak(uint64_t pairs, int threads) {
-  static struct borrower borrowers[MOST_THREADS];
+/* Opens a pool of three objects, and starts threads that borrow and return so often, all together. */
+static struct zuphinka_pool *open_for(struct borrower *borrowers, uint64_t pairs, int threads) {
   struct zuphinka_pool_host host = host_of(&maker);
   struct zuphinka_pool *pool;
   check(threads > 0 && threads <= MOST_THREADS);
@@ -2337,6 +2360,12 @@ static void run_soak(uint64_t pairs, int threads) {
     borrowers[n].rounds = pairs / (uint64_t)threads;
     check(pthread_create(&borrowers[n].thread, NULL, borrow_for_long, &borrowers[n]) == 0);
   }
+  return pool;
+}
+
+static void run_soak(uint64_t pairs, int threads) {
+  static struct borrower borrowers[MOST_THREADS];
+  struct zuphinka_pool *pool = open_for(borrowers, pairs, threads);
   while (pairs_of(borrowers, threads) < pairs / 10) sleep_for(1);
   long early = resident_pages();
   for (int n = 0; n < threads; n++) check(pthread_join(borrowers[n].thread, NULL) == 0);
@@ -2355,16 +2384,7 @@ static void print_metrics(struct zuphinka_pool *pool) {
 
 static void run_metrics(uint64_t pairs, int threads) {
   static struct borrower borrowers[MOST_THREADS];
-  struct zuphinka_pool_host host = host_of(&maker);
-  struct zuphinka_pool *pool;
-  check(threads > 0 && threads <= MOST_THREADS);
-  host.now = NULL;
-  check_error(zuphinka_pool_open(&pool, "maxTotal = 3\n", 13, &host, ZUPHINKA_POOL_JOURNAL_OFF), ZUPHINKA_POOL_ERROR_NONE);
-  for (int n = 0; n < threads; n++) {
-    borrowers[n].pool = pool;
-    borrowers[n].rounds = pairs / (uint64_t)threads;
-    check(pthread_create(&borrowers[n].thread, NULL, borrow_for_long, &borrowers[n]) == 0);
-  }
+  struct zuphinka_pool *pool = open_for(borrowers, pairs, threads);
   while (pairs_of(borrowers, threads) < pairs) {
     print_metrics(pool);
     sleep_for(1);
@@ -2446,6 +2466,7 @@ static const struct {
     TEST(callers),
     TEST(calls_of_an_empty_handle),
     TEST(loans_at_once),
+    TEST(many_loans_at_once),
     TEST(unknown_kinds),
     TEST(refused_reports),
     TEST(refused_reports_without_room),
