@@ -1,6 +1,6 @@
 /* Two builds of the C pool beside each other in one thread, for `bench/two_pools`: `two_pools FIRST SECOND PAIRS ROUNDS`.
  *
- * FIRST and SECOND are shared objects of a source of the pool with its library. Each has a pool of one idle object without a journal, and no callback
+ * FIRST and SECOND are shared objects of the pool with its library. Each has a pool of one idle object without a journal, and no callback
  * runs at a borrow or a return. In each of ROUNDS rounds PAIRS pairs are timed in the first and then in the second, and in the next round in the
  * other order. Times come from CLOCK_MONOTONIC. Prints the nanoseconds of a pair in each, and the ratio of the second to the first: medians of the
  * rounds.

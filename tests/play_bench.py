@@ -261,7 +261,7 @@ def check_soak():
 
 
 def check_two_pools():
-    """Both sources of the C pool are measured, and a build of it beside itself, if there is a C compiler."""
+    """The C pool is measured beside itself, as it is and where it is named, if there is a C compiler."""
     if not shutil.which(os.environ.get("CC", "cc")):
         skip("bench/two_pools", "there is no C compiler: Debian's package gcc has one")
         return

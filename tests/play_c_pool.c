@@ -1,4 +1,4 @@
-/* Tests bindings/c/zuphinka_pool.c, or with -DDRIVEN bindings/c/zuphinka_driven_pool.c, one test a run.
+/* Tests bindings/c/zuphinka_pool.c, one test a run.
  *
  *     play_c_pool list                                  the names of the tests
  *     play_c_pool test NAME
@@ -35,13 +35,6 @@ enum {
   LAST_ERROR = ZUPHINKA_POOL_ERROR_BUFFER_TOO_SMALL,
   SLACK = 1 << 20,
 };
-
-/* Where the two sources differ. */
-#ifdef DRIVEN
-enum { LOOKS_AFTER_MAKE = 2, COUNTS_FOR_EACH = true };
-#else
-enum { LOOKS_AFTER_MAKE = 1, COUNTS_FOR_EACH = false };
-#endif
 
 #define check(holds) check_at(holds, #holds, __LINE__)
 
@@ -310,9 +303,9 @@ static void test_life(void) {
   uint32_t caller = zuphinka_pool_caller();
   snprintf(lines, sizeof lines,
            "%" PRIu32 " 10 borrow 10 = make 0\n%" PRIu32
-           " %d ready 0 good = lent\n"
+           " 12 ready 0 good = lent\n"
            "%" PRIu32 " 15 return 0 = check\n%" PRIu32 " 16 park 0 good = parked\n",
-           caller, caller, 10 + LOOKS_AFTER_MAKE, caller, caller);
+           caller, caller, caller, caller);
   check_text(entries(pool), lines);
   check_text(calls(), "map");
   end_pool(pool);
@@ -811,15 +804,15 @@ static void append_histogram(char *text, const char *name, const char *bounds[2]
   sprintf(text, "%s_count{pool=\"n\"} %d\n%s_sum{pool=\"n\"} %s\n", name, counts[2], name, sum);
 }
 
-/* A loan of 3 ms that is returned and one of 2 s that is invalidated; waits of what the clock moves while an object is made and of none; and a borrow
- * that times out at once. Returns a third loan, which lasts. */
+/* A loan of 3 ms that is returned and one of 2 s that is invalidated; a wait of 22 ms, since the clock moves by 11 while an object is made and while it
+ * is activated, and waits of none; and a borrow that times out at once. Returns a third loan, which lasts. */
 static struct zuphinka_pool_loan lend_measured(struct zuphinka_pool *pool) {
   struct zuphinka_pool_loan other;
   atomic_store(&maker.now, 1000);
   atomic_store(&maker.ticks, 11);
   struct zuphinka_pool_loan loan = lend(pool);
   atomic_store(&maker.ticks, 0);
-  atomic_store(&maker.now, 1003 + 11 * LOOKS_AFTER_MAKE);
+  atomic_store(&maker.now, 1025);
   give_back(pool, &loan);
   loan = lend(pool);
   check_error(zuphinka_pool_get(pool, &other), ZUPHINKA_POOL_ERROR_TIMED_OUT);
@@ -849,8 +842,7 @@ static void test_metrics(void) {
                  "zuphinka_timeouts_total{pool=\"n\"} 1\n"
                  "# TYPE zuphinka_wait_seconds histogram\n# UNIT zuphinka_wait_seconds seconds\n"
                  "# HELP zuphinka_wait_seconds How long borrows took that got an object.\n");
-  append_histogram(wanted + strlen(wanted), "zuphinka_wait_seconds", (const char *[]){"0.025", "0.025"}, (const int[]){2, 2, 3},
-                   LOOKS_AFTER_MAKE == 1 ? "0.011000000" : "0.022000000");
+  append_histogram(wanted + strlen(wanted), "zuphinka_wait_seconds", (const char *[]){"0.025", "0.025"}, (const int[]){2, 2, 3}, "0.022000000");
   strcat(wanted, "# TYPE zuphinka_loan_seconds histogram\n# UNIT zuphinka_loan_seconds seconds\n"
                  "# HELP zuphinka_loan_seconds How long objects were lent that were not reclaimed, by the end of their loans.\n");
   append_histogram(wanted + strlen(wanted), "zuphinka_loan_seconds", (const char *[]){"0.005", "2.5"}, (const int[]){0, 1, 2}, "2.003000000");
@@ -1392,7 +1384,7 @@ static void test_overtakes_are_bounded(void) {
     join(&waiters[0], 1, ZUPHINKA_POOL_ERROR_NONE);
     if (overtaking[choice].most == 0) start(&waiters[1], 1, pool, wait_for_one);
     check(atomic_fetch_add(&((struct thing *)waiters[0].loan.object)->holders, 1) == 0);
-    check(overtakes_of(pool, &waiters[0].loan, &waiters[1]) == (COUNTS_FOR_EACH ? 0 : overtaking[choice].most));
+    check(overtakes_of(pool, &waiters[0].loan, &waiters[1]) == 0);
     atomic_store(&maker.held, 0);
     join(&waiters[1], 1, ZUPHINKA_POOL_ERROR_NONE);
     start(&waiters[2], 1, pool, wait_for_one);

@@ -1,11 +1,11 @@
 #!/usr/bin/env python3
-"""Tests both sources of the pool for threads in C, bindings/c/zuphinka_pool.c and zuphinka_driven_pool.c, by the program tests/play_c_pool.c.
+"""Tests the pool for threads in C, bindings/c/zuphinka_pool.c, by the program tests/play_c_pool.c.
 
     play_c_pool.py LIBRARY POOL
 
-LIBRARY is libzuphinka.a, as `rt lib` builds it, and POOL the program `pool`. The C compiler that CC names, or cc, compiles each source with the
-program, with warnings as errors, the second with -DDRIVEN. The header must compile by itself as C99, C11 and C++ too, with more warnings, and each
-of its codes is named after its enum. All that follows is of each source.
+LIBRARY is libzuphinka.a, as `rt lib` builds it, and POOL the program `pool`. The C compiler that CC names, or cc, compiles the pool with the
+program, with warnings as errors. The header must compile by itself as C99, C11 and C++ too, with more warnings, and each of its codes is named after
+its enum.
 
 - Each test of the program must pass.
 - A pool whose `store` fails at each call in turn must store its whole journal in the end.
@@ -39,8 +39,6 @@ from preloading import preloaded
 from skipping import has, skip
 
 POOL_FLAGS = [*FLAGS, "-pthread", "-I", TOP / "bindings/c"]
-# The sources, each with its flags.
-SOURCES = {"zuphinka_pool.c": [], "zuphinka_driven_pool.c": ["-DDRIVEN"]}
 SEEDS, THREADS, CALLS = 15, 4, 2_000
 SHARED_ROUNDS, SOAKED = 5_000, 3_000_000
 MEASURED = 400_000
@@ -57,11 +55,10 @@ ANSWERS = set(
 )
 
 
-def built(folder, name, source, library, flags, main=TOP / "tests/play_c_pool.c"):
-    """Compiles a program over a source of the pool with flags, links it with the library, and returns its path."""
-    program = pathlib.Path(folder) / f"{name}_{pathlib.Path(source).stem}"
-    words = [*POOL_FLAGS, *SOURCES[source], *flags]
-    subprocess.run([compiler(), *words, "-o", program, main, TOP / "bindings/c" / source, library, heap()], check=True)
+def built(folder, name, library, flags, main=TOP / "tests/play_c_pool.c"):
+    """Compiles a program over the pool with flags, links it with the library, and returns its path."""
+    program = pathlib.Path(folder) / name
+    subprocess.run([compiler(), *POOL_FLAGS, *flags, "-o", program, main, TOP / "bindings/c/zuphinka_pool.c", library, heap()], check=True)
     return program
 
 
@@ -78,10 +75,10 @@ def has_tsan(folder):
 
 
 class Runs:
-    """The runs of one build of the program over a source, perhaps under another program or with a library that is loaded before."""
+    """The runs of one build of the program, perhaps under another program or with a library that is loaded before."""
 
-    def __init__(self, name, source, words, pool, environment=None):
-        self.name, self.source, self.words, self.pool, self.environment = f"{source}, {name}", source, words, pool, environment
+    def __init__(self, name, words, pool, environment=None):
+        self.name, self.words, self.pool, self.environment = name, words, pool, environment
         self.answers = set()
 
     def run(self, *words):
@@ -144,7 +141,7 @@ class Runs:
         with tempfile.TemporaryDirectory() as path:
             folder = pathlib.Path(path)
             (folder / "settings").write_text("journalLimit = 1000\n")
-            name = f"{self.source}, shared_life"
+            name = "shared_life"
             found = differing(name, (b"", b"", 0), run(program, folder / "settings", folder, str(THREADS), str(SHARED_ROUNDS)))
             journal = b"".join(path.read_bytes() for path in sorted(folder.glob("segment-*")))
             wanted = [SHARED_ROUNDS] * THREADS
@@ -173,57 +170,54 @@ def header_differing(folder):
 def tools(folder):
     """The names of the builds for valgrind and ThreadSanitizer, each with its flags, the words before it, and how many threads it has. Says which are
     skipped."""
-    if has("the C pools under valgrind", "valgrind"):
+    if has("the C pool under valgrind", "valgrind"):
         yield "valgrind", ["-g"], VALGRIND, THREADS
     if has_tsan(folder):
         yield "ThreadSanitizer", ["-g", "-fsanitize=thread"], [], MORE_THREADS
     else:
-        skip("the C pools under ThreadSanitizer", "the C compiler has none: Debian's package gcc has it")
+        skip("the C pool under ThreadSanitizer", "the C compiler has none: Debian's package gcc has it")
 
 
 def refused(plain, refuse, folder, seed):
     """What differs in a run in which allocations fail."""
-    mark = pathlib.Path(folder) / f"refused_{plain.source}_{seed}"
+    mark = pathlib.Path(folder) / f"refused_{seed}"
     changes = {"REFUSE_OF": str(REFUSE_OF), "REFUSE_SEED": str(seed), "REFUSED": str(mark), "LD_PRELOAD": str(refuse)}
-    runs = Runs("allocations that fail", plain.source, plain.words, plain.pool, os.environ | changes)
+    runs = Runs("allocations that fail", plain.words, plain.pool, os.environ | changes)
     return runs.random(seed, THREADS, CALLS) + ([] if mark.exists() else [f"{runs.name}, seed {seed}: no allocation failed"])
 
 
 def all_calls(plain, library, folder, watches):
-    """Each run over a source as a call that returns what differs, in lists."""
+    """Each run as a call that returns what differs, in lists."""
     names = plain.run("list").stdout.decode().split()
     refuse = preloaded("refuse", folder)
     few = range(1, FEW_SEEDS + 1)
     calls = [(plain.test, name) for name in names] + [(plain.random, seed, THREADS, CALLS) for seed in range(1, SEEDS + 1)]
     for name, flags, before, threads in watches:
-        runs = Runs(name, plain.source, [*before, built(folder, name, plain.source, library, flags)], plain.pool)
+        runs = Runs(name, [*before, built(folder, name, library, flags)], plain.pool)
         calls += [(runs.test, name) for name in names] + [(runs.random, seed, threads, FEW_CALLS) for seed in few]
     return calls + [(refused, plain, refuse, folder, seed) for seed in few]
 
 
-def differences(source, library, pool, folder, watches):
-    """What differs in each run over a source."""
-    plain = Runs("plain", source, [built(folder, "plain", source, library, [])], str(pathlib.Path(pool).resolve()))
-    calls = all_calls(plain, library, folder, watches)
+def differences(library, pool, folder):
+    """What differs in each run."""
+    plain = Runs("plain", [built(folder, "plain", library, [])], str(pathlib.Path(pool).resolve()))
+    calls = all_calls(plain, library, folder, list(tools(folder)))
     with concurrent.futures.ThreadPoolExecutor(os.cpu_count()) as workers:
         found = list(workers.map(lambda call: call[0](*call[1:]), calls))
-    shared = built(folder, "shared_life", source, library, [], TOP / "bindings/c/shared_life.c")
+    shared = built(folder, "shared_life", library, [], TOP / "bindings/c/shared_life.c")
     found += [plain.soak(), plain.metrics(), plain.shared(shared), *plain.sinks()]
     missing = ANSWERS - plain.answers
-    return [*found, [f"{source}: no journal has {sorted(missing)}"] if missing else []]
+    return [*found, [f"no journal has {sorted(missing)}"] if missing else []]
 
 
 def main(library, pool):
     with tempfile.TemporaryDirectory() as folder:
-        watches = list(tools(folder))
-        found = list(header_differing(folder))
-        for source in SOURCES:
-            found += differences(source, library, pool, folder, watches)
+        found = [*header_differing(folder), *differences(library, pool, folder)]
     for line in (line for lines in found for line in lines):
         print(line[:2000])
     failed = sum(map(bool, found))
     print(f"{len(found) - failed} passed, {failed} failed")
-    return 1 if failed or len(found) < SEEDS * len(SOURCES) else 0
+    return 1 if failed or len(found) < SEEDS else 0
 
 
 if __name__ == "__main__":

@@ -117,7 +117,7 @@ PARTS = (
         ("pool", "zuphinka"),
         CARGO,
     ),
-    Part("c-pool", "both C pools for threads, also with failing allocations", "python3 tests/play_c_pool.py {zuphinka} {pool}", ("pool", "zuphinka")),
+    Part("c-pool", "the C pool for threads, also with failing allocations", "python3 tests/play_c_pool.py {zuphinka} {pool}", ("pool", "zuphinka")),
     Part(
         "benchmarks",
         "bench/peers, bench/longest_waits, bench/database and bench/soak notice what is wrong",

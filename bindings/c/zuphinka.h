@@ -15,8 +15,7 @@
  *     cc -o server server.c $(PKG_CONFIG_PATH=FOLDER/lib/pkgconfig pkg-config --cflags --libs zuphinka)
  *
  * In the repository, bindings/c/plain_life.c and bindings/c/long_life.c are programs of one thread to copy from. zuphinka_pool.h is a pool for
- * threads over this library. bindings/c/zuphinka_pool.c shows how threads share a core under a lock, bindings/c/zuphinka_driven_pool.c how they make
- * calls, and bindings/c/shared_life.c uses either.
+ * threads over this library: bindings/c/zuphinka_pool.c shows how threads share a pool under a lock, and bindings/c/shared_life.c uses it.
  *
  * Rules
  *
@@ -57,9 +56,9 @@
  * (ZUPHINKA_INPUT_DESTROYED): the report frees its place, and another thread may make a new object at once.
  *
  * A thread that returns an object and borrows at once may take it again before the one that it woke, over and over. To bound that, let borrowers
- * queue: bindings/c/zuphinka_pool.c does, and all else above. A pool with calls (`zuphinka_open_with`) has a queue, which is proved, and decides all
- * else above: bindings/c/zuphinka_driven_pool.c drives it for threads. Both are tested with eight threads under ThreadSanitizer. Copy from one, or
- * use it as it is (zuphinka_pool.h), as bindings/c/shared_life.c does.
+ * queue. A pool with calls (`zuphinka_open_with`) has a queue, which is proved, and decides all else above. bindings/c/zuphinka_pool.c drives it for
+ * threads, and is tested with eight threads under ThreadSanitizer. Copy from it, or use it as it is (zuphinka_pool.h), as bindings/c/shared_life.c
+ * does.
  */
 #ifndef ZUPHINKA_H
 #define ZUPHINKA_H
@@ -508,11 +507,12 @@ uint32_t zuphinka_advance(struct zuphinka *pool, const struct zuphinka_call *cal
 
 /*
  * Lends an idle object at once, if a borrow that begins now would end so: it takes both steps of that, `borrow` and `ready`, and stores the object's id
- * and token in `loan`. Times count as in `zuphinka_begin`.
+ * and token in `loan`. Times count as in `zuphinka_begin`. It may overtake calls that wait, as the borrow would. Then `zuphinka_next_wake` names those
+ * to wake.
  *
  * Returns ZUPHINKA_STATUS_DONE. Otherwise the pool and `loan` are unchanged: ZUPHINKA_STATUS_NOT_OPEN; or ZUPHINKA_STATUS_NOT_AT_ONCE, and the
- * borrow is to be begun: a hook or a test is to run, or abandoned objects are to be removed; a call waits; no object is idle; the journal is to be cut,
- * or has no room; or there is no memory.
+ * borrow is to be begun: a hook or a test is to run, or abandoned objects are to be removed; calls that wait come first; no object is idle; the journal
+ * is to be cut, or has no room; or there is no memory.
  */
 uint32_t zuphinka_lend(struct zuphinka *pool, uint32_t caller, uint64_t at, struct zuphinka_loan *loan);
 

@@ -4,13 +4,12 @@
  * The host writes callbacks that make and destroy objects and, if it wishes, activate, test and passivate them. The pool lends the objects to
  * threads, with the settings of docs/guide/settings.md.
  *
- * Link one of its two sources: bindings/c/zuphinka_pool.c, for speed, or bindings/c/zuphinka_driven_pool.c, in which more is proved. The installed
- * archive has the first; otherwise compile the source with the program, with -std=c11 and -pthread. zuphinka.h has the commands.
+ * The installed archive has this pool. Otherwise compile bindings/c/zuphinka_pool.c with the program, with -std=c11 and -pthread. zuphinka.h has the
+ * commands. bindings/c/shared_life.c is a program to copy from.
  *
- * Each decision about an object is a step of the proved core. In zuphinka_driven_pool.c the library also decides what a call does after each step,
- * which threads wait, which one is woken, and when a journal is dropped: docs/proof/proved.md says what of that is proved. In zuphinka_pool.c none of
- * it is. In neither are the lock, the sleep of threads, the loans and the segments of the journal. tests/play_c_pool.py tests both.
- * bindings/c/shared_life.c is a program to copy from.
+ * The library of zuphinka.h decides what a call does next, which threads wait, which one is woken, and when a journal is dropped:
+ * docs/proof/proved.md says what of that is proved. The lock, the sleep of threads, the loans and the segments of the journal are not proved but
+ * tested, by tests/play_c_pool.py.
  *
  * Rules
  *
@@ -113,11 +112,10 @@ struct zuphinka_pool_host {
    * later, until its journal is full. A host that does without a segment returns true. */
   zuphinka_pool_store *store;
 
-  /* How many borrows may overtake the thread that has waited longest: 1 to 4,294,967,295; 0 stands for 16. Threads that wait queue in the order
-   * of arrival. A borrow overtakes them if it begins later and takes an object or a place that they could have had. Once so many have, or that
-   * thread was woken and found nothing, further borrows queue too, and `zuphinka_pool_try_get` finds nothing. In zuphinka_pool.c it is the same
-   * for the next thread that has waited longest. In zuphinka_driven_pool.c the borrows are counted for each thread from the beginning of its wait,
-   * and further borrows queue once any thread that waits was woken and found nothing, until one leaves the queue. */
+  /* How many borrows may overtake a thread that waits: 1 to 4,294,967,295; 0 stands for 16. Threads that wait queue in the order of arrival. A
+   * borrow overtakes them if it begins later and takes an object or a place that they could have had; each thread counts from the beginning of its
+   * wait. Once so many have overtaken the first one, further borrows queue too, and `zuphinka_pool_try_get` finds nothing. They also do so once any
+   * thread that waits was woken and found nothing, until one leaves the queue. */
   uint32_t max_overtakes;
 
   /* Whether no borrow overtakes a thread that waits, whatever `max_overtakes` says. */
