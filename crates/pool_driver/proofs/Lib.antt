@@ -2,5 +2,6 @@ pub mod AtOnce
 pub mod FirstSteps
 pub mod Following
 pub mod Moving
+pub mod Overtaking
 pub mod Queueing
 pub mod Running

@@ -21,7 +21,7 @@ use Rattle.pool_core.specs.Pool.{CoreModel}
 use Rattle.pool_core.specs.Reply.{has_reached, reply_from, takeable_from}
 use Rattle.pool_calls.specs.Operations.{HasCome, Follows, IsRight, Proceeds, began_of, fits, is_making, is_waiting, lacks_room, step_at}
 use Rattle.pool_calls.specs.Turns.{Turn, asks_room, step_of}
-use Rattle.pool_calls.specs.Waiting.{Queue, is_in, may_lend, signalled_of}
+use Rattle.pool_calls.specs.Waiting.{Queue, Waiter, is_in, may_lend, overtaken_once, signalled_of, takes_from_waiters}
 use Rattle.pool_calls.specs.declared.action.Action.{Action}
 use Rattle.pool_calls.specs.declared.action.Action.TheVariants as actions
 use Rattle.pool_calls.specs.declared.action.Event.TheVariants as events
@@ -222,32 +222,6 @@ pub record EndsWith (e : Entry) (J : List Entry) : Type 0 where
   pub earlier : List Entry
   pub is : J ≡ earlier ++ e ∷ []
 
--- ---- calls that are over at once
--- a borrow of an idle object has its host do something, or removes abandoned objects first
-abbrev pub asks_at_borrow : Plan → Bool
-asks_at_borrow p = p.activates || p.test_on_borrow || p.remove_abandoned_on_borrow
-
--- a return has its host do something
-abbrev pub asks_at_return : Plan → Bool
-asks_at_return p = p.passivates || p.test_on_return
-
--- while no call waits, a borrow lends an idle object by its two steps, and its host is asked nothing
-pub record LendsAtOnce (caller at id token : ℕ) (old new : DrivenModel) : Type 0 where
-  pub silent : asks_at_borrow old.plan ≡ false
-  pub alone : length old.queue.waiting ≡ 0
-  pub mid : CoreModel ℕ
-  pub taken : Answered caller at (inputs.Borrow at) None old.core mid (answers.Take id) (Some token)
-  pub lent : Answered caller at (inputs.Ready id outcomes.Good) None mid new.core answers.Lent None
-  pub rest : new ≡ record old { core = new.core; last = at }
-
--- a returned object is idle again by its two steps, and its host is asked nothing
-pub record TakesBackAtOnce (caller at id token : ℕ) (old new : DrivenModel) : Type 0 where
-  pub silent : asks_at_return old.plan ≡ false
-  pub mid : CoreModel ℕ
-  pub checked : Answered caller at (inputs.GiveBack id) None old.core mid answers.Check None
-  pub parked : Answered caller at (inputs.Park id outcomes.Good) (Some token) mid new.core answers.Parked None
-  pub rest : new ≡ record old { core = new.core; last = at }
-
 -- ---- waits
 -- the present objects
 abbrev pub present_of : Counts → ℕ
@@ -302,6 +276,44 @@ holds_signal q (Some ticket) = is_in ticket (signalled_of q)
 abbrev pub waking_at : DrivenModel → ℕ → Option ℕ → ℕ → Waking
 waking_at d at ticket began =
     waking_of (holds_signal d.queue ticket) (has_reached d.core.settings.max_wait_millis (at - began)) (reply_from d.core.settings d.core.base d.core.journal at (inputs.Borrow began))
+
+-- these waiters, each overtaken once more if so
+abbrev pub passed : Bool → List Waiter → List Waiter
+passed is ws = if is then map overtaken_once ws else ws
+
+-- ---- calls that are over at once
+-- a borrow of an idle object has its host do something, or removes abandoned objects first
+abbrev pub asks_at_borrow : Plan → Bool
+asks_at_borrow p = p.activates || p.test_on_borrow || p.remove_abandoned_on_borrow
+
+-- a return has its host do something
+abbrev pub asks_at_return : Plan → Bool
+asks_at_return p = p.passivates || p.test_on_return
+
+-- a borrow that may come before those that wait lends an idle object by its two steps, and its host is asked nothing. It has
+-- overtaken each of them once more if they could have had the object
+pub record LendsAtOnce (caller at id token : ℕ) (old new : DrivenModel) : Type 0 where
+  pub silent : asks_at_borrow old.plan ≡ false
+  pub may : may_come_in (available_in old.core) old ≡ true
+  pub waiting : new.queue.waiting ≡ passed (takes_from_waiters (available_in old.core) old.queue) old.queue.waiting
+  pub mid : CoreModel ℕ
+  pub taken : Answered caller at (inputs.Borrow at) None old.core mid (answers.Take id) (Some token)
+  pub lent : Answered caller at (inputs.Ready id outcomes.Good) None mid new.core answers.Lent None
+  pub rest :
+    new
+    ≡ record old {
+      core = new.core;
+      queue = record old.queue { waiting = new.queue.waiting; overtakes = new.queue.overtakes };
+      last = at;
+    }
+
+-- a returned object is idle again by its two steps, and its host is asked nothing
+pub record TakesBackAtOnce (caller at id token : ℕ) (old new : DrivenModel) : Type 0 where
+  pub silent : asks_at_return old.plan ≡ false
+  pub mid : CoreModel ℕ
+  pub checked : Answered caller at (inputs.GiveBack id) None old.core mid answers.Check None
+  pub parked : Answered caller at (inputs.Park id outcomes.Good) (Some token) mid new.core answers.Parked None
+  pub rest : new ≡ record old { core = new.core; last = at }
 
 -- ---- reports
 abbrev pub WakesAs : Waking → Operation → Operation → Type 0

@@ -45,9 +45,11 @@ impl DrivenPool {
     /// Lends an idle object by the two steps of a borrow that begins now, at time `at` (milliseconds) or the greatest time
     /// that was passed in before. Returns its id and its token.
     ///
+    /// If calls wait it may overtake them, as a borrow that is begun as a call. Then the host wakes the calls of `next_wake`.
+    ///
     /// Returns `None`, and changes nothing, if the borrow is to be begun as a call: the host is to be asked, or abandoned
-    /// objects are to be removed; another call waits; no object is idle; the journal is to be cut or dropped, or has no
-    /// room; or there is no memory.
+    /// objects are to be removed; calls that wait come first; no object is idle; the journal is to be cut or dropped, or
+    /// has no room; or there is no memory.
     #[inline(always)]
     pub fn lend_at_once(&mut self, caller: u32, at: u64) -> Option<(u64, u64)>
         ensures lent { IfSome result (λ r. LendsAtOnce caller (max at self.old.last) r.0 r.1
@@ -55,7 +57,11 @@ impl DrivenPool {
         ensures unchanged { IfNone result (self.new ≡ self.old) }
     {
         let at = at.max(self.last);
-        if self.asks_at_borrow() || self.waiters.len() > 0 || self.has_long_journal() {
+        if self.asks_at_borrow() || self.has_long_journal() {
+            return None;
+        }
+        let available = self.available_to_newcomer();
+        if !self.may_come(available) {
             return None;
         }
         let input = Input::Borrow { began: at };
@@ -65,6 +71,7 @@ impl DrivenPool {
         match self.core.step(caller, at, input, None) {
             Ok((_, out)) => {
                 self.core.lend(caller, at, id);
+                self.waiters.note_lent(available);
                 self.last = at;
                 Some((id, out.unwrap()))
             }

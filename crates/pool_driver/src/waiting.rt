@@ -1,15 +1,17 @@
 // The waits of borrows.
-ghost use Rattle.std.specs.Prelude.{◌≡◌, ◌-◌, ◌&&◌, ◌||◌, Some, None, true, false, length};
+ghost use Rattle.std.specs.Prelude.{◌≡◌, ◌-◌, ◌&&◌, ◌||◌, IfSome, Some, None, true, false, length};
 ghost use Rattle.std.specs.Option.{is_some};
 ghost use Rattle.pool_calls.specs.Operations.{Proceeds, fits, is_waiting, lacks_room, step_at};
-ghost use Rattle.pool_calls.specs.Waiting.{may_lend};
+ghost use Rattle.pool_calls.specs.Waiting.{may_lend, takes_from_waiters};
+ghost use Rattle.pool_core.specs.Legal.{entry_of};
 ghost use Rattle.pool_core.specs.Reply.{has_reached};
 ghost use Rattle.pool_journal.specs.Base.{closed_from};
 ghost use Rattle.pool_journal.specs.declared.input.Input.TheVariants as inputs;
 ghost use Rattle.pool_calls.specs.declared.action.Event.TheVariants as events;
 ghost use Rattle.pool_driver.specs.declared.report.Report.TheVariants as reports;
 ghost use Rattle.pool_driver.specs.Queueing.{Queues};
-ghost use Rattle.pool_driver.specs.Driving.{Accepts, HasRoom, IsAvailable, IsWoken, LacksRoomOnlyEmpty, LooksIf, Moves, TakesFirst, available_in, is_low_in, may_come_in, until_of, is_done, waking_at, waking_of};
+ghost use Rattle.pool_driver.specs.Overtaking.{CountsOvertakes, Rests, is_found, is_newcomer, others};
+ghost use Rattle.pool_driver.specs.Driving.{Accepts, EndsWith, HasRoom, IsAvailable, IsWoken, LacksRoomOnlyEmpty, LooksIf, Moves, TakesFirst, available_in, is_low_in, may_come_in, passed, until_of, is_done, waking_at, waking_of};
 
 use crate::call::Call;
 use crate::pool::DrivenPool;
@@ -95,6 +97,7 @@ impl DrivenPool {
         } }
         ensures call { call.new ≡ record call.old { ticket = None } }
         ensures queue { Queues call.old.ticket None self.old.queue self.new.queue }
+        ensures others { self.new.queue.waiting ≡ others call.old.ticket self.old.queue.waiting }
     {
         if let Some(ticket) = call.ticket {
             let _ = self.waiters.leave(ticket);
@@ -123,6 +126,7 @@ impl DrivenPool {
             call.new.operation }
         ensures accepted { result ≡ true
             → Accepts reports.Woken self.old self.new call.old call.new }
+        ensures rests { result ≡ true → Rests self.old self.new call.old call.new }
         ensures room { result ≡ true → lacks_room call.new.operation ≡ false }
         ensures unfit { result ≡ false → (self.new ≡ self.old) × (call.new ≡ call.old) }
     {
@@ -153,6 +157,7 @@ impl DrivenPool {
             call.new.operation }
         ensures accepted { result ≡ true
             → Accepts reports.RoomMade self.old self.new call.old call.new }
+        ensures rests { result ≡ true → Rests self.old self.new call.old call.new }
         ensures room { result ≡ true → lacks_room call.new.operation ≡ false }
         ensures unfit { result ≡ false → (self.new ≡ self.old) × (call.new ≡ call.old) }
     {
@@ -169,6 +174,7 @@ impl DrivenPool {
         ensures told { LooksIf (is_some call.old.ticket && fits call.old.operation events.Queued)
             self.old at call.old.ticket call.old.operation call.new.operation }
         ensures accepts { Accepts reports.GoOn self.old self.new call.old call.new }
+        ensures rests { Rests self.old self.new call.old call.new }
         ensures room { lacks_room call.new.operation ≡ false }
     {
         if call.ticket.is_some() && call.operation.tell(Event::Queued) {
@@ -182,6 +188,7 @@ impl DrivenPool {
         ensures told { result ≡ true → Proceeds events.Cancelled call.old.operation call.new.operation }
         ensures accepted { result ≡ true
             → Accepts reports.GivenUp self.old self.new call.old call.new }
+        ensures rests { result ≡ true → Rests self.old self.new call.old call.new }
         ensures room { result ≡ true → lacks_room call.new.operation ≡ false }
         ensures unfit { result ≡ false → (self.new ≡ self.old) × (call.new ≡ call.old) }
     {
@@ -195,6 +202,7 @@ impl DrivenPool {
     /// A call whose action is its end leaves the queue.
     pub(crate) fn leave_at_end(&mut self, call: &mut Call, action: Action)
         ensures accepts { Accepts reports.GoOn self.old self.new call.old call.new }
+        ensures rests { Rests self.old self.new call.old call.new }
         ensures rest { self.new ≡ record self.old {
           queue = self.new.queue;
           holds_back = self.new.holds_back;
@@ -208,7 +216,7 @@ impl DrivenPool {
     }
 
     // The number of available objects and free places, as far as it matters to a newcomer: 0 if no call waits.
-    fn available_to_newcomer(&self) -> u64
+    pub(crate) fn available_to_newcomer(&self) -> u64
         ensures { IsAvailable self.now result }
     {
         if self.waiters.len() == 0 {
@@ -221,18 +229,18 @@ impl DrivenPool {
     // A borrow that has no ticket draws one.
     fn draw_ticket(&mut self, call: &mut Call)
         ensures accepts { Accepts reports.GoOn self.old self.new call.old call.new }
+        ensures rests { Rests self.old self.new call.old call.new }
         ensures room { lacks_room call.new.operation ≡ true
             → lacks_room call.old.operation ≡ true }
     {
         if call.ticket.is_some() {
             return;
         }
-        match self.waiters.wait() {
-            Ok(ticket) => call.ticket = Some(ticket),
-            Err(_) => {
-                let _ = call.operation.tell(Event::TimeOver);
-            }
-        }
+        let Ok(ticket) = self.waiters.wait() else {
+            let _ = call.operation.tell(Event::TimeOver);
+            return;
+        };
+        call.ticket = Some(ticket);
     }
 
     // A borrow took something. If it had no ticket, and took nothing before, it overtook those that wait.
@@ -241,35 +249,53 @@ impl DrivenPool {
             → may_lend available self.old.queue ≡ true }
         ensures rest { self.new ≡ record self.old { queue = self.new.queue } }
         ensures queue { Queues call.now.ticket call.now.ticket self.old.queue self.new.queue }
+        ensures waiting { self.new.queue.waiting ≡ passed (is_newcomer call.now
+            && takes_from_waiters available self.old.queue) self.old.queue.waiting }
     {
         if call.ticket.is_none() && !call.was_served {
             self.waiters.note_lent(available);
         }
     }
 
-    // A borrow has asked: it waits, or it waits no longer. One that found something overtook those that wait.
-    fn note_answer(&mut self, call: &mut Call, available: u64)
+    // A borrow found something, and waits no longer. It overtook those that wait if it is a newcomer.
+    fn note_found(&mut self, call: &mut Call, available: u64)
         requires { call.old.ticket ≡ None → call.old.was_served ≡ false
             → may_lend available self.old.queue ≡ true }
         ensures accepts { Accepts reports.GoOn self.old self.new call.old call.new }
+        ensures served { call.new.was_served ≡ true }
+        ensures others { others call.new.ticket self.new.queue.waiting
+            ≡ passed (is_newcomer call.old && takes_from_waiters available self.old.queue)
+            (others call.old.ticket self.old.queue.waiting) }
+        ensures operation { call.new.operation ≡ call.old.operation }
+    {
+        self.count_overtake(call, available);
+        call.was_served = true;
+        self.leave(call);
+    }
+
+    // A borrow has asked: it waits, or it waits no longer. One that found something overtook those that wait.
+    fn note_answer(&mut self, call: &mut Call, answer: Answer, available: u64)
+        requires { call.old.ticket ≡ None → call.old.was_served ≡ false
+            → may_lend available self.old.queue ≡ true }
+        ensures accepts { Accepts reports.GoOn self.old self.new call.old call.new }
+        ensures served { call.new.was_served ≡ (is_found answer || call.old.was_served) }
+        ensures others { others call.new.ticket self.new.queue.waiting
+            ≡ passed (is_found answer && is_newcomer call.old && takes_from_waiters available
+            self.old.queue) (others call.old.ticket self.old.queue.waiting) }
         ensures room { lacks_room call.new.operation ≡ true
             → lacks_room call.old.operation ≡ true }
     {
-        match call.operation.action() {
-            Action::Wait => self.draw_ticket(call),
-            Action::MakeRoom => {}
-            Action::Done(_) => self.leave(call),
-            _ => {
-                self.count_overtake(call, available);
-                call.was_served = true;
-                self.leave(call);
-            }
+        match answer {
+            Answer::Wait => self.draw_ticket(call),
+            Answer::Take(_) | Answer::Make(_) => self.note_found(call, available),
+            _ => self.leave(call),
         }
     }
 
     // A borrow has to wait behind others: it draws a ticket.
     fn queue_up(&mut self, call: &mut Call)
         ensures accepts { Accepts reports.GoOn self.old self.new call.old call.new }
+        ensures rests { Rests self.old self.new call.old call.new }
         ensures room { lacks_room call.new.operation ≡ true
             → lacks_room call.old.operation ≡ true }
     {
@@ -290,12 +316,15 @@ impl DrivenPool {
 
     // Whether a borrow that comes later may ask: there is more than those that wait can take, or it may overtake them.
     // It may not once one of them was woken and found nothing.
-    fn may_come(&mut self, available: u64) -> bool
+    pub(crate) fn may_come(&mut self, available: u64) -> bool
         ensures value { result ≡ may_come_in available self.old }
         ensures kept { self.new ≡ self.old }
     {
         let waiting = self.waiters.len() as u64;
-        if self.holds_back && waiting > 0 && available <= waiting {
+        if waiting == 0 {
+            return true;
+        }
+        if self.holds_back && available <= waiting {
             return false;
         }
         self.waiters.may_lend(available)
@@ -313,6 +342,7 @@ impl DrivenPool {
     // A borrow for which there is no memory ends.
     fn end_for_memory(&mut self, call: &mut Call)
         ensures accepts { Accepts reports.GoOn self.old self.new call.old call.new }
+        ensures rests { Rests self.old self.new call.old call.new }
         ensures room { lacks_room call.new.operation ≡ true
             → lacks_room call.old.operation ≡ true }
     {
@@ -320,6 +350,32 @@ impl DrivenPool {
             .operation
             .tell(Event::NotTaken(StepFailure::OutOfMemory));
         self.leave(call);
+    }
+
+    // A borrow asks, and finds something, waits or is over. Returns the answer; `None` if no step was taken.
+    #[inline(always)]
+    fn look(
+        &mut self,
+        call: &mut Call,
+        caller: u32,
+        at: u64,
+        began: u64,
+        available: u64,
+    ) -> Option<Answer>
+        requires asked { step_at call.old.operation ≡ Some (inputs.Borrow began) }
+        requires room { lacks_room call.old.operation ≡ false }
+        requires available { IsAvailable self.old available }
+        requires may { is_newcomer call.old ≡ true → may_come_in available self.old ≡ true }
+        ensures moves { TakesFirst (inputs.Borrow began) (is_some result) caller at self.old self.new
+            call.old call.new }
+        ensures overtakes { CountsOvertakes caller at self.old self.new call.old call.new }
+        ensures last { IfSome result (λ a. EndsWith (entry_of caller at (inputs.Borrow began) a)
+            self.new.core.journal) }
+        ensures room { LacksRoomOnlyEmpty self.old.drops self.new.core call.new.operation }
+    {
+        let answer = self.step_for(call, caller, at, Input::Borrow { began })?;
+        self.note_answer(call, answer, available);
+        Some(answer)
     }
 
     /// A borrow asks for an object, or waits behind those that come first. It lends an object that it took at once if the
@@ -330,6 +386,7 @@ impl DrivenPool {
         requires room { lacks_room call.old.operation ≡ false }
         ensures moves { TakesFirst (inputs.Borrow began) result caller at self.old self.new call.old
             call.new }
+        ensures overtakes { CountsOvertakes caller at self.old self.new call.old call.new }
         ensures room { LacksRoomOnlyEmpty self.old.drops self.new.core call.new.operation }
     {
         if !self.reserve_ticket() {
@@ -341,9 +398,7 @@ impl DrivenPool {
             self.queue_up(call);
             return false;
         }
-        let answer = self.step_for(call, caller, at, Input::Borrow { began });
-        self.note_answer(call, available);
-        match answer {
+        match self.look(call, caller, at, began, available) {
             Some(Answer::Take(id)) => {
                 self.lend(call, caller, at, id);
                 true

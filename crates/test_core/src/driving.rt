@@ -591,17 +591,44 @@ fn what_asks_nothing_is_over_at_once(rt: HostRuntime) {
     assert!(&rt; found == wanted.as_slice());
 }
 
-// A call that waits has what comes back, and no later one.
+// A call that waits is overtaken at once as often as is set, and then has what comes back.
 #[test]
-fn nothing_is_lent_at_once_while_a_call_waits(rt: HostRuntime) {
+fn a_waiter_is_overtaken_once_at_once(rt: HostRuntime) {
     let mut pool = opened(&rt, rt.alloc(), false, 1_000);
     let _ = lend_new(&rt, &mut pool, 0, 7);
     let mut waiting = wait(&rt, &mut pool, 1, 0);
     expect_equal(&rt, pool.take_back_at_once(0, 2, 0, 7), true);
     expect_equal(&rt, wake(&mut pool), (Some(0), None, true));
-    expect_equal(&rt, pool.lend_at_once(0, 2), None);
+    expect_equal(&rt, pool.lend_at_once(0, 2), Some((0, 7)));
+    expect_equal(&rt, wake(&mut pool), (None, None, true));
+    expect_equal(&rt, pool.take_back_at_once(0, 3, 0, 7), true);
+    expect_equal(&rt, wake(&mut pool), (Some(0), None, true));
+    expect_equal(&rt, pool.lend_at_once(0, 3), None);
     let lent = Action::Done(End::Lent(0));
-    goes_on(&rt, &mut pool, &mut waiting, 2, Report::Woken, lent);
+    goes_on(&rt, &mut pool, &mut waiting, 3, Report::Woken, lent);
+}
+
+// Once a call was woken and found nothing, nothing is lent at once until one that waits has left.
+#[test]
+fn nothing_is_lent_at_once_after_a_vain_wake(rt: HostRuntime) {
+    let settings = settings_with(1_000);
+    let mut pool = DrivenPool::open(rt.alloc(), settings, options_with(false, 16)).expect(
+        &rt, "memory",
+    );
+    let _ = lend_new(&rt, &mut pool, 0, 7);
+    let mut waiting = wait(&rt, &mut pool, 0, 0);
+    expect_equal(&rt, pool.take_back_at_once(0, 0, 0, 7), true);
+    expect_equal(&rt, wake(&mut pool), (Some(0), None, true));
+    expect_equal(&rt, pool.lend_at_once(0, 0), Some((0, 7)));
+    expect_equal(&rt, wake(&mut pool), (None, None, true));
+    goes_on(&rt, &mut pool, &mut waiting, 0, Report::Woken, Action::Wait);
+    expect_equal(&rt, pool.take_back_at_once(0, 0, 0, 7), true);
+    expect_equal(&rt, wake(&mut pool), (Some(0), None, true));
+    expect_equal(&rt, pool.lend_at_once(0, 0), None);
+    let lent = Action::Done(End::Lent(0));
+    goes_on(&rt, &mut pool, &mut waiting, 0, Report::Woken, lent);
+    expect_equal(&rt, pool.take_back_at_once(0, 0, 0, 7), true);
+    expect_equal(&rt, pool.lend_at_once(0, 0), Some((0, 7)));
 }
 
 // Hooks, a full or closed queue, and a journal without room take a call.

@@ -19,6 +19,7 @@ use Rattle.pool_calls.specs.Waiting.{IsSettled, Signals}
 use Rattle.pool_calls.specs.declared.operation.Operation.{Operation}
 use Rattle.pool_calls.specs.declared.operation.Operation.TheVariants as operations
 use Rattle.pool_driver.specs.Driving.{DrivenModel, Begins, GoesFrom, IsTold, LendsAtOnce, Moves, TakesBackAtOnce, available_in, detaches, fits_report, is_done, is_low_in, is_maintenance, told, until_of}
+use Rattle.pool_driver.specs.Overtaking.{CountsOvertakes}
 use Rattle.pool_driver.specs.declared.call.Call.{Call}
 use Rattle.pool_driver.specs.declared.effects.Effects.{Effects}
 use Rattle.pool_driver.specs.declared.report.Report.{Report}
@@ -98,6 +99,7 @@ pub record GoesOn (caller at : ℕ) (report : Report) (old new : DrivenModel) (b
   pub fits : fits_report report before.operation ≡ true
   pub moves : Moves caller (max at old.last) old between (told report before) after
   pub tells : (mid : Operation) × IsTold report old (max at old.last) before mid × GoesFrom (step_at mid) caller (max at old.last) old between (record before { operation = mid; token = (told report before).token }) after
+  pub overtakes : CountsOvertakes caller (max at old.last) old between (told report before) after
   pub last : between.last ≡ max at old.last
   pub action : (turns : List Turn) → HasCome after.operation turns → IsRight after.operation turns effects.action
   pub ended : is_done effects.action ≡ true → after.ticket ≡ None

@@ -7,7 +7,7 @@ use Rattle.pool_driver.proofs.pool.DrivenPool.lend_at_once.Goals as goal
 
 pub lend-requires : goal.lend-requires
 lend-requires c =
-    let J = c.self.inside.core.journal in
+    let J = c.self-2.inside.core.journal in
     let at = c.max-at.result in
     let after = c.step.new.self in
     let due = sym c.due.ensures ∙ c.in-Take.is in

@@ -1,0 +1,197 @@
+-- How calls overtake those that wait.
+use Rattle.std.proofs.Common.{◌≡◌, ℕ, eqb, ◌&&◌, ◌||◌, not, cond, if◌then◌else◌, Bool, true, false, List, [], ◌∷◌, ◌++◌, Option, Some, None, inl, inr, refl, sym, ap, ◌∙◌, subst}
+use Rattle.std.specs.Prelude.{length, nat_lt, nat_le}
+use Rattle.std.specs.Option.{is_some}
+use Rattle.std.proofs.lemmas.Bool.{both_ways, eq-eqb}
+use Rattle.pool_journal.specs.declared.answer.Answer.{Answer}
+use Rattle.pool_journal.specs.declared.input.Input.{Input}
+use Rattle.pool_journal.specs.declared.input.Input.TheVariants as inputs
+use Rattle.pool_calls.specs.Turns.{Turn}
+use Rattle.pool_calls.specs.Waiting.{Queue, Waiter, can_pass, is_in, may_lend, newest, takes_from_waiters, without}
+use Rattle.pool_driver.specs.declared.call.Call.{Call}
+use Rattle.pool_driver.specs.declared.report.Report.{Report}
+use Rattle.pool_driver.specs.declared.report.Report.TheVariants as reports
+use Rattle.pool_driver.specs.Driving.{DrivenModel, Forgets, IsAvailable, Takes, available_in, handed, may_come_in, passed, told}
+use Rattle.pool_driver.specs.Overtaking.{CountsOvertakes, Course, Passes, Rests, finds, is_borrow, is_found, is_newcomer, others}
+use Rattle.pool_driver.proofs.Running.{forgets_none}
+
+-- ---- what a call does, one thing after the other
+module _ (caller at : ℕ) where
+  pub counts_same : (d : DrivenModel) (c : Call) → CountsOvertakes caller at d d c c
+  counts_same d c = record { turns = []; course = (refl, refl) }
+
+  pub counts_rest : (old new : DrivenModel) (before after : Call) → Rests old new before after → CountsOvertakes caller at old new before after
+  counts_rest old new before after rests = record { turns = None ∷ []; course = (new, after, rests, (refl, refl)) }
+
+  pub counts_pass : (t : Turn) (old new : DrivenModel) (before after : Call) → Passes caller at t old new before after → CountsOvertakes caller at old new before after
+  counts_pass t old new before after passes = record { turns = Some t ∷ []; course = (new, after, passes, (refl, refl)) }
+
+  course_on : (ts us : List (Option Turn)) (a b c : DrivenModel) (first mid last : Call) → Course caller at ts a b first mid → Course caller at us b c mid last → Course caller at (ts ++ us) a c first last
+  course_on [] us a b c first mid last p q =
+      let P : DrivenModel → Type 0 = λ d. Course caller at us d c mid last in
+      let Q : Call → Type 0 = λ x. Course caller at us a c x last in
+      subst Q p.1 (subst P p.0 q)
+  course_on (None ∷ ts) us a b c first mid last p q = (p.0, p.1, p.2, course_on ts us p.0 b c p.1 mid last p.3 q)
+  course_on (Some t ∷ ts) us a b c first mid last p q = (p.0, p.1, p.2, course_on ts us p.0 b c p.1 mid last p.3 q)
+
+  pub counts_on : (a b c : DrivenModel) (first mid last : Call) → CountsOvertakes caller at a b first mid → CountsOvertakes caller at b c mid last → CountsOvertakes caller at a c first last
+  counts_on a b c first mid last p q = record { turns = p.turns ++ q.turns; course = course_on p.turns q.turns a b c first mid last p.course q.course }
+
+-- ---- the tickets of the others
+pub others_same : (t u : Option ℕ) (ws vs : List Waiter) → u ≡ t → vs ≡ ws → others u vs ≡ others t ws
+others_same t u ws vs ticket waiting = ap (λ x. others x vs) ticket ∙ ap (others t) waiting
+
+-- a ticket that was drawn is no other's
+without_drawn : (d : ℕ) (ws : List Waiter) → is_in d ws ≡ false → without d (ws ++ newest d ∷ []) ≡ ws
+without_drawn d [] fresh = ap (λ (b : Bool). cond (not b) (newest d ∷ []) []) (eq-eqb d d refl)
+without_drawn d (w ∷ ws) fresh = by_test (eqb d w.ticket) fresh (without_drawn d ws)
+  where
+    by_test : (b : Bool) → (b || is_in d ws) ≡ false → (is_in d ws ≡ false → without d (ws ++ newest d ∷ []) ≡ ws)
+        → cond (not b) (w ∷ without d (ws ++ newest d ∷ [])) (without d (ws ++ newest d ∷ [])) ≡ w ∷ ws
+    by_test true is rest = absurd (cc is)
+    by_test false is rest = ap (λ vs. w ∷ vs) (rest is)
+
+pub others_drawn : (d : ℕ) (t u : Option ℕ) (ws vs : List Waiter) → t ≡ None → u ≡ Some d → vs ≡ ws ++ newest d ∷ [] → is_in d ws ≡ false → others u vs ≡ others t ws
+others_drawn d t u ws vs none some drawn fresh =
+    ap (λ x. others x vs) some ∙ ap (without d) drawn ∙ without_drawn d ws fresh ∙ sym (ap (λ x. others x ws) none)
+
+-- one that has a ticket overtakes nobody
+pub others_passed : (ticket : Option ℕ) (served there : Bool) (ws : List Waiter) → others ticket (passed (not (is_some ticket || served) && there) ws) ≡ passed (not (is_some ticket || served) && there) (others ticket ws)
+others_passed None served there ws = refl
+others_passed (Some t) served there ws = refl
+
+pub no_ticket : (t : Option ℕ) → false ≡ is_some t → t ≡ None
+no_ticket None none = refl
+no_ticket (Some t) none = absurd (cc none)
+
+-- a call that has drawn a ticket
+pub rests_drawn : (d : ℕ) (old new : DrivenModel) (before after : Call) → new.core ≡ old.core → new.drops ≡ old.drops → after.was_served ≡ before.was_served → before.ticket ≡ None → after.ticket ≡ Some d → new.queue.waiting ≡ old.queue.waiting ++ newest d ∷ [] → is_in d old.queue.waiting ≡ false → Rests old new before after
+rests_drawn d old new before after core drops served none some drawn fresh = record {
+  core = forgets_none old.drops old.core new.core core;
+  drops = drops;
+  served = served;
+  others = others_drawn d before.ticket after.ticket old.queue.waiting new.queue.waiting none some drawn fresh;
+}
+
+-- a call that has neither drawn a ticket nor left
+pub rests_kept : (old new : DrivenModel) (before after : Call) → Forgets old.drops old.core new.core → new.drops ≡ old.drops → after.was_served ≡ before.was_served → after.ticket ≡ before.ticket → new.queue.waiting ≡ old.queue.waiting → Rests old new before after
+rests_kept old new before after core drops served ticket waiting = record {
+  core = core;
+  drops = drops;
+  served = served;
+  others = others_same before.ticket after.ticket old.queue.waiting new.queue.waiting ticket waiting;
+}
+
+never : (b : Bool) (A : Type 0) → b ≡ false → b ≡ true → A
+never b A at_false at_true = absurd (both_ways b at_false at_true)
+
+-- a step that is none of a borrow's asking
+pub passes_other : (caller at : ℕ) (input : Input) (answer : Answer) (out : Option ℕ) (old new : DrivenModel) (before after : Call) → is_borrow input ≡ false → Takes caller at input (handed input before.token) old.drops old.core new.core answer out → new.drops ≡ old.drops → after.was_served ≡ before.was_served → after.ticket ≡ before.ticket → new.queue.waiting ≡ old.queue.waiting → CountsOvertakes caller at old new before after
+passes_other caller at input answer out old new before after other takes drops served ticket waiting =
+    let none : finds input answer ≡ false = ap (λ b. b && is_found answer) other in
+    counts_pass caller at (record { input = input; answer = answer }) old new before after (record {
+      out = out;
+      takes = takes;
+      drops = drops;
+      served = served ∙ ap (λ b. b || before.was_served) (sym none);
+      may = λ found newcomer. never (finds input answer) (may_lend (available_in old.core) old.queue ≡ true) none found;
+      others =
+          others_same before.ticket after.ticket old.queue.waiting new.queue.waiting ticket waiting
+          ∙ ap (λ b. passed (b && is_newcomer before && takes_from_waiters (available_in old.core) old.queue) (others before.ticket old.queue.waiting)) (sym none);
+    })
+
+-- ---- what is there for a newcomer
+none_of : (ws : List Waiter) → length ws ≡ 0 → ws ≡ []
+none_of [] none = refl
+none_of (w ∷ ws) none = absurd (cc none)
+
+or_true : (b : Bool) → (b || true) ≡ true
+or_true true = refl
+or_true false = refl
+
+-- while nobody waits a newcomer may come, and overtakes nobody
+pub may_alone : (available : ℕ) (q : Queue) → length q.waiting ≡ 0 → may_lend available q ≡ true
+may_alone available q none =
+    ap (λ ws. nat_lt (length q.waiting) available || can_pass q.overtakes q.most ws) (none_of q.waiting none) ∙ or_true (nat_lt (length q.waiting) available)
+
+takes_alone : (available : ℕ) (q : Queue) → length q.waiting ≡ 0 → takes_from_waiters available q ≡ false
+takes_alone available q none = ap (λ n. nat_lt 0 n && nat_le available n) none
+
+pub may_come_alone : (available : ℕ) (d : DrivenModel) → length d.queue.waiting ≡ 0 → may_come_in available d ≡ true
+may_come_alone available d none =
+    by_test d.holds_back (nat_lt 0 (length d.queue.waiting)) (nat_le available (length d.queue.waiting)) (ap (nat_lt 0) none) (may_alone available d.queue none)
+  where
+    by_test : (held waits few : Bool) → waits ≡ false → may_lend available d.queue ≡ true → (if held && waits && few then false else may_lend available d.queue) ≡ true
+    by_test true true few is may = absurd (cc is)
+    by_test false true few is may = absurd (cc is)
+    by_test true false few is may = may
+    by_test false false few is may = may
+
+may_of : (held may : Bool) → (if held then false else may) ≡ true → may ≡ true
+may_of true may is = absurd (cc is)
+may_of false may is = is
+
+pub may_there : (available : ℕ) (d : DrivenModel) → IsAvailable d available → may_come_in available d ≡ true → may_lend (available_in d.core) d.queue ≡ true
+may_there available d (inl none) may = may_alone (available_in d.core) d.queue none
+may_there available d (inr is) may = ap (λ n. may_lend n d.queue) (sym is) ∙ may_of _ (may_lend available d.queue) may
+
+pub may_come_there : (available : ℕ) (d : DrivenModel) → IsAvailable d available → may_come_in available d ≡ true → may_come_in (available_in d.core) d ≡ true
+may_come_there available d (inl none) may = may_come_alone (available_in d.core) d none
+may_come_there available d (inr is) may = ap (λ n. may_come_in n d) (sym is) ∙ may
+
+pub takes_there : (available : ℕ) (d : DrivenModel) → IsAvailable d available → takes_from_waiters available d.queue ≡ takes_from_waiters (available_in d.core) d.queue
+takes_there available d (inl none) = takes_alone available d.queue none ∙ sym (takes_alone (available_in d.core) d.queue none)
+takes_there available d (inr is) = ap (λ n. takes_from_waiters n d.queue) is
+
+-- ---- a borrow that asks
+pub newcomer_of : (c : Call) → c.ticket ≡ None → c.was_served ≡ false → is_newcomer c ≡ true
+newcomer_of c none unserved = ap (λ t. not (is_some t || c.was_served)) none ∙ ap not unserved
+
+pub may_lend_of : (available : ℕ) (d : DrivenModel) → may_come_in available d ≡ true → may_lend available d.queue ≡ true
+may_lend_of available d may = may_of _ (may_lend available d.queue) may
+
+pub may_as : (early may : Bool) → true ≡ (early || may) → not early ≡ true → may ≡ true
+may_as true may is newcomer = absurd (cc newcomer)
+may_as false may is newcomer = sym is
+
+pub passes_asked : (caller at began available : ℕ) (answer : Answer) (out : Option ℕ) (old mid new : DrivenModel) (before step after : Call) → IsAvailable old available → (is_newcomer before ≡ true → may_come_in available old ≡ true) → Takes caller at (inputs.Borrow began) (handed (inputs.Borrow began) before.token) old.drops old.core mid.core answer out → mid.drops ≡ old.drops → mid.queue ≡ old.queue → step.ticket ≡ before.ticket → step.was_served ≡ before.was_served → new.core ≡ mid.core → new.drops ≡ mid.drops → after.was_served ≡ (is_found answer || step.was_served) → others after.ticket new.queue.waiting ≡ passed (is_found answer && is_newcomer step && takes_from_waiters available mid.queue) (others step.ticket mid.queue.waiting) → CountsOvertakes caller at old new before after
+passes_asked caller at began available answer out old mid new before step after there may takes drops queue ticket turn core kept served passes =
+    let input : Input = inputs.Borrow began in
+    let C : _ → Type 0 = λ m. Takes caller at input (handed input before.token) old.drops old.core m answer out in
+    counts_pass caller at (record { input = input; answer = answer }) old new before after (record {
+      out = out;
+      takes = subst C (sym core) takes;
+      drops = kept ∙ drops;
+      served = served ∙ ap (λ s. is_found answer || s) turn;
+      may = λ found newcomer. may_there available old there (may newcomer);
+      others =
+          passes
+          ∙ ap (λ t. passed (is_found answer && not (is_some t || step.was_served) && takes_from_waiters available mid.queue) (others t mid.queue.waiting)) ticket
+          ∙ ap (λ s. passed (is_found answer && not (is_some before.ticket || s) && takes_from_waiters available mid.queue) (others before.ticket mid.queue.waiting)) turn
+          ∙ ap (λ q. passed (is_found answer && is_newcomer before && takes_from_waiters available q) (others before.ticket q.waiting)) queue
+          ∙ ap (λ b. passed (is_found answer && is_newcomer before && b) (others before.ticket old.queue.waiting)) (takes_there available old there);
+    })
+
+-- what a borrow does before it asks
+pub counts_reserved : (caller at : ℕ) (a b c : DrivenModel) (first last : Call) → b ≡ record a { queue = b.queue } → b.queue.waiting ≡ a.queue.waiting → CountsOvertakes caller at b c first last → CountsOvertakes caller at a c first last
+counts_reserved caller at a b c first last same waiting p =
+    let rests = rests_kept a b first first (forgets_none a.drops a.core b.core (ap (λ d. d.core) same)) (ap (λ d. d.drops) same) refl refl waiting in
+    counts_on caller at a b c first first last (counts_rest caller at a b first first rests) p
+
+-- ---- a report, and the end
+-- the token says nothing of the turns
+pub rests_told : (report : Report) (old new : DrivenModel) (before after : Call) → Rests old new before after → Rests old new (told report before) after
+rests_told (reports.Made t) old new before after p = record { core = p.core; drops = p.drops; served = p.served; others = p.others }
+rests_told reports.GoOn old new before after p = p
+rests_told reports.Succeeded old new before after p = p
+rests_told reports.Failed old new before after p = p
+rests_told reports.Woken old new before after p = p
+rests_told reports.RoomMade old new before after p = p
+rests_told reports.NoRoom old new before after p = p
+rests_told reports.GivenUp old new before after p = p
+
+-- nor does the greatest time
+pub counts_later : (time caller at : ℕ) (old new : DrivenModel) (before after : Call) → CountsOvertakes caller at old new before after → CountsOvertakes caller at old (record new { last = time }) before after
+counts_later time caller at old new before after p =
+    let rests = rests_kept new (record new { last = time }) after after (forgets_none new.drops new.core new.core refl) refl refl refl refl in
+    counts_on caller at old new (record new { last = time }) before after after p (counts_rest caller at new (record new { last = time }) after after rests)
