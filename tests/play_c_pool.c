@@ -1341,7 +1341,7 @@ static const struct {
   bool is_fair;
   uint32_t max_overtakes;
   int most;
-} overtaking[] = {{false, 0, 16}, {false, 3, 3}, {false, 1, 1}, {true, 0, 0}, {true, 3, 0}};
+} overtaking[] = {{false, 0, 64}, {false, 3, 3}, {false, 1, 1}, {true, 0, 0}, {true, 3, 0}};
 
 enum { CHOICES = sizeof overtaking / sizeof *overtaking, MANY_TIMES = 300 };
 

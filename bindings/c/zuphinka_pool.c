@@ -23,7 +23,7 @@ enum {
   CUT = 256, /* the condition of threads that wait for a cut; those before it are for threads that wait for an object */
   CONDITIONS,
   FIRST_PLACES = 16,   /* of loans */
-  MOST_OVERTAKES = 16, /* of a borrow that waits, if the host doesn't say */
+  MOST_OVERTAKES = 64, /* of a borrow that waits, if the host doesn't say */
   MOST_LINES = 256,    /* that are copied in one critical section */
   LONGEST_PART = MOST_LINES * ZUPHINKA_LONGEST_LINE,
   TRIES = 16, /* allocations that fail one after the other before a copy gives up */

@@ -112,7 +112,7 @@ struct zuphinka_pool_host {
    * later, until its journal is full. A host that does without a segment returns true. */
   zuphinka_pool_store *store;
 
-  /* How many borrows may overtake a thread that waits: 1 to 4,294,967,295; 0 stands for 16. Threads that wait queue in the order of arrival. A
+  /* How many borrows may overtake a thread that waits: 1 to 4,294,967,295; 0 stands for 64. Threads that wait queue in the order of arrival. A
    * borrow overtakes them if it begins later and takes an object or a place that they could have had; each thread counts from the beginning of its
    * wait. Once so many have overtaken the first one, further borrows queue too, and `zuphinka_pool_try_get` finds nothing. They also do so once any
    * thread that waits was woken and found nothing, until one leaves the queue. */
