@@ -3,12 +3,12 @@
 
     check_rust.py POOL
 
-POOL is the program. The crate's tests are cargo's: those in its files, in tests/ and in its pages. The segments that the example `servers` stores are
-judged by the program; what the example `settings` writes of a file must be what Python reads there; the example `pairs` must make as many
-entries as its rounds are, whatever becomes of its journal, and the segments that it stores are judged too; the metrics that a test writes must be in
-the format and agree with each other (tests/openmetrics.py); and the codes, the fields and the functions
-of `src/sys.rs` must be those of `bindings/c/zuphinka.h`. The tests under tokio run where Debian has its source; everywhere the files that they name
-must be there. What cannot be tested is skipped, with the reason: all of it if no cargo runs.
+POOL is the program. The crate's tests are cargo's: those in its files, in tests/ and in its pages. The segments that the examples `first_loan` and
+`servers` store are judged by the program; what the example `settings` writes of a file must be what Python reads there; the example `pairs` must make
+as many entries as its rounds are, whatever becomes of its journal, and the segments that it stores are judged too; the metrics that a test writes must
+be in the format and agree with each other (tests/openmetrics.py); and the codes, the fields and the functions of `src/sys.rs` must be those of
+`bindings/c/zuphinka.h`. The tests under tokio run where Debian has its source; everywhere the files that they name must be there. What cannot be tested
+is skipped, with the reason: all of it if no cargo runs.
 
 Prints what fails, and in the end the line 'N passed, M failed'.
 """
@@ -39,6 +39,8 @@ UNUSED = {"zuphinka_version", *(f"zuphinka_{name}" for name in ("open_with", "be
 # A run that takes longer hangs.
 LONGEST = 1200
 WORKERS, ROUNDS = 4, 20_000
+# The examples that store a journal, with what they print.
+STORING = {"first_loan": "session 0\n", "servers": ""}
 # How many borrows the test of the metrics makes.
 MEASURED = 80_000
 
@@ -102,14 +104,14 @@ def judged(pool, folder):
     return done.stdout + done.stderr, entries
 
 
-def check_servers(servers, pool):
-    """The journal that the example stores, judged by the program."""
+def check_stored(example, printed, pool):
+    """What an example prints, and the journal that it stores, judged by the program."""
     with tempfile.TemporaryDirectory() as folder:
         journal = pathlib.Path(folder) / "journal"
-        done = subprocess.run([servers, journal], capture_output=True, text=True, timeout=LONGEST)
+        done = subprocess.run([example, journal], capture_output=True, text=True, timeout=LONGEST)
         verdict, entries = judged(pool, journal)
-    right = (done.returncode, verdict) == (0, f"legal {entries}\n") and entries > 0
-    yield None if right else f"servers: status {done.returncode}, {done.stderr!r}; {entries} entries, {verdict!r}"
+    right = (done.returncode, done.stdout, verdict) == (0, printed, f"legal {entries}\n") and entries > 0
+    yield None if right else f"{example.name}: status {done.returncode}, {done.stdout + done.stderr!r}; {entries} entries, {verdict!r}"
 
 
 def check_examples():
@@ -208,7 +210,8 @@ def main(pool):
         faults = list(check_metrics(metrics))
     passed, failed = (sum(column) for column in zip(tested, run_trial(environment)))
     examples = built_examples(environment)
-    checks = [faults, check_servers(examples / "servers", pool), check_settings(examples / "settings"), check_pairs(examples / "pairs", pool)]
+    stored = [check_stored(examples / name, printed, pool) for name, printed in STORING.items()]
+    checks = [faults, *stored, check_settings(examples / "settings"), check_pairs(examples / "pairs", pool)]
     checks += [check_examples(), check_trial(), check_binding(), check_version()]
     for check in checks:
         for fault in check:

@@ -5,10 +5,10 @@ play_commands.py POOL  The last line is 'N passed, M failed'.
 
 A block is what a page indents by four spaces, and the man page's section of examples. Each must be of commands, which are run one after the
 other with the repository's examples at hand, or as one where they have a loop; the lines of a journal, which must be legal with the default
-settings, cut into segments or not; the form of a line; or the line of `rt version` of a kit with the logic of this one. The command ./check
-is not run, since it runs this, nor is tools/build.py, since it has built the programs: there must be such a crate or binding. Java's commands are
-run by play_java.py. What ./try does with the program without its proofs is done here by the program. Blocks between fences are not run:
-check_readme.py holds them against the sources. Names are for check_names.py. Cargo's commands are skipped if no cargo runs.
+settings, cut into segments or not; the form of a line; or the line of `rt version` of a kit with the logic of this one, which may also be in a sentence.
+The command ./check is not run, since it runs this, nor is tools/build.py, since it has built the programs: there must be such a crate or binding.
+Java's commands are run by play_java.py. What ./try does with the program without its proofs is done here by the program. Blocks between fences are not
+run: check_readme.py holds them against the sources. Names are for check_names.py. Cargo's commands are skipped if no cargo runs.
 """
 
 import functools
@@ -30,6 +30,8 @@ ENTRY = re.compile(r"\d+ \d+ .* = ")
 BASE = re.compile(r"pool-journal 2 |\d+ (readying|adding|lent|returning|idle|testing|destroying) ")
 FORM = "<caller> <at> <input>"
 KIT = re.compile(r"rattle-kit-\S+ logic ([0-9a-f]+)")
+# The same line in a sentence.
+KIT_IN_PROSE = re.compile(r"`(rattle-kit-\S+ logic [0-9a-f]+)`")
 
 
 def blocks(page):
@@ -102,6 +104,8 @@ class Place:
                 shown += block
             elif block != [FORM] and not (len(block) == 1 and is_kit(block[0])):
                 yield block[0], "neither a command nor a journal"
+        for line in KIT_IN_PROSE.findall(page.read_text()):
+            yield line, None if is_kit(line) else "another kit than this machine's"
         for segments in journals(shown):
             yield segments[0][0], self.fault_of_journal(segments)
 

@@ -4,8 +4,8 @@
     play_install.py LIBRARY
 
 LIBRARY is libzuphinka.a, as `rt lib` builds it. The headers and the sources of the pool must be those of bindings/c, and pkg-config must have the
-version of the header. bindings/c/plain_life.c and bindings/c/shared_life.c, copied to a folder by themselves, must compile with the flags that
-pkg-config prints, and run. If pkg-config isn't installed, nothing is compiled, which is printed. Without a library nothing is installed, with status 1.
+version of the header. bindings/c/first_loan.c, plain_life.c and shared_life.c beside it, copied to a folder by themselves, must compile with the flags
+that pkg-config prints, and run. If pkg-config isn't installed, nothing is compiled, which is printed. Without a library nothing is installed, with status 1.
 
 Prints each run that differs, and in the end the line 'N passed, M failed'.
 """
@@ -94,7 +94,7 @@ def main(library):
             if has("programs that are built by the installed files", "pkgconf"):
                 version, flags = flags_of(prefix)
                 plain = program_differing("plain_life", folder, flags, [TOP / "examples/settings.toml"], PLAIN_LIFE)
-                found += [version, plain, shared_differing(folder, flags)]
+                found += [version, program_differing("first_loan", folder, flags, [], b""), plain, shared_differing(folder, flags)]
     for line in (line for lines in found for line in lines):
         print(line[:2000])
     failed = sum(map(bool, found))

@@ -47,7 +47,7 @@ TIME = re.compile(r'^\d+ (\d+) .* = ', flags=re.MULTILINE)
 UNFINISHED = re.compile(r"\.unfinished-[0-9a-f-]{36}")
 SEEDS, MILLIS = range(8), 700
 # Test programs that need nothing but the library.
-PROGRAMS = "Errors", "Waits"
+PROGRAMS = "Errors", "Waits", "LostPlaces"
 # How many borrows tests/java/Measures.java makes while it reads metrics, and the names of its pools.
 MEASURED, NAMES = 80_000, ["a", 'say "b\\"\nc']
 # The functions by which the native library allocates, which tests/refuse_java.c wraps.
@@ -248,6 +248,7 @@ def examples(pool, picture, folder):
     if not java.DEBIAN_JAR.is_file():
         skip("the examples in Java", f"no {java.DEBIAN_JAR}: Debian's package libcommons-pool2-java has it")
         return
+    yield from example("FirstLoan", r"a session\n", pool, folder / "first")
     yield from example("Servers", r"180 requests were answered over \d+ connections\n", pool, folder / "servers")
     if has("the example Bank", *EXAMPLE_JARS.values()):
         yield from example("Bank", BANK, pool, folder / "bank")

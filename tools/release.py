@@ -38,7 +38,7 @@ import sources
 TOP = pathlib.Path(__file__).resolve().parent.parent
 PROGRAMS = ("pool", "judge", "journal_picture")
 LIBRARY = "zuphinka"
-C_EXAMPLES = ("plain_life.c", "long_life.c", "shared_life.c")
+C_EXAMPLES = ("first_loan.c", "plain_life.c", "long_life.c", "shared_life.c")
 # What the Rust crate is without its tests, which want the repository.
 CRATE = ("Cargo.toml", "Cargo.lock", "build.rs", "README.md", "src", "examples")
 # The section of the README for Java, which is its last.

@@ -24,6 +24,8 @@ abstract class EitherPool<T> {
 
     abstract int listed();
 
+    abstract int waiters();
+
     /** Makes a pool of the library that is named: {@code zuphinka} or {@code commons-pool}. No object is abandoned if {@code abandoned} is null. */
     static <T> EitherPool<T> of(String library, PooledObjectFactory<T> factory, GenericObjectPoolConfig<T> config, AbandonedConfig abandoned) {
         switch (library) {
@@ -62,6 +64,11 @@ abstract class EitherPool<T> {
             int listed() {
                 return pool.listAllObjects().size();
             }
+
+            @Override
+            int waiters() {
+                return pool.getNumWaiters();
+            }
         };
     }
 
@@ -90,6 +97,11 @@ abstract class EitherPool<T> {
             @Override
             int listed() {
                 return pool.listAllObjects().size();
+            }
+
+            @Override
+            int waiters() {
+                return pool.getNumWaiters();
             }
         };
     }

@@ -1,0 +1,37 @@
+import java.nio.file.Path;
+import org.apache.commons.pool2.BasePooledObjectFactory;
+import org.apache.commons.pool2.PooledObject;
+import org.apache.commons.pool2.impl.DefaultPooledObject;
+import org.apache.commons.pool2.impl.GenericObjectPoolConfig;
+import zuphinka.Journal;
+import zuphinka.ZuphinkaPool;
+
+/**
+ * Borrows a session from a pool, uses it and returns it.
+ *
+ * <p>{@code FirstLoan FOLDER} stores the journal of the pool in the folder, which must have none yet.
+ */
+public final class FirstLoan extends BasePooledObjectFactory<StringBuilder> {
+    @Override
+    public StringBuilder create() {
+        return new StringBuilder("a session"); // connect to your server here
+    }
+
+    @Override
+    public PooledObject<StringBuilder> wrap(StringBuilder session) {
+        return new DefaultPooledObject<>(session);
+    }
+
+    public static void main(String[] words) throws Exception {
+        GenericObjectPoolConfig<StringBuilder> config = new GenericObjectPoolConfig<>();
+        config.setMaxTotal(2);
+        try (ZuphinkaPool<StringBuilder> pool = new ZuphinkaPool<>(new FirstLoan(), config, null, Journal.inFolder(Path.of(words[0])))) {
+            StringBuilder session = pool.borrowObject(); // in any thread
+            try {
+                System.out.println(session);
+            } finally {
+                pool.returnObject(session);
+            }
+        }
+    }
+}
