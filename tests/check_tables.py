@@ -9,7 +9,8 @@ has a row for each file of tests of the shared pool; the outstanding entries and
 docs/proof/edits.md has a row for each edit of crates/*/must-fail, in the section of its crate, which names the function that it changes, and several
 rows for one that makes a mistake in each of several functions. The name of each crate begins as its section of crates.txt requires,
 docs/dev/architecture.md has a paragraph on it, and docs/pictures/crates.svg is as its script draws it. docs/guide/differences.md and
-docs/guide/commons-pool-tests.md name the same tests, for the same differences.
+docs/guide/commons-pool-tests.md name the same tests, for the same differences. Each ratio that the page of a language shows is that of
+docs/guide/speed.md.
 """
 
 import re
@@ -27,6 +28,9 @@ from sources import MISTAKES  # noqa: E402
 DEFINITIONS = TOP / "docs/proof/definitions.md"
 EDITS = TOP / "docs/proof/edits.md"
 COMMONS_POOL_TESTS = TOP / "docs/guide/commons-pool-tests.md"
+SPEED = TOP / "docs/guide/speed.md"
+# The pages that repeat ratios of docs/guide/speed.md.
+PAGES_OF_LANGUAGES = ("docs/guide/c.md", "bindings/rust/README.md", "bindings/java/README.md")
 
 
 def value_of(term):
@@ -207,9 +211,30 @@ def check_commons_pool():
         yield None if one in differences or f"{one}" in left_out else f"docs/guide/differences.md: {test}: there is no difference {one}"
 
 
+def ratios(page):
+    """The ratios that a page shows, each with the names of its row and of its column."""
+    return {(row["Ratio"], column): cell for row in tables(page) if "Ratio" in row for column, cell in row.items()}
+
+
+def check_ratios():
+    measured = ratios(SPEED)
+    for name in PAGES_OF_LANGUAGES:
+        shown = ratios(TOP / name)
+        yield None if shown else f"{name}: no ratios"
+        for place, ratio in shown.items():
+            wanted = measured.get(place)
+            yield None if ratio == wanted else f"{name}: {', '.join(place)}: {ratio}, docs/guide/speed.md says {wanted}"
+
+
+CHECKS = (
+    *(check_settings, check_answers, check_cases, check_trials, check_room, check_edits, check_crates, check_commons_pool),
+    check_ratios,
+)
+
+
 def main():
     passed, wrong = 0, []
-    for check in (check_settings, check_answers, check_cases, check_trials, check_room, check_edits, check_crates, check_commons_pool):
+    for check in CHECKS:
         faults = list(check())
         passed += faults.count(None)
         wrong += [fault for fault in faults if fault] if faults else [f"{check.__name__}: nothing to check"]
