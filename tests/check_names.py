@@ -1,5 +1,5 @@
 #!/usr/bin/env python3
-"""Sees that what README.md and docs/ name is there.
+"""Sees that what README.md, SECURITY.md and docs/ name is there.
 
 check_names.py  The last line is 'N passed, M failed'.
 
@@ -223,7 +223,7 @@ def check_clauses(page):
 
 def main():
     passed, failed = 0, 0
-    checks = [(check, page) for page in PAGES for check in (check_mentions, check_beside, check_links)]
+    checks = [(check, page) for page in (*PAGES, TOP / "SECURITY.md") for check in (check_mentions, check_beside, check_links)]
     checks += [(check_opening, page) for page in PAGES if page != TOP / "README.md"]
     checks += [(check_definitions, TOP / "docs" / name) for name in ("proof/definitions.md", "proof/sharing.md", "dev/architecture.md")]
     checks.append((check_clauses, TOP / "docs/proof/proved.md"))

@@ -10,7 +10,7 @@ docs/proof/edits.md has a row for each edit of crates/*/must-fail, in the sectio
 rows for one that makes a mistake in each of several functions. The name of each crate begins as its section of crates.txt requires,
 docs/dev/architecture.md has a paragraph on it, and docs/pictures/crates.svg is as its script draws it. docs/guide/differences.md and
 docs/guide/commons-pool-tests.md name the same tests, for the same differences. Each ratio that the page of a language shows is that of
-docs/guide/speed.md.
+docs/guide/speed.md, and docs/guide/platforms.md has the versions that the package files ask for; these have the licence.
 """
 
 import re
@@ -23,6 +23,8 @@ from play_mutants import function_at, replacements
 
 sys.path += [str(TOP / "docs/pictures"), str(TOP / "tools")]
 import draw_crates  # noqa: E402
+import install  # noqa: E402
+import java  # noqa: E402
 from sources import MISTAKES  # noqa: E402
 
 DEFINITIONS = TOP / "docs/proof/definitions.md"
@@ -226,9 +228,23 @@ def check_ratios():
             yield None if ratio == wanted else f"{name}: {', '.join(place)}: {ratio}, docs/guide/speed.md says {wanted}"
 
 
+def check_platforms():
+    """The page has the versions that the package files ask for, and these have the licence."""
+    rows = {row["For"]: row["You need"] for row in tables(TOP / "docs/guide/platforms.md") if "For" in row}
+    crate = tomllib.loads((TOP / "bindings/rust/Cargo.toml").read_text())["package"]
+    wanted = {"Rust": f"Rust {crate['rust-version']} or later", "Java": f"Java {java.RELEASE} or later"}
+    for name, version in wanted.items():
+        yield None if rows.get(name, "").startswith(version) else f"docs/guide/platforms.md: {name}: not {version}"
+    version = (TOP / "VERSION").read_text().strip()
+    licences = [crate.get("license"), java.LICENCE, *re.findall(r"^License: (.*)$", install.PKG_CONFIG, flags=re.MULTILINE)]
+    yield None if licences == ["Apache-2.0"] * 3 else f"the licences of the package files are {licences}"
+    is_told = f"now {version}." in (TOP / "docs/guide/platforms.md").read_text()
+    yield None if is_told else f"docs/guide/platforms.md: not the version {version}"
+
+
 CHECKS = (
     *(check_settings, check_answers, check_cases, check_trials, check_room, check_edits, check_crates, check_commons_pool),
-    check_ratios,
+    *(check_ratios, check_platforms),
 )
 
 

@@ -39,6 +39,7 @@ libdir=${{prefix}}/lib
 Name: zuphinka
 Description: An object pool whose decisions are proved, and a pool for threads over it
 Version: {version}
+License: Apache-2.0
 Cflags: -I${{includedir}} -pthread
 Libs: -L${{libdir}} -lzuphinka -pthread
 """

@@ -37,6 +37,8 @@ STRICT = 17
 QUICK = "-XX:TieredStopAtLevel=1"
 DEBIAN_JAR = pathlib.Path("/usr/share/java/commons-pool2.jar")
 MISSING = 3
+# By its name in the list of SPDX.
+LICENCE = "Apache-2.0"
 
 
 class Missing(Exception):
@@ -86,7 +88,8 @@ def compile_classes(sources, to, *jars):
 
 def pack(classes, native, jar):
     """Makes a jar of the classes and the native library. Each file has the earliest time that a jar can tell."""
-    manifest = f"Manifest-Version: 1.0\nImplementation-Title: zuphinka\nImplementation-Version: {version()}\nClass-Path: {DEBIAN_JAR.name}\n"
+    lines = ["Manifest-Version: 1.0", "Implementation-Title: zuphinka", f"Implementation-Version: {version()}", f"Bundle-License: {LICENCE}"]
+    manifest = "".join(f"{line}\n" for line in [*lines, f"Class-Path: {DEBIAN_JAR.name}"])
     files = {"META-INF/MANIFEST.MF": manifest.encode()}
     files |= {path.relative_to(classes).as_posix(): path.read_bytes() for path in sorted(classes.rglob("*.class"))}
     files[native.name] = native.read_bytes()
