@@ -25,7 +25,7 @@ TOP = pathlib.Path(__file__).resolve().parent.parent
 sys.path.append(str(TOP / "tools"))
 
 import sources
-from parts import PACKAGES, PARTS, PROOFS
+from parts import PACKAGES, PARTS, PROOFS, QUICK, QUICK_ALONE
 
 COPIED = ("check", ".ci/run", "tools/packages.py", "tools/runner.py", "tools/build.py", "tools/kit.py", "tools/sources.py", "tools/proof_seconds.txt")
 CRATES = {"low": "", "tool": "low", "wrong": "low", "archive staticlib": "low"}
@@ -95,13 +95,15 @@ HEAD = """from packages import Package
 from runner import Part
 
 PROOFS = Part("proofs", "the gate", "rt ci")
+QUICK_ALONE = (Part("brief", "is of quick alone", "sh tests/say brief 1 0 1 0 0"),)
+QUICK = ("brief", "small", "late", "library")
 PARTS = (
 """
 GOOD = [
     ("slow", "goes on for long", "slow 4 0.1 2 0 0"),
     ("late", "needs a static library", "late 1 0 1 0 0 {archive}", "archive"),
     ("tool", "needs a program", "tool 1 0 3 0 0 {tool}", "tool"),
-    ("quick", "needs nothing", "quick 1 0 1 0 0"),
+    ("small", "needs nothing", "small 1 0 1 0 0"),
     ("loud", "goes on for long too", "loud 4 0.1 1 0 0"),
     ("folder", "needs a folder", "folder 1 0 1 0 0 made/here"),
     ("library", "needs a library", "library 1 0 1 0 0 {low}/interface/format", "low"),
@@ -192,11 +194,12 @@ def began(done):
 def listing(trial):
     """The list, and names of no part."""
     done = trial.run("--list")
-    names = ["proofs", *(name for name, *_ in GOOD), "needy"]
+    names = ["proofs", "brief", *(name for name, *_ in GOOD), "needy", "quick"]
     yield "the list", (names, 0, "", []), ([line.split()[0] for line in done.lines], done.status, done.errors, done.calls)
-    yield "what a part tests", "quick    needs nothing", done.lines[4]
-    done = trial.run("quick", "qick")
-    told = "check: there is no part qick: did you mean quick? ./check --list names them all\n"
+    yield "what quick tests", "quick    brief small late library", done.lines[-1]
+    yield "what a part tests", "small    needs nothing", done.lines[5]
+    done = trial.run("small", "smalls")
+    told = "check: there is no part smalls: did you mean small? ./check --list names them all\n"
     yield "a name near to another", ([], 2, told, []), done
     told = "check: there is no part xxxxxxxx: ./check --list names them all\n"
     yield "another name", ([], 2, told, []), trial.run("xxxxxxxx")
@@ -204,22 +207,41 @@ def listing(trial):
 
 def alone(trial):
     """Parts that are named: alone, in the order of the table, once what they need is built."""
-    done = trial.run("quick")
-    head = ["check: part 1 of 1, quick, after N:N min", "check: all parts have ended, after N:N min", "check: quick, N s, alone by ./check quick"]
-    lines = [*head, "quick 1", "1 passed, 0 failed", "1 passed, 0 failed, 0 skipped"]
+    done = trial.run("small")
+    head = ["check: part 1 of 1, small, after N:N min", "check: all parts have ended, after N:N min", "check: small, N s, alone by ./check small"]
+    lines = [*head, "small 1", "1 passed, 0 failed", "1 passed, 0 failed, 0 skipped"]
     found = [re.sub(r"\d+:\d\d min", "N:N min", re.sub(r", \d+ s,", ", N s,", line)) for line in done.lines]
-    yield "a part that needs nothing", (lines, 0, "", ["begin quick"]), (found, *done[1:])
-    done = trial.run("folder", "tool", "quick", "tool")
-    order = [call for call in done.calls if call not in ("begin quick", "begin folder")]
+    yield "a part that needs nothing", (lines, 0, "", ["begin small"]), (found, *done[1:])
+    done = trial.run("folder", "tool", "small", "tool")
+    order = [call for call in done.calls if call not in ("begin small", "begin folder")]
     yield "a program is built first", ["library low", "program tool", "begin tool"], order
     yield "its progress is shown", True, any(line.startswith("tool: 1 of 2 crates, ") for line in done.lines)
     begin = [line.split(", ")[-1] for line in began(done)]
-    yield "what begins", ["check: build of tool", "folder", "quick", "tool"], sorted(begin)
-    yield "what is shown", (["tool", "quick", "folder"], "5 passed, 0 failed, 0 skipped", 0), (shown(done), done.lines[-1], done.status)
+    yield "what begins", ["check: build of tool", "folder", "small", "tool"], sorted(begin)
+    yield "what is shown", (["tool", "small", "folder"], "5 passed, 0 failed, 0 skipped", 0), (shown(done), done.lines[-1], done.status)
     yield "the program", True, any(re.fullmatch("tool has .* # alone // tool", line) for line in done.lines)
     yield "the folder is there", True, (trial.top / "made/here").is_dir()
     done = trial.run("tool")
     yield "a program that is built", (["begin tool"], ["check: part 1 of 1, tool"]), (done.calls, began(done))
+
+
+def quickly(trial):
+    """What `quick` names: all that is built, and the rest if it is named too."""
+    shutil.rmtree(trial.top / "crates/archive/out", ignore_errors=True)
+    done = trial.run("quick")
+    told = "check: skipped: late: all of it: not built: archive; ./check late proves and builds that first"
+    yield "quick without a library", ([told, "3 passed, 0 failed, 1 skipped"], 0), (done.lines[-2:], done.status)
+    yield "quick proves nothing", ["begin brief", "begin library", "begin small"], sorted(done.calls)
+    yield "how many parts begin", {"3"}, {line.split()[4].rstrip(",") for line in began(done)}
+    done = trial.run("quick", "late")
+    yield "what is named is built", ("4 passed, 0 failed, 0 skipped", 0), (done.lines[-1], done.status)
+    yield "by its build alone", ["archive archive", "built archive"], [call for call in done.calls if not call.startswith("begin ")]
+    write(trial.top / "crates/low/src/lib.rt", "// changed\n")
+    yield "what was changed is not built", "2 passed, 0 failed, 2 skipped", trial.run("quick").lines[-1]
+    done = trial.run("quick", "--install")
+    yield "nothing may be skipped", ("2 passed, 2 failed, 0 skipped", 1), (done.lines[-1], done.status)
+    write(trial.top / "crates/low/src/lib.rt", "// low\n")
+    shutil.rmtree(trial.top / "crates/archive/out")
 
 
 def static(trial):
@@ -279,7 +301,7 @@ def failing(trial):
     """Parts that fail, and those that can't run."""
     write(trial.top / "crates/wrong/src/broken", "")
     trial.lay_table([*BAD, *GOOD])
-    done = trial.run("quick", *(name for name, *_ in BAD))
+    done = trial.run("small", *(name for name, *_ in BAD))
     yield "what fails", ("3 passed, 6 failed, 0 skipped", 1), (done.lines[-1], done.status)
     yield "what failed", "check: what failed, again: ./check failing status mute empty wrong", done.lines[-2]
     told = ["status: ended with status 3", "mute: ended with status 0 and without a count", "wrong: not run, since wrong can't be built"]
@@ -292,16 +314,16 @@ def failing(trial):
 
 def skipping(trial):
     """What a part skips is counted, and shown with its reason before the last line."""
-    done = trial.run("needy", "quick")
+    done = trial.run("needy", "small")
     wanted = ["check: skipped: needy: a tool: not installed: Debian's tool-dev", "check: ./check --install installs what they need"]
     yield "what is skipped", ([*wanted, "2 passed, 0 failed, 1 skipped"], 0), (done.lines[-3:], done.status)
-    yield "nothing is installed", ["begin needy", "begin quick"], sorted(done.calls)
+    yield "nothing is installed", ["begin needy", "begin small"], sorted(done.calls)
 
 
 def installing(trial):
     """Packages are installed before what needs them runs, and then nothing may be skipped."""
-    done = trial.run("--install", "quick")
-    yield "nothing to install", ("1 passed, 0 failed, 0 skipped", 0, ["begin quick"]), (done.lines[-1], done.status, done.calls)
+    done = trial.run("--install", "small")
+    yield "nothing to install", ("1 passed, 0 failed, 0 skipped", 0, ["begin small"]), (done.lines[-1], done.status, done.calls)
     done = trial.run("--install", "needy", APT="broken")
     told = "check: not installed: "
     yield "it fails", ([INSTALL], 3, True), (done.lines, done.status, done.errors.startswith(told) and " status 100; " in done.errors)
@@ -354,7 +376,7 @@ def fetching(trial):
     yield "nothing is fetched", ([INSTALL, "fetched"], 3, told), (done.calls, done.status, done.errors)
     done = trial.run("--install", "needy", FETCH="0")
     yield "it is fetched", (["fetched", "begin needy"], 0), (done.calls, done.status)
-    yield "only where it is needed", ["begin quick"], trial.run("--install", "quick", FETCH="1").calls
+    yield "only where it is needed", ["begin small"], trial.run("--install", "small", FETCH="1").calls
 
 
 def unattended(trial):
@@ -440,11 +462,13 @@ def interrupted(trial):
 
 def table():
     """The parts of this repository: they have names of their own, run scripts that are there, and run each test."""
-    names = [part.name for part in (PROOFS, *PARTS)]
-    yield "names of their own", len(names), len(set(names))
+    known = PROOFS, *PARTS, *QUICK_ALONE
+    names = [part.name for part in known]
+    yield "names of their own", [*names, "quick"], list(dict.fromkeys([*names, "quick"]))
     yield "the form of names", [], [name for name in names if not re.fullmatch(r"[a-z]+(-[a-z]+)*", name)]
-    yield "crates", [], [crate for part in PARTS for crate in part.needs if crate not in sources.libraries()]
-    words = [part.words() for part in PARTS]
+    yield "parts of quick", [], [name for name in QUICK if name not in names] + [part.name for part in QUICK_ALONE if part.name not in QUICK]
+    yield "crates", [], [crate for part in known for crate in part.needs if crate not in sources.libraries()]
+    words = [part.words() for part in known if part is not PROOFS]
     yield "scripts", [], [line[:2] for line in words if line[0] != "python3" or not (TOP / line[1]).is_file()]
     given = [word for line in words for word in line[2:] if word.startswith(("tests/", "crates/", "bindings/"))]
     yield "files and folders", [], [word for word in given if not (TOP / word).exists()]
@@ -459,7 +483,7 @@ def table():
     yield "nothing is left out without being counted", [], silent
 
 
-WITH_ALL = (listing, alone, static, whole, jobs)
+WITH_ALL = (listing, alone, quickly, static, whole, jobs)
 INSTALLING = (skipping, installing, privileged, fetching, unattended)
 
 

@@ -1,5 +1,5 @@
-"""The parts of ./check, as it shows them. Those begin first that take longest. `./check --list` tells their names and what they test. And the Debian
-packages that they need besides the Rattle kit, which `./check --install` installs."""
+"""The parts of ./check, as it shows them. Those begin first that take longest. `./check --list` tells their names and what they test. Some are also
+parts of `./check quick`, and two of that alone. And the Debian packages that they need besides the Rattle kit, which `./check --install` installs."""
 
 import sources
 from packages import Package
@@ -213,6 +213,20 @@ PARTS = (
     ),
 )
 
+# The parts of `./check quick` alone: a whole check has others, which test the same and more.
+QUICK_ALONE = (
+    Part("unproved", "worked cases on the program without its proofs", f"python3 tests/play_unproved.py {CASES}/worked"),
+    Part(
+        "rust-model",
+        "the Rust crate, with a model of the pool in place of the program",
+        "python3 tests/check_rust.py tests/model_program.py",
+        ("zuphinka",),
+        CARGO,
+    ),
+)
+# All parts of `./check quick`, which needs no proof and takes less than five minutes.
+QUICK = ("unproved", "rust-model", "case-files", "life", "times", "readme", "metrics", "names", "tables")
+
 JARS, CRATES = "/usr/share/java", "/usr/share/cargo/registry"
 IN_JAVA = ("java", "java-random", "commons-pool", "benchmarks", "release", "postgres")
 OVER_POSTGRES = ("postgres", "benchmarks")
@@ -225,8 +239,8 @@ PACKAGES = (
     Package("valgrind", "valgrind", ("c-programs", "c-crowd", "c-many", "c-pool", "benchmarks")),
     Package("pkgconf", "pkg-config", ("c-install", "release")),
     # The cargo of Debian 12's package of that name is older than the Rust crate allows.
-    Package("cargo-web", "cargo", ("rust", "commands", "benchmarks", "soak", "release", "postgres")),
-    Package("librust-tokio-dev", f"{CRATES}/tokio-[0-9]*", ("rust",)),
+    Package("cargo-web", "cargo", ("rust", "rust-model", "commands", "benchmarks", "soak", "release", "postgres")),
+    Package("librust-tokio-dev", f"{CRATES}/tokio-[0-9]*", ("rust", "rust-model")),
     Package("librust-r2d2-dev", f"{CRATES}/r2d2-[0-9]*", ("benchmarks",)),
     Package("default-jdk-headless", "javac", IN_JAVA, "JAVA_HOME"),
     Package("libcommons-pool2-java", f"{JARS}/commons-pool2.jar", IN_JAVA, "COMMONS_POOL2"),

@@ -1,0 +1,27 @@
+#!/usr/bin/env python3
+"""Checks journals as `pool check` does, by the model in pool_model.py. Tests of the libraries name it where the program is not built.
+
+    model_program.py check SETTINGS JOURNAL..
+
+Writes the line and ends with the status of the program. Whether the journal has room is not looked at.
+"""
+
+import pathlib
+import sys
+
+from case_files import wanted_of
+from pool_model import settings_of, verdict_of_segments
+
+
+def main(command, settings, *journals):
+    if command != "check":
+        sys.exit(__doc__.strip())
+    texts = [pathlib.Path(name).read_bytes() for name in journals]
+    output, error, status = wanted_of(verdict_of_segments(settings_of(pathlib.Path(settings).read_text()), texts))
+    sys.stdout.buffer.write(output)
+    sys.stderr.buffer.write(error)
+    return status
+
+
+if __name__ == "__main__":
+    sys.exit(main(*sys.argv[1:]))

@@ -1,0 +1,80 @@
+#!/usr/bin/env python3
+"""Plays cases on the program without its proofs, and compares what it writes to standard output, and its statuses.
+
+    play_unproved.py CASES..
+
+The kit's `rt try` compiles the program once, and plays the cases on it. The plays are those of play_cases.py, without the statistics and the journals
+with a wrong answer, since `rt try` takes half a second or so for each. What the program writes to standard error is not looked at. Without the kit all
+of it is skipped.
+
+Prints each case that differs, and in the end the line 'N passed, M failed'.
+"""
+
+import pathlib
+import re
+import shutil
+import subprocess
+import sys
+import tempfile
+
+from case_files import unpacked
+from play_cases import TEXT, plays
+from playing import play_checks
+from skipping import skip
+
+TOP = pathlib.Path(__file__).resolve().parent.parent
+CASE = re.compile(r"^case=(\S+) run=(\S+)(?: status=(\d+))?.*? output=(\S+) proved=no$", flags=re.MULTILINE)
+# What `rt try` says of a run that ended and wrote what is wanted.
+RIGHT = "ended", "expected"
+# The commands of the program that are played.
+COMMANDS = ("run", "check")
+# A run that takes longer hangs, in seconds.
+LONGEST = 1200
+
+
+def lay_play(folder, number, arguments, output):
+    """Lays the files of a play: the last file that the program reads as its input, the words of the program, and the output that is wanted. Returns the
+    other files that the words name, by the names that they get."""
+    command, *files = arguments
+    *others, last = files
+    names = {f"{number}.{place}": file for place, file in enumerate(others)}
+    (folder / str(number)).write_bytes(pathlib.Path(last).read_bytes())
+    (folder / f"{number}.args").write_text("".join(f"{word}\n" for word in [command, *names, "{}"]))
+    (folder / f"{number}.stdout").write_bytes(output)
+    return names
+
+
+def played(folder, data):
+    """What `rt try` says of the plays in a folder: by number, how it ended and its status."""
+    words = [word for name, file in data.items() for word in ("--data", f"{name}={file}")]
+    command = ["rt", "try", *words, "--cases", folder]
+    done = subprocess.run(command, cwd=TOP / "crates/pool", stdin=subprocess.DEVNULL, capture_output=True, text=True, timeout=LONGEST)
+    found = {number: ((end, output), status) for number, end, status, output in CASE.findall(done.stderr)}
+    if not found:
+        print(done.stdout + done.stderr)
+    return found
+
+
+def checks(paths):
+    with tempfile.TemporaryDirectory() as name:
+        room, folder = pathlib.Path(name) / "cases", pathlib.Path(name) / "plays"
+        folder.mkdir()
+        chosen = [play for play in plays(unpacked(room, *paths)) if play[1][0] in COMMANDS and TEXT not in play[1]]
+        data = {}
+        for number, (_, arguments, _, (output, _, _)) in enumerate(chosen):
+            data |= lay_play(folder, number, arguments, output)
+        found = played(folder, data)
+        for number, (case, arguments, _, (_, _, status)) in enumerate(chosen):
+            yield f"{case}: {arguments[0]}", (RIGHT, str(status)), found.get(str(number))
+
+
+def main(paths):
+    if not shutil.which("rt"):
+        skip("the cases without proofs", "the Rattle kit's command rt is not on the PATH")
+        print("0 passed, 0 failed")
+        return 0
+    return play_checks(checks(paths))
+
+
+if __name__ == "__main__":
+    sys.exit(main(sys.argv[1:]))
