@@ -10,7 +10,8 @@ docs/proof/edits.md has a row for each edit of crates/*/must-fail, in the sectio
 rows for one that makes a mistake in each of several functions. The name of each crate begins as its section of crates.txt requires,
 docs/dev/architecture.md has a paragraph on it, and docs/pictures/crates.svg is as its script draws it. docs/guide/differences.md and
 docs/guide/commons-pool-tests.md name the same tests, for the same differences. Each ratio that the page of a language shows is that of
-docs/guide/speed.md, and docs/guide/platforms.md has the versions that the package files ask for; these have the licence.
+docs/guide/speed.md, and docs/guide/platforms.md has the versions that the package files ask for; these have the licence. Each
+choice of docs/DECISIONS.md has an id of its group, and each id that a page or a source cites is there.
 """
 
 import re
@@ -18,7 +19,7 @@ import sys
 import tomllib
 
 from case_files import CASES, read_cases
-from check_names import TOP, backquoted, rows_in, tables
+from check_names import PAGES, TOP, backquoted, rows_in, sources, tables
 from play_mutants import function_at, replacements
 
 sys.path += [str(TOP / "docs/pictures"), str(TOP / "tools")]
@@ -242,9 +243,28 @@ def check_platforms():
     yield None if is_told else f"docs/guide/platforms.md: not the version {version}"
 
 
+def faults_of_group(ids):
+    """What is wrong with the ids of a group of choices: they have its name, and numbers that ascend."""
+    names = {name.rpartition("-")[0] for name in ids}
+    numbers = [int(name.rpartition("-")[2]) for name in ids]
+    yield None if len(names) == 1 and numbers == sorted({*numbers}) else f"docs/DECISIONS.md: {' '.join(ids)}: not of one group, or not ascending"
+
+
+def check_decisions():
+    groups = re.split(r"^## ", (TOP / "docs/DECISIONS.md").read_text(), flags=re.MULTILINE)[1:]
+    known = [[row["Id"] for row in rows_in(group)] for group in groups]
+    for ids in known:
+        yield from faults_of_group(ids)
+    all_ids = [name for ids in known for name in ids]
+    yield None if len(all_ids) == len({*all_ids}) else "docs/DECISIONS.md: two choices have one id"
+    for text in (*(page.read_text() for page in PAGES), *sources().values()):
+        for name in re.findall(r"\bdecision ([a-z]+-\d+)\b", text):
+            yield None if name in all_ids else f"there is no decision {name}"
+
+
 CHECKS = (
     *(check_settings, check_answers, check_cases, check_trials, check_room, check_edits, check_crates, check_commons_pool),
-    *(check_ratios, check_platforms),
+    *(check_ratios, check_platforms, check_decisions),
 )
 
 
