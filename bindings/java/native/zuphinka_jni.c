@@ -8,6 +8,7 @@
 #define _GNU_SOURCE
 #include <jni.h>
 #include <pthread.h>
+#include <stdbool.h>
 #include <stdlib.h>
 
 #include "zuphinka.h"
@@ -94,12 +95,21 @@ JNIEXPORT jlong JNICALL Java_zuphinka_Core_step(JNIEnv *env, jclass class, jlong
   return status ? status : packed(&reply);
 }
 
+/* Lends an idle object by both steps of a borrow at once, if one that begins now would end so. Returns whether it did. */
+static bool lends_at_once(jlong handle, jlong at, jint caller, struct zuphinka_reply *reply) {
+  struct zuphinka_loan loan;
+  if (zuphinka_lend(pool_at(handle), (uint32_t)caller, (uint64_t)at, &loan) != ZUPHINKA_STATUS_DONE) return false;
+  *reply = (struct zuphinka_reply){.object = loan.object, .answer = ZUPHINKA_ANSWER_LENT, .has_object = true};
+  return true;
+}
+
 /* Borrows, and lends an idle object that needs no activation and no test at once: then the answer is Lent, with the token of the object. */
 JNIEXPORT jlong JNICALL Java_zuphinka_Core_borrow(JNIEnv *env, jclass class, jlong handle, jlong at, jlong began, jint caller) {
   (void)env, (void)class;
   struct zuphinka_request request = {
       .at = (uint64_t)at, .number = (uint64_t)began, .caller = (uint32_t)caller, .input = ZUPHINKA_INPUT_BORROW};
   struct zuphinka_reply reply, ready;
+  if (began == at && lends_at_once(handle, at, caller, &reply)) return packed(&reply);
   jlong status = step(handle, &request, &reply);
   if (status) return status;
   if (reply.answer == ZUPHINKA_ANSWER_TAKE) {
@@ -113,12 +123,19 @@ JNIEXPORT jlong JNICALL Java_zuphinka_Core_borrow(JNIEnv *env, jclass class, jlo
   return packed(&reply);
 }
 
+/* Takes an object back by both steps of a return at once, if that would end so. Returns whether it did. */
+static bool takes_back_at_once(jlong handle, jlong at, jlong id, jlong token, jint caller) {
+  struct zuphinka_loan loan = {.id = (uint64_t)id, .object = (void *)(uintptr_t)token};
+  return zuphinka_take_back(pool_at(handle), (uint32_t)caller, (uint64_t)at, &loan) == ZUPHINKA_STATUS_DONE;
+}
+
 /* Returns an object that needs no test and no passivation, and parks it. */
 JNIEXPORT jlong JNICALL Java_zuphinka_Core_giveBack(JNIEnv *env, jclass class, jlong handle, jlong at, jlong id, jlong token, jint caller) {
   (void)env, (void)class;
   struct zuphinka_request request = {
       .at = (uint64_t)at, .number = (uint64_t)id, .caller = (uint32_t)caller, .input = ZUPHINKA_INPUT_RETURN};
   struct zuphinka_reply reply;
+  if (takes_back_at_once(handle, at, id, token, caller)) return ZUPHINKA_ANSWER_PARKED;
   jlong status = step(handle, &request, &reply);
   if (!status && reply.answer == ZUPHINKA_ANSWER_CHECK) {
     request.input = ZUPHINKA_INPUT_PARK;
