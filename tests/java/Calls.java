@@ -137,6 +137,22 @@ public final class Calls extends Expectations {
         return config;
     }
 
+    /** Threads are numbered from 0, in the order of their first calls, and the journal names them so. No other thread has called a pool. */
+    private static void callers() throws Exception {
+        Noting pool = new Noting(new Texts(), config(), null);
+        pool.addObject();
+        expect("the second thread", "done", within(begun(() -> ending(pool::addObject))));
+        expect("the third one", 2L, within(begun(ZuphinkaPool::callerNumber)));
+        expect("the first one", 0L, ZuphinkaPool.callerNumber());
+        pool.close();
+        List<String> names = new String(pool.getJournal().text(), StandardCharsets.US_ASCII).lines()
+                .filter(line -> line.contains(" = "))
+                .map(line -> line.substring(0, line.indexOf(' ')))
+                .collect(Collectors.toList());
+        expect("their numbers in the journal", List.of("0", "0", "1", "1", "0", "0", "0", "0", "0"), names);
+        write(pool);
+    }
+
     private static void life() throws Exception {
         Texts texts = new Texts();
         Noting pool = new Noting(texts, config(), null);
@@ -988,6 +1004,7 @@ public final class Calls extends Expectations {
 
     public static void main(String[] words) throws Exception {
         folder = Path.of(words[0]);
+        callers();
         life();
         limits();
         times();

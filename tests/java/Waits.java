@@ -162,7 +162,7 @@ public final class Waits extends Expectations {
         AtomicBoolean isOver = new AtomicBoolean();
         long[] id = new long[1];
         FutureTask<Object> waiting = begun(() -> {
-            id[0] = Thread.currentThread().getId();
+            id[0] = ZuphinkaPool.callerNumber();
             for (int round = 0; round < ROUNDS; round++) {
                 pool.returnObject(pool.borrowObject());
                 Thread.sleep(1);

@@ -64,10 +64,6 @@ final class Sections<T> {
 
     // One step.
 
-    private static int caller() {
-        return (int) Thread.currentThread().getId();
-    }
-
     /** Returns a reading of {@link System#nanoTime} as a time of the core. */
     private long millis(long nanoTime) {
         return (nanoTime - start) / 1_000_000;
@@ -86,10 +82,10 @@ final class Sections<T> {
     }
 
     private long step(long nanoTime, int input, long number, long token, int outcome) {
-        long reply = Core.step(core, timeOf(nanoTime), number, token, caller(), input, outcome);
+        long reply = Core.step(core, timeOf(nanoTime), number, token, Callers.number(), input, outcome);
         while (reply < 0) {
             makeRoom(reply, input);
-            reply = Core.step(core, timeOf(nanoTime), number, token, caller(), input, outcome);
+            reply = Core.step(core, timeOf(nanoTime), number, token, Callers.number(), input, outcome);
         }
         note(reply);
         return reply;
@@ -98,10 +94,10 @@ final class Sections<T> {
     /** Takes a step of a borrow that concerns no object, and waits for room in the journal no longer than the borrow waits for an object. */
     private long stepWithin(long first, long longestNanos, int input) throws InterruptedException {
         long now = System.nanoTime();
-        long reply = Core.step(core, timeOf(now), 0, 0, caller(), input, 0);
+        long reply = Core.step(core, timeOf(now), 0, 0, Callers.number(), input, 0);
         while (reply < 0) {
             makeRoomWithin(reply, input, left(first, longestNanos));
-            reply = Core.step(core, timeOf(now), 0, 0, caller(), input, 0);
+            reply = Core.step(core, timeOf(now), 0, 0, Callers.number(), input, 0);
         }
         note(reply);
         return reply;
@@ -457,7 +453,7 @@ final class Sections<T> {
     }
 
     private long askOnce(long at, long began, boolean isBare) {
-        return isBare ? Core.borrow(core, at, began, caller()) : Core.step(core, at, began, 0, caller(), Core.BORROW, 0);
+        return isBare ? Core.borrow(core, at, began, Callers.number()) : Core.step(core, at, began, 0, Callers.number(), Core.BORROW, 0);
     }
 
     /** Returns the exception for an answer that gives nothing. */
@@ -516,10 +512,10 @@ final class Sections<T> {
         long now = System.nanoTime();
         begin();
         try {
-            long reply = Core.giveBack(core, timeOf(now), member.id, member.slot, caller());
+            long reply = Core.giveBack(core, timeOf(now), member.id, member.slot, Callers.number());
             while (reply < 0) {
                 makeRoom(reply, Core.RETURN);
-                reply = Core.giveBack(core, timeOf(now), member.id, member.slot, caller());
+                reply = Core.giveBack(core, timeOf(now), member.id, member.slot, Callers.number());
             }
             note(reply);
             journal.count();
@@ -597,10 +593,10 @@ final class Sections<T> {
         long used = millis(now - Math.min(nanosAgo, now - start));
         begin();
         try {
-            long reply = Core.step(core, used, member.id, 0, caller(), Core.USE, 0);
+            long reply = Core.step(core, used, member.id, 0, Callers.number(), Core.USE, 0);
             while (reply < 0) {
                 makeRoomWithin(reply, Core.USE, left(first, longestNanos));
-                reply = Core.step(core, used, member.id, 0, caller(), Core.USE, 0);
+                reply = Core.step(core, used, member.id, 0, Callers.number(), Core.USE, 0);
             }
             note(reply);
         } finally {

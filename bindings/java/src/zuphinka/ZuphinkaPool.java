@@ -991,6 +991,16 @@ public class ZuphinkaPool<T> implements ObjectPool<T>, UsageTracking<T> {
     // The journal.
 
     /**
+     * Returns the number of this thread in the journals of all pools. Threads are numbered from 0, in the order in which they first take a step of a
+     * pool or call this method. After 2<sup>32</sup> threads the numbers begin again.
+     *
+     * @return a number from 0 to 2<sup>32</sup> - 1, always the same in one thread
+     */
+    public static long callerNumber() {
+        return Integer.toUnsignedLong(Callers.number());
+    }
+
+    /**
      * Returns the settings as a file in TOML, by which {@code pool check} checks the journal.
      *
      * @return the text, always the same
