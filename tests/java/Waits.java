@@ -6,6 +6,7 @@ import java.util.Collections;
 import java.util.List;
 import java.util.concurrent.CountDownLatch;
 import java.util.concurrent.FutureTask;
+import java.util.concurrent.Semaphore;
 import java.util.concurrent.atomic.AtomicBoolean;
 import java.util.concurrent.atomic.AtomicInteger;
 import org.apache.commons.pool2.impl.AbandonedConfig;
@@ -49,16 +50,13 @@ public final class Waits extends Expectations {
     /** A sink that is slow: it stores nothing until it is told to. */
     private static final class SlowSink implements SegmentSink {
         private final CountDownLatch entered = new CountDownLatch(1);
-        private final CountDownLatch told = new CountDownLatch(1);
+        private final Semaphore told = new Semaphore(0);
 
         @Override
-        public void store(Segment segment) throws IOException {
+        public void store(Segment segment) {
             entered.countDown();
-            try {
-                told.await();
-            } catch (InterruptedException e) {
-                throw new IOException(e);
-            }
+            told.acquireUninterruptibly();
+            told.release();
         }
     }
 
@@ -77,6 +75,13 @@ public final class Waits extends Expectations {
             ending = ending(() -> pool.returnObject(pool.borrowObject(1)));
         } while (ending.equals("done"));
         return ending;
+    }
+
+    /** Waits until a thread sleeps, or is over, that says in an array which it is. */
+    private static void untilAsleep(Thread[] thread) throws InterruptedException {
+        while (thread[0] == null || thread[0].getState() == Thread.State.RUNNABLE) {
+            Thread.sleep(1);
+        }
     }
 
     /** While a thread stores a segment the others lend as long as there is room. Then they wait for it as long as for an object. */
@@ -101,16 +106,42 @@ public final class Waits extends Expectations {
                 interrupted[0] = Thread.currentThread();
                 return pool.borrowObject();
             });
-            while (interrupted[0] == null || interrupted[0].getState() == Thread.State.RUNNABLE) {
-                Thread.sleep(1);
-            }
+            untilAsleep(interrupted);
             expect("the pool beside them", 0, within(begun(pool::getNumWaiters)));
             interrupted[0].interrupt();
             expect("a borrow that is interrupted", "InterruptedException: null", within(ending));
-            sink.told.countDown();
+            Thread[] patient = new Thread[1];
+            FutureTask<Object> adding = begun(() -> {
+                Thread.currentThread().interrupt();
+                patient[0] = Thread.currentThread();
+                pool.addObject();
+                return Thread.interrupted();
+            });
+            untilAsleep(patient);
+            sink.told.release();
+            expect("an addition that is interrupted", true, within(adding));
             expect("loans after the store", List.of("done", "done"), List.of(within(storing), within(waiting)));
             pool.close();
         }
+    }
+
+    /** A sink runs without the lock of the pool, also if a borrow calls it that finds no room. */
+    private static void sinkBesideThePool() throws Exception {
+        AtomicBoolean isBroken = new AtomicBoolean(true);
+        List<ZuphinkaPool<?>> pools = new ArrayList<>();
+        List<Object> seen = new ArrayList<>();
+        ZuphinkaPool<Object> pool = pool(1, Journal.storedBy(segment -> {
+            if (isBroken.get()) {
+                throw new IOException("sink");
+            }
+            seen.add(within(begun(pools.get(0)::getNumIdle)));
+        }).limit(100));
+        pools.add(pool);
+        expect("a journal without room", "IllegalStateException: Journal full from sink", untilFull(pool));
+        isBroken.set(false);
+        expect("a borrow that stores it", "done", loans(pool, 1));
+        expect("the pool during the store", List.of(1), seen.subList(0, 1));
+        pool.close();
     }
 
     /** A sink that fails is tried again each time that half of the room that was left is used up, and at each borrow once there is none. */
@@ -232,6 +263,7 @@ public final class Waits extends Expectations {
         arrival();
         fullJournal();
         slowSink();
+        sinkBesideThePool();
         failingSink();
         printCounts();
     }
