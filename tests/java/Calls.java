@@ -247,6 +247,24 @@ public final class Calls extends Expectations {
         write(endless);
     }
 
+    /** No wait ends before its time, wherever in a millisecond it begins. */
+    private static void wholeWaits() throws Exception {
+        GenericObjectPoolConfig<String> config = config();
+        config.setMaxTotal(1);
+        config.setMaxWait(Duration.ofMillis(2));
+        Noting pool = new Noting(new Texts(), config, null);
+        pool.borrowObject();
+        long shortest = Long.MAX_VALUE;
+        for (int wait = 0; wait < 50; wait++) {
+            long begun = System.nanoTime();
+            result(pool::borrowObject);
+            shortest = Math.min(shortest, System.nanoTime() - begun);
+        }
+        expect("the shortest of many waits, " + shortest + " ns", true, shortest >= 2_000_000);
+        pool.close();
+        write(pool);
+    }
+
     private static void times() throws Exception {
         GenericObjectPoolConfig<String> config = config();
         config.setMaxTotal(1);
@@ -1007,6 +1025,7 @@ public final class Calls extends Expectations {
         callers();
         life();
         limits();
+        wholeWaits();
         times();
         failures();
         upkeep();

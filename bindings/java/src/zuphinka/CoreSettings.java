@@ -1,6 +1,7 @@
 package zuphinka;
 
 import java.time.Duration;
+import java.util.concurrent.TimeUnit;
 import org.apache.commons.pool2.impl.AbandonedConfig;
 import org.apache.commons.pool2.impl.BaseObjectPoolConfig;
 import org.apache.commons.pool2.impl.GenericObjectPoolConfig;
@@ -22,7 +23,9 @@ final class CoreSettings {
     final boolean isUsageTracked;
     final boolean isFair;
     final int maxTotal;
-    final long maxWaitMillis;
+    private final long maxWaitMillis;
+    /** How long a borrow waits at most, in nanoseconds; {@link Long#MAX_VALUE} without a limit. */
+    final long maxWaitNanos;
     private final String text;
 
     /**
@@ -46,6 +49,7 @@ final class CoreSettings {
         isFair = config.getFairness();
         maxTotal = config.getMaxTotal();
         maxWaitMillis = millis(config.getMaxWaitDuration(), -1);
+        maxWaitNanos = maxWaitMillis < 0 ? Long.MAX_VALUE : TimeUnit.MILLISECONDS.toNanos(maxWaitMillis);
         text = textOf(config, journalLimit) + (isAbandonedRemoved ? textOf(abandoned) : "");
     }
 

@@ -355,15 +355,8 @@ final class Sections<T> {
 
     /** Returns for how many nanoseconds a borrow may wait yet, by its own limit or the settings. */
     private long left(long first, long longestNanos) {
-        return longestNanos >= 0 ? Math.max(0, longestNanos - (System.nanoTime() - first)) : left(millis(first));
-    }
-
-    /** Returns for how many nanoseconds a thread may wait yet by the settings, if it has waited since this millisecond. */
-    private long left(long began) {
-        if (settings.maxWaitMillis < 0 || settings.maxWaitMillis > TimeUnit.NANOSECONDS.toMillis(ENDLESS)) {
-            return Long.MAX_VALUE;
-        }
-        return start + TimeUnit.MILLISECONDS.toNanos(began + settings.maxWaitMillis) - System.nanoTime();
+        long longest = longestNanos >= 0 ? longestNanos : settings.maxWaitNanos;
+        return Math.max(0, longest - (System.nanoTime() - first));
     }
 
     // Borrows.
