@@ -6,13 +6,17 @@ use Rattle.std.proofs.lemmas.Bool.{both_ways, eq-eqb}
 use Rattle.pool_journal.specs.declared.answer.Answer.{Answer}
 use Rattle.pool_journal.specs.declared.input.Input.{Input}
 use Rattle.pool_journal.specs.declared.input.Input.TheVariants as inputs
+use Rattle.pool_calls.specs.BorrowRules as borrows
+use Rattle.pool_calls.specs.Operations.{is_waiting, step_at}
 use Rattle.pool_calls.specs.Turns.{Turn}
 use Rattle.pool_calls.specs.Waiting.{Queue, Waiter, can_pass, is_in, may_lend, newest, takes_from_waiters, without}
+use Rattle.pool_calls.specs.declared.borrowing.BorrowState.{BorrowState}
+use Rattle.pool_calls.specs.declared.borrowing.BorrowState.TheVariants as states
+use Rattle.pool_calls.specs.declared.operation.Operation.{Operation}
+use Rattle.pool_calls.specs.declared.operation.Operation.TheVariants as operations
 use Rattle.pool_driver.specs.declared.call.Call.{Call}
-use Rattle.pool_driver.specs.declared.report.Report.{Report}
-use Rattle.pool_driver.specs.declared.report.Report.TheVariants as reports
-use Rattle.pool_driver.specs.Driving.{DrivenModel, Forgets, IsAvailable, Takes, available_in, handed, may_come_in, passed, told}
-use Rattle.pool_driver.specs.Overtaking.{CountsOvertakes, Course, Passes, Rests, finds, is_borrow, is_found, is_newcomer, others}
+use Rattle.pool_driver.specs.Driving.{DrivenModel, Forgets, IsAvailable, Takes, available_in, handed, may_come_in, passed}
+use Rattle.pool_driver.specs.Overtaking.{CountsOvertakes, Course, Hears, Passes, Rests, finds, is_borrow, is_found, is_newcomer, others}
 use Rattle.pool_driver.proofs.Running.{forgets_none}
 
 -- ---- what a call does, one thing after the other
@@ -64,36 +68,98 @@ pub no_ticket : (t : Option ℕ) → false ≡ is_some t → t ≡ None
 no_ticket None none = refl
 no_ticket (Some t) none = absurd (cc none)
 
--- a call that has drawn a ticket
-pub rests_drawn : (d : ℕ) (old new : DrivenModel) (before after : Call) → new.core ≡ old.core → new.drops ≡ old.drops → after.was_served ≡ before.was_served → before.ticket ≡ None → after.ticket ≡ Some d → new.queue.waiting ≡ old.queue.waiting ++ newest d ∷ [] → is_in d old.queue.waiting ≡ false → Rests old new before after
-rests_drawn d old new before after core drops served none some drawn fresh = record {
+-- ---- a call that waits asks for no step
+never : (b : Bool) (A : Type 0) → b ≡ false → b ≡ true → A
+never b A at_false at_true = absurd (both_ways b at_false at_true)
+
+borrow_rests : (began : ℕ) (s : BorrowState) → borrows.is_waiting s ≡ true → is_some (borrows.step_at began s) ≡ false
+borrow_rests began states.Waits is = refl
+borrow_rests began (states.Steps first) is = absurd (cc is)
+borrow_rests began (states.LacksRoom first) is = absurd (cc is)
+borrow_rests began (states.Makes i) is = absurd (cc is)
+borrow_rests began (states.Tests i) is = absurd (cc is)
+borrow_rests began (states.Activates i new) is = absurd (cc is)
+borrow_rests began (states.Validates i new) is = absurd (cc is)
+borrow_rests began (states.Reports i new o) is = absurd (cc is)
+borrow_rests began (states.Destroys i new o) is = absurd (cc is)
+borrow_rests began (states.Frees i new o) is = absurd (cc is)
+borrow_rests began (states.Ended e) is = absurd (cc is)
+
+call_rests : (o : Operation) → is_waiting o ≡ true → is_some (step_at o) ≡ false
+call_rests (operations.Borrow c) is = borrow_rests c.began c.state is
+call_rests (operations.Return c) is = absurd (cc is)
+call_rests (operations.Invalidate c) is = absurd (cc is)
+call_rests (operations.Touch c) is = absurd (cc is)
+call_rests (operations.Add c) is = absurd (cc is)
+call_rests (operations.Fill c) is = absurd (cc is)
+call_rests (operations.Evict c) is = absurd (cc is)
+call_rests (operations.Reclaim c) is = absurd (cc is)
+call_rests (operations.Clear c) is = absurd (cc is)
+call_rests (operations.Maintain c) is = absurd (cc is)
+
+pub asking_waits : (o : Operation) (A : Type 0) → is_some (step_at o) ≡ true → is_waiting o ≡ true → A
+asking_waits o A asks waits = never (is_some (step_at o)) A (call_rests o waits) asks
+
+-- ---- a call without a step
+-- a ticket that stays was not drawn
+pub draws_none : (t u : Option ℕ) (A : Type 0) → u ≡ t → is_some u ≡ true → t ≡ None → A
+draws_none t u A same has none = never (is_some u) A (ap is_some (same ∙ none)) has
+
+-- it has drawn a ticket
+pub rests_drawn : (d : ℕ) (old new : DrivenModel) (before after : Call) → new.core ≡ old.core → new.drops ≡ old.drops → after.was_served ≡ before.was_served → is_waiting after.operation ≡ true → before.ticket ≡ None → after.ticket ≡ Some d → new.queue.waiting ≡ old.queue.waiting ++ newest d ∷ [] → is_in d old.queue.waiting ≡ false → Rests old new before after
+rests_drawn d old new before after core drops served waits none some drawn fresh = record {
   core = forgets_none old.drops old.core new.core core;
   drops = drops;
   served = served;
   others = others_drawn d before.ticket after.ticket old.queue.waiting new.queue.waiting none some drawn fresh;
+  draws = λ has had_none. waits;
+  waits = λ has waited. waits;
 }
 
--- a call that has neither drawn a ticket nor left
-pub rests_kept : (old new : DrivenModel) (before after : Call) → Forgets old.drops old.core new.core → new.drops ≡ old.drops → after.was_served ≡ before.was_served → after.ticket ≡ before.ticket → new.queue.waiting ≡ old.queue.waiting → Rests old new before after
-rests_kept old new before after core drops served ticket waiting = record {
+-- it has neither drawn a ticket nor left
+pub rests_kept : (old new : DrivenModel) (before after : Call) → Forgets old.drops old.core new.core → new.drops ≡ old.drops → after.was_served ≡ before.was_served → (is_waiting before.operation ≡ true → is_waiting after.operation ≡ true) → after.ticket ≡ before.ticket → new.queue.waiting ≡ old.queue.waiting → Rests old new before after
+rests_kept old new before after core drops served waits ticket waiting = record {
   core = core;
   drops = drops;
   served = served;
   others = others_same before.ticket after.ticket old.queue.waiting new.queue.waiting ticket waiting;
+  draws = λ has none. draws_none before.ticket after.ticket (is_waiting after.operation ≡ true) ticket has none;
+  waits = λ has waited. waits waited;
 }
 
-never : (b : Bool) (A : Type 0) → b ≡ false → b ≡ true → A
-never b A at_false at_true = absurd (both_ways b at_false at_true)
+-- it queued before
+pub rests_queued : (queued : Operation) (old new : DrivenModel) (before after : Call) → is_some (step_at before.operation) ≡ true → Rests old new (record before { operation = queued }) after → Rests old new before after
+rests_queued queued old new before after asks p = record {
+  core = p.core;
+  drops = p.drops;
+  served = p.served;
+  others = p.others;
+  draws = p.draws;
+  waits = λ has waited. asking_waits before.operation (is_waiting after.operation ≡ true) asks waited;
+}
+
+-- it has heard a report
+pub rests_heard : (token : ℕ) (old new : DrivenModel) (before after : Call) → Hears old new before after → Rests old new (record before { operation = after.operation; token = token }) after
+rests_heard token old new before after p = record {
+  core = p.core;
+  drops = p.drops;
+  served = p.served;
+  others = p.others;
+  draws = λ has none. draws_none before.ticket after.ticket (is_waiting after.operation ≡ true) (p.draws_none has) has none;
+  waits = λ has waited. waited;
+}
 
 -- a step that is none of a borrow's asking
-pub passes_other : (caller at : ℕ) (input : Input) (answer : Answer) (out : Option ℕ) (old new : DrivenModel) (before after : Call) → is_borrow input ≡ false → Takes caller at input (handed input before.token) old.drops old.core new.core answer out → new.drops ≡ old.drops → after.was_served ≡ before.was_served → after.ticket ≡ before.ticket → new.queue.waiting ≡ old.queue.waiting → CountsOvertakes caller at old new before after
-passes_other caller at input answer out old new before after other takes drops served ticket waiting =
+pub passes_other : (caller at : ℕ) (input : Input) (answer : Answer) (out : Option ℕ) (old new : DrivenModel) (before after : Call) → is_borrow input ≡ false → step_at before.operation ≡ Some input → Takes caller at input (handed input before.token) old.drops old.core new.core answer out → new.drops ≡ old.drops → after.was_served ≡ before.was_served → after.ticket ≡ before.ticket → new.queue.waiting ≡ old.queue.waiting → CountsOvertakes caller at old new before after
+passes_other caller at input answer out old new before after other asked takes drops served ticket waiting =
     let none : finds input answer ≡ false = ap (λ b. b && is_found answer) other in
     counts_pass caller at (record { input = input; answer = answer }) old new before after (record {
+      asked = asked;
       out = out;
       takes = takes;
       drops = drops;
       served = served ∙ ap (λ b. b || before.was_served) (sym none);
+      draws = λ has had_none. draws_none before.ticket after.ticket (is_waiting after.operation ≡ true) ticket has had_none;
       may = λ found newcomer. never (finds input answer) (may_lend (available_in old.core) old.queue ≡ true) none found;
       others =
           others_same before.ticket after.ticket old.queue.waiting new.queue.waiting ticket waiting
@@ -154,15 +220,17 @@ pub may_as : (early may : Bool) → true ≡ (early || may) → not early ≡ tr
 may_as true may is newcomer = absurd (cc newcomer)
 may_as false may is newcomer = sym is
 
-pub passes_asked : (caller at began available : ℕ) (answer : Answer) (out : Option ℕ) (old mid new : DrivenModel) (before step after : Call) → IsAvailable old available → (is_newcomer before ≡ true → may_come_in available old ≡ true) → Takes caller at (inputs.Borrow began) (handed (inputs.Borrow began) before.token) old.drops old.core mid.core answer out → mid.drops ≡ old.drops → mid.queue ≡ old.queue → step.ticket ≡ before.ticket → step.was_served ≡ before.was_served → new.core ≡ mid.core → new.drops ≡ mid.drops → after.was_served ≡ (is_found answer || step.was_served) → others after.ticket new.queue.waiting ≡ passed (is_found answer && is_newcomer step && takes_from_waiters available mid.queue) (others step.ticket mid.queue.waiting) → CountsOvertakes caller at old new before after
-passes_asked caller at began available answer out old mid new before step after there may takes drops queue ticket turn core kept served passes =
+pub passes_asked : (caller at began available : ℕ) (answer : Answer) (out : Option ℕ) (old mid new : DrivenModel) (before step after : Call) → step_at before.operation ≡ Some (inputs.Borrow began) → IsAvailable old available → (is_newcomer before ≡ true → may_come_in available old ≡ true) → Takes caller at (inputs.Borrow began) (handed (inputs.Borrow began) before.token) old.drops old.core mid.core answer out → mid.drops ≡ old.drops → mid.queue ≡ old.queue → step.ticket ≡ before.ticket → step.was_served ≡ before.was_served → new.core ≡ mid.core → new.drops ≡ mid.drops → after.was_served ≡ (is_found answer || step.was_served) → (is_some after.ticket ≡ true → step.ticket ≡ None → is_waiting after.operation ≡ true) → others after.ticket new.queue.waiting ≡ passed (is_found answer && is_newcomer step && takes_from_waiters available mid.queue) (others step.ticket mid.queue.waiting) → CountsOvertakes caller at old new before after
+passes_asked caller at began available answer out old mid new before step after asked there may takes drops queue ticket turn core kept served draws passes =
     let input : Input = inputs.Borrow began in
     let C : _ → Type 0 = λ m. Takes caller at input (handed input before.token) old.drops old.core m answer out in
     counts_pass caller at (record { input = input; answer = answer }) old new before after (record {
+      asked = asked;
       out = out;
       takes = subst C (sym core) takes;
       drops = kept ∙ drops;
       served = served ∙ ap (λ s. is_found answer || s) turn;
+      draws = λ has none. draws has (ticket ∙ none);
       may = λ found newcomer. may_there available old there (may newcomer);
       others =
           passes
@@ -175,23 +243,11 @@ passes_asked caller at began available answer out old mid new before step after 
 -- what a borrow does before it asks
 pub counts_reserved : (caller at : ℕ) (a b c : DrivenModel) (first last : Call) → b ≡ record a { queue = b.queue } → b.queue.waiting ≡ a.queue.waiting → CountsOvertakes caller at b c first last → CountsOvertakes caller at a c first last
 counts_reserved caller at a b c first last same waiting p =
-    let rests = rests_kept a b first first (forgets_none a.drops a.core b.core (ap (λ d. d.core) same)) (ap (λ d. d.drops) same) refl refl waiting in
+    let rests = rests_kept a b first first (forgets_none a.drops a.core b.core (ap (λ d. d.core) same)) (ap (λ d. d.drops) same) refl (λ waits. waits) refl waiting in
     counts_on caller at a b c first first last (counts_rest caller at a b first first rests) p
 
--- ---- a report, and the end
--- the token says nothing of the turns
-pub rests_told : (report : Report) (old new : DrivenModel) (before after : Call) → Rests old new before after → Rests old new (told report before) after
-rests_told (reports.Made t) old new before after p = record { core = p.core; drops = p.drops; served = p.served; others = p.others }
-rests_told reports.GoOn old new before after p = p
-rests_told reports.Succeeded old new before after p = p
-rests_told reports.Failed old new before after p = p
-rests_told reports.Woken old new before after p = p
-rests_told reports.RoomMade old new before after p = p
-rests_told reports.NoRoom old new before after p = p
-rests_told reports.GivenUp old new before after p = p
-
--- nor does the greatest time
+-- the greatest time says nothing of the tickets
 pub counts_later : (time caller at : ℕ) (old new : DrivenModel) (before after : Call) → CountsOvertakes caller at old new before after → CountsOvertakes caller at old (record new { last = time }) before after
 counts_later time caller at old new before after p =
-    let rests = rests_kept new (record new { last = time }) after after (forgets_none new.drops new.core new.core refl) refl refl refl refl in
+    let rests = rests_kept new (record new { last = time }) after after (forgets_none new.drops new.core new.core refl) refl refl (λ waits. waits) refl refl in
     counts_on caller at old new (record new { last = time }) before after after p (counts_rest caller at new (record new { last = time }) after after rests)

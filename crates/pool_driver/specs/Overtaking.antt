@@ -5,6 +5,7 @@ use Rattle.pool_journal.specs.declared.answer.Answer.{Answer}
 use Rattle.pool_journal.specs.declared.answer.Answer.TheVariants as answers
 use Rattle.pool_journal.specs.declared.input.Input.{Input}
 use Rattle.pool_journal.specs.declared.input.Input.TheVariants as inputs
+use Rattle.pool_calls.specs.Operations.{is_waiting, step_at}
 use Rattle.pool_calls.specs.Turns.{Turn}
 use Rattle.pool_calls.specs.Waiting.{Waiter, may_lend, takes_from_waiters, without}
 use Rattle.pool_driver.specs.Driving.{DrivenModel, Forgets, Takes, available_in, handed, passed}
@@ -33,20 +34,32 @@ is_found _ = false
 abbrev pub finds : Input → Answer → Bool
 finds input answer = is_borrow input && is_found answer
 
--- a call that takes no step finds nothing, and overtakes nobody
+-- a call that hears a report finds nothing, overtakes nobody, and draws no ticket
+pub record Hears (old new : DrivenModel) (before after : Call) : Type 0 where
+  pub core : Forgets old.drops old.core new.core
+  pub drops : new.drops ≡ old.drops
+  pub served : after.was_served ≡ before.was_served
+  pub others : others after.ticket new.queue.waiting ≡ others before.ticket old.queue.waiting
+  pub draws_none : is_some after.ticket ≡ true → after.ticket ≡ before.ticket
+
+-- a call that takes no step finds nothing, and overtakes nobody. One that draws a ticket waits, and asks for no step while it has it
 pub record Rests (old new : DrivenModel) (before after : Call) : Type 0 where
   pub core : Forgets old.drops old.core new.core
   pub drops : new.drops ≡ old.drops
   pub served : after.was_served ≡ before.was_served
   pub others : others after.ticket new.queue.waiting ≡ others before.ticket old.queue.waiting
+  pub draws : is_some after.ticket ≡ true → before.ticket ≡ None → is_waiting after.operation ≡ true
+  pub waits : is_some after.ticket ≡ true → is_waiting before.operation ≡ true → is_waiting after.operation ≡ true
 
--- a call takes a step. A newcomer finds something only if it may overtake those that wait or leaves them enough, and has
+-- a call takes the step that it asks for. A newcomer finds something only if it may overtake those that wait or leaves them enough, and has
 -- overtaken each of them once more if it took what they could have had. No other step overtakes anybody
 pub record Passes (caller at : ℕ) (turn : Turn) (old new : DrivenModel) (before after : Call) : Type 0 where
+  pub asked : step_at before.operation ≡ Some turn.input
   pub out : Option ℕ
   pub takes : Takes caller at turn.input (handed turn.input before.token) old.drops old.core new.core turn.answer out
   pub drops : new.drops ≡ old.drops
   pub served : after.was_served ≡ (finds turn.input turn.answer || before.was_served)
+  pub draws : is_some after.ticket ≡ true → before.ticket ≡ None → is_waiting after.operation ≡ true
   pub may : finds turn.input turn.answer ≡ true → is_newcomer before ≡ true → may_lend (available_in old.core) old.queue ≡ true
   pub others :
     others after.ticket new.queue.waiting

@@ -10,7 +10,7 @@ ghost use Rattle.pool_journal.specs.declared.input.Input.TheVariants as inputs;
 ghost use Rattle.pool_calls.specs.declared.action.Event.TheVariants as events;
 ghost use Rattle.pool_driver.specs.declared.report.Report.TheVariants as reports;
 ghost use Rattle.pool_driver.specs.Queueing.{Queues};
-ghost use Rattle.pool_driver.specs.Overtaking.{CountsOvertakes, Rests, is_found, is_newcomer, others};
+ghost use Rattle.pool_driver.specs.Overtaking.{CountsOvertakes, Hears, Rests, is_found, is_newcomer, others};
 ghost use Rattle.pool_driver.specs.Driving.{Accepts, EndsWith, HasRoom, IsAvailable, IsWoken, LacksRoomOnlyEmpty, LooksIf, Moves, TakesFirst, available_in, is_low_in, may_come_in, passed, until_of, is_done, waking_at, waking_of};
 
 use crate::call::Call;
@@ -126,7 +126,7 @@ impl DrivenPool {
             call.new.operation }
         ensures accepted { result ≡ true
             → Accepts reports.Woken self.old self.new call.old call.new }
-        ensures rests { result ≡ true → Rests self.old self.new call.old call.new }
+        ensures hears { result ≡ true → Hears self.old self.new call.old call.new }
         ensures room { result ≡ true → lacks_room call.new.operation ≡ false }
         ensures unfit { result ≡ false → (self.new ≡ self.old) × (call.new ≡ call.old) }
     {
@@ -157,7 +157,7 @@ impl DrivenPool {
             call.new.operation }
         ensures accepted { result ≡ true
             → Accepts reports.RoomMade self.old self.new call.old call.new }
-        ensures rests { result ≡ true → Rests self.old self.new call.old call.new }
+        ensures hears { result ≡ true → Hears self.old self.new call.old call.new }
         ensures room { result ≡ true → lacks_room call.new.operation ≡ false }
         ensures unfit { result ≡ false → (self.new ≡ self.old) × (call.new ≡ call.old) }
     {
@@ -174,7 +174,7 @@ impl DrivenPool {
         ensures told { LooksIf (is_some call.old.ticket && fits call.old.operation events.Queued)
             self.old at call.old.ticket call.old.operation call.new.operation }
         ensures accepts { Accepts reports.GoOn self.old self.new call.old call.new }
-        ensures rests { Rests self.old self.new call.old call.new }
+        ensures hears { Hears self.old self.new call.old call.new }
         ensures room { lacks_room call.new.operation ≡ false }
     {
         if call.ticket.is_some() && call.operation.tell(Event::Queued) {
@@ -188,7 +188,7 @@ impl DrivenPool {
         ensures told { result ≡ true → Proceeds events.Cancelled call.old.operation call.new.operation }
         ensures accepted { result ≡ true
             → Accepts reports.GivenUp self.old self.new call.old call.new }
-        ensures rests { result ≡ true → Rests self.old self.new call.old call.new }
+        ensures hears { result ≡ true → Hears self.old self.new call.old call.new }
         ensures room { result ≡ true → lacks_room call.new.operation ≡ false }
         ensures unfit { result ≡ false → (self.new ≡ self.old) × (call.new ≡ call.old) }
     {
@@ -226,7 +226,7 @@ impl DrivenPool {
         }
     }
 
-    // A borrow that has no ticket draws one.
+    // A borrow that waits, and has no ticket, draws one.
     fn draw_ticket(&mut self, call: &mut Call)
         ensures accepts { Accepts reports.GoOn self.old self.new call.old call.new }
         ensures rests { Rests self.old self.new call.old call.new }
@@ -236,6 +236,9 @@ impl DrivenPool {
         if call.ticket.is_some() {
             return;
         }
+        let Action::Wait = call.operation.action() else {
+            return;
+        };
         let Ok(ticket) = self.waiters.wait() else {
             let _ = call.operation.tell(Event::TimeOver);
             return;
@@ -263,6 +266,7 @@ impl DrivenPool {
             → may_lend available self.old.queue ≡ true }
         ensures accepts { Accepts reports.GoOn self.old self.new call.old call.new }
         ensures served { call.new.was_served ≡ true }
+        ensures ticket { call.new.ticket ≡ None }
         ensures others { others call.new.ticket self.new.queue.waiting
             ≡ passed (is_newcomer call.old && takes_from_waiters available self.old.queue)
             (others call.old.ticket self.old.queue.waiting) }
@@ -282,6 +286,8 @@ impl DrivenPool {
         ensures others { others call.new.ticket self.new.queue.waiting
             ≡ passed (is_found answer && is_newcomer call.old && takes_from_waiters available
             self.old.queue) (others call.old.ticket self.old.queue.waiting) }
+        ensures draws { is_some call.new.ticket ≡ true → call.old.ticket ≡ None
+            → is_waiting call.new.operation ≡ true }
         ensures room { lacks_room call.new.operation ≡ true
             → lacks_room call.old.operation ≡ true }
     {
@@ -294,6 +300,7 @@ impl DrivenPool {
 
     // A borrow has to wait behind others: it draws a ticket.
     fn queue_up(&mut self, call: &mut Call)
+        requires { is_some (step_at call.old.operation) ≡ true }
         ensures accepts { Accepts reports.GoOn self.old self.new call.old call.new }
         ensures rests { Rests self.old self.new call.old call.new }
         ensures room { lacks_room call.new.operation ≡ true

@@ -98,8 +98,7 @@ pub record GoesOn (caller at : ℕ) (report : Report) (old new : DrivenModel) (b
   pub wake : Option ℕ
   pub fits : fits_report report before.operation ≡ true
   pub moves : Moves caller (max at old.last) old between (told report before) after
-  pub tells : (mid : Operation) × IsTold report old (max at old.last) before mid × GoesFrom (step_at mid) caller (max at old.last) old between (record before { operation = mid; token = (told report before).token }) after
-  pub overtakes : CountsOvertakes caller (max at old.last) old between (told report before) after
+  pub tells : (mid : Operation) × IsTold report old (max at old.last) before mid × GoesFrom (step_at mid) caller (max at old.last) old between (record before { operation = mid; token = (told report before).token }) after × CountsOvertakes caller (max at old.last) old between (record before { operation = mid; token = (told report before).token }) after
   pub last : between.last ≡ max at old.last
   pub action : (turns : List Turn) → HasCome after.operation turns → IsRight after.operation turns effects.action
   pub ended : is_done effects.action ≡ true → after.ticket ≡ None
