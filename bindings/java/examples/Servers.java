@@ -82,7 +82,7 @@ public final class Servers {
         config.setMinIdle(1);
         config.setTestOnReturn(true);
         config.setMaxWait(Duration.ofSeconds(60));
-        config.setTimeBetweenEvictionRuns(Duration.ofMillis(5));
+        config.setTimeBetweenEvictionRuns(Duration.ofSeconds(30));
         try (ZuphinkaPool<Connection> pool = new ZuphinkaPool<>(new Connector(), config, null, Journal.inFolder(Path.of(words[0])))) {
             List<Callable<Integer>> servers = Collections.nCopies(SERVERS, () -> serve(pool));
             ExecutorService threads = Executors.newFixedThreadPool(SERVERS);
