@@ -35,7 +35,7 @@ TYPES = {"u64": "uint64_t", "u32": "uint32_t", "i64": "int64_t", "i32": "int32_t
 # The structs that the header names otherwise, after the prefix.
 STRUCTS = {"Handle": "", "Settings": "_setup", "Counts": "_tally"}
 # The functions that the binding does without. Those of the calls decide what the crate decides itself.
-UNUSED = {"zuphinka_version", *(f"zuphinka_{name}" for name in ("open_with", "begin", "advance", "lend", "take_back", "next_wake", "state"))}
+UNUSED = {"zuphinka_version", *(f"zuphinka_{name}" for name in ("open_with", "begin", "advance", "next_wake", "state"))}
 # A run that takes longer hangs.
 LONGEST = 1200
 WORKERS, ROUNDS = 4, 20_000

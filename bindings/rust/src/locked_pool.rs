@@ -143,10 +143,16 @@ impl<T> LockedPool<T> {
             (Answer::Count(_), Input::Close) => self.is_closed = true,
             _ => {}
         }
-        if self.journal.count() {
+        self.count_entries(1);
+        (answer, out.map(|token| self.idle.take(token)))
+    }
+
+    /// Counts new entries, and sees to the journal if that is due.
+    #[inline(always)]
+    fn count_entries(&mut self, entries: u64) {
+        if self.journal.count(entries) {
             self.care_for_journal();
         }
-        (answer, out.map(|token| self.idle.take(token)))
     }
 
     /// Does what is to be done about the journal now that this many entries are stored.
@@ -207,6 +213,10 @@ impl<T> LockedPool<T> {
         began: u64,
         lends_at_once: bool,
     ) -> Result<Borrowed<T>, StepFault> {
+        let lent = lends_at_once.then(|| self.lend(stamp, began)).flatten();
+        if let Some((id, value)) = lent {
+            return Ok(Borrowed::Lent(id, value));
+        }
         let borrowed = self.step_inline(stamp, Input::Borrow { began }, None);
         match borrowed.map_err(|(fault, _)| fault)? {
             (Answer::Take(id), Some(value)) if lends_at_once => {
@@ -219,15 +229,49 @@ impl<T> LockedPool<T> {
         }
     }
 
+    /// Lends an idle object to a borrow that begins now, if the core takes both steps at once.
+    #[inline(always)]
+    fn lend(&mut self, stamp: Stamp, began: u64) -> Option<(u64, T)> {
+        let at = self.last_time.max(stamp.at.millis);
+        if self.idle.len() == 0 || began != at {
+            return None;
+        }
+        let (id, token) = self.core.lend(stamp.caller, at)?;
+        self.last_time = at;
+        self.measures.waits.count(stamp.since, stamp.at.nanos);
+        self.count_entries(2);
+        Some((id, self.idle.take(token)))
+    }
+
+    /// Makes a returned object idle, if the core takes both steps of its return at once. Returns the object otherwise.
+    #[inline(always)]
+    fn park(&mut self, stamp: Stamp, id: u64, value: T) -> Option<T> {
+        let at = self.last_time.max(stamp.at.millis);
+        let token = self.idle.put(value);
+        if !self.core.take_back(stamp.caller, at, id, token) {
+            return Some(self.idle.take(token));
+        }
+        self.last_time = at;
+        self.measures.loans.count(stamp.since, stamp.at.nanos);
+        self.count_entries(2);
+        None
+    }
+
     /// Takes an object back. If nothing is to be done with it before, it becomes idle in a second step.
     #[inline]
     pub fn take_back(
         &mut self,
         stamp: Stamp,
         id: u64,
-        value: T,
+        mut value: T,
         parks_at_once: bool,
     ) -> TakenBack<T> {
+        if parks_at_once {
+            match self.park(stamp, id, value) {
+                None => return TakenBack::Parked,
+                Some(returned) => value = returned,
+            }
+        }
         match self.step_inline(stamp, Input::GiveBack { id }, None) {
             Ok((Answer::Check, _)) if parks_at_once => {
                 let outcome = Outcome::Good;

@@ -94,6 +94,32 @@ impl Core {
         }
     }
 
+    /// Lends an idle object, if a borrow that begins now needs no more than its two steps: takes both. Returns the object's id and its token.
+    #[inline(always)]
+    pub fn lend(&mut self, caller: u32, at: u64) -> Option<(u64, u64)> {
+        let mut loan = sys::Loan::default();
+        // SAFETY: the handle is this core's, and does not overlap the loan.
+        match unsafe { sys::zuphinka_lend(&mut self.handle, caller, at, &mut loan) } {
+            sys::STATUS_DONE => Some((loan.id, loan.object as u64)),
+            sys::STATUS_NOT_AT_ONCE => None,
+            status => unreachable!("a loan has status {status}"),
+        }
+    }
+
+    /// Takes a lent object back, if it is idle after the two steps of its return: takes both. Returns whether it does.
+    #[inline(always)]
+    pub fn take_back(&mut self, caller: u32, at: u64, id: u64, token: u64) -> bool {
+        let object = token as usize;
+        // SAFETY: the handle is this core's, and does not overlap the loan.
+        match unsafe {
+            sys::zuphinka_take_back(&mut self.handle, caller, at, &sys::Loan { id, object })
+        } {
+            sys::STATUS_DONE => true,
+            sys::STATUS_NOT_AT_ONCE => false,
+            status => unreachable!("a return has status {status}"),
+        }
+    }
+
     pub fn counts(&mut self) -> Counts {
         let mut counts = sys::Counts::default();
         // SAFETY: the handle is this core's.

@@ -112,10 +112,10 @@ impl StoredJournal {
         self.first + self.len
     }
 
-    /// Counts one more entry. Returns whether the journal is to be looked at.
+    /// Counts new entries. Returns whether the journal is to be looked at.
     #[inline]
-    pub fn count(&mut self) -> bool {
-        self.len += 1;
+    pub fn count(&mut self, entries: u64) -> bool {
+        self.len += entries;
         self.len >= self.look_at
     }
 
@@ -194,7 +194,7 @@ mod tests {
 
     /// Counts entries until the journal is to be looked at.
     fn count(journal: &mut StoredJournal) -> u64 {
-        while !journal.count() {}
+        while !journal.count(1) {}
         journal.len
     }
 
@@ -258,6 +258,6 @@ mod tests {
     #[test]
     fn a_journal_in_memory_is_kept() {
         let mut journal = StoredJournal::new(Mode::Memory, 10);
-        assert!((0..1_000_000).all(|_| !journal.count()));
+        assert!((0..1_000_000).all(|_| !journal.count(1)));
     }
 }
