@@ -34,8 +34,8 @@ RESULT = re.compile(r"^test result: \w+\. (\d+) passed; (\d+) failed;", flags=re
 TYPES = {"u64": "uint64_t", "u32": "uint32_t", "i64": "int64_t", "i32": "int32_t", "usize": "void", "*mut u8": "void"}
 # The structs that the header names otherwise, after the prefix.
 STRUCTS = {"Handle": "", "Settings": "_setup", "Counts": "_tally"}
-# The functions that the binding does without. Those of the calls decide what the crate decides itself.
-UNUSED = {"zuphinka_version", *(f"zuphinka_{name}" for name in ("open_with", "begin", "advance", "next_wake", "state"))}
+# The functions that the binding does without: it opens pools with options.
+UNUSED = {"zuphinka_version", "zuphinka_open"}
 # A run that takes longer hangs.
 LONGEST = 1200
 WORKERS, ROUNDS = 4, 20_000

@@ -13,7 +13,7 @@ use crate::reports::{OnError, Reports};
 use crate::settings::{millis, Abandoned, Settings};
 use crate::shared::{Policy, Shared};
 use crate::stored_journal::Mode;
-use crate::waiters::Waiters;
+use crate::sys;
 use crate::writing::Outlet;
 use std::fmt;
 use std::sync::Arc;
@@ -179,9 +179,9 @@ impl<M: Manager> Builder<M> {
     /// Sets how often a waiting borrow is overtaken at most, from 0 to 2^32 - 1 (16; in Commons Pool 2 there is no limit unless `fairness` is set).
     /// With 0 the pool is fair.
     ///
-    /// A later borrow overtakes the oldest waiter if it takes an object or a place, and leaves too few for those who wait. Once the oldest was
-    /// overtaken so often, or was woken and found nothing, later borrows queue behind it until it has its object or leaves. A borrow that
-    /// does not wait then fails as if nothing were there.
+    /// A later borrow overtakes those who wait if it takes an object or a place, and no more are there than borrows that wait. Once the oldest was
+    /// overtaken so often, or one was woken and found nothing, later borrows queue behind those who wait, until one has its object or leaves. A
+    /// borrow that does not wait then fails as if nothing were there.
     ///
     /// Overtaking costs no sleep, so a high number lends more objects per second where many wait. A low one makes the longest wait shorter.
     pub fn max_overtakes(mut self, times: u32) -> Builder<M> {
@@ -292,8 +292,15 @@ impl<M: Manager> Builder<M> {
         if let Some(found) = self.chosen.contradiction(&self.settings, mode)? {
             return Err(OpenError::Contradiction(found));
         }
-        let waiters = Waiters::new(self.max_overtakes);
-        let state = LockedPool::new(open_core(&self.settings)?, mode, waiters);
+        let options = sys::Options {
+            pool: 0,
+            max_overtakes: self.max_overtakes.into(),
+            activates: M::ACTIVATES,
+            validates: true,
+            passivates: M::PASSIVATES,
+            drops_journal: mode == Mode::Off,
+        };
+        let state = LockedPool::new(open_core(&self.settings, &options)?, mode);
         let clock = match self.clock {
             Some(clock) => Clock::Given(clock),
             None => Clock::Since(Instant::now()),
@@ -331,10 +338,10 @@ impl<M: Manager> Builder<M> {
     }
 }
 
-pub(crate) fn open_core(settings: &Settings) -> Result<Core, OpenError> {
+pub(crate) fn open_core(settings: &Settings, options: &sys::Options) -> Result<Core, OpenError> {
     let text = settings.to_string();
     Settings::from_toml(&text)?;
-    Core::open(&text).map_err(|fault| match fault {
+    Core::open(&text, options).map_err(|fault| match fault {
         OpenFault::OutOfMemory => OpenError::OutOfMemory,
         OpenFault::Settings(status) => {
             unreachable!("the core refuses its settings with status {status}")

@@ -47,36 +47,6 @@ impl Clock {
     }
 }
 
-/// When a borrow began.
-#[derive(Clone, Copy, Debug)]
-pub(crate) struct Began {
-    /// In nanoseconds, by the clock.
-    pub nanos: u64,
-    /// In milliseconds, as its entries have it.
-    time: u64,
-    is_fixed: bool,
-}
-
-impl Began {
-    /// A borrow begins at this time by the clock.
-    pub fn at(moment: Moment) -> Began {
-        Began {
-            nanos: moment.nanos,
-            time: moment.millis,
-            is_fixed: false,
-        }
-    }
-
-    /// Returns when the borrow began, in milliseconds, where the last entry before its first one has this time. A time before that counts as that one.
-    pub fn fix(&mut self, last_time: u64) -> u64 {
-        if !self.is_fixed {
-            self.time = self.time.max(last_time);
-            self.is_fixed = true;
-        }
-        self.time
-    }
-}
-
 /// An object, and when it was made and lent.
 #[derive(Debug)]
 pub(crate) struct Aged<T> {
@@ -94,14 +64,4 @@ impl<T> Aged<T> {
         self.lent = at.nanos;
         self
     }
-}
-
-/// Who takes a step, and when.
-#[derive(Clone, Copy, Debug)]
-pub(crate) struct Stamp {
-    pub caller: u32,
-    /// A time before that of the last entry counts as that one.
-    pub at: Moment,
-    /// When the borrow or the loan began that the step may end, in nanoseconds.
-    pub since: u64,
 }

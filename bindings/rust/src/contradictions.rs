@@ -1,11 +1,13 @@
 //! Settings of a builder that contradict each other.
 
 use crate::builder::open_core;
+use crate::call::{Action, End, Kind, Report};
 use crate::error::{Contradiction, OpenError};
-use crate::proved_core::Core;
+use crate::proved_core::{Call, Core, Event, Start};
 use crate::settings::Settings;
-use crate::step::{Input, Outcome, StepFault, When};
+use crate::step::StepFault;
 use crate::stored_journal::Mode;
+use crate::sys;
 
 /// Which settings were set by the builder's own methods. Only these are held against others.
 #[derive(Clone, Copy, Debug, Default)]
@@ -85,9 +87,9 @@ fn lends_too_few(settings: &Settings, mode: Mode) -> Result<bool, OpenError> {
 
 /// Returns how many objects of any number can be lent at a time before the journal is full, by the room of a core that lends one.
 fn most_lent(settings: &Settings, mode: Mode) -> Result<u64, OpenError> {
-    let mut core = open_core(settings)?;
+    let mut core = open_core(settings, &sys::Options::default())?;
     let room = core.room();
-    match lend(&mut core, settings) {
+    match lend(&mut core) {
         Ok(()) => {}
         Err(StepFault::JournalFull) => return Ok(0),
         Err(StepFault::OutOfMemory) => return Err(OpenError::OutOfMemory),
@@ -101,13 +103,31 @@ fn most_lent(settings: &Settings, mode: Mode) -> Result<u64, OpenError> {
     Ok(1 + (room - used) / still_used)
 }
 
-/// Lends an object as a borrow does that makes one.
-fn lend(core: &mut Core, settings: &Settings) -> Result<(), StepFault> {
-    let (on, outcome) = (When::Borrow, Outcome::Good);
-    if settings.removes_on_borrow() {
-        core.step(0, 0, Input::Reclaim { on }, None)?;
+/// Lends an object by a borrow that makes it.
+fn lend(core: &mut Core) -> Result<(), StepFault> {
+    let mut call = Call::new();
+    core.begin(
+        Start {
+            kind: Kind::Borrow,
+            caller: 0,
+            at: 0,
+            id: 0,
+            token: 0,
+        },
+        &mut call,
+    );
+    if call.action() == Action::Make {
+        let made = Event {
+            report: Report::Made,
+            caller: 0,
+            at: 0,
+            token: 0,
+        };
+        core.advance(made, &mut call);
     }
-    core.step(0, 0, Input::Borrow { began: 0 }, None)?;
-    core.step(0, 0, Input::Ready { id: 0, outcome }, None)?;
-    Ok(())
+    match call.action() {
+        Action::Done(End::Lent) => Ok(()),
+        Action::MakeRoom => Err(StepFault::JournalFull),
+        _ => Err(StepFault::OutOfMemory),
+    }
 }

@@ -1,20 +1,20 @@
 //! A borrow by a task.
 
+use crate::call::{Action, Kind};
 use crate::callers::caller_number;
-use crate::clock::Began;
+use crate::course::Course;
 use crate::error::Error;
 use crate::handle::Handle;
-use crate::in_progress::{InProgress, Work};
-use crate::lending::{Prepared, Unready};
+use crate::in_progress::InProgress;
 use crate::manager::Manager;
 use crate::pooled::Pooled;
-use crate::shared::{Acquired, Acquisition, Item, Shared, WaitLimit};
-use crate::step::{Outcome, When};
-use crate::waiters::Ticket;
+use crate::shared::{Shared, WaitLimit};
+use crate::work::Worked;
 use std::fmt;
 use std::future::Future;
+use std::mem;
 use std::pin::Pin;
-use std::task::{ready, Context, Poll};
+use std::task::{Context, Poll};
 
 /// A borrow by a task: the future that [`Pool::get_async`](crate::Pool::get_async) returns.
 ///
@@ -30,87 +30,130 @@ use std::task::{ready, Context, Poll};
 /// [`Pool::get`](crate::Pool::get).
 #[must_use = "a future does nothing until it is polled"]
 pub struct Get<M: Manager> {
+    // Dropped before the pool.
+    progress: Progress<M>,
     pool: Handle<M>,
-    call: Option<Call>,
-    /// Its place among the waiters, if it waits or was woken.
-    ticket: Option<Ticket>,
-    /// The work on an object, if the manager's futures are awaited.
-    preparation: Option<Preparation<M>>,
-    has_ended: bool,
 }
 
-/// The caller of a borrow, and the time of its first poll.
-#[derive(Clone, Copy)]
-struct Call {
-    caller: u32,
-    began: Began,
+/// How far a borrow is between two polls.
+enum Progress<M: Manager> {
+    New,
+    /// It sleeps, or was woken.
+    Waits(Course<M>),
+    /// The manager is awaited.
+    Works(Work<M>),
+    Ended,
 }
 
-type Preparation<M> = Pin<Box<dyn Future<Output = Prepared<M>> + Send>>;
+/// The work of a manager that is awaited, and the call that asks for it.
+type Work<M> = Pin<Box<dyn Future<Output = (Course<M>, Worked<M>)> + Send>>;
+
+/// A call in a poll.
+type Polled<'a, M> = InProgress<M, &'a Shared<M>>;
+
+/// What a poll comes to.
+type Lent<M> = Poll<Result<Pooled<M>, Error<<M as Manager>::Error>>>;
 
 impl<M: Manager> Get<M> {
     pub(crate) fn new(pool: Handle<M>) -> Get<M> {
         Get {
+            progress: Progress::New,
             pool,
-            call: None,
-            ticket: None,
-            preparation: None,
-            has_ended: false,
         }
-    }
-
-    /// Returns the call, which begins at the first poll.
-    fn call(&mut self) -> Result<Call, Error<M::Error>> {
-        if let Some(call) = self.call {
-            return Ok(call);
-        }
-        let call = Call {
-            caller: caller_number(),
-            began: Began::at(self.pool.now()),
-        };
-        self.call = Some(call);
-        if self.pool.settings.removes_on_borrow() {
-            let limit = WaitLimit::AsSet;
-            self.pool.reclaim(call.caller, When::Borrow, limit)?;
-        }
-        Ok(call)
-    }
-
-    /// Looks for an object, and waits if there is none.
-    fn look(&mut self, mut call: Call, context: &Context<'_>) -> Poll<Acquisition<M>> {
-        let (caller, began, ticket) = (call.caller, &mut call.began, &mut self.ticket);
-        let looked = self
-            .pool
-            .poll_acquire(caller, began, ticket, context.waker());
-        self.call = Some(call);
-        looked
     }
 }
 
 impl<M: Manager + 'static> Get<M> {
-    fn advance(&mut self, context: &mut Context<'_>) -> Poll<Result<Pooled<M>, Error<M::Error>>> {
-        loop {
-            let call = self.call()?;
-            let prepared = match &mut self.preparation {
-                Some(preparation) => ready!(preparation.as_mut().poll(context)),
-                None => match ready!(self.look(call, context))? {
-                    Acquired::Lent(id, object) => Ok(Some((id, object))),
-                    acquired if M::AWAITS => {
-                        // It owns the object once it is polled, which is at once.
-                        let pool = self.pool.clone();
-                        self.preparation = Some(Box::pin(prepare(pool, call, acquired)));
-                        continue;
-                    }
-                    acquired => self.pool.prepare(call.caller, call.began, acquired),
-                },
-            };
-            self.preparation = None;
-            if let Some((id, object)) = prepared? {
-                return Poll::Ready(Ok(Pooled::new(self.pool.clone(), id, object)));
+    fn advance(&mut self, context: &mut Context<'_>) -> Lent<M> {
+        let Get { progress, pool } = self;
+        let call = match mem::replace(progress, Progress::Ended) {
+            Progress::New => match begin(pool, context) {
+                Ok(lent) => return Poll::Ready(Ok(lent)),
+                Err(call) => call,
+            },
+            Progress::Waits(course) => {
+                let mut call = InProgress::resume(&**pool, course);
+                call.look(context.waker().clone());
+                call
             }
+            Progress::Works(work) => match poll_work(pool, work, progress, context) {
+                Poll::Ready(call) => call?,
+                Poll::Pending => return Poll::Pending,
+            },
+            Progress::Ended => panic!("a borrow is polled after it has ended"),
+        };
+        go_on(pool, call, progress, context)
+    }
+}
+
+/// Begins a borrow. Returns its object, if that is lent at once.
+fn begin<'a, M: Manager>(
+    pool: &'a Handle<M>,
+    context: &Context<'_>,
+) -> Result<Pooled<M>, Polled<'a, M>> {
+    let (caller, at) = (caller_number(), pool.now());
+    if pool.lends_at_once() {
+        if let Ok(loan) = pool.lend_at_once(caller, at) {
+            return Ok(Pooled::new(pool.clone(), loan));
+        }
+    }
+    let course = Course::new(Kind::Borrow, caller, at, WaitLimit::AsSet);
+    let waker = Some(context.waker().clone());
+    Err(InProgress::begin(&**pool, pool.lock(), course, waker))
+}
+
+/// Goes on with a borrow until it is over, or the task has to wait.
+fn go_on<'a, M: Manager + 'static>(
+    pool: &'a Handle<M>,
+    mut call: Polled<'a, M>,
+    progress: &mut Progress<M>,
+    context: &mut Context<'_>,
+) -> Lent<M> {
+    loop {
+        match call.action() {
+            Action::Done(end) => {
+                let lent = call.take_lent(end);
+                return Poll::Ready(lent.map(|loan| Pooled::new(pool.clone(), loan)));
+            }
+            Action::Sleep => {
+                *progress = Progress::Waits(call.suspend());
+                return Poll::Pending;
+            }
+            _ if call.is_awaited() => {
+                // It owns the object once it is polled, which is at once.
+                let own = InProgress::resume(pool.clone(), call.suspend());
+                match poll_work(pool, Box::pin(own.work()), progress, context) {
+                    Poll::Ready(went_on) => call = went_on?,
+                    Poll::Pending => return Poll::Pending,
+                }
+            }
+            _ => call.act(context.waker().clone())?,
         }
     }
 }
+
+/// Awaits the work of a manager, and goes on with the call once it is done.
+fn poll_work<'a, M: Manager + 'static>(
+    pool: &'a Handle<M>,
+    mut work: Work<M>,
+    progress: &mut Progress<M>,
+    context: &mut Context<'_>,
+) -> Poll<Result<Polled<'a, M>, Error<M::Error>>> {
+    match work.as_mut().poll(context) {
+        Poll::Pending => {
+            *progress = Progress::Works(work);
+            Poll::Pending
+        }
+        Poll::Ready((course, worked)) => {
+            let mut call = InProgress::resume(&**pool, course);
+            let went_on = call.go_on(worked, context.waker().clone());
+            Poll::Ready(went_on.map(|()| call))
+        }
+    }
+}
+
+/// Nothing in it is pinned, except what is in a box.
+impl<M: Manager> Unpin for Get<M> {}
 
 impl<M: Manager + 'static> Future for Get<M> {
     type Output = Result<Pooled<M>, Error<M::Error>>;
@@ -119,19 +162,14 @@ impl<M: Manager + 'static> Future for Get<M> {
     ///
     /// It was polled after it had ended, also by a panic of the manager.
     fn poll(self: Pin<&mut Self>, context: &mut Context<'_>) -> Poll<Self::Output> {
-        let get = self.get_mut();
-        assert!(!get.has_ended, "a borrow is polled after it has ended");
-        get.has_ended = true;
-        let polled = get.advance(context);
-        get.has_ended = polled.is_ready();
-        polled
+        self.get_mut().advance(context)
     }
 }
 
 impl<M: Manager> Drop for Get<M> {
     fn drop(&mut self) {
-        if let Some(ticket) = self.ticket.take() {
-            self.pool.leave_waiters(ticket);
+        if let Progress::Waits(course) = mem::replace(&mut self.progress, Progress::Ended) {
+            drop(InProgress::resume(&*self.pool, course));
         }
     }
 }
@@ -139,53 +177,8 @@ impl<M: Manager> Drop for Get<M> {
 impl<M: Manager> fmt::Debug for Get<M> {
     fn fmt(&self, f: &mut fmt::Formatter<'_>) -> fmt::Result {
         f.debug_struct("Get")
-            .field("waits", &self.ticket.is_some())
-            .field("has_ended", &self.has_ended)
+            .field("waits", &matches!(self.progress, Progress::Waits(_)))
+            .field("has_ended", &matches!(self.progress, Progress::Ended))
             .finish_non_exhaustive()
     }
-}
-
-/// Makes an object ready for its holder, and awaits the manager. If this is dropped or panics, it destroys the object and frees its place.
-async fn prepare<M: Manager>(
-    pool: Handle<M>,
-    call: Call,
-    acquired: Acquired<Item<M>>,
-) -> Prepared<M> {
-    let (caller, began) = (call.caller, call.began.nanos);
-    match acquired {
-        Acquired::Lent(id, object) => Ok(Some((id, object))),
-        Acquired::Taken(id, object) => {
-            let mut object = InProgress::of(&pool, caller, id, Work::Lend, object);
-            match ready_async(&pool, &mut object).await {
-                Ok(()) => Ok(Some((id, object.lend(began)))),
-                Err(unready) => {
-                    object.give_up();
-                    pool.report_unready(id, unready);
-                    Ok(None)
-                }
-            }
-        }
-        Acquired::New(id) => {
-            let mut object = InProgress::new(&pool, caller, id, Work::Lend);
-            object.make_async().await.map_err(Error::Make)?;
-            if pool.settings.test_on_create {
-                let tested = object.validate_async(Outcome::CreateTestFailed).await;
-                tested.map_err(|_| Error::CreateTest)?;
-            }
-            ready_async(&pool, &mut object).await?;
-            Ok(Some((id, object.lend(began))))
-        }
-    }
-}
-
-async fn ready_async<M: Manager>(
-    pool: &Shared<M>,
-    object: &mut InProgress<'_, M>,
-) -> Result<(), Unready<M::Error>> {
-    object.activate_async().await.map_err(Unready::Activate)?;
-    if pool.settings.test_on_borrow {
-        let tested = object.validate_async(Outcome::TestFailed).await;
-        tested.map_err(Unready::Test)?;
-    }
-    Ok(())
 }

@@ -91,19 +91,19 @@ impl<M: Manager> Shared<M> {
             }
         }
         let mut state = self.lock();
-        let (len, mut text) = (state.journal.len, Vec::new());
-        if state.journal.first > 0 {
+        let mut text = Vec::new();
+        if state.first_stored() > 0 {
             copy_lines(&mut state.core, Core::base_line, 0, u64::MAX, &mut text)?;
         }
-        copy_lines(&mut state.core, Core::line, 0, len, &mut text)?;
+        let len = copy_lines(&mut state.core, Core::line, 0, u64::MAX, &mut text)?;
         Ok((text, len))
     }
 
     /// Copies the stored journal, some hundred lines at a time. Returns none if it was cut meanwhile.
     fn try_copy_journal(&self) -> io::Result<Option<(Vec<u8>, u64)>> {
         let mut text = Vec::new();
-        let state = self.lock();
-        let (first, len) = (state.journal.first, state.journal.len);
+        let mut state = self.lock();
+        let (first, len) = (state.first_stored(), state.core.steps());
         drop(state);
         let is_whole = (first == 0 || self.copy_base(first, &mut text)?)
             && self.copy_in_parts(first, Core::line, len, &mut text)?;
@@ -127,7 +127,7 @@ impl<M: Manager> Shared<M> {
         let mut copied = 0;
         while copied < count {
             let mut state = self.lock();
-            if state.journal.first != first {
+            if state.first_stored() != first {
                 return Ok(false);
             }
             let to = count.min(copied + AT_ONCE);
@@ -143,7 +143,7 @@ impl<M: Manager> Shared<M> {
     /// Copies the stored entries up to the last one, some hundred at a time, while no other thread may cut them. Returns how many were
     /// copied.
     pub fn copy_stored(&self, mut copied: u64, text: &mut Vec<u8>) -> io::Result<u64> {
-        let end = self.lock().journal.len;
+        let end = self.lock().core.steps();
         while copied < end {
             let mut state = self.lock();
             copied = copy_lines(
@@ -160,7 +160,7 @@ impl<M: Manager> Shared<M> {
     /// Writes the entries that no drain has written and no cut has taken. Returns their number.
     pub fn drain_journal(&self, out: &mut dyn Write) -> io::Result<u64> {
         let _drain = self.begin_drain()?;
-        let end = self.lock().journal.end();
+        let end = self.lock().end_of_stored();
         let (mut text, mut written) = (Vec::new(), 0);
         loop {
             text.clear();
@@ -191,7 +191,7 @@ impl<M: Manager> Shared<M> {
     /// Copies entries that were not drained, some hundred, up to a position. Returns the positions between which they are.
     fn copy_undrained(&self, end: u64, text: &mut Vec<u8>) -> io::Result<(u64, u64)> {
         let mut state = self.lock();
-        let first = state.journal.first;
+        let first = state.first_stored();
         let from = state.journal.drained.max(first);
         let to = end.min(from + AT_ONCE).max(from);
         copy_lines(&mut state.core, Core::line, from - first, to - first, text)?;

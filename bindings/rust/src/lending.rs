@@ -1,16 +1,17 @@
-//! Borrows, returns, invalidations and uses, in their critical sections.
+//! Borrows by threads, returns, invalidations, detachments and uses.
 
+use crate::call::{End, Kind};
 use crate::callers::caller_number;
-use crate::clock::Began;
+use crate::clock::Moment;
+use crate::course::Course;
 use crate::error::Error;
-use crate::failure::Failure;
 use crate::handle::Handle;
-use crate::in_progress::{InProgress, Work};
-use crate::locked_pool::TakenBack;
+use crate::in_progress::InProgress;
 use crate::manager::Manager;
 use crate::pooled::Pooled;
-use crate::shared::{unexpected, Acquired, Item, Shared, Stepped, WaitLimit};
-use crate::step::{Answer, Input, Outcome, When};
+use crate::shared::{Held, Item, Shared, WaitLimit};
+use crate::sleepers::Wakes;
+use crate::values::Loan;
 
 /// What became of an object that was returned or invalidated.
 #[derive(Clone, Copy, Debug, PartialEq, Eq, Hash)]
@@ -34,198 +35,116 @@ pub enum Touched {
     Gone,
 }
 
-/// Why an object is not ready for its holder.
-pub(crate) enum Unready<E> {
-    /// It was not activated.
-    Activate(E),
-    /// It did not pass its test, for a reason if that is known.
-    Test(Option<E>),
-}
-
-/// The error of a borrow whose object is new.
-impl<E> From<Unready<E>> for Error<E> {
-    fn from(unready: Unready<E>) -> Error<E> {
-        match unready {
-            Unready::Activate(error) => Error::Activate(error),
-            Unready::Test(_) => Error::BorrowTest,
-        }
-    }
-}
-
-/// An object that is ready for its holder, or none if an idle object failed and was destroyed.
-pub(crate) type Prepared<M> = Result<Option<(u64, Item<M>)>, Error<<M as Manager>::Error>>;
+/// The lock of a pool, held, or an object that was lent without a call.
+pub(crate) type LentOr<'a, M> = Result<Loan<Item<M>>, Held<'a, M>>;
 
 impl<M: Manager> Handle<M> {
     /// Lends an object: an idle one, or a new one if a place is free.
+    #[inline]
     pub fn borrow(&self, limit: WaitLimit) -> Result<Pooled<M>, Error<M::Error>> {
-        let caller = caller_number();
-        let mut at = self.now();
-        let mut began = Began::at(at);
-        if self.settings.removes_on_borrow() {
-            self.reclaim(caller, When::Borrow, limit)?;
-        }
-        loop {
-            let acquired = self.acquire(caller, &mut began, at, limit)?;
-            if let Some((id, object)) = self.prepare(caller, began, acquired)? {
-                return Ok(Pooled::new(self.clone(), id, object));
-            }
-            at = self.now();
-        }
+        let (caller, at) = (caller_number(), self.now());
+        let loan = match self.lend_at_once(caller, at) {
+            Ok(loan) => loan,
+            Err(state) => self.borrow_by_call(state, caller, at, limit)?,
+        };
+        Ok(Pooled::new(self.clone(), loan))
     }
 }
 
 impl<M: Manager> Shared<M> {
-    /// Makes an object ready for its holder, if it is not. Returns none if it was idle and failed: then it was destroyed.
+    /// Lends an idle object, if neither the manager nor other calls are to be asked. Returns the lock otherwise.
     #[inline]
-    pub fn prepare(&self, caller: u32, began: Began, acquired: Acquired<Item<M>>) -> Prepared<M> {
-        let (id, object) = match acquired {
-            Acquired::Lent(id, object) => (id, Some(object)),
-            Acquired::Taken(id, object) => (id, self.ready_taken(caller, began, id, object)),
-            Acquired::New(id) => (id, Some(self.ready_new(caller, began, id)?)),
-        };
-        Ok(object.map(|object| (id, object)))
-    }
-
-    /// Makes an idle object ready for its holder. Returns none if that failed: then the object was destroyed.
-    fn ready_taken(&self, caller: u32, began: Began, id: u64, object: Item<M>) -> Option<Item<M>> {
-        let mut object = InProgress::of(self, caller, id, Work::Lend, object);
-        match self.ready(&mut object) {
-            Ok(()) => Some(object.lend(began.nanos)),
-            Err(unready) => {
-                object.give_up();
-                self.report_unready(id, unready);
-                None
+    pub fn lend_at_once(&self, caller: u32, at: Moment) -> LentOr<'_, M> {
+        let mut state = self.lock();
+        let may_lend = self.lends_at_once();
+        match may_lend.then(|| state.lend(caller, at)).flatten() {
+            Some(loan) => {
+                self.leave(state, Wakes::default());
+                Ok(loan)
             }
+            None => Err(state),
         }
     }
 
-    /// Reports that an idle object was not made ready, and was destroyed.
-    pub fn report_unready(&self, id: u64, unready: Unready<M::Error>) {
-        self.report(match unready {
-            Unready::Activate(error) => Failure::Activate { id, error },
-            Unready::Test(reason) => Failure::Test { id, reason },
-        });
-    }
-
-    /// Makes a new object, and makes it ready for its holder.
-    fn ready_new(&self, caller: u32, began: Began, id: u64) -> Result<Item<M>, Error<M::Error>> {
-        let mut object = InProgress::new(self, caller, id, Work::Lend);
-        object.make().map_err(Error::Make)?;
-        self.test_new(&mut object)?;
-        self.ready(&mut object)?;
-        Ok(object.lend(began.nanos))
-    }
-
-    /// Tests a new object, if that is set.
-    pub fn test_new(&self, object: &mut InProgress<'_, M>) -> Result<(), Error<M::Error>> {
-        if self.settings.test_on_create {
-            let tested = object.validate(Outcome::CreateTestFailed);
-            tested.map_err(|_| Error::CreateTest)?;
-        }
-        Ok(())
-    }
-
-    fn ready(&self, object: &mut InProgress<'_, M>) -> Result<(), Unready<M::Error>> {
-        object.activate().map_err(Unready::Activate)?;
-        if self.settings.test_on_borrow {
-            object
-                .validate(Outcome::TestFailed)
-                .map_err(Unready::Test)?;
-        }
-        Ok(())
+    fn borrow_by_call(
+        &self,
+        state: Held<'_, M>,
+        caller: u32,
+        at: Moment,
+        limit: WaitLimit,
+    ) -> Result<Loan<Item<M>>, Error<M::Error>> {
+        let course = Course::new(Kind::Borrow, caller, at, limit);
+        let mut call = InProgress::begin(self, state, course, None);
+        let end = call.drive()?;
+        call.take_lent(end)
     }
 
     /// Takes an object back.
-    pub fn give_back(&self, id: u64, object: Item<M>) -> Returned {
-        let caller = caller_number();
-        match self.take_back(caller, id, object) {
-            TakenBack::Parked => Returned::Parked,
-            TakenBack::Check(object) => self.park(caller, id, object),
-            TakenBack::Destroy(object) => {
-                InProgress::destroying(self, caller, id, object).destroy();
-                Returned::Destroyed
+    pub fn give_back(&self, loan: Loan<Item<M>>) -> Returned {
+        let (caller, at) = (caller_number(), self.now());
+        if self.is_too_old(&loan.object, at.millis) {
+            return self.end_too_old(caller, at, loan);
+        }
+        let mut state = self.lock();
+        if !self.parks_at_once() {
+            return self.end_loan(state, Course::of_loan(Kind::Return, caller, at, loan));
+        }
+        match state.take_back(caller, at, loan) {
+            None => {
+                let mut wakes = Wakes::default();
+                wakes.push(state.next_wake());
+                self.leave(state, wakes);
+                Returned::Parked
             }
-            TakenBack::Gone(object) => self.let_go(object),
+            Some(loan) => self.end_loan(state, Course::of_loan(Kind::Return, caller, at, loan)),
         }
-    }
-
-    /// Makes a returned object idle, if it passes and there is room for it.
-    fn park(&self, caller: u32, id: u64, object: Item<M>) -> Returned {
-        let mut object = InProgress::of(self, caller, id, Work::Park, object);
-        if object.is_too_old() {
-            object.give_up();
-            return Returned::Destroyed;
-        }
-        if let Err(failure) = self.put_away(id, &mut object) {
-            object.give_up();
-            self.report(failure);
-            return Returned::Destroyed;
-        }
-        match object.park() {
-            true => Returned::Parked,
-            false => Returned::Destroyed,
-        }
-    }
-
-    /// Tests a returned object, if that is set, and passivates it.
-    fn put_away(&self, id: u64, object: &mut InProgress<'_, M>) -> Result<(), Failure<M::Error>> {
-        if self.settings.test_on_return {
-            let tested = object.validate(Outcome::TestFailed);
-            tested.map_err(|reason| Failure::Test { id, reason })?;
-        }
-        let passivated = object.passivate();
-        passivated.map_err(|error| Failure::Passivate { id, error })
     }
 
     /// Takes an object back that cannot be used any more.
-    pub fn invalidate(&self, id: u64, object: Item<M>) -> Returned {
-        let caller = caller_number();
-        match self.end_loan(caller, id, object.lent) {
-            Ok((Answer::Destroy, _)) => {
-                InProgress::destroying(self, caller, id, object).destroy();
-                Returned::Destroyed
-            }
+    pub fn invalidate(&self, loan: Loan<Item<M>>) -> Returned {
+        let (caller, at) = (caller_number(), self.now());
+        let course = Course::of_loan(Kind::Invalidate, caller, at, loan);
+        self.end_loan(self.lock(), course)
+    }
+
+    /// Ends a loan by a call.
+    fn end_loan(&self, state: Held<'_, M>, course: Course<M>) -> Returned {
+        let mut call = InProgress::begin(self, state, course, None);
+        match call.drive() {
+            Ok(End::Parked) => Returned::Parked,
+            Ok(End::Destroyed) => Returned::Destroyed,
             // It fails for room or memory only if the object is not lent any more.
-            Ok((Answer::Gone, _)) | Err(_) => self.let_go(object),
-            Ok((answer, _)) => unexpected(Input::Invalidate { id }, answer),
+            Ok(_) | Err(_) => {
+                call.take_loan()
+                    .into_iter()
+                    .for_each(|loan| self.let_go(loan));
+                Returned::Gone
+            }
         }
     }
 
-    /// Ends a loan, which began at a time in nanoseconds, of an object that is not returned.
-    fn end_loan(&self, caller: u32, id: u64, lent: u64) -> Result<Stepped<M>, Error<M::Error>> {
-        let input = Input::Invalidate { id };
-        self.run_section_since(lent, caller, input, None, WaitLimit::AsSet)
+    /// Destroys an object that was reclaimed, and that the core did not take back.
+    pub fn let_go(&self, loan: Loan<Item<M>>) {
+        self.lock().values.free(loan.token);
+        self.destroy(loan.object.object);
     }
 
     /// Frees the place of an object that its holder keeps, to whom it was lent at a time in nanoseconds. One that was reclaimed has none.
-    pub fn detach(&self, id: u64, lent: u64) {
-        let caller = caller_number();
-        match self.end_loan(caller, id, lent) {
-            Ok((Answer::Destroy, _)) => {
-                let input = Input::Destroyed { id };
-                match self.complete(caller, input) {
-                    Answer::Freed => {}
-                    answer => unexpected(input, answer),
-                }
-            }
-            // It fails for room or memory only if the object is not lent any more.
-            Ok((Answer::Gone, _)) | Err(_) => {}
-            Ok((answer, _)) => unexpected(Input::Invalidate { id }, answer),
-        }
-    }
-
-    /// Destroys an object that was reclaimed: it has no place to be freed.
-    fn let_go(&self, object: Item<M>) -> Returned {
-        self.destroy(object.object);
-        Returned::Gone
+    pub fn detach(&self, loan: Loan<()>, lent: u64) {
+        let (caller, at) = (caller_number(), self.now());
+        let course = Course::of_detachment(caller, at, loan, lent);
+        // It fails for room or memory only if the object is not lent any more.
+        let _ = InProgress::begin(self, self.lock(), course, None).drive();
     }
 
     /// Notes that an object is used.
     pub fn touch(&self, id: u64) -> Result<Touched, Error<M::Error>> {
-        match self.run_section(caller_number(), Input::Use { id }, None)? {
-            (Answer::Noted, _) => Ok(Touched::Noted),
-            (Answer::Gone, _) => Ok(Touched::Gone),
-            (answer, _) => unexpected(Input::Use { id }, answer),
+        let course = Course::of_use(caller_number(), self.now(), id);
+        let mut call = InProgress::begin(self, self.lock(), course, None);
+        match call.drive()? {
+            End::Noted => Ok(Touched::Noted),
+            End::Gone => Ok(Touched::Gone),
+            end => Err(call.error(end)),
         }
     }
 }

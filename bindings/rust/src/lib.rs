@@ -1,10 +1,10 @@
 //! An object pool for threads and tasks, over the proved core of Zuphinka.
 //!
 //! **Proved** is each step of the core: its answer, the entry that it appends to the journal, and that a completing step never fails. In every
-//! legal journal no more than `maxTotal` objects are present, none is lent to two at once, and none that was made is lost. **Tested, not
-//! proved** is this crate: its lock, its critical sections (which steps a call takes, and what it does with the objects between them), its
-//! waits and wakes, and the binding of the C library. But **the journal of a run can be checked**: `pool check SETTINGS JOURNAL` says whether
-//! the answers in this very run were the expected ones.
+//! legal journal no more than `maxTotal` objects are present, none is lent to two at once, and none that was made is lost. Proved is also
+//! what a call asks for next, of the core and of the manager, and which of the calls that wait is woken. **Tested, not proved** is this crate: its
+//! lock, the sleep of threads and tasks, the values of the objects, their ages ([`Builder::max_lifetime`]), and the binding of the C library. But
+//! **the journal of a run can be checked**: `pool check SETTINGS JOURNAL` says whether the answers in this very run were the expected ones.
 //!
 //! A [`Manager`] makes objects; a [`Pool`] lends them, as [`Pooled`] guards that return them when they are dropped.
 //! Tasks borrow with [`Pool::get_async`], over a [`Manager`] or an [`AsyncManager`].
@@ -41,7 +41,7 @@
 //!
 //! A borrow that finds nothing waits. Threads and tasks wait in one order, that of arrival, and are woken in it, one for each object or place.
 //! But a borrow that finds an idle object takes it at once, even if others wait: this costs no sleep. One that finds its object taken keeps
-//! its turn and waits again. The oldest waiter is overtaken 16 times at most ([`Builder::max_overtakes`]); then later borrows queue behind it.
+//! its turn and waits again. No waiter is overtaken more than 16 times ([`Builder::max_overtakes`]); then later borrows queue behind it.
 //! A thread that waits, for an object or for the pool's lock, pauses for up to 25 µs before it sleeps, if a processor is left for it beside the
 //! threads that it waits for.
 //!
@@ -57,20 +57,20 @@
 #![warn(missing_docs)]
 #![deny(unsafe_op_in_unsafe_fn)]
 
+mod ages;
 mod async_manager;
 mod builder;
+mod call;
 mod callers;
 mod clock;
 mod contradictions;
-#[cfg(test)]
-mod dropped_segments;
+mod course;
 mod error;
 mod escaped;
 mod failure;
 mod get;
 mod getters;
 mod handle;
-mod idle_values;
 mod in_progress;
 mod journal;
 mod keeping;
@@ -89,11 +89,13 @@ mod reports;
 mod segments;
 mod settings;
 mod shared;
+mod sleepers;
 mod step;
 mod stored_journal;
 mod sys;
-mod waiters;
-mod waking;
+mod values;
+mod waits;
+mod work;
 mod writing;
 
 pub use async_manager::{Async, AsyncManager};

@@ -1,5 +1,4 @@
 use crate::builder::Builder;
-use crate::callers::caller_number;
 use crate::error::{Error, OpenError};
 use crate::get::Get;
 use crate::handle::{Handle, WeakHandle};
@@ -8,16 +7,16 @@ use crate::manager::Manager;
 use crate::metrics::Metrics;
 use crate::pooled::Pooled;
 use crate::shared::WaitLimit;
-use crate::step::{Counts, When};
+use crate::step::Counts;
 use std::fmt;
 use std::io::{self, Write};
 use std::time::{Duration, Instant};
 
 /// A pool that threads share. A clone is a handle of the same pool.
 ///
-/// Any thread may make any call. A call consists of critical sections, in which the pool's lock is held for one step of the core and one
-/// entry of the journal, or two if nothing lies between them; the manager is called without the lock. An entry has the number of the calling
-/// thread ([`caller_number`](crate::caller_number)), and the time in milliseconds since the pool was opened.
+/// Any thread may make any call. A call consists of critical sections, in which the pool's lock is held for the steps of the core that follow each
+/// other without the manager, at most 64; the manager is called without the lock. Each step makes one entry of the journal. It has the number of the
+/// calling thread ([`caller_number`](crate::caller_number)), and the time in milliseconds since the pool was opened.
 ///
 /// When the last handle and the last lent object are gone, the pool is closed, and the rest of its journal is stored. A thread that is to end with
 /// the pool, as one that maintains it, has a [`WeakPool`] instead of a handle.
@@ -53,7 +52,7 @@ impl<M: Manager> Pool<M> {
     ///
     /// A borrow that finds an idle object or a free place takes it, even if others wait. Those that wait are woken in the order of arrival, one
     /// for each object or place. One that finds it taken keeps its turn and waits again. Once the oldest waiter was overtaken as often as
-    /// [`Builder::max_overtakes`] allows, a borrow queues behind it, and makes no entry meanwhile.
+    /// [`Builder::max_overtakes`] allows, or found what it was woken for taken, a borrow queues behind it, and makes no entry meanwhile.
     ///
     /// With [`Journal::Segments`](crate::Journal::Segments) this call may store a segment. If the journal is full, it waits for the
     /// thread that stores one, up to `maxWaitMillis` more.
@@ -173,8 +172,7 @@ impl<M: Manager> Pool<M> {
     ///
     /// [`Error::JournalFull`] and [`Error::OutOfMemory`], also in the middle: what was done before stays.
     pub fn reclaim(&self) -> Result<u64, Error<M::Error>> {
-        self.shared
-            .reclaim(caller_number(), When::Maintain, WaitLimit::AsSet)
+        self.shared.reclaim()
     }
 
     /// Maintains the pool: calls [`evict`](Pool::evict), [`reclaim`](Pool::reclaim) and [`fill`](Pool::fill), in this order. Call it now
@@ -214,7 +212,7 @@ impl<M: Manager> Pool<M> {
 
     /// Returns whether the pool is closed. It takes the lock.
     pub fn is_closed(&self) -> bool {
-        self.shared.lock().is_closed
+        self.shared.lock().core.is_closed()
     }
 
     /// Returns the number of entries since the pool was opened, and the numbers of objects, all of one time. It takes the lock.
@@ -244,7 +242,7 @@ impl<M: Manager> Pool<M> {
 
     /// Returns how many borrows, of threads and of tasks, wait for an object. It takes the lock.
     pub fn waiting(&self) -> u64 {
-        self.shared.lock().waiters.len() as u64
+        self.shared.lock().core.waiting()
     }
 
     /// Returns how many entries the journal can still take in memory, besides those that are set aside for completing steps and for the close
@@ -339,7 +337,7 @@ impl<M: Manager> Pool<M> {
     ///
     /// The lock is held while some hundred lines are copied, and at the end while the last ones are copied and the journal is cut: so no
     /// entry falls between two segments. The text is written and flushed without the lock. One cut of a pool runs at a time, and others wait
-    /// for it; with [`Journal::Off`](crate::Journal::Off) nothing is dropped meanwhile.
+    /// for it. With [`Journal::Off`](crate::Journal::Off) all lines are copied under the lock, and the journal is cut before they are written.
     ///
     /// # Errors
     ///

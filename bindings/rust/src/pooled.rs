@@ -4,6 +4,7 @@ use crate::lending::{Returned, Touched};
 use crate::manager::Manager;
 use crate::panics::unless_it_panics;
 use crate::shared::Item;
+use crate::values::Loan;
 use std::fmt;
 use std::ops::{Deref, DerefMut};
 use std::thread;
@@ -17,8 +18,7 @@ use std::thread;
 #[must_use = "an object that is not kept goes back at once"]
 pub struct Pooled<M: Manager> {
     pool: Handle<M>,
-    id: u64,
-    object: Option<Item<M>>,
+    loan: Option<Loan<Item<M>>>,
     /// Whether the thread that got it was panicking.
     was_panicking: bool,
 }
@@ -26,36 +26,41 @@ pub struct Pooled<M: Manager> {
 const LENT: &str = "a guard has its object until it is dropped";
 
 impl<M: Manager> Pooled<M> {
-    pub(crate) fn new(pool: Handle<M>, id: u64, object: Item<M>) -> Pooled<M> {
+    #[inline]
+    pub(crate) fn new(pool: Handle<M>, loan: Loan<Item<M>>) -> Pooled<M> {
         Pooled {
             pool,
-            id,
-            object: Some(object),
+            loan: Some(loan),
             was_panicking: thread::panicking(),
         }
     }
 
     /// Returns the id of the object in the journal.
     pub fn id(this: &Pooled<M>) -> u64 {
-        this.id
+        this.loan.as_ref().expect(LENT).id
     }
 
     /// Returns the object to the pool, as a drop does, and says what became of it.
     pub fn give_back(mut this: Pooled<M>) -> Returned {
-        let object = this.object.take().expect(LENT);
-        this.pool.give_back(this.id, object)
+        let loan = this.loan.take().expect(LENT);
+        this.pool.give_back(loan)
     }
 
     /// Returns the object as one that cannot be used any more: it is destroyed.
     pub fn invalidate(mut this: Pooled<M>) -> Returned {
-        let object = this.object.take().expect(LENT);
-        this.pool.invalidate(this.id, object)
+        let loan = this.loan.take().expect(LENT);
+        this.pool.invalidate(loan)
     }
 
     /// Takes the object out of the pool: its place is free, and the object is the caller's. The manager does not destroy it.
     pub fn detach(mut this: Pooled<M>) -> M::Object {
-        let object = this.object.take().expect(LENT);
-        this.pool.detach(this.id, object.lent);
+        let Loan { id, token, object } = this.loan.take().expect(LENT);
+        let detached = Loan {
+            id,
+            token,
+            object: (),
+        };
+        this.pool.detach(detached, object.lent);
         object.object
     }
 
@@ -65,7 +70,7 @@ impl<M: Manager> Pooled<M> {
     ///
     /// [`Error::JournalFull`] and [`Error::OutOfMemory`]: it is not noted, and the object is still lent.
     pub fn touch(this: &Pooled<M>) -> Result<Touched, Error<M::Error>> {
-        this.pool.touch(this.id)
+        this.pool.touch(Pooled::id(this))
     }
 }
 
@@ -73,29 +78,29 @@ impl<M: Manager> Deref for Pooled<M> {
     type Target = M::Object;
 
     fn deref(&self) -> &M::Object {
-        &self.object.as_ref().expect(LENT).object
+        &self.loan.as_ref().expect(LENT).object.object
     }
 }
 
 impl<M: Manager> DerefMut for Pooled<M> {
     fn deref_mut(&mut self) -> &mut M::Object {
-        &mut self.object.as_mut().expect(LENT).object
+        &mut self.loan.as_mut().expect(LENT).object.object
     }
 }
 
 impl<M: Manager> Drop for Pooled<M> {
     fn drop(&mut self) {
-        let Some(object) = self.object.take() else {
+        let Some(loan) = self.loan.take() else {
             return;
         };
         if !thread::panicking() {
-            self.pool.give_back(self.id, object);
+            self.pool.give_back(loan);
             return;
         }
         // A panic of the manager ends here, since a second one would end the process.
         unless_it_panics(|| match self.was_panicking {
-            true => self.pool.give_back(self.id, object),
-            false => self.pool.invalidate(self.id, object),
+            true => self.pool.give_back(loan),
+            false => self.pool.invalidate(loan),
         });
     }
 }
@@ -106,7 +111,7 @@ where
 {
     fn fmt(&self, f: &mut fmt::Formatter<'_>) -> fmt::Result {
         f.debug_struct("Pooled")
-            .field("id", &self.id)
+            .field("id", &Pooled::id(self))
             .field("object", &**self)
             .finish()
     }

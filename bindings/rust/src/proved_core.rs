@@ -1,6 +1,7 @@
 //! The proved core, over its C library. All code that is `unsafe` is here.
 
-use crate::step::{Answer, Cause, Counts, Input, Outcome, StepFault, When};
+use crate::call::{action_of, Action, End, Kind, Report};
+use crate::step::{Answer, Counts, Input, StepFault};
 use crate::sys;
 use std::ffi::c_char;
 
@@ -16,6 +17,110 @@ pub(crate) struct Core {
 
 // SAFETY: the library has no state except that of the handle, whose calls may come from any thread, one at a time.
 unsafe impl Send for Core {}
+
+/// The beginning of a call: its kind, its caller and the time, in milliseconds. It may be for an object, which has an id and a token.
+#[derive(Clone, Copy, Debug)]
+pub(crate) struct Start {
+    pub kind: Kind,
+    pub caller: u32,
+    pub at: u64,
+    pub id: u64,
+    pub token: u64,
+}
+
+/// What became of the last action of a call. The token is that of an object that was made.
+#[derive(Clone, Copy, Debug)]
+pub(crate) struct Event {
+    pub report: Report,
+    pub caller: u32,
+    pub at: u64,
+    pub token: u64,
+}
+
+/// The name of a call in progress.
+#[derive(Clone, Copy, Debug, Default)]
+pub(crate) struct CallName(sys::Call);
+
+/// A call, and what it does next.
+pub(crate) struct Call {
+    name: CallName,
+    effects: sys::Effects,
+}
+
+impl Call {
+    /// A call that has not begun, and does nothing.
+    pub fn new() -> Call {
+        Call::ended(sys::END_CANCELLED)
+    }
+
+    fn ended(end: u32) -> Call {
+        Call {
+            name: CallName::default(),
+            effects: sys::Effects {
+                action: sys::ACTION_DONE,
+                end,
+                ..sys::Effects::default()
+            },
+        }
+    }
+
+    /// It ends, since there is no memory for it.
+    #[cold]
+    pub fn lack_memory(&mut self) {
+        *self = Call::ended(sys::END_OUT_OF_MEMORY);
+    }
+
+    /// It is not in progress any more.
+    #[cold]
+    pub fn cancel(&mut self) {
+        *self = Call::ended(sys::END_CANCELLED);
+    }
+
+    pub fn name(&self) -> CallName {
+        self.name
+    }
+
+    #[inline]
+    pub fn action(&self) -> Action {
+        action_of(self.effects.action, self.effects.end)
+    }
+
+    /// Returns the id of the object that its action is for, or that is lent.
+    pub fn number(&self) -> u64 {
+        self.effects.number
+    }
+
+    /// Returns the token of that object, unless it is to be made.
+    pub fn token(&self) -> u64 {
+        self.effects.object as u64
+    }
+
+    /// Returns its ticket, if it waits.
+    pub fn ticket(&self) -> u64 {
+        self.effects.ticket
+    }
+
+    /// Returns the time at which its wait is over by the settings, in milliseconds.
+    pub fn until(&self) -> Option<u64> {
+        self.effects.has_until.then_some(self.effects.until)
+    }
+
+    /// Returns the ticket of the call to wake.
+    #[inline]
+    pub fn wake(&self) -> Option<u64> {
+        self.effects.has_wake.then_some(self.effects.wake)
+    }
+
+    /// Returns how many objects it examined, made, took or destroyed so far.
+    pub fn count(&self) -> u64 {
+        self.effects.count
+    }
+
+    /// Returns how many objects an eviction run destroyed so far.
+    pub fn destroyed(&self) -> u64 {
+        self.effects.destroyed
+    }
+}
 
 /// Why no core was opened.
 #[derive(Clone, Copy, Debug, PartialEq, Eq)]
@@ -55,39 +160,116 @@ pub(crate) fn settings_of(text: &str) -> Result<sys::Settings, (u32, String)> {
 
 impl Core {
     /// Opens a core with an empty journal, and with settings in TOML.
-    pub fn open(settings: &str) -> Result<Core, OpenFault> {
+    pub fn open(settings: &str, options: &sys::Options) -> Result<Core, OpenFault> {
         let mut handle = sys::Handle::EMPTY;
-        // SAFETY: the handle is empty, and the text has this size.
-        let status =
-            unsafe { sys::zuphinka_open(&mut handle, settings.as_ptr().cast(), settings.len()) };
-        match status {
+        let (text, size) = (settings.as_ptr().cast(), settings.len());
+        // SAFETY: the handle is empty, the text has this size, and no two overlap.
+        match unsafe { sys::zuphinka_open_with(&mut handle, text, size, options) } {
             sys::STATUS_DONE => Ok(Core { handle }),
             sys::STATUS_OUT_OF_MEMORY => Err(OpenFault::OutOfMemory),
             status => Err(OpenFault::Settings(status)),
         }
     }
 
+    /// Begins a call, and takes its first steps. If there is no memory for it, it has ended.
+    #[inline]
+    pub fn begin(&mut self, start: Start, call: &mut Call) {
+        let start = sys::Start {
+            at: start.at,
+            id: start.id,
+            object: start.token as usize,
+            caller: start.caller,
+            kind: start.kind as u32,
+        };
+        let (name, effects) = (&mut call.name.0, &mut call.effects);
+        // SAFETY: the handle is this core's, and no two of the four overlap.
+        match unsafe { sys::zuphinka_begin(&mut self.handle, &start, name, effects) } {
+            sys::STATUS_DONE => {}
+            sys::STATUS_OUT_OF_MEMORY => call.lack_memory(),
+            status => unreachable!("the beginning of a call has status {status}"),
+        }
+    }
+
+    /// Goes on with a call after a report of its last action. Returns whether it was in progress.
+    #[inline]
+    pub fn advance(&mut self, event: Event, call: &mut Call) -> bool {
+        let event = sys::Event {
+            at: event.at,
+            object: event.token as usize,
+            caller: event.caller,
+            report: event.report as u32,
+        };
+        let (name, effects) = (&call.name.0, &mut call.effects);
+        // SAFETY: the handle is this core's, and no two of the four overlap.
+        match unsafe { sys::zuphinka_advance(&mut self.handle, name, &event, effects) } {
+            sys::STATUS_DONE => true,
+            sys::STATUS_NO_CALL => false,
+            status => unreachable!("a report to a call has status {status}"),
+        }
+    }
+
+    /// Gives a call up that waits. Returns the ticket of the call to wake.
+    #[cold]
+    pub fn give_up(&mut self, name: CallName) -> Option<u64> {
+        let mut call = Call::new();
+        call.name = name;
+        let event = Event {
+            report: Report::GivenUp,
+            caller: 0,
+            at: 0,
+            token: 0,
+        };
+        let was_there = self.advance(event, &mut call);
+        debug_assert!(!was_there || call.action() == Action::Done(End::Cancelled));
+        call.wake()
+    }
+
+    /// Returns the ticket of the next call to wake.
+    #[inline]
+    pub fn next_wake(&mut self) -> Option<u64> {
+        let mut ticket = 0;
+        // SAFETY: the handle is this core's.
+        match unsafe { sys::zuphinka_next_wake(&mut self.handle, &mut ticket) } {
+            sys::STATUS_DONE => Some(ticket),
+            sys::STATUS_NO_WAKE => None,
+            status => unreachable!("a wake has status {status}"),
+        }
+    }
+
+    fn state(&mut self) -> sys::Activity {
+        let mut state = sys::Activity::default();
+        // SAFETY: the handle is this core's.
+        let status = unsafe { sys::zuphinka_state(&mut self.handle, &mut state) };
+        debug_assert_eq!(status, sys::STATUS_DONE);
+        state
+    }
+
+    /// Returns the number of calls that wait.
+    pub fn waiting(&mut self) -> u64 {
+        self.state().waiting
+    }
+
+    pub fn is_closed(&mut self) -> bool {
+        self.state().is_closed
+    }
+
     /// Takes one step, and appends its entry. Returns the answer, and a token: that of an idle object that is taken, or the one that was passed
     /// in, unless the core stores it.
-    #[inline(always)]
     pub fn step(
         &mut self,
         caller: u32,
         at: u64,
         input: Input,
-        token: Option<u64>,
-    ) -> Result<(Answer, Option<u64>), StepFault> {
+        token: u64,
+    ) -> Result<(Answer, u64), StepFault> {
         let mut request = request_of(input);
         request.caller = caller;
         request.at = at;
-        request.object = token.unwrap_or(0) as usize;
+        request.object = token as usize;
         let mut reply = sys::Reply::default();
         // SAFETY: the handle is this core's, and no two of the three overlap.
         match unsafe { sys::zuphinka_step(&mut self.handle, &request, &mut reply) } {
-            sys::STATUS_DONE => Ok((
-                answer_of(&reply),
-                reply.has_object.then_some(reply.object as u64),
-            )),
+            sys::STATUS_DONE => Ok((answer_of(&reply), reply.object as u64)),
             sys::STATUS_JOURNAL_FULL => Err(StepFault::JournalFull),
             sys::STATUS_OUT_OF_MEMORY => Err(StepFault::OutOfMemory),
             status => unreachable!("a step has status {status}"),
@@ -222,30 +404,14 @@ impl Drop for Core {
 }
 
 /// Returns the request for an input, in the library's codes.
-#[inline]
 fn request_of(input: Input) -> sys::Request {
-    let plain = |input, number| (input, number, 0);
-    let told = |input, number, outcome| (input, number, outcome_code(outcome));
     let (input, number, outcome) = match input {
-        Input::Borrow { began } => plain(sys::INPUT_BORROW, began),
-        Input::Ready { id, outcome } => told(sys::INPUT_READY, id, outcome),
-        Input::GiveBack { id } => plain(sys::INPUT_RETURN, id),
-        Input::Park { id, outcome } => told(sys::INPUT_PARK, id, outcome),
-        Input::Invalidate { id } => plain(sys::INPUT_INVALIDATE, id),
-        Input::Use { id } => plain(sys::INPUT_USE, id),
-        Input::Add => plain(sys::INPUT_ADD, 0),
-        Input::Fill => plain(sys::INPUT_FILL, 0),
-        Input::Added { id, outcome } => told(sys::INPUT_ADDED, id, outcome),
-        Input::Evict => plain(sys::INPUT_EVICT, 0),
-        Input::EvictNext => plain(sys::INPUT_EVICT_NEXT, 0),
-        Input::Tested { id, outcome } => told(sys::INPUT_TESTED, id, outcome),
-        Input::Reclaim { on: When::Borrow } => plain(sys::INPUT_RECLAIM_ON_BORROW, 0),
-        Input::Reclaim { on: When::Maintain } => plain(sys::INPUT_RECLAIM_FOR_MAINTENANCE, 0),
-        Input::ReclaimNext { .. } => plain(sys::INPUT_RECLAIM_NEXT, 0),
-        Input::Clear => plain(sys::INPUT_CLEAR, 0),
-        Input::ClearNext => plain(sys::INPUT_CLEAR_NEXT, 0),
-        Input::Destroyed { id } => plain(sys::INPUT_DESTROYED, id),
-        Input::Close => plain(sys::INPUT_CLOSE, 0),
+        Input::GiveBack { id } => (sys::INPUT_RETURN, id, 0),
+        Input::ParkTooOld { id } => (sys::INPUT_PARK, id, sys::OUTCOME_TEST_FAILED),
+        Input::EvictNext => (sys::INPUT_EVICT_NEXT, 0, 0),
+        Input::TestedGood { id } => (sys::INPUT_TESTED, id, sys::OUTCOME_GOOD),
+        Input::TestedTooOld { id } => (sys::INPUT_TESTED, id, sys::OUTCOME_TEST_FAILED),
+        Input::Destroyed { id } => (sys::INPUT_DESTROYED, id, 0),
     };
     sys::Request {
         at: 0,
@@ -257,52 +423,17 @@ fn request_of(input: Input) -> sys::Request {
     }
 }
 
-fn outcome_code(outcome: Outcome) -> u32 {
-    match outcome {
-        Outcome::Good => sys::OUTCOME_GOOD,
-        Outcome::MakeFailed => sys::OUTCOME_MAKE_FAILED,
-        Outcome::CreateTestFailed => sys::OUTCOME_CREATE_TEST_FAILED,
-        Outcome::ActivateFailed => sys::OUTCOME_ACTIVATE_FAILED,
-        Outcome::TestFailed => sys::OUTCOME_TEST_FAILED,
-        Outcome::PassivateFailed => sys::OUTCOME_PASSIVATE_FAILED,
-    }
-}
-
-#[inline]
 fn answer_of(reply: &sys::Reply) -> Answer {
     match reply.answer {
-        sys::ANSWER_TAKE => Answer::Take(reply.number),
-        sys::ANSWER_MAKE => Answer::Make(reply.number),
-        sys::ANSWER_WAIT => Answer::Wait,
-        sys::ANSWER_EXHAUSTED => Answer::Exhausted,
-        sys::ANSWER_TIMED_OUT => Answer::TimedOut,
-        sys::ANSWER_LENT => Answer::Lent,
         sys::ANSWER_CHECK => Answer::Check,
-        sys::ANSWER_PARKED => Answer::Parked,
         sys::ANSWER_KEPT => Answer::Kept,
-        sys::ANSWER_KEPT_IDLE => Answer::KeptIdle(reply.number),
+        sys::ANSWER_KEPT_IDLE => Answer::KeptIdle,
         sys::ANSWER_DESTROY => Answer::Destroy,
         sys::ANSWER_DESTROY_IDLE => Answer::DestroyIdle(reply.number),
         sys::ANSWER_TEST => Answer::Test(reply.number),
         sys::ANSWER_FREED => Answer::Freed,
         sys::ANSWER_GONE => Answer::Gone,
-        sys::ANSWER_NOTED => Answer::Noted,
-        sys::ANSWER_COUNT => Answer::Count(reply.number),
-        sys::ANSWER_RECLAIMED => Answer::Reclaimed(reply.number),
         sys::ANSWER_NOTHING => Answer::Nothing,
-        sys::ANSWER_ENOUGH => Answer::Enough,
-        sys::ANSWER_NO_PLACE => Answer::NoPlace,
-        sys::ANSWER_REFUSED => Answer::Refused(cause_of(reply.cause)),
         code => unreachable!("a step has answer {code}"),
-    }
-}
-
-fn cause_of(code: u32) -> Cause {
-    match code {
-        sys::CAUSE_CLOSED => Cause::Closed,
-        sys::CAUSE_NOT_LENT => Cause::NotLent,
-        sys::CAUSE_NOT_HELD => Cause::NotHeld,
-        sys::CAUSE_BAD_OUTCOME => Cause::BadOutcome,
-        code => unreachable!("a step has cause {code}"),
     }
 }

@@ -1,11 +1,10 @@
-//! What all handles of a pool share, and its critical sections: each is one step of the core under the lock, or two if nothing lies
-//! between them.
+//! What all handles of a pool share: its lock, its clock, and how those are woken that sleep.
 
-use crate::clock::{Aged, Began, Clock, Moment, Stamp};
-use crate::error::Error;
+use crate::call::Kind;
+use crate::clock::{Aged, Clock, Moment};
 use crate::failure::Failure;
 use crate::locked::{Guard, Locked};
-use crate::locked_pool::{Borrowed, LockedPool, TakenBack};
+use crate::locked_pool::LockedPool;
 use crate::maintenance::Maintainer;
 use crate::manager::Manager;
 use crate::metrics::Snapshot;
@@ -13,8 +12,7 @@ use crate::panics::unless_it_panics;
 use crate::pauses::{count_processors, Pauses};
 use crate::reports::Reports;
 use crate::settings::Settings;
-use crate::step::{Answer, Cause, Input, StepFault, When};
-use crate::waiters::{Alarm, OldestSleeper, Ticket};
+use crate::sleepers::{OldestSleeper, Wakes};
 use crate::writing::Outlet;
 use std::sync::{Arc, Condvar, Mutex, MutexGuard, PoisonError};
 use std::time::{Duration, Instant};
@@ -42,7 +40,7 @@ pub(crate) struct Policy<M: Manager> {
 
 /// A pool. The manager is called without the lock.
 pub(crate) struct Shared<M: Manager> {
-    state: Locked<LockedPool<Item<M>>>,
+    state: Locked<LockedPool<M::Object>>,
     oldest_asleep: Arc<OldestSleeper>,
     clock: Clock,
     /// A thread that cut the journal is done.
@@ -66,45 +64,11 @@ pub(crate) struct Shared<M: Manager> {
 pub(crate) type Item<M> = Aged<<M as Manager>::Object>;
 
 /// The lock of a pool, held.
-pub(crate) type Held<'a, M> = Guard<'a, LockedPool<Item<M>>>;
-
-/// The result of a critical section: the answer, and the value that is returned with it.
-pub(crate) type Stepped<M> = (Answer, Option<Item<M>>);
-
-/// An object that a borrow got.
-pub(crate) enum Acquired<T> {
-    /// It is lent.
-    Lent(u64, T),
-    /// It was idle, and is to be made ready.
-    Taken(u64, T),
-    /// It is to be made.
-    New(u64),
-}
-
-/// The result of a borrow before the manager is called.
-pub(crate) type Acquisition<M> = Result<Acquired<Item<M>>, Error<<M as Manager>::Error>>;
-
-/// Which waiters a step wakes.
-pub(crate) enum Wakes {
-    None,
-    One,
-    All,
-}
-
-impl Wakes {
-    /// One for an object or a place, and all if the pool closed.
-    fn of(input: Input, answer: Answer) -> Wakes {
-        match answer {
-            Answer::Parked | Answer::Kept | Answer::Freed | Answer::Reclaimed(_) => Wakes::One,
-            Answer::Count(_) if input == Input::Close => Wakes::All,
-            _ => Wakes::None,
-        }
-    }
-}
+pub(crate) type Held<'a, M> = Guard<'a, LockedPool<<M as Manager>::Object>>;
 
 impl<M: Manager> Shared<M> {
     pub fn new(
-        state: LockedPool<Item<M>>,
+        state: LockedPool<M::Object>,
         clock: Clock,
         outlet: Option<Outlet>,
         manager: M,
@@ -114,7 +78,7 @@ impl<M: Manager> Shared<M> {
         // Here, since a call that waits can do without its allocations.
         count_processors();
         Shared {
-            oldest_asleep: state.waiters.oldest_asleep(),
+            oldest_asleep: state.sleepers.oldest(),
             state: Locked::new(state),
             clock,
             written: Condvar::new(),
@@ -141,7 +105,7 @@ impl<M: Manager> Shared<M> {
         Snapshot {
             name,
             counts: state.core.counts(),
-            waiting: state.waiters.len() as u64,
+            waiting: state.core.waiting(),
             measures: state.measures.clone(),
         }
     }
@@ -153,7 +117,9 @@ impl<M: Manager> Shared<M> {
 
     /// Leaks what code of others would be called for at its drop, without a lock, which a thread of the parent may have held.
     pub fn leak(&mut self) {
-        mem::forget(self.state.get_mut().take_idle());
+        let state = self.state.get_mut();
+        mem::forget(state.values.take_all());
+        mem::forget(state.sleepers.take_all());
         mem::forget(self.outlet.take());
         let maintainer = self.maintainer.get_mut();
         mem::forget(maintainer.unwrap_or_else(PoisonError::into_inner).take());
@@ -181,7 +147,7 @@ impl<M: Manager> Shared<M> {
     }
 
     /// Returns the time to a thread that holds the lock.
-    fn now_under_lock(&self, state: &LockedPool<Item<M>>) -> Moment {
+    pub fn now_under_lock(&self, state: &LockedPool<M::Object>) -> Moment {
         let read = self.clock.read();
         read.unwrap_or_else(|| Moment::of_millis(state.last_time()))
     }
@@ -195,7 +161,7 @@ impl<M: Manager> Shared<M> {
         }
     }
 
-    /// Takes the lock. No code of others runs under it except the clock of a thread that waits, and each step is done as a whole or not at
+    /// Takes the lock. No code of others runs under it except the clock of a thread that waits, and each call of the core is done as a whole or not at
     /// all. So a panic leaves nothing half done.
     #[inline]
     pub fn lock(&self) -> Held<'_, M> {
@@ -207,238 +173,65 @@ impl<M: Manager> Shared<M> {
         self.state.try_lock()
     }
 
-    /// Takes one step under the lock, and wakes those that wait for its result. The clock is read before. If the journal is full,
-    /// the step is taken again after a segment was written.
-    ///
-    /// An input that continues with an object never fails, and no other carries a value.
-    pub fn run_section(
-        &self,
-        caller: u32,
-        input: Input,
-        value: Option<Item<M>>,
-    ) -> Result<Stepped<M>, Error<M::Error>> {
-        self.run_section_since(0, caller, input, value, WaitLimit::AsSet)
-    }
-
-    /// Does the same, and waits for a thread that writes a segment only as far as the limit allows. The step may end a loan that began at a time,
-    /// in nanoseconds.
-    pub fn run_section_since(
-        &self,
-        since: u64,
-        caller: u32,
-        input: Input,
-        mut value: Option<Item<M>>,
-        limit: WaitLimit,
-    ) -> Result<Stepped<M>, Error<M::Error>> {
-        loop {
-            let at = self.now();
-            match self.try_section(Stamp { caller, at, since }, input, value.take()) {
-                Err(Error::JournalFull) if self.make_room(limit) => {}
-                stepped => return stepped,
-            }
-        }
-    }
-
-    /// Does the same once, at a time.
-    #[inline]
-    pub fn try_section(
-        &self,
-        stamp: Stamp,
-        input: Input,
-        mut value: Option<Item<M>>,
-    ) -> Result<Stepped<M>, Error<M::Error>> {
-        let mut state = self.lock();
-        loop {
-            match state.step(stamp, input, value.take()) {
-                Ok((answer, out)) => {
-                    self.leave(state, Wakes::of(input, answer));
-                    return Ok((answer, out));
-                }
-                Err((StepFault::OutOfMemory, out)) if state.free_memory() => value = out,
-                Err((fault, _)) => return Err(error_of(&state, input, fault)),
-            }
-        }
-    }
-
-    /// Takes a step that continues with an object, and never fails.
-    pub fn complete(&self, caller: u32, input: Input) -> Answer {
-        match self.run_section(caller, input, None) {
-            Ok((answer, _)) => answer,
-            Err(_) => unreachable!("{input:?} failed"),
-        }
-    }
-
-    /// Takes an object back, and makes it idle if nothing is to be done before.
-    pub fn take_back(&self, caller: u32, id: u64, value: Item<M>) -> TakenBack<Item<M>> {
-        let (at, since) = (self.now(), value.lent);
-        let parks_at_once =
-            !M::PASSIVATES && !self.settings.test_on_return && !self.is_too_old(&value, at.millis);
-        let mut state = self.lock();
-        let taken = state.take_back(Stamp { caller, at, since }, id, value, parks_at_once);
-        let wakes = match taken {
-            TakenBack::Parked => Wakes::One,
-            _ => Wakes::None,
-        };
-        self.leave(state, wakes);
-        taken
-    }
-
-    /// Frees the lock, and wakes waiters: one only if there is something to find that none is on its way to. Then it writes a segment if
-    /// one is due.
-    #[inline]
-    pub fn leave(&self, mut state: Held<'_, M>, wakes: Wakes) {
-        let is_due = state.journal.wants_writer();
-        match wakes {
-            Wakes::None => drop(state),
-            Wakes::One => {
-                let wake = state.wake_one(self.settings.max_total);
-                drop(state);
-                if let Some(wake) = wake {
-                    self.wake(wake);
-                }
-            }
-            Wakes::All => {
-                let all = state.waiters.wake_all();
-                drop(state);
-                self.wake_all(all);
-            }
-        }
-        if is_due {
-            self.write_due();
-        }
-    }
-
     /// Returns whether an idle object is lent without a call of the manager.
     #[inline]
     pub fn lends_at_once(&self) -> bool {
         !M::ACTIVATES && !self.settings.test_on_borrow
     }
 
-    /// Borrows an object, and waits while there is none, as far as the limit and the settings allow. If the journal is full, it looks again
-    /// after a segment was written.
+    /// Returns whether an object is idle after its return without a call of the manager.
     #[inline]
-    pub fn acquire(
-        &self,
-        caller: u32,
-        began: &mut Began,
-        mut at: Moment,
-        limit: WaitLimit,
-    ) -> Acquisition<M> {
-        let mut ticket = None;
-        loop {
-            let since = began.nanos;
-            let stamp = Stamp { caller, at, since };
-            match self.try_to_acquire(stamp, began, limit, &mut ticket) {
-                Err(Error::JournalFull) if self.make_room(limit) => at = self.now(),
-                acquired => return acquired,
-            }
-        }
+    pub fn parks_at_once(&self) -> bool {
+        !M::PASSIVATES && !self.settings.test_on_return
     }
 
+    /// Returns whether a call that lacks room in the journal or memory fails since the pool is closed: a closed pool is closed, whatever else is wrong.
+    #[cold]
+    pub fn refuses(&self, kind: Kind) -> bool {
+        kind.needs_open_pool() && self.lock().core.is_closed()
+    }
+
+    /// Frees the lock, and wakes the calls that may find something: those that the core has told, and then those that it tells. Then it writes a
+    /// segment if one is due.
     #[inline]
-    fn try_to_acquire(
-        &self,
-        mut stamp: Stamp,
-        began: &mut Began,
-        limit: WaitLimit,
-        ticket: &mut Option<Ticket>,
-    ) -> Acquisition<M> {
-        let lends_at_once = self.lends_at_once();
-        let mut state = self.lock();
-        let began = began.fix(state.last_time());
-        let input = Input::Borrow { began };
-        loop {
-            if !state.is_behind(*ticket, self.settings.max_total) {
-                match state.borrow(stamp, began, lends_at_once) {
-                    Ok(Borrowed::Without(Answer::Wait)) => {}
-                    Ok(borrowed) => match acquired(input, stamp.at, borrowed) {
-                        Ok(acquired) => {
-                            self.end_wait(state, *ticket, true);
-                            return Ok(acquired);
-                        }
-                        Err(error) => return Err(self.fail(state, limit, *ticket, error)),
-                    },
-                    Err(StepFault::OutOfMemory) if state.free_memory() => continue,
-                    Err(fault) => {
-                        let error = error_of(&state, input, fault);
-                        return Err(self.fail(state, limit, *ticket, error));
-                    }
-                }
-            } else if self.time_left(&state, began) == Some(Duration::ZERO) {
-                return Err(self.fail(state, limit, *ticket, Error::TimedOut));
+    pub fn leave(&self, state: Held<'_, M>, wakes: Wakes) {
+        let is_due = state.journal.wants_writer();
+        match wakes.is_empty() {
+            true => drop(state),
+            false => self.wake(state, wakes),
+        }
+        if is_due {
+            self.write_due();
+        }
+    }
+
+    /// Wakes calls, each without the lock. If the waker of a task panics, its call is given up, and another one is woken in its place.
+    fn wake<'a>(&'a self, mut state: Held<'a, M>, mut wakes: Wakes) {
+        while let Some(ticket) = wakes.pop() {
+            let alarm = state.sleepers.leave(ticket);
+            if wakes.is_empty() {
+                wakes.push(state.next_wake());
             }
-            state = self.sleep(state, began, limit, ticket)?;
-            stamp.at = self.now_under_lock(&state);
-        }
-    }
-
-    /// Ends the wait of a borrow that gets no object, and returns why. One that was not to wait has not timed out.
-    #[cold]
-    pub fn fail(
-        &self,
-        mut state: Held<'_, M>,
-        limit: WaitLimit,
-        ticket: Option<Ticket>,
-        error: Error<M::Error>,
-    ) -> Error<M::Error> {
-        if matches!(error, Error::TimedOut) && !matches!(limit, WaitLimit::None) {
-            state.measures.timeouts += 1;
-        }
-        self.end_wait(state, ticket, false);
-        error
-    }
-
-    /// Returns how long a borrow sleeps at most, by the limit and the settings, or why it does not sleep.
-    fn longest_sleep(
-        &self,
-        state: &LockedPool<Item<M>>,
-        began: u64,
-        limit: WaitLimit,
-    ) -> Result<Option<Duration>, Error<M::Error>> {
-        let asked = match limit {
-            WaitLimit::None => return Err(Error::Exhausted),
-            WaitLimit::Until(end) => match end.saturating_duration_since(Instant::now()) {
-                Duration::ZERO => return Err(Error::TimedOut),
-                left => Some(left),
-            },
-            WaitLimit::AsSet => None,
-        };
-        Ok(asked.into_iter().chain(self.time_left(state, began)).min())
-    }
-
-    /// Sleeps until there may be an object, the pool was closed, or the wait is over by the settings; and no longer than the limit. A
-    /// thread that is woken for nothing continues to sleep, and makes no entry.
-    #[cold]
-    fn sleep<'a>(
-        &'a self,
-        mut state: Held<'a, M>,
-        began: u64,
-        limit: WaitLimit,
-        ticket: &mut Option<Ticket>,
-    ) -> Result<Held<'a, M>, Error<M::Error>> {
-        loop {
-            let longest = match self.longest_sleep(&state, began, limit) {
-                Ok(longest) => longest,
-                Err(error) => return Err(self.fail(state, limit, *ticket, error)),
+            let Some(alarm) = alarm else {
+                continue;
             };
-            let threads = state.threads_before(*ticket);
-            let own = self
-                .wait(state, ticket, Alarm::Thread(thread::current()))
-                .map_err(|_| Error::OutOfMemory)?;
-            let pauses = Pauses::begin_beside(threads, longest);
-            state = self.sleep_until_woken(own, pauses, longest);
-            let is_over = self.time_left(&state, began) == Some(Duration::ZERO);
-            if is_over || !self.has_nothing_for(&state, *ticket) {
-                return Ok(state);
+            drop(state);
+            let rung = alarm.ring();
+            if rung.is_ok() && wakes.is_empty() {
+                return;
+            }
+            state = self.lock();
+            if let Err(call) = rung {
+                wakes.push(state.core.give_up(call));
             }
         }
     }
 
-    /// Sleeps until the waiter with a ticket, this thread, is woken or the time is over. It pauses before, in which a short loan ends: then nobody
-    /// has to ask the system to wake it. Such a wake may end its next sleep at once, which begins again then.
-    fn sleep_until_woken(
+    /// Sleeps until the call with a ticket, which is this thread's, is woken or the time is over. It pauses before, in which a short loan ends: then
+    /// nobody has to ask the system to wake it. Such a wake may end its next sleep at once, which begins again then.
+    pub fn sleep_until_woken(
         &self,
-        ticket: Ticket,
+        ticket: u64,
         mut pauses: Pauses,
         longest: Option<Duration>,
     ) -> Held<'_, M> {
@@ -454,12 +247,6 @@ impl<M: Manager> Shared<M> {
         self.lock()
     }
 
-    /// Returns whether a borrow finds nothing that it may take now.
-    fn has_nothing_for(&self, state: &LockedPool<Item<M>>, ticket: Option<Ticket>) -> bool {
-        let max_total = self.settings.max_total;
-        state.has_nothing(max_total) || state.is_behind(ticket, max_total)
-    }
-
     /// Sleeps until a thread that cut the journal is done, and no longer than a time.
     pub fn wait_for_writer<'a>(
         &'a self,
@@ -468,53 +255,4 @@ impl<M: Manager> Shared<M> {
     ) -> Held<'a, M> {
         self.state.wait(state, &self.written, longest)
     }
-
-    /// Returns how long a borrow that began at a time may still wait, by the settings.
-    fn time_left(&self, state: &LockedPool<Item<M>>, began: u64) -> Option<Duration> {
-        let most = u64::try_from(self.settings.max_wait_millis).ok()?;
-        let time = self.now_under_lock(state).millis.max(state.last_time());
-        let waited = time.saturating_sub(began);
-        Some(Duration::from_millis(most.saturating_sub(waited)))
-    }
-}
-
-/// Returns the object that a borrow got at a time, or why it got none.
-#[inline]
-pub(crate) fn acquired<T, E>(
-    input: Input,
-    at: Moment,
-    borrowed: Borrowed<Aged<T>>,
-) -> Result<Acquired<Aged<T>>, Error<E>> {
-    match borrowed {
-        Borrowed::Lent(id, value) => Ok(Acquired::Lent(id, value.lent_at(at))),
-        Borrowed::Taken(id, value) => Ok(Acquired::Taken(id, value)),
-        Borrowed::Without(Answer::Make(id)) => Ok(Acquired::New(id)),
-        Borrowed::Without(Answer::Exhausted) => Err(Error::Exhausted),
-        Borrowed::Without(Answer::TimedOut) => Err(Error::TimedOut),
-        Borrowed::Without(Answer::Refused(Cause::Closed)) => Err(Error::Closed),
-        Borrowed::Without(answer) => unexpected(input, answer),
-    }
-}
-
-/// Returns the error of a step that failed. A closed pool is closed, whatever else is wrong.
-#[cold]
-pub(crate) fn error_of<T, E>(state: &LockedPool<T>, input: Input, fault: StepFault) -> Error<E> {
-    match input {
-        Input::Borrow { .. }
-        | Input::Add
-        | Input::Evict
-        | Input::Reclaim { on: When::Borrow }
-        | Input::ReclaimNext { on: When::Borrow }
-            if state.is_closed =>
-        {
-            Error::Closed
-        }
-        _ => fault.into(),
-    }
-}
-
-/// Ends the program if an answer of the core does not fit its input.
-#[cold]
-pub(crate) fn unexpected(input: Input, answer: Answer) -> ! {
-    unreachable!("{input:?} was answered {answer:?}")
 }

@@ -1,80 +1,41 @@
-//! The inputs and the answers of a step of the core. `docs/proof/definitions.md` defines each.
+//! The steps of the core that a pool takes by itself, for the age of its objects. `docs/proof/definitions.md` defines each.
 
-/// What a critical section asks of the core.
+/// What a step asks of the core.
 #[derive(Clone, Copy, Debug, PartialEq, Eq)]
 pub(crate) enum Input {
-    Borrow { began: u64 },
-    Ready { id: u64, outcome: Outcome },
-    GiveBack { id: u64 },
-    Park { id: u64, outcome: Outcome },
-    Invalidate { id: u64 },
-    Use { id: u64 },
-    Add,
-    Fill,
-    Added { id: u64, outcome: Outcome },
-    Evict,
+    GiveBack {
+        id: u64,
+    },
+    /// The object, which was returned, is too old.
+    ParkTooOld {
+        id: u64,
+    },
     EvictNext,
-    Tested { id: u64, outcome: Outcome },
-    Reclaim { on: When },
-    ReclaimNext { on: When },
-    Clear,
-    ClearNext,
-    Destroyed { id: u64 },
-    Close,
-}
-
-/// The outcome of the manager's work on an object.
-#[derive(Clone, Copy, Debug, PartialEq, Eq)]
-pub(crate) enum Outcome {
-    Good,
-    MakeFailed,
-    CreateTestFailed,
-    ActivateFailed,
-    TestFailed,
-    PassivateFailed,
-}
-
-/// When abandoned objects are reclaimed.
-#[derive(Clone, Copy, Debug, PartialEq, Eq)]
-pub(crate) enum When {
-    Borrow,
-    Maintain,
+    /// The idle object has not reached its age.
+    TestedGood {
+        id: u64,
+    },
+    /// The idle object is too old.
+    TestedTooOld {
+        id: u64,
+    },
+    Destroyed {
+        id: u64,
+    },
 }
 
 /// The answer of the core.
 #[derive(Clone, Copy, Debug, PartialEq, Eq)]
 pub(crate) enum Answer {
-    Take(u64),
-    Make(u64),
-    Wait,
-    Exhausted,
-    TimedOut,
-    Lent,
     Check,
-    Parked,
     Kept,
-    KeptIdle(u64),
+    KeptIdle,
     Destroy,
     DestroyIdle(u64),
     Test(u64),
     Freed,
     Gone,
-    Noted,
-    Count(u64),
-    Reclaimed(u64),
     Nothing,
-    Enough,
-    NoPlace,
-    Refused(Cause),
-}
-
-/// Why the core did nothing.
-#[derive(Clone, Copy, Debug, PartialEq, Eq)]
-pub(crate) enum Cause {
-    Closed,
-    NotLent,
-    NotHeld,
-    BadOutcome,
 }
 
 /// Why a step failed. It made no entry, and the core is unchanged.

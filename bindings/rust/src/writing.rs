@@ -7,7 +7,7 @@ use crate::panics::unless_it_panics;
 use crate::proved_core::Core;
 use crate::segments::{Segment, SegmentSink, Segments, SinkFailure};
 use crate::shared::{Held, Shared, WaitLimit};
-use crate::stored_journal::{CutSegment, Mode, Writer};
+use crate::stored_journal::{CutSegment, Mode};
 use std::io::{self, Write};
 use std::sync::{Mutex, PoisonError};
 use std::thread;
@@ -53,7 +53,7 @@ struct Turn<'a, M: Manager> {
 impl<M: Manager> Drop for Turn<'_, M> {
     fn drop(&mut self) {
         let mut state = self.pool.lock();
-        state.journal.writer = Writer::None;
+        state.journal.writer = None;
         state.journal.unwritten = self.unwritten.take();
         drop(state);
         self.pool.written.notify_all();
@@ -67,8 +67,8 @@ impl<M: Manager> Shared<M> {
         mut state: Held<'a, M>,
         limit: Option<Instant>,
     ) -> Option<Turn<'a, M>> {
-        while state.journal.writer != Writer::None {
-            if state.journal.writer.is_this_thread() {
+        while state.journal.writer.is_some() {
+            if state.journal.is_written_by_this_thread() {
                 return None;
             }
             let left = limit.map(|end| end.saturating_duration_since(Instant::now()));
@@ -77,7 +77,7 @@ impl<M: Manager> Shared<M> {
             }
             state = self.wait_for_writer(state, left);
         }
-        state.journal.writer = Writer::Copying(thread::current().id());
+        state.journal.writer = Some(thread::current().id());
         Some(Turn {
             pool: self,
             unwritten: state.journal.unwritten.take(),
@@ -95,8 +95,14 @@ impl<M: Manager> Shared<M> {
     }
 
     /// Writes and cuts the journal. The segment is kept as unwritten. Returns how many of its bytes are written: if that fails, nothing is
-    /// cut.
+    /// cut. A pool that drops entries may drop some between two critical sections, so it copies and cuts in one, and nothing is written yet.
     fn write_and_cut(&self, turn: &mut Turn<'_, M>, out: &mut dyn Write) -> io::Result<usize> {
+        let state = self.lock();
+        if state.journal.mode() == Mode::Off {
+            self.cut_at_once(turn, state)?;
+            return Ok(0);
+        }
+        drop(state);
         let mut text = self.base_text()?;
         let (mut copied, mut written) = (0, 0);
         for _ in 0..ROUNDS {
@@ -111,7 +117,7 @@ impl<M: Manager> Shared<M> {
 
     /// Returns the lines of the base, while no other thread may cut the journal.
     fn base_text(&self) -> io::Result<Vec<u8>> {
-        let first = self.lock().journal.first;
+        let first = self.lock().first_stored();
         let mut text = Vec::new();
         let is_whole = self.copy_base(first, &mut text)?;
         debug_assert!(is_whole, "no other thread cuts the journal");
@@ -119,15 +125,29 @@ impl<M: Manager> Shared<M> {
     }
 
     /// Copies the entries that are not copied yet, and cuts the journal. The segment is kept as unwritten.
-    fn cut_after(&self, turn: &mut Turn<'_, M>, copied: u64, mut text: Vec<u8>) -> io::Result<()> {
-        let mut state = self.lock();
-        let (position, entries) = (state.journal.first, state.journal.len);
-        debug_assert_eq!(state.core.steps(), entries);
+    fn cut_after(&self, turn: &mut Turn<'_, M>, copied: u64, text: Vec<u8>) -> io::Result<()> {
+        self.cut_in(turn, self.lock(), copied, text)
+    }
+
+    /// Copies and cuts the journal in one critical section.
+    fn cut_at_once(&self, turn: &mut Turn<'_, M>, mut state: Held<'_, M>) -> io::Result<()> {
+        let mut text = Vec::new();
+        copy_lines(&mut state.core, Core::base_line, 0, u64::MAX, &mut text)?;
+        self.cut_in(turn, state, 0, text)
+    }
+
+    fn cut_in(
+        &self,
+        turn: &mut Turn<'_, M>,
+        mut state: Held<'_, M>,
+        copied: u64,
+        mut text: Vec<u8>,
+    ) -> io::Result<()> {
+        let (position, entries) = (state.first_stored(), state.core.steps());
         copy_lines(&mut state.core, Core::line, copied, entries, &mut text)?;
         state.core.cut().map_err(out_of_memory)?;
         let room = state.core.room();
         state.journal.cut(room);
-        state.journal.writer = Writer::Writing(thread::current().id());
         turn.unwritten = Some(CutSegment {
             position,
             entries,
@@ -201,11 +221,11 @@ impl<M: Manager> Shared<M> {
     /// may be tried again, even if others have used the room up meanwhile.
     #[cold]
     pub fn make_room(&self, limit: WaitLimit) -> bool {
-        let state = self.lock();
+        let mut state = self.lock();
         let Some(outlet) = &self.outlet else {
             return false;
         };
-        let before = state.journal.first;
+        let before = state.first_stored();
         let Some(turn) = self.take_turn(state, self.end_of_wait(limit)) else {
             return false;
         };
@@ -213,7 +233,7 @@ impl<M: Manager> Shared<M> {
             true => drop(turn),
             false => self.write_and_report(turn, outlet),
         }
-        let first = self.lock().journal.first;
+        let first = self.lock().first_stored();
         first != before || self.has_room()
     }
 
@@ -249,15 +269,15 @@ impl<M: Manager> Shared<M> {
         let written = self.try_to_write_out(turn, outlet);
         if written.is_err() {
             let mut state = self.lock();
-            let room = state.core.room();
-            state.journal.try_later(room);
+            let (stored, room) = (state.core.steps(), state.core.room());
+            state.journal.try_later(stored, room);
         }
         written
     }
 
     fn try_to_write_out(&self, turn: &mut Turn<'_, M>, outlet: &Outlet) -> io::Result<u64> {
         let mut written = self.hand_over(turn, outlet)?;
-        if self.lock().journal.len > 0 {
+        if self.lock().core.steps() > 0 {
             self.cut_off(turn)?;
             written += self.hand_over(turn, outlet)?;
         }

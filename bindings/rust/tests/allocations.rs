@@ -247,7 +247,7 @@ fn a_task_that_cannot_wait_leaves_the_others_their_turns<const HOOKS: bool>() {
         assert_eq!(pool.counts().idle, 1);
         has_failed
     });
-    assert!(failures > 1, "{failures} allocations failed");
+    assert!(failures > 0, "{failures} allocations failed");
 }
 
 fn a_thread_that_cannot_wait_leaves_the_others_their_turns<const HOOKS: bool>() {
@@ -264,5 +264,5 @@ fn a_thread_that_cannot_wait_leaves_the_others_their_turns<const HOOKS: bool>() 
         assert_eq!(while_waiting(&pool, borrow, || drop(held)), Ok(0));
         has_failed
     });
-    assert!(failures > 1, "{failures} allocations failed");
+    assert!(failures > 0, "{failures} allocations failed");
 }

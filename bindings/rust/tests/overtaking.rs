@@ -19,7 +19,7 @@ with_and_without_hooks! {
     a_waiter_is_overtaken_16_times_at_most
     a_pool_may_be_fair
     a_waiter_that_was_woken_for_nothing_is_not_overtaken_again
-    each_waiter_is_overtaken_as_often_as_the_first
+    an_overtake_counts_against_each_waiter
     a_waiter_that_is_gone_holds_nobody_up
     a_borrow_takes_what_is_left_beyond_the_waiters
     a_borrow_times_out_behind_a_waiter
@@ -115,9 +115,9 @@ fn a_waiter_that_was_woken_for_nothing_is_not_overtaken_again<const HOOKS: bool>
     assert_legal(&pool);
 }
 
-fn each_waiter_is_overtaken_as_often_as_the_first<const HOOKS: bool>() {
+fn an_overtake_counts_against_each_waiter<const HOOKS: bool>() {
     let pool = pool::<HOOKS>(1, |builder| builder.max_overtakes(3));
-    let bells = [(); 2].map(|()| Bell::new());
+    let bells = [(); 3].map(|()| Bell::new());
     let held = pool.get().unwrap();
     let mut first = waiting(&pool, &bells[0]);
     let mut second = waiting(&pool, &bells[1]);
@@ -125,8 +125,12 @@ fn each_waiter_is_overtaken_as_often_as_the_first<const HOOKS: bool>() {
     // Not even the second may come before the first.
     assert!(poll(&mut second, &bells[1]).is_pending());
     let held = lent(&mut first, &bells[0]);
+    // The second was overtaken with the first, and the third was not.
+    let mut third = waiting(&pool, &bells[2]);
+    assert_eq!(overtakes(&pool, held), 0);
+    let held = lent(&mut second, &bells[1]);
     assert_eq!(overtakes(&pool, held), 3);
-    drop(lent(&mut second, &bells[1]));
+    drop(lent(&mut third, &bells[2]));
     assert_legal(&pool);
 }
 

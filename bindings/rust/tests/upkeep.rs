@@ -7,7 +7,7 @@ mod hooks;
 
 use common::managers::{pool_with, Broken, Maker};
 use common::tasks::block_on;
-use common::{assert_legal, panic_quietly, steps_of, texts_of, MemorySink, Stored};
+use common::{assert_legal, panic_quietly, steps_of, texts_of, times_of, MemorySink, Stored};
 use std::error::Error as _;
 use std::io;
 use std::sync::atomic::{AtomicU64, Ordering};
@@ -28,6 +28,7 @@ with_and_without_hooks! {
     an_object_that_is_too_old_ends_while_it_is_idle
     maintenance_looks_at_the_age_of_each_idle_object
     an_object_of_a_lifetime_is_validated_only_if_that_is_set
+    times_never_fall_where_ages_are_looked_at
     a_pool_is_maintained_until_it_is_closed
     the_last_handle_ends_the_maintenance
     the_last_handle_waits_for_the_round_and_hands_over_the_rest
@@ -377,6 +378,23 @@ fn an_object_of_a_lifetime_is_validated_only_if_that_is_set<const HOOKS: bool>()
         assert_eq!(calls.is_empty(), !is_set);
         assert_legal(&pool);
     }
+}
+
+fn times_never_fall_where_ages_are_looked_at<const HOOKS: bool>() {
+    let lifetime = Duration::from_millis(100);
+    let (pool, _, clock) =
+        pool_with::<HOOKS>(|builder| builder.max_lifetime(lifetime).tests_per_eviction_run(1));
+    for _ in 0..3 {
+        pool.add().unwrap();
+    }
+    clock.set(1_000);
+    let held = pool.get().unwrap();
+    clock.set(500);
+    assert_eq!(Pooled::give_back(held), Returned::Destroyed);
+    let done = pool.maintain().unwrap().eviction;
+    assert_eq!((done.examined, done.destroyed), (2, 2));
+    assert!(times_of(&pool).windows(2).all(|two| two[0] <= two[1]));
+    assert_legal(&pool);
 }
 
 /// Waits until something is so.

@@ -1,0 +1,180 @@
+//! The ages of objects that have a lifetime. The calls of the core know of none, so the pool takes steps of the core by itself.
+
+use crate::callers::caller_number;
+use crate::clock::Moment;
+use crate::error::Error;
+use crate::keeping::Eviction;
+use crate::lending::Returned;
+use crate::locked_pool::LockedPool;
+use crate::manager::Manager;
+use crate::shared::{Held, Item, Shared, WaitLimit};
+use crate::sleepers::Wakes;
+use crate::step::{Answer, Input, StepFault};
+use crate::values::Loan;
+
+/// An idle object that was examined, and has to end if it is there.
+type Examined<M> = Option<Loan<Item<M>>>;
+
+/// Frees the place of an object that was destroyed, even if its destruction panicked.
+struct Place<'a, M: Manager> {
+    pool: &'a Shared<M>,
+    caller: u32,
+    id: u64,
+    token: u64,
+}
+
+impl<M: Manager> Drop for Place<'_, M> {
+    fn drop(&mut self) {
+        let at = self.pool.now();
+        let mut state = self.pool.lock();
+        complete(
+            &mut state,
+            self.caller,
+            at,
+            Input::Destroyed { id: self.id },
+            0,
+        );
+        state.values.free(self.token);
+        self.pool.leave_after_step(state);
+    }
+}
+
+/// Takes a step that continues with an object, and never fails.
+fn complete<T>(
+    state: &mut LockedPool<T>,
+    caller: u32,
+    at: Moment,
+    input: Input,
+    token: u64,
+) -> Answer {
+    let time = state.tell(at);
+    match state.core.step(caller, time, input, token) {
+        Ok((answer, _)) => answer,
+        Err(fault) => unreachable!("{input:?} failed: {fault:?}"),
+    }
+}
+
+/// Ends the program if an answer of the core does not fit its input.
+#[cold]
+fn unexpected(input: Input, answer: Answer) -> ! {
+    unreachable!("{input:?} was answered {answer:?}")
+}
+
+impl<M: Manager> Shared<M> {
+    /// Frees the lock after a step, and wakes the calls that may find something.
+    fn leave_after_step(&self, mut state: Held<'_, M>) {
+        let mut wakes = Wakes::default();
+        wakes.push(state.next_wake());
+        state.care_for_journal();
+        self.leave(state, wakes);
+    }
+
+    /// Destroys an object, and frees its place.
+    fn end_object(&self, caller: u32, ended: Loan<Item<M>>) {
+        let _place = Place {
+            pool: self,
+            caller,
+            id: ended.id,
+            token: ended.token,
+        };
+        self.destroy(ended.object.object);
+    }
+
+    /// Destroys an object that has reached its age, at its return.
+    #[cold]
+    pub fn end_too_old(&self, caller: u32, at: Moment, loan: Loan<Item<M>>) -> Returned {
+        let id = loan.id;
+        let mut state = self.lock();
+        let time = state.tell(at);
+        // It fails for room or memory only if the object is not lent any more.
+        let Ok((Answer::Check, _)) = state.core.step(caller, time, Input::GiveBack { id }, 0)
+        else {
+            self.leave_after_step(state);
+            self.let_go(loan);
+            return Returned::Gone;
+        };
+        let too_old = Input::ParkTooOld { id };
+        match complete(&mut state, caller, at, too_old, loan.token) {
+            Answer::Destroy => {}
+            answer => unexpected(too_old, answer),
+        }
+        state.measures.loans.count(loan.object.lent, at.nanos);
+        self.leave_after_step(state);
+        self.end_object(caller, loan);
+        Returned::Destroyed
+    }
+
+    /// Looks at the age of the next idle objects, as many as there are up to `count`.
+    pub fn examine_ages(&self, count: u64) -> Result<Eviction, Error<M::Error>> {
+        let caller = caller_number();
+        let mut done = Eviction::default();
+        for _ in 0..count {
+            match self.examine_age(caller)? {
+                Some(Some(ended)) => {
+                    done.destroyed += 1;
+                    self.end_object(caller, ended);
+                }
+                Some(None) => {}
+                None => break,
+            }
+            done.examined += 1;
+        }
+        Ok(done)
+    }
+
+    /// Examines the next idle object, if there is one. If the journal is full, it does so after a segment was written.
+    fn examine_age(&self, caller: u32) -> Result<Option<Examined<M>>, Error<M::Error>> {
+        loop {
+            match self.try_to_examine_age(caller) {
+                Err(StepFault::JournalFull) if self.make_room(WaitLimit::AsSet) => {}
+                examined => return examined.map_err(Error::from),
+            }
+        }
+    }
+
+    fn try_to_examine_age(&self, caller: u32) -> Result<Option<Examined<M>>, StepFault> {
+        let at = self.now();
+        let mut state = self.lock();
+        let time = state.tell(at);
+        let (answer, token) = state.core.step(caller, time, Input::EvictNext, 0)?;
+        let examined = match answer {
+            Answer::Nothing => None,
+            Answer::KeptIdle => Some(None),
+            Answer::DestroyIdle(id) => {
+                let object = state.values.take(token);
+                Some(Some(Loan { id, token, object }))
+            }
+            Answer::Test(id) => {
+                let object = state.values.take(token);
+                let tested = Loan { id, token, object };
+                Some(self.test_age(&mut state, caller, at, tested))
+            }
+            answer => unexpected(Input::EvictNext, answer),
+        };
+        self.leave_after_step(state);
+        Ok(examined)
+    }
+
+    /// Tests an idle object by its age. It stays idle unless it is too old, or the pool was closed.
+    fn test_age(
+        &self,
+        state: &mut LockedPool<M::Object>,
+        caller: u32,
+        at: Moment,
+        tested: Loan<Item<M>>,
+    ) -> Examined<M> {
+        let id = tested.id;
+        let input = match self.is_too_old(&tested.object, at.millis) {
+            true => Input::TestedTooOld { id },
+            false => Input::TestedGood { id },
+        };
+        match complete(state, caller, at, input, tested.token) {
+            Answer::Kept => {
+                state.values.put(tested.token, tested.object);
+                None
+            }
+            Answer::Destroy => Some(tested),
+            answer => unexpected(input, answer),
+        }
+    }
+}

@@ -1,0 +1,276 @@
+//! The course of a call: what it does under the pool's lock, and the value of the object that it works on.
+
+use crate::call::{Action, End, Kind, Report};
+use crate::clock::Moment;
+use crate::locked_pool::LockedPool;
+use crate::manager::Manager;
+use crate::panics::drop_quietly;
+use crate::proved_core::{Call, Event, Start};
+use crate::shared::{Held, Item, Shared, WaitLimit};
+use crate::sleepers::{Alarm, Wakes};
+use crate::values::Loan;
+use std::mem;
+use std::task::Waker;
+use std::time::Duration;
+
+/// The value of the object that a call works on.
+pub(crate) enum Value<T> {
+    /// The call has no object.
+    None,
+    Here(T),
+    /// The object is to be made, or is gone.
+    Gone,
+}
+
+/// The state of a call. The pool's lock is not held between its functions.
+pub(crate) struct Course<M: Manager> {
+    pub kind: Kind,
+    pub caller: u32,
+    pub limit: WaitLimit,
+    pub call: Call,
+    /// When it began, and when the clock was read last.
+    pub began: Moment,
+    pub at: Moment,
+    /// The id of the loan that it is for, and when that began, in nanoseconds.
+    pub id: u64,
+    pub lent: u64,
+    /// The object that it works on: its token, and its value.
+    pub token: u64,
+    pub value: Value<Item<M>>,
+    /// Whether it found no memory for its object or for its sleep.
+    pub lacks_memory: bool,
+    /// Whether it was begun again, after entries were dropped for the sake of memory.
+    pub is_begun_again: bool,
+    /// For a thread that is to sleep: how long at most, and for how many threads it waits at most.
+    pub longest: Option<Duration>,
+    pub threads: usize,
+}
+
+impl<M: Manager> Course<M> {
+    /// A call that is to begin at a time, and has no object.
+    pub fn new(kind: Kind, caller: u32, at: Moment, limit: WaitLimit) -> Course<M> {
+        Course {
+            kind,
+            caller,
+            limit,
+            call: Call::new(),
+            began: at,
+            at,
+            id: 0,
+            lent: 0,
+            token: 0,
+            value: Value::None,
+            lacks_memory: false,
+            is_begun_again: false,
+            longest: None,
+            threads: 0,
+        }
+    }
+
+    /// A call for a lent object, whose value it has.
+    pub fn of_loan(kind: Kind, caller: u32, at: Moment, loan: Loan<Item<M>>) -> Course<M> {
+        Course {
+            id: loan.id,
+            lent: loan.object.lent,
+            token: loan.token,
+            value: Value::Here(loan.object),
+            ..Course::new(kind, caller, at, WaitLimit::AsSet)
+        }
+    }
+
+    /// A detachment of an object whose value its holder keeps, and to whom it was lent at a time in nanoseconds.
+    pub fn of_detachment(caller: u32, at: Moment, loan: Loan<()>, lent: u64) -> Course<M> {
+        Course {
+            id: loan.id,
+            lent,
+            token: loan.token,
+            value: Value::Gone,
+            ..Course::new(Kind::Detach, caller, at, WaitLimit::AsSet)
+        }
+    }
+
+    /// A note that an object is used.
+    pub fn of_use(caller: u32, at: Moment, id: u64) -> Course<M> {
+        Course {
+            id,
+            ..Course::new(Kind::Touch, caller, at, WaitLimit::AsSet)
+        }
+    }
+
+    pub fn begin(&mut self, pool: &Shared<M>, mut state: Held<'_, M>, waker: Option<Waker>) {
+        self.start(&mut state);
+        self.settle(pool, state, waker);
+    }
+
+    /// Begins the call, and takes its first steps. A place is set aside before for an object that may be made.
+    fn start(&mut self, state: &mut LockedPool<M::Object>) {
+        let needs_place = self.kind.makes() && state.values.len() == 0;
+        if needs_place && state.values.reserve().is_err() {
+            return self.call.lack_memory();
+        }
+        let start = Start {
+            kind: self.kind,
+            caller: self.caller,
+            at: state.tell(self.at),
+            id: self.id,
+            token: self.token,
+        };
+        state.core.begin(start, &mut self.call);
+    }
+
+    /// Tells the core what became of the last action. Returns the alarm of a call that slept.
+    pub fn tell(&mut self, state: &mut LockedPool<M::Object>, report: Report) -> Option<Alarm> {
+        let alarm = match self.call.action() {
+            Action::Sleep => state.sleepers.leave(self.call.ticket()),
+            _ => None,
+        };
+        let event = Event {
+            report,
+            caller: self.caller,
+            at: state.tell(self.at),
+            token: self.token,
+        };
+        if !state.core.advance(event, &mut self.call) {
+            // Its waker panicked, and so it was given up.
+            match report {
+                Report::GivenUp => self.call.cancel(),
+                _ => self.start(state),
+            }
+        }
+        alarm
+    }
+
+    /// Goes on after a report.
+    pub fn advance(&mut self, pool: &Shared<M>, report: Report, waker: Option<Waker>) {
+        self.at = pool.now();
+        self.advance_in(pool, pool.lock(), report, waker);
+    }
+
+    /// Does the same, with the lock held.
+    pub fn advance_in(
+        &mut self,
+        pool: &Shared<M>,
+        mut state: Held<'_, M>,
+        report: Report,
+        waker: Option<Waker>,
+    ) {
+        let alarm = self.tell(&mut state, report);
+        self.settle(pool, state, waker);
+        if let Some(alarm) = alarm {
+            drop_quietly(alarm);
+        }
+    }
+
+    /// Does under the lock what the call does next, as far as that can be done there, and frees the lock.
+    fn settle(&mut self, pool: &Shared<M>, mut state: Held<'_, M>, mut waker: Option<Waker>) {
+        let mut wakes = Wakes::default();
+        loop {
+            wakes.push(self.call.wake());
+            if self.take_up(&mut state, &mut waker) {
+                break;
+            }
+        }
+        state.care_for_journal();
+        pool.leave(state, wakes);
+        if let Some(waker) = waker {
+            drop_quietly(waker);
+        }
+    }
+
+    /// Does the same once. Returns false if the call has gone on by that.
+    fn take_up(&mut self, state: &mut LockedPool<M::Object>, waker: &mut Option<Waker>) -> bool {
+        match self.call.action() {
+            Action::Make => return self.claim_place(state),
+            Action::Activate | Action::Validate | Action::Passivate | Action::Destroy => {
+                self.take_value(state);
+            }
+            Action::Sleep => {
+                if !self.fall_asleep(state, waker) {
+                    self.tell(state, Report::GivenUp);
+                    return false;
+                }
+            }
+            Action::Done(End::OutOfMemory) if self.may_begin_again() && state.free_memory() => {
+                self.is_begun_again = true;
+                self.start(state);
+                return false;
+            }
+            Action::Done(end) => self.end(state, end),
+            // The value that it has then is that of an idle object, or not the pool's.
+            Action::MakeRoom | Action::GoOn if self.kind.ends_loan() => {}
+            Action::MakeRoom | Action::GoOn => self.release(state),
+        }
+        true
+    }
+
+    /// Returns whether a call that ended for lack of memory may be begun once more.
+    fn may_begin_again(&self) -> bool {
+        !self.is_begun_again && self.call.count() == 0
+    }
+
+    /// Takes a place for an object that is to be made. Returns false if there is no memory, and the call was given up.
+    fn claim_place(&mut self, state: &mut LockedPool<M::Object>) -> bool {
+        self.release(state);
+        match state.values.claim() {
+            Ok(token) => {
+                self.token = token;
+                self.value = Value::Gone;
+                true
+            }
+            Err(_) => {
+                self.lacks_memory = true;
+                self.tell(state, Report::GivenUp);
+                false
+            }
+        }
+    }
+
+    /// Has the value of the object that the next action is for.
+    fn take_value(&mut self, state: &mut LockedPool<M::Object>) {
+        let token = self.call.token();
+        if matches!(self.value, Value::None) || self.token != token {
+            self.release(state);
+            self.token = token;
+            self.value = Value::Here(state.values.take(token));
+        }
+    }
+
+    /// Leaves its object: the pool has the value, or its place is free.
+    pub fn release(&mut self, state: &mut LockedPool<M::Object>) {
+        match mem::replace(&mut self.value, Value::None) {
+            Value::None => {}
+            Value::Here(value) => state.values.put(self.token, value),
+            Value::Gone => state.values.free(self.token),
+        }
+    }
+
+    /// Notes the end of the call. A loan that could not be ended leaves its value with the call.
+    fn end(&mut self, state: &mut LockedPool<M::Object>, end: End) {
+        let measures = &mut state.measures;
+        match (self.kind, end) {
+            (Kind::Borrow, End::Lent) => {
+                measures.waits.count(self.began.nanos, self.at.nanos);
+                return self.take_value(state);
+            }
+            (Kind::Borrow, End::TimedOut | End::Cancelled) => {
+                let has_waited = !matches!(self.limit, WaitLimit::None) && !self.lacks_memory;
+                measures.timeouts += u64::from(has_waited);
+            }
+            (Kind::Return, End::Parked | End::Destroyed)
+            | (Kind::Invalidate | Kind::Detach, End::Destroyed) => {
+                measures.loans.count(self.lent, self.began.nanos);
+            }
+            _ => {}
+        }
+        let is_left = self.kind.ends_loan() && matches!(self.value, Value::Here(_));
+        if !is_left || end == End::Parked {
+            self.release(state);
+        }
+    }
+
+    /// Ends the program if the core asks for what it asks of no such call.
+    #[cold]
+    pub fn unexpected(&self, action: Action) -> ! {
+        unreachable!("a call of kind {:?} is to do {action:?}", self.kind)
+    }
+}

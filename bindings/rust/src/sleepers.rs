@@ -1,0 +1,263 @@
+//! The threads and the tasks that sleep, by the tickets that the core has given their calls.
+
+use crate::panics::unless_it_panics;
+use crate::proved_core::CallName;
+use std::collections::VecDeque;
+use std::mem;
+use std::sync::atomic::{AtomicU64, Ordering};
+use std::sync::Arc;
+use std::task::Waker;
+use std::thread::Thread;
+
+/// The ticket of the oldest sleeper, or the greatest number, for threads that do not have the lock. It is in a cache line of its own, which changes
+/// only if another sleeper is the oldest one: so a thread that looks again and again disturbs nobody.
+#[derive(Debug)]
+#[repr(align(64))]
+pub(crate) struct OldestSleeper(AtomicU64);
+
+impl OldestSleeper {
+    /// Returns whether one that slept with this ticket sleeps no longer: the core wakes sleepers in ascending order of their tickets. It does not
+    /// see that if an older one, which was woken before, sleeps again.
+    #[inline]
+    pub fn is_after(&self, ticket: u64) -> bool {
+        self.0.load(Ordering::Relaxed) > ticket
+    }
+
+    fn set(&self, oldest: u64) {
+        if self.0.load(Ordering::Relaxed) != oldest {
+            self.0.store(oldest, Ordering::Relaxed);
+        }
+    }
+}
+
+/// What wakes a sleeper.
+#[derive(Debug)]
+pub(crate) enum Alarm {
+    Thread(Thread),
+    /// The waker of a task, and its call.
+    Task(Waker, CallName),
+}
+
+impl Alarm {
+    /// Wakes a sleeper. Fails with the call of a task whose waker panicked.
+    pub fn ring(self) -> Result<(), CallName> {
+        match self {
+            Alarm::Thread(thread) => {
+                thread.unpark();
+                Ok(())
+            }
+            Alarm::Task(waker, call) => unless_it_panics(|| waker.wake()).ok_or(call),
+        }
+    }
+
+    pub fn into_waker(self) -> Option<Waker> {
+        match self {
+            Alarm::Thread(_) => None,
+            Alarm::Task(waker, _) => Some(waker),
+        }
+    }
+}
+
+/// The tickets of calls to wake, as the core told them.
+#[derive(Clone, Copy, Debug, Default)]
+pub(crate) struct Wakes {
+    tickets: [u64; 4],
+    len: usize,
+}
+
+impl Wakes {
+    #[inline]
+    pub fn is_empty(&self) -> bool {
+        self.len == 0
+    }
+
+    /// Adds a ticket, if there is one. A call of a pool has the core told for four at most.
+    #[inline]
+    pub fn push(&mut self, ticket: Option<u64>) {
+        if let Some(ticket) = ticket {
+            self.tickets[self.len] = ticket;
+            self.len += 1;
+        }
+    }
+
+    pub fn pop(&mut self) -> Option<u64> {
+        self.len = self.len.checked_sub(1)?;
+        Some(self.tickets[self.len])
+    }
+}
+
+/// Those that sleep, in ascending order of their tickets, each with its alarm. Drop an alarm without the lock: it may be code of others.
+#[derive(Debug)]
+pub(crate) struct Sleepers {
+    asleep: VecDeque<(u64, Alarm)>,
+    oldest: Arc<OldestSleeper>,
+}
+
+impl Sleepers {
+    pub fn new() -> Sleepers {
+        Sleepers {
+            asleep: VecDeque::new(),
+            oldest: Arc::new(OldestSleeper(AtomicU64::new(u64::MAX))),
+        }
+    }
+
+    /// Returns how many sleep.
+    #[inline]
+    pub fn len(&self) -> usize {
+        self.asleep.len()
+    }
+
+    /// Returns how many sleep with lower tickets.
+    pub fn older(&self, ticket: u64) -> usize {
+        self.asleep.partition_point(|sleeper| sleeper.0 < ticket)
+    }
+
+    /// Returns where the oldest sleeper is seen without the lock.
+    pub fn oldest(&self) -> Arc<OldestSleeper> {
+        Arc::clone(&self.oldest)
+    }
+
+    /// Shows who is the oldest.
+    fn show_oldest(&self) {
+        let oldest = self.asleep.front();
+        self.oldest
+            .set(oldest.map_or(u64::MAX, |sleeper| sleeper.0));
+    }
+
+    /// Returns the position of a ticket, or the one where it belongs.
+    fn position(&self, ticket: u64) -> Result<usize, usize> {
+        self.asleep
+            .binary_search_by_key(&ticket, |sleeper| sleeper.0)
+    }
+
+    pub fn has(&self, ticket: u64) -> bool {
+        self.position(ticket).is_ok()
+    }
+
+    /// One falls asleep, or sleeps on with another alarm. Returns the alarm that it had.
+    ///
+    /// # Errors
+    ///
+    /// There is no memory. It does not sleep, and its alarm is returned.
+    pub fn sleep(&mut self, ticket: u64, alarm: Alarm) -> Result<Option<Alarm>, Alarm> {
+        match self.position(ticket) {
+            Ok(position) => Ok(Some(mem::replace(&mut self.asleep[position].1, alarm))),
+            Err(_) if self.asleep.try_reserve(1).is_err() => Err(alarm),
+            Err(position) => {
+                self.asleep.insert(position, (ticket, alarm));
+                self.show_oldest();
+                Ok(None)
+            }
+        }
+    }
+
+    /// One sleeps no longer. Returns its alarm, if it slept.
+    pub fn leave(&mut self, ticket: u64) -> Option<Alarm> {
+        let position = self.position(ticket).ok()?;
+        let left = self.asleep.remove(position);
+        self.show_oldest();
+        left.map(|sleeper| sleeper.1)
+    }
+
+    /// Takes all alarms.
+    pub fn take_all(&mut self) -> VecDeque<(u64, Alarm)> {
+        mem::take(&mut self.asleep)
+    }
+}
+
+#[cfg(test)]
+mod tests {
+    use super::{Alarm, Sleepers, Wakes};
+    use crate::proved_core::CallName;
+    use std::sync::atomic::{AtomicU32, Ordering};
+    use std::sync::Arc;
+    use std::task::{self, Waker};
+    use std::thread;
+
+    /// Counts its wakes.
+    #[derive(Default)]
+    struct Counter(AtomicU32);
+
+    impl task::Wake for Counter {
+        fn wake(self: Arc<Self>) {
+            self.0.fetch_add(1, Ordering::Relaxed);
+        }
+    }
+
+    fn alarm(counter: &Arc<Counter>) -> Alarm {
+        Alarm::Task(Waker::from(Arc::clone(counter)), CallName::default())
+    }
+
+    /// Sleepers with these tickets, who came in this order.
+    fn asleep(tickets: &[u64]) -> Sleepers {
+        let mut sleepers = Sleepers::new();
+        for &ticket in tickets {
+            let alarm = Alarm::Thread(thread::current());
+            assert!(sleepers.sleep(ticket, alarm).unwrap().is_none());
+        }
+        sleepers
+    }
+
+    #[test]
+    fn sleepers_are_in_the_order_of_their_tickets() {
+        let mut sleepers = asleep(&[4, 2, 7]);
+        assert_eq!((sleepers.len(), sleepers.older(4)), (3, 1));
+        assert_eq!((sleepers.older(5), sleepers.older(9)), (2, 3));
+        assert!(sleepers.has(4) && !sleepers.has(5));
+        assert!(sleepers.leave(4).is_some());
+        assert!(sleepers.leave(4).is_none());
+        assert_eq!((sleepers.len(), sleepers.older(7)), (2, 1));
+    }
+
+    #[test]
+    fn wakes_are_kept_until_they_are_done() {
+        let mut wakes = Wakes::default();
+        for ticket in [Some(1), None, Some(2), Some(3), Some(4)] {
+            wakes.push(ticket);
+        }
+        let mut tickets: Vec<_> = std::iter::from_fn(|| wakes.pop()).collect();
+        tickets.sort();
+        assert_eq!(tickets, [1, 2, 3, 4]);
+        assert!(wakes.is_empty());
+    }
+
+    #[test]
+    fn one_who_sleeps_on_has_its_last_alarm() {
+        let counters = [(); 2].map(|()| Arc::new(Counter::default()));
+        let mut sleepers = Sleepers::new();
+        assert!(sleepers.sleep(3, alarm(&counters[0])).unwrap().is_none());
+        assert!(sleepers.sleep(3, alarm(&counters[1])).unwrap().is_some());
+        assert!(sleepers.leave(3).unwrap().ring().is_ok());
+        let rings = counters.map(|counter| counter.0.load(Ordering::Relaxed));
+        assert_eq!(rings, [0, 1]);
+    }
+
+    #[test]
+    fn who_sleeps_no_longer_is_seen_without_the_lock() {
+        let mut sleepers = asleep(&[1, 2, 3]);
+        let oldest = sleepers.oldest();
+        assert!(!oldest.is_after(1));
+        sleepers.leave(1);
+        assert!(oldest.is_after(1) && !oldest.is_after(2));
+        let alarm = Alarm::Thread(thread::current());
+        sleepers.sleep(1, alarm).unwrap();
+        assert!(!oldest.is_after(1));
+        sleepers.leave(1);
+        sleepers.leave(3);
+        assert!(oldest.is_after(1) && !oldest.is_after(2));
+        sleepers.leave(2);
+        assert!(oldest.is_after(2));
+    }
+
+    #[test]
+    fn a_waker_that_panics_names_its_call() {
+        struct Broken;
+        impl task::Wake for Broken {
+            fn wake(self: Arc<Self>) {
+                std::panic::resume_unwind(Box::new(()));
+            }
+        }
+        let waker = Waker::from(Arc::new(Broken));
+        assert!(Alarm::Task(waker, CallName::default()).ring().is_err());
+    }
+}
