@@ -9,7 +9,7 @@ use crate::locked_pool::LockedPool;
 use crate::manager::Manager;
 use crate::shared::{Held, Item, Shared, WaitLimit};
 use crate::sleepers::Wakes;
-use crate::step::{Answer, Input, StepFault};
+use crate::step::{Answer, Input, Outcome, StepFault};
 use crate::values::Loan;
 
 /// An idle object that was examined, and has to end if it is there.
@@ -40,7 +40,8 @@ impl<M: Manager> Drop for Place<'_, M> {
 }
 
 /// Takes a step that continues with an object, and never fails.
-fn complete<T>(
+#[inline]
+pub(crate) fn complete<T>(
     state: &mut LockedPool<T>,
     caller: u32,
     at: Moment,
@@ -56,13 +57,13 @@ fn complete<T>(
 
 /// Ends the program if an answer of the core does not fit its input.
 #[cold]
-fn unexpected(input: Input, answer: Answer) -> ! {
+pub(crate) fn unexpected(input: Input, answer: Answer) -> ! {
     unreachable!("{input:?} was answered {answer:?}")
 }
 
 impl<M: Manager> Shared<M> {
     /// Frees the lock after a step, and wakes the calls that may find something.
-    fn leave_after_step(&self, mut state: Held<'_, M>) {
+    pub fn leave_after_step(&self, mut state: Held<'_, M>) {
         let mut wakes = Wakes::default();
         wakes.push(state.next_wake());
         state.care_for_journal();
@@ -70,7 +71,7 @@ impl<M: Manager> Shared<M> {
     }
 
     /// Destroys an object, and frees its place.
-    fn end_object(&self, caller: u32, ended: Loan<Item<M>>) {
+    pub fn end_object(&self, caller: u32, ended: Loan<Item<M>>) {
         let _place = Place {
             pool: self,
             caller,
@@ -93,7 +94,10 @@ impl<M: Manager> Shared<M> {
             self.let_go(loan);
             return Returned::Gone;
         };
-        let too_old = Input::ParkTooOld { id };
+        let too_old = Input::Park {
+            id,
+            outcome: Outcome::TestFailed,
+        };
         match complete(&mut state, caller, at, too_old, loan.token) {
             Answer::Destroy => {}
             answer => unexpected(too_old, answer),
@@ -164,10 +168,11 @@ impl<M: Manager> Shared<M> {
         tested: Loan<Item<M>>,
     ) -> Examined<M> {
         let id = tested.id;
-        let input = match self.is_too_old(&tested.object, at.millis) {
-            true => Input::TestedTooOld { id },
-            false => Input::TestedGood { id },
+        let outcome = match self.is_too_old(&tested.object, at.millis) {
+            true => Outcome::TestFailed,
+            false => Outcome::Good,
         };
+        let input = Input::Tested { id, outcome };
         match complete(state, caller, at, input, tested.token) {
             Answer::Kept => {
                 state.values.put(tested.token, tested.object);

@@ -48,6 +48,7 @@ pub(crate) struct Course<M: Manager> {
 
 impl<M: Manager> Course<M> {
     /// A call that is to begin at a time, and has no object.
+    #[inline]
     pub fn new(kind: Kind, caller: u32, at: Moment, limit: WaitLimit) -> Course<M> {
         Course {
             kind,
@@ -97,13 +98,9 @@ impl<M: Manager> Course<M> {
         }
     }
 
-    pub fn begin(&mut self, pool: &Shared<M>, mut state: Held<'_, M>, waker: Option<Waker>) {
-        self.start(&mut state);
-        self.settle(pool, state, waker);
-    }
-
     /// Begins the call, and takes its first steps. A place is set aside before for an object that may be made.
-    fn start(&mut self, state: &mut LockedPool<M::Object>) {
+    #[inline]
+    pub fn start(&mut self, state: &mut LockedPool<M::Object>) {
         let needs_place = self.kind.makes() && state.values.len() == 0;
         if needs_place && state.values.reserve().is_err() {
             return self.call.lack_memory();
@@ -162,7 +159,7 @@ impl<M: Manager> Course<M> {
     }
 
     /// Does under the lock what the call does next, as far as that can be done there, and frees the lock.
-    fn settle(&mut self, pool: &Shared<M>, mut state: Held<'_, M>, mut waker: Option<Waker>) {
+    pub fn settle(&mut self, pool: &Shared<M>, mut state: Held<'_, M>, mut waker: Option<Waker>) {
         let mut wakes = Wakes::default();
         loop {
             wakes.push(self.call.wake());
@@ -232,6 +229,35 @@ impl<M: Manager> Course<M> {
             self.release(state);
             self.token = token;
             self.value = Value::Here(state.values.take(token));
+        }
+    }
+
+    /// Returns the ticket of the call to wake.
+    pub fn wakes(&self) -> Wakes {
+        let mut wakes = Wakes::default();
+        wakes.push(self.call.wake());
+        wakes
+    }
+
+    /// Returns the object of a borrow that is over since the library lent it one.
+    #[inline]
+    pub fn take_lent(&mut self, state: &mut LockedPool<M::Object>) -> Option<Loan<Item<M>>> {
+        if self.call.action() != Action::Done(End::Lent) {
+            return None;
+        }
+        self.end(state, End::Lent);
+        self.take_loan()
+    }
+
+    /// Returns the object that it has.
+    pub fn take_loan(&mut self) -> Option<Loan<Item<M>>> {
+        match mem::replace(&mut self.value, Value::None) {
+            Value::Here(object) => Some(Loan {
+                id: self.call.number(),
+                token: self.token,
+                object: object.lent_at(self.at),
+            }),
+            Value::None | Value::Gone => None,
         }
     }
 

@@ -97,6 +97,11 @@ fn begin<'a, M: Manager>(
             return Ok(Pooled::new(pool.clone(), loan));
         }
     }
+    if !pool.lends_at_once() && !M::AWAITS {
+        if let Ok(loan) = pool.lend_ready(pool.lock(), caller, at) {
+            return Ok(Pooled::new(pool.clone(), loan));
+        }
+    }
     let course = Course::new(Kind::Borrow, caller, at, WaitLimit::AsSet);
     let waker = Some(context.waker().clone());
     Err(InProgress::begin(&**pool, pool.lock(), course, waker))

@@ -1,7 +1,7 @@
 //! A call in progress.
 
 use crate::call::{Action, End};
-use crate::course::{Course, Value};
+use crate::course::Course;
 use crate::error::Error;
 use crate::manager::Manager;
 use crate::shared::{Held, Item, Shared, WaitLimit};
@@ -13,8 +13,8 @@ use std::{mem, thread};
 
 /// A call in progress of a pool.
 ///
-/// Dropped before its end, also by a panic of the manager, it is given up: it takes the steps that are still due, and its object is destroyed before its
-/// place is free.
+/// Dropped before its end, also by a panic of the manager, it is given up: it takes the steps that are still due, and its object is destroyed
+/// before its place is free.
 pub(crate) struct InProgress<M: Manager, P: Deref<Target = Shared<M>>> {
     pool: P,
     course: Course<M>,
@@ -24,12 +24,23 @@ impl<M: Manager, P: Deref<Target = Shared<M>>> InProgress<M, P> {
     /// Begins a call, with the lock held. A task that is to wait has a waker, and a thread has none.
     pub fn begin(
         pool: P,
+        mut state: Held<'_, M>,
+        mut course: Course<M>,
+        waker: Option<Waker>,
+    ) -> InProgress<M, P> {
+        course.start(&mut state);
+        InProgress::begun(pool, state, course, waker)
+    }
+
+    /// Goes on with a call that has begun in this critical section.
+    pub fn begun(
+        pool: P,
         state: Held<'_, M>,
         course: Course<M>,
         waker: Option<Waker>,
     ) -> InProgress<M, P> {
         let mut call = InProgress { pool, course };
-        call.course.begin(&call.pool, state, waker);
+        call.course.settle(&call.pool, state, waker);
         call
     }
 
@@ -102,23 +113,13 @@ impl<M: Manager, P: Deref<Target = Shared<M>>> InProgress<M, P> {
 
     /// Returns the object that the call has: one that it lends, or one whose loan it could not end.
     pub fn take_loan(&mut self) -> Option<Loan<Item<M>>> {
-        let (id, token) = (self.course.call.number(), self.course.token);
-        match mem::replace(&mut self.course.value, Value::None) {
-            Value::Here(object) => Some(Loan { id, token, object }),
-            Value::None | Value::Gone => None,
-        }
+        self.course.take_loan()
     }
 
     /// Returns the object that a borrow got, if it ended so.
     pub fn take_lent(&mut self, end: End) -> Result<Loan<Item<M>>, Error<M::Error>> {
         match end {
-            End::Lent => {
-                let mut loan = self
-                    .take_loan()
-                    .expect("a borrow that is lent an object has it");
-                loan.object = loan.object.lent_at(self.course.at);
-                Ok(loan)
-            }
+            End::Lent => Ok(self.take_loan().expect("a borrow has its object")),
             end => Err(self.error(end)),
         }
     }

@@ -56,7 +56,7 @@ impl<M: Manager> Shared<M> {
     #[inline]
     pub fn lend_at_once(&self, caller: u32, at: Moment) -> LentOr<'_, M> {
         let mut state = self.lock();
-        let may_lend = self.lends_at_once();
+        let may_lend = self.lends_at_once() && state.sleepers.len() == 0;
         match may_lend.then(|| state.lend(caller, at)).flatten() {
             Some(loan) => {
                 self.leave(state, Wakes::default());
@@ -73,8 +73,21 @@ impl<M: Manager> Shared<M> {
         at: Moment,
         limit: WaitLimit,
     ) -> Result<Loan<Item<M>>, Error<M::Error>> {
-        let course = Course::new(Kind::Borrow, caller, at, limit);
-        let mut call = InProgress::begin(self, state, course, None);
+        let mut state = match self.lends_at_once() {
+            true => state,
+            false => match self.lend_ready(state, caller, at) {
+                Ok(loan) => return Ok(loan),
+                Err(held) => held.unwrap_or_else(|| self.lock()),
+            },
+        };
+        let mut course = Course::new(Kind::Borrow, caller, at, limit);
+        course.start(&mut state);
+        if let Some(loan) = course.take_lent(&mut state) {
+            state.care_for_journal();
+            self.leave(state, course.wakes());
+            return Ok(loan);
+        }
+        let mut call = InProgress::begun(self, state, course, None);
         let end = call.drive()?;
         call.take_lent(end)
     }
@@ -86,18 +99,22 @@ impl<M: Manager> Shared<M> {
             return self.end_too_old(caller, at, loan);
         }
         let mut state = self.lock();
-        if !self.parks_at_once() {
-            return self.end_loan(state, Course::of_loan(Kind::Return, caller, at, loan));
-        }
-        match state.take_back(caller, at, loan) {
-            None => {
-                let mut wakes = Wakes::default();
-                wakes.push(state.next_wake());
-                self.leave(state, wakes);
-                Returned::Parked
-            }
-            Some(loan) => self.end_loan(state, Course::of_loan(Kind::Return, caller, at, loan)),
-        }
+        let (state, loan) = match self.parks_at_once() {
+            true => match state.take_back(caller, at, loan) {
+                None => {
+                    let mut wakes = Wakes::default();
+                    wakes.push(state.next_wake());
+                    self.leave(state, wakes);
+                    return Returned::Parked;
+                }
+                Some(loan) => (state, loan),
+            },
+            false => match self.put_away(state, caller, at, loan) {
+                Ok(returned) => return returned,
+                Err(not_taken) => not_taken,
+            },
+        };
+        self.end_loan(state, Course::of_loan(Kind::Return, caller, at, loan))
     }
 
     /// Takes an object back that cannot be used any more.

@@ -7,6 +7,10 @@ use crate::sleepers::Sleepers;
 use crate::stored_journal::{Mode, StoredJournal};
 use crate::values::{Loan, Values};
 
+/// How many entries the library drops at least, and for each present object.
+const FEWEST_DROPPED: u64 = 1_024;
+const DROPPED_PER_OBJECT: u64 = 4;
+
 /// The core, with the values of its idle objects, and with those that it has told to sleep.
 pub(crate) struct LockedPool<T> {
     pub core: Core,
@@ -74,6 +78,27 @@ impl<T> LockedPool<T> {
         None
     }
 
+    /// Returns whether a borrow may take an idle object by a step: none waits, and the library has nothing to do before.
+    pub fn may_take_idle(&mut self) -> bool {
+        let may_begin = self.values.len() > 0 && !self.has_long_journal();
+        may_begin && self.core.waiting() == 0
+    }
+
+    /// Returns whether the library would drop the journal before a step of a call.
+    pub fn has_long_journal(&mut self) -> bool {
+        let stored = match self.journal.mode() {
+            Mode::Off => self.core.steps(),
+            Mode::Memory | Mode::Segments => 0,
+        };
+        stored >= FEWEST_DROPPED && self.has_entries_for_objects(stored)
+    }
+
+    #[cold]
+    fn has_entries_for_objects(&mut self, stored: u64) -> bool {
+        let counts = self.core.counts();
+        stored / DROPPED_PER_OBJECT >= counts.idle + counts.lent + counts.reserved
+    }
+
     /// Returns the ticket of the next call to wake, if any call sleeps.
     #[inline]
     pub fn next_wake(&mut self) -> Option<u64> {
@@ -83,8 +108,8 @@ impl<T> LockedPool<T> {
         }
     }
 
-    /// Returns the number of threads that a call that waits, with its ticket, waits for at most: those that have an object, and those that wait before
-    /// it or were woken.
+    /// Returns the number of threads that a call that waits, with its ticket, waits for at most: those that have an object, and those that wait
+    /// before it or were woken.
     pub fn threads_before(&mut self, ticket: u64) -> usize {
         let counts = self.core.counts();
         let asleep = self.sleepers.len() as u64;

@@ -1,7 +1,7 @@
 //! The proved core, over its C library. All code that is `unsafe` is here.
 
 use crate::call::{action_of, Action, End, Kind, Report};
-use crate::step::{Answer, Counts, Input, StepFault};
+use crate::step::{Answer, Counts, Input, Outcome, StepFault};
 use crate::sys;
 use std::ffi::c_char;
 
@@ -255,6 +255,7 @@ impl Core {
 
     /// Takes one step, and appends its entry. Returns the answer, and a token: that of an idle object that is taken, or the one that was passed
     /// in, unless the core stores it.
+    #[inline(always)]
     pub fn step(
         &mut self,
         caller: u32,
@@ -404,14 +405,18 @@ impl Drop for Core {
 }
 
 /// Returns the request for an input, in the library's codes.
+#[inline]
 fn request_of(input: Input) -> sys::Request {
+    let plain = |input, number| (input, number, 0);
+    let told = |input, number, outcome| (input, number, outcome_code(outcome));
     let (input, number, outcome) = match input {
-        Input::GiveBack { id } => (sys::INPUT_RETURN, id, 0),
-        Input::ParkTooOld { id } => (sys::INPUT_PARK, id, sys::OUTCOME_TEST_FAILED),
-        Input::EvictNext => (sys::INPUT_EVICT_NEXT, 0, 0),
-        Input::TestedGood { id } => (sys::INPUT_TESTED, id, sys::OUTCOME_GOOD),
-        Input::TestedTooOld { id } => (sys::INPUT_TESTED, id, sys::OUTCOME_TEST_FAILED),
-        Input::Destroyed { id } => (sys::INPUT_DESTROYED, id, 0),
+        Input::Borrow { began } => plain(sys::INPUT_BORROW, began),
+        Input::Ready { id, outcome } => told(sys::INPUT_READY, id, outcome),
+        Input::GiveBack { id } => plain(sys::INPUT_RETURN, id),
+        Input::Park { id, outcome } => told(sys::INPUT_PARK, id, outcome),
+        Input::EvictNext => plain(sys::INPUT_EVICT_NEXT, 0),
+        Input::Tested { id, outcome } => told(sys::INPUT_TESTED, id, outcome),
+        Input::Destroyed { id } => plain(sys::INPUT_DESTROYED, id),
     };
     sys::Request {
         at: 0,
@@ -423,9 +428,22 @@ fn request_of(input: Input) -> sys::Request {
     }
 }
 
+fn outcome_code(outcome: Outcome) -> u32 {
+    match outcome {
+        Outcome::Good => sys::OUTCOME_GOOD,
+        Outcome::ActivateFailed => sys::OUTCOME_ACTIVATE_FAILED,
+        Outcome::TestFailed => sys::OUTCOME_TEST_FAILED,
+        Outcome::PassivateFailed => sys::OUTCOME_PASSIVATE_FAILED,
+    }
+}
+
+#[inline]
 fn answer_of(reply: &sys::Reply) -> Answer {
     match reply.answer {
+        sys::ANSWER_TAKE => Answer::Take(reply.number),
+        sys::ANSWER_LENT => Answer::Lent,
         sys::ANSWER_CHECK => Answer::Check,
+        sys::ANSWER_PARKED => Answer::Parked,
         sys::ANSWER_KEPT => Answer::Kept,
         sys::ANSWER_KEPT_IDLE => Answer::KeptIdle,
         sys::ANSWER_DESTROY => Answer::Destroy,

@@ -161,8 +161,8 @@ impl<M: Manager> Shared<M> {
         }
     }
 
-    /// Takes the lock. No code of others runs under it except the clock of a thread that waits, and each call of the core is done as a whole or not at
-    /// all. So a panic leaves nothing half done.
+    /// Takes the lock. No code of others runs under it except the clock of a thread that waits, and each call of the core is done as a whole or
+    /// not at all. So a panic leaves nothing half done.
     #[inline]
     pub fn lock(&self) -> Held<'_, M> {
         self.state.lock()
@@ -185,7 +185,8 @@ impl<M: Manager> Shared<M> {
         !M::PASSIVATES && !self.settings.test_on_return
     }
 
-    /// Returns whether a call that lacks room in the journal or memory fails since the pool is closed: a closed pool is closed, whatever else is wrong.
+    /// Returns whether a call that lacks room in the journal or memory fails since the pool is closed: a closed pool is closed, whatever else is
+    /// wrong.
     #[cold]
     pub fn refuses(&self, kind: Kind) -> bool {
         kind.needs_open_pool() && self.lock().core.is_closed()
@@ -227,8 +228,8 @@ impl<M: Manager> Shared<M> {
         }
     }
 
-    /// Sleeps until the call with a ticket, which is this thread's, is woken or the time is over. It pauses before, in which a short loan ends: then
-    /// nobody has to ask the system to wake it. Such a wake may end its next sleep at once, which begins again then.
+    /// Sleeps until the call with a ticket, which is this thread's, is woken or the time is over. It pauses before, in which a short loan ends:
+    /// then nobody has to ask the system to wake it. Such a wake may end its next sleep at once, which begins again then.
     pub fn sleep_until_woken(
         &self,
         ticket: u64,

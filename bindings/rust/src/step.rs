@@ -1,33 +1,33 @@
-//! The steps of the core that a pool takes by itself, for the age of its objects. `docs/proof/definitions.md` defines each.
+//! The steps of the core that a pool takes by itself, for pairs with hooks and for the age of its objects. `docs/proof/definitions.md` defines each.
 
 /// What a step asks of the core.
 #[derive(Clone, Copy, Debug, PartialEq, Eq)]
 pub(crate) enum Input {
-    GiveBack {
-        id: u64,
-    },
-    /// The object, which was returned, is too old.
-    ParkTooOld {
-        id: u64,
-    },
+    Borrow { began: u64 },
+    Ready { id: u64, outcome: Outcome },
+    GiveBack { id: u64 },
+    Park { id: u64, outcome: Outcome },
     EvictNext,
-    /// The idle object has not reached its age.
-    TestedGood {
-        id: u64,
-    },
-    /// The idle object is too old.
-    TestedTooOld {
-        id: u64,
-    },
-    Destroyed {
-        id: u64,
-    },
+    Tested { id: u64, outcome: Outcome },
+    Destroyed { id: u64 },
+}
+
+/// The outcome of the manager's work on an object.
+#[derive(Clone, Copy, Debug, PartialEq, Eq)]
+pub(crate) enum Outcome {
+    Good,
+    ActivateFailed,
+    TestFailed,
+    PassivateFailed,
 }
 
 /// The answer of the core.
 #[derive(Clone, Copy, Debug, PartialEq, Eq)]
 pub(crate) enum Answer {
+    Take(u64),
+    Lent,
     Check,
+    Parked,
     Kept,
     KeptIdle,
     Destroy,

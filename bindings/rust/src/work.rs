@@ -46,7 +46,7 @@ impl<E> Fault<E> {
 }
 
 /// What came of a test.
-fn passed<E>(validated: Result<bool, E>) -> Result<Report, Fault<E>> {
+pub(crate) fn passed<E>(validated: Result<bool, E>) -> Result<Report, Fault<E>> {
     match validated {
         Ok(true) => Ok(Report::Succeeded),
         Ok(false) => Err(Fault::Test(None)),
@@ -56,6 +56,16 @@ fn passed<E>(validated: Result<bool, E>) -> Result<Report, Fault<E>> {
 
 /// What came of the work of a manager on an object.
 pub(crate) type Worked<M> = Result<Report, Fault<<M as Manager>::Error>>;
+
+impl<M: Manager> Shared<M> {
+    /// Reports why an object failed that was idle or lent before, and is destroyed.
+    #[cold]
+    pub fn report_fault(&self, fault: Fault<M::Error>, id: u64) {
+        if let Some(failure) = fault.into_failure(id) {
+            self.report(failure);
+        }
+    }
+}
 
 impl<M: Manager> Course<M> {
     /// Returns the object that is worked on.
@@ -180,10 +190,7 @@ impl<M: Manager> Course<M> {
             },
             _ => fault,
         };
-        fault
-            .into_failure(id)
-            .into_iter()
-            .for_each(|failure| pool.report(failure));
+        pool.report_fault(fault, id);
         Ok(())
     }
 

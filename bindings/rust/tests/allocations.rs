@@ -172,11 +172,10 @@ fn a_segment_that_is_not_cut_is_cut_later<const HOOKS: bool>() {
             });
         let pool = builder.build(Numbers::<HOOKS>).unwrap();
         let (has_failed, failed) = failing(left, || pairs(&pool, PAIRS));
-        // It fails in a borrow, or in the cut of a segment, which is reported. Without hooks a borrow that lacks memory for both steps at once takes
-        // them one after the other.
+        // It fails in a borrow, or in the cut of a segment, which is reported; or in the first steps of a borrow of an idle object, which a call
+        // then takes.
         let reports = *reports.lock().unwrap();
-        let noticed = failed + reports;
-        assert!(noticed == u64::from(has_failed) || !HOOKS && noticed == 0);
+        assert!(failed + reports <= u64::from(has_failed));
         reported += reports;
         assert_eq!(pairs(&pool, PAIRS), 0);
         pool.flush_journal().unwrap();

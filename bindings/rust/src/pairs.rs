@@ -1,0 +1,244 @@
+//! Borrows of idle objects and returns that ask something of the manager. They take both of their steps by themselves, in half of the instructions
+//! of the library's calls, while nothing fails and no call waits.
+
+use crate::ages::{complete, unexpected};
+use crate::clock::Moment;
+use crate::lending::Returned;
+use crate::manager::Manager;
+use crate::shared::{Held, Item, Shared};
+use crate::sleepers::Wakes;
+use crate::step::{Answer, Input, Outcome};
+use crate::values::Loan;
+use crate::work::{passed, Fault};
+
+/// An object that the manager works on without a call. Dropped meanwhile, also by a panic of the manager, it is reported as failed, and destroyed.
+struct Worked<'a, M: Manager> {
+    pool: &'a Shared<M>,
+    caller: u32,
+    is_returned: bool,
+    /// What the work came to, if it ends now.
+    outcome: Outcome,
+    loan: Option<Loan<Item<M>>>,
+}
+
+const HELD: &str = "an object that is worked on is there";
+
+impl<M: Manager> Worked<'_, M> {
+    /// Returns the object, on which work begins that may fail with this outcome.
+    fn begin(&mut self, failed: Outcome) -> &mut M::Object {
+        self.outcome = failed;
+        &mut self.loan.as_mut().expect(HELD).object.object
+    }
+
+    /// Activates the object.
+    fn activate(&mut self) -> Result<(), Fault<M::Error>> {
+        let manager = &self.pool.manager;
+        match M::ACTIVATES {
+            true => manager
+                .activate(self.begin(Outcome::ActivateFailed))
+                .map_err(Fault::Activate),
+            false => Ok(()),
+        }
+    }
+
+    /// Tests the object, if that is set.
+    fn validate(&mut self, is_set: bool) -> Result<(), Fault<M::Error>> {
+        let manager = &self.pool.manager;
+        match is_set {
+            true => passed(manager.try_validate(self.begin(Outcome::TestFailed))).map(drop),
+            false => Ok(()),
+        }
+    }
+
+    /// Passivates the object.
+    fn passivate(&mut self) -> Result<(), Fault<M::Error>> {
+        let manager = &self.pool.manager;
+        match M::PASSIVATES {
+            true => manager
+                .passivate(self.begin(Outcome::PassivateFailed))
+                .map_err(Fault::Passivate),
+            false => Ok(()),
+        }
+    }
+
+    /// Returns the step that reports the outcome of the work.
+    fn report(&self, id: u64, outcome: Outcome) -> Input {
+        match self.is_returned {
+            true => Input::Park { id, outcome },
+            false => Input::Ready { id, outcome },
+        }
+    }
+}
+
+impl<M: Manager> Drop for Worked<'_, M> {
+    fn drop(&mut self) {
+        let Some(loan) = self.loan.take() else {
+            return;
+        };
+        let input = self.report(loan.id, self.outcome);
+        let at = self.pool.now();
+        let mut state = self.pool.lock();
+        match complete(&mut state, self.caller, at, input, loan.token) {
+            Answer::Destroy => {}
+            answer => unexpected(input, answer),
+        }
+        self.pool.leave_after_step(state);
+        self.pool.end_object(self.caller, loan);
+    }
+}
+
+/// The lock of a pool, held, and a loan that it did not end.
+type NotTaken<'a, M> = (Held<'a, M>, Loan<Item<M>>);
+
+impl<M: Manager> Shared<M> {
+    fn worked(&self, caller: u32, is_returned: bool, loan: Loan<Item<M>>) -> Worked<'_, M> {
+        Worked {
+            pool: self,
+            caller,
+            is_returned,
+            outcome: Outcome::TestFailed,
+            loan: Some(loan),
+        }
+    }
+
+    /// Lends an idle object that the manager makes ready, to a borrow that begins at a time. Otherwise the borrow is to be made by a call, with
+    /// the lock if it is still held: there is no such object, or others wait; or it failed, and is destroyed.
+    pub fn lend_ready<'a>(
+        &'a self,
+        state: Held<'a, M>,
+        caller: u32,
+        at: Moment,
+    ) -> Result<Loan<Item<M>>, Option<Held<'a, M>>> {
+        let mut taken = self.take_idle(state, caller, at).map_err(Some)?;
+        let activated = taken.activate();
+        match activated.and_then(|()| taken.validate(self.settings.test_on_borrow)) {
+            Ok(()) => Ok(self.lend(taken, at)),
+            Err(fault) => {
+                self.give_up(taken, fault);
+                Err(None)
+            }
+        }
+    }
+
+    /// Takes an idle object for a borrow, by its first step.
+    fn take_idle<'a>(
+        &'a self,
+        mut state: Held<'a, M>,
+        caller: u32,
+        at: Moment,
+    ) -> Result<Worked<'a, M>, Held<'a, M>> {
+        if self.settings.removes_on_borrow() || !state.may_take_idle() {
+            return Err(state);
+        }
+        let began = state.tell(at);
+        let input = Input::Borrow { began };
+        let (id, token) = match state.core.step(caller, began, input, 0) {
+            Ok((Answer::Take(id), token)) => (id, token),
+            Ok((answer, _)) => unexpected(input, answer),
+            Err(_) => return Err(state),
+        };
+        let object = state.values.take(token);
+        state.care_for_journal();
+        self.leave(state, Wakes::default());
+        Ok(self.worked(caller, false, Loan { id, token, object }))
+    }
+
+    /// Lends an object that is ready, to a borrow that began at a time.
+    fn lend(&self, mut ready: Worked<'_, M>, began: Moment) -> Loan<Item<M>> {
+        let mut loan = ready.loan.take().expect(HELD);
+        let input = ready.report(loan.id, Outcome::Good);
+        let at = self.now();
+        let mut state = self.lock();
+        match complete(&mut state, ready.caller, at, input, loan.token) {
+            Answer::Lent => {}
+            answer => unexpected(input, answer),
+        }
+        state.measures.waits.count(began.nanos, at.nanos);
+        state.care_for_journal();
+        self.leave(state, Wakes::default());
+        loan.object = loan.object.lent_at(at);
+        loan
+    }
+
+    /// Takes an object back that the manager puts away. If its first step is not taken, the return is to be made by a call.
+    pub fn put_away<'a>(
+        &'a self,
+        state: Held<'a, M>,
+        caller: u32,
+        at: Moment,
+        loan: Loan<Item<M>>,
+    ) -> Result<Returned, NotTaken<'a, M>> {
+        let mut returned = match self.take_returned(state, caller, at, loan)? {
+            Some(returned) => returned,
+            None => return Ok(Returned::Gone),
+        };
+        let tested = returned.validate(self.settings.test_on_return);
+        match tested.and_then(|()| returned.passivate()) {
+            Ok(()) => Ok(self.park(returned)),
+            Err(fault) => {
+                self.give_up(returned, fault);
+                Ok(Returned::Destroyed)
+            }
+        }
+    }
+
+    /// Takes a returned object, by the first step of its return. If it was reclaimed before, it is destroyed.
+    fn take_returned<'a>(
+        &'a self,
+        mut state: Held<'a, M>,
+        caller: u32,
+        at: Moment,
+        loan: Loan<Item<M>>,
+    ) -> Result<Option<Worked<'a, M>>, NotTaken<'a, M>> {
+        if state.has_long_journal() {
+            return Err((state, loan));
+        }
+        let input = Input::GiveBack { id: loan.id };
+        let time = state.tell(at);
+        let is_lent = match state.core.step(caller, time, input, 0) {
+            Ok((Answer::Check, _)) => true,
+            Ok((Answer::Gone, _)) => false,
+            Ok((answer, _)) => unexpected(input, answer),
+            Err(_) => return Err((state, loan)),
+        };
+        if is_lent {
+            state.measures.loans.count(loan.object.lent, at.nanos);
+        }
+        state.care_for_journal();
+        self.leave(state, Wakes::default());
+        if !is_lent {
+            self.let_go(loan);
+            return Ok(None);
+        }
+        Ok(Some(self.worked(caller, true, loan)))
+    }
+
+    /// Makes an object idle that was put away, unless the pool does not keep it.
+    fn park(&self, mut passive: Worked<'_, M>) -> Returned {
+        let loan = passive.loan.take().expect(HELD);
+        let input = passive.report(loan.id, Outcome::Good);
+        let at = self.now();
+        let mut state = self.lock();
+        match complete(&mut state, passive.caller, at, input, loan.token) {
+            Answer::Parked => {
+                state.values.put(loan.token, loan.object);
+                self.leave_after_step(state);
+                Returned::Parked
+            }
+            Answer::Destroy => {
+                self.leave_after_step(state);
+                self.end_object(passive.caller, loan);
+                Returned::Destroyed
+            }
+            answer => unexpected(input, answer),
+        }
+    }
+
+    /// Destroys an object that failed, and reports why.
+    #[cold]
+    fn give_up(&self, failed: Worked<'_, M>, fault: Fault<M::Error>) {
+        let id = failed.loan.as_ref().expect(HELD).id;
+        drop(failed);
+        self.report_fault(fault, id);
+    }
+}
