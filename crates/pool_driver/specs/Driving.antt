@@ -300,12 +300,12 @@ pub record LendsAtOnce (caller at id token : ℕ) (old new : DrivenModel) : Type
   pub taken : Answered caller at (inputs.Borrow at) None old.core mid (answers.Take id) (Some token)
   pub lent : Answered caller at (inputs.Ready id outcomes.Good) None mid new.core answers.Lent None
   pub rest :
-    new
-    ≡ record old {
-      core = new.core;
-      queue = record old.queue { waiting = new.queue.waiting; overtakes = new.queue.overtakes };
-      last = at;
-    }
+      new
+      ≡ record old {
+        core = new.core;
+        queue = record old.queue { waiting = new.queue.waiting; overtakes = new.queue.overtakes };
+        last = at;
+      }
 
 -- a returned object is idle again by its two steps, and its host is asked nothing
 pub record TakesBackAtOnce (caller at id token : ℕ) (old new : DrivenModel) : Type 0 where

@@ -62,8 +62,8 @@ pub record Passes (caller at : ℕ) (turn : Turn) (old new : DrivenModel) (befor
   pub draws : is_some after.ticket ≡ true → before.ticket ≡ None → is_waiting after.operation ≡ true
   pub may : finds turn.input turn.answer ≡ true → is_newcomer before ≡ true → may_lend (available_in old.core) old.queue ≡ true
   pub others :
-    others after.ticket new.queue.waiting
-    ≡ passed (finds turn.input turn.answer && is_newcomer before && takes_from_waiters (available_in old.core) old.queue) (others before.ticket old.queue.waiting)
+      others after.ticket new.queue.waiting
+      ≡ passed (finds turn.input turn.answer && is_newcomer before && takes_from_waiters (available_in old.core) old.queue) (others before.ticket old.queue.waiting)
 
 -- what a call does, one thing after the other: with a step, or without one
 abbrev pub Course : ℕ → ℕ → List (Option Turn) → DrivenModel → DrivenModel → Call → Call → Type 0

@@ -31,8 +31,7 @@ returns-clause-told c =
     let counted = counts_later time c.args.caller time c.args.self.now c.leave_at_end.new.self first last done in
     let V : DrivenModel → Type 0 = λ d. CountsOvertakes c.args.caller time c.args.self.now (record d { last = time }) first last in
     let W : ℕ → Type 0 = λ n. CountsOvertakes c.args.caller n c.args.self.now (record { core = c.self-2.inside.core; queue = c.self-2.inside.waiters; plan = c.self-2.inside.plan; drops = c.self-2.inside.drops; holds_back = c.self-2.inside.holds_back; last = time }) first last in
-    let X : DrivenModel → Type 0 = λ d. CountsOvertakes c.args.caller (max c.args.at d.last) c.args.self.now (record { core = c.self-2.inside.core; queue = c.self-2.inside.waiters; plan = c.self-2.inside.plan; drops = c.self-2.inside.drops; holds_back = c.self-2.inside.holds_back; last = time }) first last in
-    (
+    let X : DrivenModel → Type 0 = λ d. CountsOvertakes c.args.caller (max c.args.at d.last) c.args.self.now (record { core = c.self-2.inside.core; queue = c.self-2.inside.waiters; plan = c.self-2.inside.plan; drops = c.self-2.inside.drops; holds_back = c.self-2.inside.holds_back; last = time }) first last in (
       mid.operation,
       subst U c.self.view_is (subst T c.max-at.ensures (c.accept.ensures.told fits)),
       subst R c.self.view_is (subst Q c.max-at.ensures (subst P (sym c.self-2.view_is) later)),
