@@ -52,14 +52,16 @@ impl<M: Manager> Handle<M> {
 }
 
 impl<M: Manager> Shared<M> {
-    /// Lends an idle object, if neither the manager nor other calls are to be asked. Returns the lock otherwise.
+    /// Lends an idle object, if the manager is asked nothing, and no call that waits comes first. Returns the lock otherwise.
     #[inline]
     pub fn lend_at_once(&self, caller: u32, at: Moment) -> LentOr<'_, M> {
         let mut state = self.lock();
-        let may_lend = self.lends_at_once() && state.sleepers.len() == 0;
+        let may_lend = self.lends_at_once();
         match may_lend.then(|| state.lend(caller, at)).flatten() {
             Some(loan) => {
-                self.leave(state, Wakes::default());
+                let mut wakes = Wakes::default();
+                wakes.push(state.next_wake());
+                self.leave(state, wakes);
                 Ok(loan)
             }
             None => Err(state),

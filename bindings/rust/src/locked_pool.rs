@@ -99,13 +99,10 @@ impl<T> LockedPool<T> {
         stored / DROPPED_PER_OBJECT >= counts.idle + counts.lent + counts.reserved
     }
 
-    /// Returns the ticket of the next call to wake, if any call sleeps.
+    /// Returns the ticket of the next call to wake, if any call waits.
     #[inline]
     pub fn next_wake(&mut self) -> Option<u64> {
-        match self.sleepers.len() {
-            0 => None,
-            _ => self.core.next_wake(),
-        }
+        self.core.next_wake()
     }
 
     /// Returns the number of threads that a call that waits, with its ticket, waits for at most: those that have an object, and those that wait

@@ -277,7 +277,8 @@ impl Core {
         }
     }
 
-    /// Lends an idle object, if a borrow that begins now needs no more than its two steps: takes both. Returns the object's id and its token.
+    /// Lends an idle object, if a borrow that begins now needs no more than its two steps: takes both. Returns the object's id and its token. The
+    /// calls of `next_wake` are to be woken then.
     #[inline(always)]
     pub fn lend(&mut self, caller: u32, at: u64) -> Option<(u64, u64)> {
         let mut loan = sys::Loan::default();

@@ -5,7 +5,7 @@ mod common;
 #[macro_use]
 mod hooks;
 
-use common::managers::{kept, Numbers};
+use common::managers::{kept, pool_with, Maker, Numbers};
 use common::tasks::{poll, ready, Bell, LONGEST};
 use common::{assert_legal, entries_of, journal_of, steps_of, while_waiting};
 use std::sync::atomic::{AtomicBool, Ordering};
@@ -24,6 +24,7 @@ with_and_without_hooks! {
     a_borrow_takes_what_is_left_beyond_the_waiters
     a_borrow_times_out_behind_a_waiter
     a_close_ends_waits_behind_a_waiter
+    a_pair_makes_the_same_entries_while_another_waits
     a_thread_that_borrows_again_at_once_starves_nobody
     threads_are_served_in_turns
 }
@@ -199,6 +200,38 @@ fn a_close_ends_waits_behind_a_waiter<const HOOKS: bool>() {
     }
     assert_eq!(pool.try_get().err(), Some(Error::Closed));
     assert_legal(&pool);
+}
+
+/// The steps of a borrow of an idle object and of its return, in which a call of the manager fails or none, and the calls of the manager.
+fn pair_while<const HOOKS: bool>(waits: bool, failing: Option<&'static str>) -> [Vec<String>; 2] {
+    let (pool, maker, _) = pool_with::<HOOKS>(|builder| {
+        let builder = builder.test_on_borrow(true).test_on_return(true);
+        builder.max_total(1).max_wait(LONGEST)
+    });
+    let (held, bell) = (pool.get().unwrap(), Bell::new());
+    let mut get = waits.then(|| pool.get_async());
+    if let Some(get) = &mut get {
+        assert!(poll(get, &bell).is_pending());
+    }
+    drop(held);
+    let before = steps_of(&pool).len();
+    maker.calls();
+    failing
+        .into_iter()
+        .for_each(|name: &'static str| Maker::<HOOKS>::fail(&maker, name));
+    drop(pool.get().unwrap());
+    assert_eq!(bell.rings(), usize::from(waits));
+    let steps = steps_of(&pool).split_off(before);
+    assert_legal(&pool);
+    [steps, maker.calls()]
+}
+
+fn a_pair_makes_the_same_entries_while_another_waits<const HOOKS: bool>() {
+    for failing in [None, Some("activate"), Some("validate"), Some("passivate")] {
+        let pairs = [false, true].map(|waits| pair_while::<HOOKS>(waits, failing));
+        assert_eq!(pairs[0], pairs[1], "{failing:?} fails");
+        assert!(pairs[0][0].len() >= 4);
+    }
 }
 
 fn a_thread_that_borrows_again_at_once_starves_nobody<const HOOKS: bool>() {
