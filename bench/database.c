@@ -61,7 +61,7 @@ static void execute(PGconn *connection, const char *command, int count, const in
   PQclear(result);
 }
 
-/* Transfers a euro in one transaction, as the example bindings/c/postgres.c does. */
+/* Transfers a euro in one transaction, as the example bindings/c/examples/postgres.c does. */
 static void transfer(PGconn *connection, int worker, int number) {
   static const char change[] = "UPDATE account SET euros = euros + $1 WHERE id = $2";
   /* The second account has the greater id, so that no two transfers wait for each other. */

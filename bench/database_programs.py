@@ -9,7 +9,7 @@ from entrants import C, JAVA, R2D2, TOP, build, built_by_cargo, runs_cargo, vers
 sys.path.append(str(TOP / "tests"))
 
 import java
-from install import heap_of_kit
+from install import INCLUDE, POOL, heap_of_kit
 from postgres_server import PROGRAMS, ROLE
 
 CRATE, TASKS, SEMAPHORE, DBCP, HIKARI, LIST = "crate", "crate, tasks", "semaphore, tasks", "DBCP2", "HikariCP", "list in C"
@@ -115,7 +115,7 @@ class Programs:
         header = os.path.exists(f"{LIBPQ}/libpq-fe.h"), f"libpq-dev ({LIBPQ})"
         columns = self.wanted_of(C_KINDS, header, *self.of_ours())
         if columns:
-            pool, program = TOP / "bindings/c", self.folder / "database"
-            sources = TOP / "bench/database.c", pool / "zuphinka_pool.c", self.library, heap_of_kit()
-            build(os.environ.get("CC", "cc"), "-std=c11", "-O2", "-pthread", "-I", pool, "-I", LIBPQ, "-o", program, *sources, "-lpq")
+            program = self.folder / "database"
+            sources = TOP / "bench/database.c", POOL, self.library, heap_of_kit()
+            build(os.environ.get("CC", "cc"), "-std=c11", "-O2", "-pthread", "-I", INCLUDE, "-I", LIBPQ, "-o", program, *sources, "-lpq")
             self.enter(columns, C_KINDS, [program], OF_LIBPQ)

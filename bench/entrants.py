@@ -13,7 +13,7 @@ TOP = pathlib.Path(__file__).resolve().parent.parent
 sys.path.append(str(TOP / "tools"))
 
 import java
-from install import heap_of_kit
+from install import INCLUDE, POOL, heap_of_kit
 
 CONTESTANTS, RUST, CRATE = TOP / "bench/peers_java", TOP / "bench/peers_rust", TOP / "bindings/rust"
 JAR = java.DEBIAN_JAR
@@ -262,11 +262,11 @@ class Entrants:
         self.programs.append(Entrant(lambda row: [program, self.settings(row), row.threads, row.each, *words], is_right_crate, whole(column)))
 
     def enter_c(self):
-        compiler, pool, program = os.environ.get("CC", "cc"), TOP / "bindings/c", self.folder / "pairs_c"
+        compiler, program = os.environ.get("CC", "cc"), self.folder / "pairs_c"
         needs = [(shutil.which(compiler), "C compiler"), (self.library.exists(), f"libzuphinka.a ({self.library})")]
         if self.wants(C) and self.has(C, *needs):
-            sources = TOP / "bench/pairs_c.c", pool / "zuphinka_pool.c", self.library, heap_of_kit()
-            build(compiler, "-std=c11", "-O2", "-pthread", "-I", pool, "-o", program, *sources)
+            sources = TOP / "bench/pairs_c.c", POOL, self.library, heap_of_kit()
+            build(compiler, "-std=c11", "-O2", "-pthread", "-I", INCLUDE, "-o", program, *sources)
             self.enter_peer(C, program)
 
     def enter_load(self):

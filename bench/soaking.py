@@ -7,6 +7,7 @@ import subprocess
 import time
 
 from entrants import JOURNAL_LIMIT, TOP, build, built_by_cargo, numbers, runs_cargo
+from install import INCLUDE, POOL
 
 THREADS = 4
 # The rounds of each thread of a load, whose journal stays in memory.
@@ -110,10 +111,10 @@ class Soak:
         self.play("Rust crate", built_by_cargo(TOP / "bench/soak_rust") / "soak")
 
     def play_c(self):
-        program, folder = self.folder / "soak_c", TOP / "bindings/c"
+        program = self.folder / "soak_c"
         library = pathlib.Path(os.environ.get("ZUPHINKA_LIB", TOP / "crates/zuphinka/out")) / "libzuphinka.a"
-        sources = TOP / "bench/soak_c.c", folder / "zuphinka_pool.c", library, heap()
-        build(os.environ.get("CC", "cc"), "-std=c11", "-O2", "-pthread", "-I", folder, "-o", program, *sources)
+        sources = TOP / "bench/soak_c.c", POOL, library, heap()
+        build(os.environ.get("CC", "cc"), "-std=c11", "-O2", "-pthread", "-I", INCLUDE, "-o", program, *sources)
         self.play("C pool", program)
 
     def play_load(self):

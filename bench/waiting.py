@@ -7,7 +7,7 @@ import subprocess
 
 import java
 from entrants import CONTESTANTS, R2D2, RUST, TOP, Miscounted, build, built_by_cargo, runs_cargo, version_of
-from install import heap_of_kit
+from install import INCLUDE, POOL, heap_of_kit
 
 THREADS, TASKS, C, JAVA, COMMONS = "crate, threads", "crate, tasks", "C", "Java", "Commons Pool 2"
 COLUMNS = [R2D2, THREADS, TASKS, C, JAVA, COMMONS]
@@ -82,9 +82,9 @@ class Programs:
     def enter_c(self):
         source, compiler = TOP / "bench/longest_waits.c", os.environ.get("CC", "cc")
         if self.has([C], (source.exists(), source.name), (shutil.which(compiler), "C compiler"), self.needed_library()):
-            pool, program = TOP / "bindings/c", self.folder / "longest_waits"
-            sources = source, pool / "zuphinka_pool.c", self.library, heap_of_kit()
-            build(compiler, "-std=c11", "-O2", "-pthread", "-I", pool, "-o", program, *sources)
+            program = self.folder / "longest_waits"
+            sources = source, POOL, self.library, heap_of_kit()
+            build(compiler, "-std=c11", "-O2", "-pthread", "-I", INCLUDE, "-o", program, *sources)
             self.commands[C] = [program]
 
     def enter_java(self):

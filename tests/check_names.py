@@ -32,9 +32,9 @@ DECLARED = r"^(?:(?:abbrev|unfoldable|record|data|pub|mod) )+%s\b"
 SAID = r"\b(?:ensures|ghost|pub (?:trait|struct|enum|fn)|pub\(crate\) fn) %s\b"
 # The sources besides those of the crates.
 OTHERS = (
-    *("bindings/c/*", "bindings/rust/src/*.rs", "bindings/rust/examples/*", "bindings/java/src/zuphinka/*", "bindings/java/native/*"),
-    *("bindings/java/examples/*", "tests/*.*", "tests/java/*", "tests/commons_pool/**/*", "bench/*", "tools/*", "docs/pictures/*.py", "examples/*"),
-    *("pool", "check", "crates.txt"),
+    *("bindings/c/include/*", "bindings/c/src/*", "bindings/c/examples/*", "bindings/rust/src/*.rs", "bindings/rust/examples/*"),
+    *("bindings/java/src/zuphinka/*", "bindings/java/native/*", "bindings/java/examples/*", "tests/*.*", "tests/java/*", "tests/commons_pool/**/*"),
+    *("bench/*", "tools/*", "docs/pictures/*.py", "examples/*", "pool", "check", "crates.txt"),
 )
 
 

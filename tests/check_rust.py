@@ -7,8 +7,8 @@ POOL is the program. The crate's tests are cargo's: those in its files, in tests
 `servers` store are judged by the program; what the example `settings` writes of a file must be what Python reads there; the example `pairs` must make
 as many entries as its rounds are, whatever becomes of its journal, and the segments that it stores are judged too; the metrics that a test writes must
 be in the format and agree with each other (tests/openmetrics.py); and the codes, the fields and the functions of `src/sys.rs` must be those of
-`bindings/c/zuphinka.h`. The tests under tokio run where Debian has its source; everywhere the files that they name must be there. What cannot be tested
-is skipped, with the reason: all of it if no cargo runs.
+`bindings/c/include/zuphinka.h`. The tests under tokio run where Debian has its source; everywhere the files that they name must be there. What cannot
+be tested is skipped, with the reason: all of it if no cargo runs.
 
 Prints what fails, and in the end the line 'N passed, M failed'.
 """
@@ -146,7 +146,7 @@ def check_settings(settings):
 def check_binding():
     """The codes and the longest line, the fields of each struct with their types in their order, and the functions with how many parameters
     they have. Each code is named after its enum."""
-    header, binding = (TOP / "bindings/c/zuphinka.h").read_text(), (CRATE / "src/sys.rs").read_text()
+    header, binding = (TOP / "bindings/c/include/zuphinka.h").read_text(), (CRATE / "src/sys.rs").read_text()
     header = re.sub(r"/\*.*?\*/|^static inline .*?^\}$", "", header, flags=re.DOTALL | re.MULTILINE)
     for kind, body in re.findall(r"enum zuphinka_(\w+) \{(.*?)\};", header, flags=re.DOTALL):
         other = [name for name in re.findall(r"(\w+) =", body) if not name.startswith(f"ZUPHINKA_{kind.upper()}_")]
@@ -169,7 +169,7 @@ def check_binding():
 
 def check_version():
     """The version of the crate is that of the header, as a text and in numbers."""
-    header = (TOP / "bindings/c/zuphinka.h").read_text()
+    header = (TOP / "bindings/c/include/zuphinka.h").read_text()
     crate = tomllib.loads((CRATE / "Cargo.toml").read_text())["package"]["version"]
     text = re.findall(r'^#define ZUPHINKA_VERSION "(.*)"$', header, flags=re.MULTILINE)
     numbers = re.findall(r"^#define ZUPHINKA_VERSION_(?:MAJOR|MINOR|PATCH) (\d+)$", header, flags=re.MULTILINE)

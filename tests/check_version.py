@@ -18,6 +18,7 @@ from playing import play_checks
 
 TOP = pathlib.Path(__file__).resolve().parent.parent
 PROGRAMS = ["journal_picture", "judge", "pool"]
+HEADER = "bindings/c/include/zuphinka.h"
 # The contract and the body of the library's function, which has the number twice.
 NUMBER = r"fn zuphinka_version\(\) -> u32\n    ensures \{ result ≡ (\d+) \}\n\{\n    ([\d_]+)\n\}"
 PRINTED = re.compile(r'^pub(?:\(crate\))? const VERSION: &str = "(.*)\\n";$', re.MULTILINE)
@@ -46,8 +47,8 @@ def checks(version, programs):
     yield "the form of VERSION", True, bool(re.fullmatch(r"\d+\.\d+\.\d+", version))
     yield "Cargo.toml", version, tomllib.loads((TOP / "bindings/rust/Cargo.toml").read_text())["package"]["version"]
     yield "Cargo.lock", [version], [package["version"] for package in lock if package["name"] == "zuphinka"]
-    yield "the text of zuphinka.h", [version], found(r'^#define ZUPHINKA_VERSION "(.*)"$', "bindings/c/zuphinka.h")
-    yield "the numbers of zuphinka.h", version.split("."), found(r"^#define ZUPHINKA_VERSION_(?:MAJOR|MINOR|PATCH) (\d+)$", "bindings/c/zuphinka.h")
+    yield "the text of zuphinka.h", [version], found(r'^#define ZUPHINKA_VERSION "(.*)"$', HEADER)
+    yield "the numbers of zuphinka.h", version.split("."), found(r"^#define ZUPHINKA_VERSION_(?:MAJOR|MINOR|PATCH) (\d+)$", HEADER)
     yield "the C library", [(number(version),) * 2], [tuple(map(int, numbers)) for numbers in found(NUMBER, "crates/zuphinka/src/lib.rt")]
     yield "the man page", [f"Zuphinka {version}"], found(r'^\.TH POOL 1 "" "(.*)"$', "docs/pool.1")
     yield "the change log", True, version in found(r"^## \[(.*?)\]", "CHANGELOG.md")

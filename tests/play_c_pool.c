@@ -1,4 +1,4 @@
-/* Tests bindings/c/zuphinka_pool.c, one test a run.
+/* Tests bindings/c/src/zuphinka_pool.c, one test a run.
  *
  *     play_c_pool list                                  the names of the tests
  *     play_c_pool test NAME

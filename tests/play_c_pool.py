@@ -1,5 +1,5 @@
 #!/usr/bin/env python3
-"""Tests the pool for threads in C, bindings/c/zuphinka_pool.c, by the program tests/play_c_pool.c.
+"""Tests the pool for threads in C, bindings/c/src/zuphinka_pool.c, by the program tests/play_c_pool.c.
 
     play_c_pool.py LIBRARY POOL
 
@@ -14,8 +14,8 @@ its enum.
   it has; it must have each loan that the threads counted; and all journals together must have each answer.
 - A pool without a journal lends SOAKED times to THREADS threads, in memory that does not grow.
 - While THREADS threads borrow MEASURED times, each text of its metrics is in the format, and in the end their sums are right (tests/openmetrics.py).
-- bindings/c/shared_life.c must write the segments of a legal journal, with SHARED_ROUNDS loans for each thread. A second run over the same folder
-  must fail, and leave them as they are.
+- bindings/c/examples/shared_life.c must write the segments of a legal journal, with SHARED_ROUNDS loans for each thread. A second run over the same
+  folder must fail, and leave them as they are.
 - The same must hold while one allocation in REFUSE_OF fails (tests/refuse.c), and some must have failed in each of FEW_SEEDS runs.
 - All tests and some seeds must run under valgrind without an error or a leak, and under ThreadSanitizer with MORE_THREADS threads without a
   race, if these are installed; what is missing is printed.
@@ -33,12 +33,13 @@ import sys
 import tempfile
 
 import openmetrics
-from play_library import FLAGS, TOP, VALGRIND, compiler, header_runs, heap
+from play_library import EXAMPLES, FLAGS, INCLUDE, TOP, VALGRIND, compiler, header_runs, heap
 from playing import differing
 from preloading import preloaded
 from skipping import has, skip
 
-POOL_FLAGS = [*FLAGS, "-pthread", "-I", TOP / "bindings/c"]
+POOL = TOP / "bindings/c/src/zuphinka_pool.c"
+POOL_FLAGS = [*FLAGS, "-pthread", "-I", INCLUDE]
 SEEDS, THREADS, CALLS = 15, 4, 2_000
 SHARED_ROUNDS, SOAKED = 5_000, 3_000_000
 MEASURED = 400_000
@@ -58,7 +59,7 @@ ANSWERS = set(
 def built(folder, name, library, flags, main=TOP / "tests/play_c_pool.c"):
     """Compiles a program over the pool with flags, links it with the library, and returns its path."""
     program = pathlib.Path(folder) / name
-    subprocess.run([compiler(), *POOL_FLAGS, *flags, "-o", program, main, TOP / "bindings/c/zuphinka_pool.c", library, heap()], check=True)
+    subprocess.run([compiler(), *POOL_FLAGS, *flags, "-o", program, main, POOL, library, heap()], check=True)
     return program
 
 
@@ -162,7 +163,7 @@ def header_differing(folder):
     """What differs where the header is compiled by itself, and in the names of its codes."""
     for name, words, wanted in header_runs(folder, "zuphinka_pool.h", "return zuphinka_pool_caller() == 0;"):
         yield differing(name, wanted, run(*words))
-    for kind, body in re.findall(r"enum (zuphinka_\w+) \{(.*?)\};", (TOP / "bindings/c/zuphinka_pool.h").read_text(), flags=re.DOTALL):
+    for kind, body in re.findall(r"enum (zuphinka_\w+) \{(.*?)\};", (INCLUDE / "zuphinka_pool.h").read_text(), flags=re.DOTALL):
         names = re.findall(r"^  (\w+) =", body, flags=re.MULTILINE)
         yield [f"{name} isn't named after {kind}" for name in names if not name.startswith(kind.upper() + "_")]
 
@@ -204,7 +205,7 @@ def differences(library, pool, folder):
     calls = all_calls(plain, library, folder, list(tools(folder)))
     with concurrent.futures.ThreadPoolExecutor(os.cpu_count()) as workers:
         found = list(workers.map(lambda call: call[0](*call[1:]), calls))
-    shared = built(folder, "shared_life", library, [], TOP / "bindings/c/shared_life.c")
+    shared = built(folder, "shared_life", library, [], EXAMPLES / "shared_life.c")
     found += [plain.soak(), plain.metrics(), plain.shared(shared), *plain.sinks()]
     missing = ANSWERS - plain.answers
     return [*found, [f"no journal has {sorted(missing)}"] if missing else []]

@@ -4,8 +4,9 @@
     play_install.py LIBRARY
 
 LIBRARY is libzuphinka.a, as `rt lib` builds it. The headers and the sources of the pool must be those of bindings/c, and pkg-config must have the
-version of the header. bindings/c/first_loan.c, plain_life.c and shared_life.c beside it, copied to a folder by themselves, must compile with the flags
-that pkg-config prints, and run. If pkg-config isn't installed, nothing is compiled, which is printed. Without a library nothing is installed, with status 1.
+version of the header. bindings/c/examples/first_loan.c, plain_life.c and shared_life.c beside it, copied to a folder by themselves, must compile with
+the flags that pkg-config prints, and run. If pkg-config isn't installed, nothing is compiled, which is printed. Without a library nothing is
+installed, with status 1.
 
 Prints each run that differs, and in the end the line 'N passed, M failed'.
 """
@@ -18,15 +19,15 @@ import subprocess
 import sys
 import tempfile
 
-from play_library import FLAGS, PLAIN_LIFE, TOP, compiler
+from play_library import EXAMPLES, FLAGS, INCLUDE, PLAIN_LIFE, TOP, compiler
 from playing import differing
 from skipping import has
 
-SOURCES = TOP / "bindings/c"
+SOURCES = TOP / "bindings/c/src"
 # The installed files by their paths, each with its source.
 INSTALLED = {
-    "include/zuphinka.h": SOURCES / "zuphinka.h",
-    "include/zuphinka_pool.h": SOURCES / "zuphinka_pool.h",
+    "include/zuphinka.h": INCLUDE / "zuphinka.h",
+    "include/zuphinka_pool.h": INCLUDE / "zuphinka_pool.h",
     "share/zuphinka/zuphinka_pool.c": SOURCES / "zuphinka_pool.c",
     "share/zuphinka/zuphinka_pool_metrics.h": SOURCES / "zuphinka_pool_metrics.h",
 }
@@ -59,16 +60,16 @@ def copies(prefix):
 def flags_of(prefix):
     """What differs in the version that pkg-config tells, and the flags."""
     environment = os.environ | {"PKG_CONFIG_PATH": str(prefix / "lib/pkgconfig")}
-    version = re.search(r'^#define ZUPHINKA_VERSION "(.*)"$', (SOURCES / "zuphinka.h").read_text(), flags=re.MULTILINE)[1]
+    version = re.search(r'^#define ZUPHINKA_VERSION "(.*)"$', (INCLUDE / "zuphinka.h").read_text(), flags=re.MULTILINE)[1]
     told = run("pkg-config", "--modversion", "zuphinka", environment=environment)
     flags = run("pkg-config", "--cflags", "--libs", "zuphinka", environment=environment)
     return differing("the version", (version.encode() + b"\n", b"", 0), told), flags.stdout.decode().split()
 
 
 def program_differing(name, folder, flags, words, wanted):
-    """What differs if a program of bindings/c is built with the installed files, and run."""
+    """What differs if an example is built with the installed files, and run."""
     source, program = folder / f"{name}.c", folder / name
-    shutil.copy(SOURCES / source.name, source)
+    shutil.copy(EXAMPLES / source.name, source)
     made = run(compiler(), *FLAGS, "-o", program, source, *flags)
     return differing(f"{name} is compiled", (b"", b"", 0), made) or differing(name, (wanted, b"", 0), run(program, *words))
 

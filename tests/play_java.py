@@ -10,8 +10,9 @@ eight threads over a factory that fails at random. tests/java/Refusals.java refu
 tests/java/Folders.java has pools that want one folder, and folders that are removed; tests/java/Loaders.java has pools in two class loaders, where
 temporary folders are unfit. The journals that they write must be legal. A stored file must be synced before it has its name, and its folder
 afterwards. The jar must have the version of all products and load nothing but the C library, and the codes of zuphinka.Core must be those of
-bindings/c/zuphinka.h. Each public and protected item must have documentation in which javac finds nothing wrong. The examples are run by the commands
-of bindings/java/README.md; the journal of that over DBCP2 must be drawn. What needs a JDK or a jar that is missing is skipped, with the reason.
+bindings/c/include/zuphinka.h. Each public and protected item must have documentation in which javac finds nothing wrong. The examples are run by the
+commands of bindings/java/README.md; the journal of that over DBCP2 must be drawn. What needs a JDK or a jar that is missing is skipped, with the
+reason.
 
 Prints what fails, and in the end the line 'N passed, M failed'.
 """
@@ -81,7 +82,7 @@ def program(name, done):
 
 def codes():
     """What is wanted of the codes that Java has, and what they are. It has all inputs, outcomes and answers, and some causes and statuses."""
-    header = re.sub(r"/\*.*?\*/", "", (TOP / "bindings/c/zuphinka.h").read_text(), flags=re.DOTALL)
+    header = re.sub(r"/\*.*?\*/", "", (TOP / "bindings/c/include/zuphinka.h").read_text(), flags=re.DOTALL)
     found = dict(re.findall(r"^    static final \w+ (\w+) = (-?\d+);$", (java.JAVA / "src/zuphinka/Core.java").read_text(), flags=re.MULTILINE))
     for kind, name, code in re.findall(r"ZUPHINKA_(INPUT|OUTCOME|ANSWER|CAUSE|STATUS)_(\w+) = (\d+)", header):
         if kind not in ("CAUSE", "STATUS") or name in found:

@@ -8,8 +8,8 @@
     play_library.py many LIBRARY POOL
     play_library.py crowd LIBRARY
 
-LIBRARY is libzuphinka.a, as `rt lib` builds it. The programs bindings/c/plain_life.c, bindings/c/long_life.c and bindings/c/play.c are compiled with
-bindings/c/zuphinka.h by the C compiler that CC names, or cc, and linked with it and with the kit's heap.
+LIBRARY is libzuphinka.a, as `rt lib` builds it. The programs bindings/c/examples/plain_life.c, bindings/c/examples/long_life.c and tests/play.c are
+compiled with bindings/c/include/zuphinka.h by the C compiler that CC names, or cc, and linked with it and with the kit's heap.
 
 - programs: `plain_life examples/settings.toml` must write the journal of examples/plain-life.script, which stands here, and end with status 0;
   and so it must, and `play` with the first case that ends with status 0, whole and cut, under valgrind, with no fault and nothing
@@ -49,6 +49,7 @@ from pool_model import cut_at, settings_of
 from skipping import has, skip
 
 TOP = pathlib.Path(__file__).resolve().parent.parent
+INCLUDE, EXAMPLES = TOP / "bindings/c/include", TOP / "bindings/c/examples"
 PLAIN_LIFE = b"0 10 borrow 10 = make 0\n0 11 ready 0 good = lent\n0 15 return 0 = check\n0 16 park 0 good = parked\n"
 FLAGS = ["-std=c11", "-O2", "-Wall", "-Wextra", "-Werror"]
 STRICT = ["-fsyntax-only", "-Wall", "-Wextra", "-Wshadow", "-Wpedantic", "-Werror"]
@@ -83,11 +84,11 @@ def heap():
     return pathlib.Path(page).parent / "c" / "liblibc_c.a"
 
 
-def compiled(name, library, folder, flags, sources=TOP / "bindings/c"):
+def compiled(name, library, folder, flags, sources=EXAMPLES):
     """Compiles NAME.c in the folder, links it with the library, and returns its path."""
     program = pathlib.Path(folder) / name
     program.parent.mkdir(exist_ok=True)
-    subprocess.run([compiler(), *FLAGS, "-I", TOP / "bindings/c", "-o", program, sources / f"{name}.c", *flags, library, heap()], check=True)
+    subprocess.run([compiler(), *FLAGS, "-I", INCLUDE, "-o", program, sources / f"{name}.c", *flags, library, heap()], check=True)
     return program
 
 
@@ -264,7 +265,7 @@ def header_runs(folder, header, body):
     source.write_text(f'#include "{header}"\nint main(void) {{ {body} }}\n')
     for name, language, standard in compilers:
         if shutil.which(name):
-            words = [name, *STRICT, "-I", TOP / "bindings/c", "-x", language, f"-std={standard}", source]
+            words = [name, *STRICT, "-I", INCLUDE, "-x", language, f"-std={standard}", source]
             yield f"{header} in {standard} by {name}", words, (b"", b"", 0)
         else:
             skip(f"{header} in {standard} by {name}", f"there is no {name}")
@@ -298,7 +299,7 @@ def main(kind, library, words):
     with tempfile.TemporaryDirectory() as built:
         if kind == "crowd":
             return play_crowds(compiled("crowd", library, built, REFUSING, TOP / "tests"))
-        play = compiled("play", library, built, REFUSING)
+        play = compiled("play", library, built, REFUSING, TOP / "tests")
         if kind == "many":
             return play_many(play, compiled("long_life", library, built, []), *words)
         if kind == "programs":

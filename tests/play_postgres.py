@@ -35,7 +35,7 @@ import openmetrics
 import postgres_server
 from check_rust import CRATE, REGISTRY, runs_cargo
 from playing import play_checks
-from play_library import FLAGS, compiler, heap
+from play_library import EXAMPLES, FLAGS, INCLUDE, compiler, heap
 from postgres_server import ROLE, SHARED, Server, end_with_parent, free_port, sessions_of
 from skipping import NO_CARGO, has, skip
 
@@ -43,7 +43,7 @@ TOP = pathlib.Path(__file__).resolve().parent.parent
 sys.path.append(str(TOP / "tools"))
 
 import java
-from install import heap_of_kit
+from install import POOL, heap_of_kit
 
 CONNECTIONS = 4
 # For how long an example transfers, in seconds. Its failures take some eleven; if they take longer than the first, all is done again with the second.
@@ -125,8 +125,8 @@ def in_c(library, folder):
     """Compiles the example in C, if libpq is there."""
     if not has("the example over PostgreSQL in C", "libpq-dev"):
         return None
-    program, sources = folder / "postgres", [TOP / "bindings/c" / name for name in ("postgres.c", "zuphinka_pool.c")]
-    words = [compiler(), *FLAGS, "-pthread", "-I", TOP / "bindings/c", "-I", "/usr/include/postgresql", "-o", program, *sources, library, heap(), "-lpq"]
+    program, sources = folder / "postgres", [EXAMPLES / "postgres.c", POOL]
+    words = [compiler(), *FLAGS, "-pthread", "-I", INCLUDE, "-I", "/usr/include/postgresql", "-o", program, *sources, library, heap(), "-lpq"]
     java.run(*words)
     return Example("c", 10_000, over_connection_string(program))
 

@@ -28,10 +28,11 @@ import sys
 import tempfile
 
 TOP = pathlib.Path(__file__).resolve().parent.parent
-HEADERS = [TOP / "bindings/c/zuphinka.h", TOP / "bindings/c/zuphinka_pool.h"]
-POOL = TOP / "bindings/c/zuphinka_pool.c"
-# The source, and the header that it alone includes.
-SOURCES = [POOL, TOP / "bindings/c/zuphinka_pool_metrics.h"]
+INCLUDE, SOURCES = TOP / "bindings/c/include", TOP / "bindings/c/src"
+HEADERS = [INCLUDE / "zuphinka.h", INCLUDE / "zuphinka_pool.h"]
+POOL = SOURCES / "zuphinka_pool.c"
+# The source of the pool, and the header that it alone includes.
+POOL_SOURCES = [POOL, SOURCES / "zuphinka_pool_metrics.h"]
 PKG_CONFIG = """prefix={prefix}
 includedir=${{prefix}}/include
 libdir=${{prefix}}/lib
@@ -78,7 +79,7 @@ def merge(archive, library, heap):
         pool, merged = pathlib.Path(folder) / "zuphinka_pool.o", pathlib.Path(folder) / archive.name
         for name, file in ("library.a", library), ("heap.a", heap):
             (pathlib.Path(folder) / name).symlink_to(file.resolve())
-        flags = ["-std=c11", "-O2", "-fPIC", "-pthread", "-Wall", "-Wextra", "-I", TOP / "bindings/c"]
+        flags = ["-std=c11", "-O2", "-fPIC", "-pthread", "-Wall", "-Wextra", "-I", INCLUDE]
         run(os.environ.get("CC", "cc"), *flags, "-c", "-o", pool, POOL)
         parts = f"ADDLIB {folder}/library.a\nADDLIB {folder}/heap.a\nADDMOD {pool}\n"
         run(os.environ.get("AR", "ar"), "-M", text=f"CREATE {merged}\n{parts}SAVE\nEND\n")
@@ -91,7 +92,7 @@ def install(prefix, named, library, heap):
     for folder in include, lib / "pkgconfig", share:
         folder.mkdir(parents=True, exist_ok=True)
     merge(lib / "libzuphinka.a", library, heap)
-    installed = [shutil.copy(header, include) for header in HEADERS] + [shutil.copy(source, share) for source in SOURCES]
+    installed = [shutil.copy(header, include) for header in HEADERS] + [shutil.copy(source, share) for source in POOL_SOURCES]
     description = lib / "pkgconfig/zuphinka.pc"
     description.write_text(PKG_CONFIG.format(prefix=named, version=version()))
     return [*installed, lib / "libzuphinka.a", description]

@@ -23,7 +23,7 @@ import sys
 import tempfile
 import zipfile
 
-from install import heap_of_kit, version
+from install import INCLUDE, heap_of_kit, version
 
 TOP = pathlib.Path(__file__).resolve().parent.parent
 JAVA = TOP / "bindings/java"
@@ -73,7 +73,7 @@ def run(*words, **options):
 def compile_native(library, heap, to, *more):
     """Compiles the native library, with more sources and flags of a test."""
     include = jdk() / "include"
-    flags = ["-std=c11", "-O2", "-Wall", "-Wextra", "-Werror", "-fPIC", "-shared", "-I", include, "-I", include / "linux", "-I", TOP / "bindings/c"]
+    flags = ["-std=c11", "-O2", "-Wall", "-Wextra", "-Werror", "-fPIC", "-shared", "-I", include, "-I", include / "linux", "-I", INCLUDE]
     link = [f"-Wl,--version-script={JAVA}/native/exports.map", "-Wl,-z,defs"]
     run(os.environ.get("CC", "cc"), *flags, JAVA / "native/zuphinka_jni.c", *more, library, heap, *link, "-o", to)
 

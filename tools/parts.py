@@ -170,7 +170,7 @@ PARTS = (
     Part(
         "readme",
         "the code that the README and the guide show is compiled code",
-        "python3 tests/check_readme.py README.md crates/example_server bindings/c bindings/rust/examples bindings/java/examples",
+        "python3 tests/check_readme.py README.md crates/example_server bindings/c/examples bindings/rust/examples bindings/java/examples",
     ),
     Part("metrics", "the reader of the pools' metrics refuses what the OpenMetrics format forbids", "python3 tests/openmetrics.py"),
     Part("names", "what the pages name is there", "python3 tests/check_names.py"),

@@ -6,9 +6,9 @@
  * `pool check FOLDER/settings.toml FOLDER/segment-*` checks them. With a PORT it serves the pool's metrics at http://127.0.0.1:PORT/metrics. Exits
  * with status 0; or with status 1 if the port is not free, or there is no pool, no table or no sum.
  *
- *     cc -pthread -I bindings/c -I "$(pg_config --includedir)" bindings/c/postgres.c bindings/c/zuphinka_pool.c LIBRARY -lpq -o postgres
- *
- * zuphinka.h says what LIBRARY is. */
+ *     python3 tools/install.py --prefix installed
+ *     cc -I installed/include -I "$(pg_config --includedir)" -o postgres bindings/c/examples/postgres.c -L installed/lib -lzuphinka -lpq -pthread
+ */
 #define _POSIX_C_SOURCE 200809L
 
 #include <arpa/inet.h>

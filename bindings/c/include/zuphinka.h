@@ -14,8 +14,9 @@
  *
  *     cc -o server server.c $(PKG_CONFIG_PATH=FOLDER/lib/pkgconfig pkg-config --cflags --libs zuphinka)
  *
- * In the repository, bindings/c/plain_life.c and bindings/c/long_life.c are programs of one thread to copy from. zuphinka_pool.h is a pool for
- * threads over this library: bindings/c/zuphinka_pool.c shows how threads share a pool under a lock, and bindings/c/shared_life.c uses it.
+ * In the repository, plain_life.c and long_life.c in bindings/c/examples are programs of one thread to copy from. zuphinka_pool.h is a pool for
+ * threads over this library: bindings/c/src/zuphinka_pool.c shows how threads share a pool under a lock, and shared_life.c in
+ * bindings/c/examples uses it.
  *
  * Rules
  *
@@ -56,9 +57,9 @@
  * (ZUPHINKA_INPUT_DESTROYED): the report frees its place, and another thread may make a new object at once.
  *
  * A thread that returns an object and borrows at once may take it again before the one that it woke, over and over. To bound that, let borrowers
- * queue. A pool with calls (`zuphinka_open_with`) has a queue, which is proved, and decides all else above. bindings/c/zuphinka_pool.c drives it for
- * threads, and is tested with eight threads under ThreadSanitizer. Copy from it, or use it as it is (zuphinka_pool.h), as bindings/c/shared_life.c
- * does.
+ * queue. A pool with calls (`zuphinka_open_with`) has a queue, which is proved, and decides all else above. bindings/c/src/zuphinka_pool.c drives
+ * it for threads, and is tested with eight threads under ThreadSanitizer. Copy from it, or use it as it is (zuphinka_pool.h), as
+ * bindings/c/examples/shared_life.c does.
  */
 #ifndef ZUPHINKA_H
 #define ZUPHINKA_H
