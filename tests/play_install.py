@@ -4,13 +4,17 @@
     play_install.py LIBRARY
 
 LIBRARY is libzuphinka.a, as `rt lib` builds it. The headers and the sources of the pool must be those of bindings/c, and pkg-config must have the
-version of the header. bindings/c/examples/first_loan.c, plain_life.c and shared_life.c beside it, copied to a folder by themselves, must compile with
-the flags that pkg-config prints, and run. If pkg-config isn't installed, nothing is compiled, which is printed. Without a library nothing is
-installed, with status 1.
+version of the header. The shared library must export the functions that the C compiler finds in the headers, and no other name. Its own name and its
+links must be those of the version, it must need nothing but the system's C library, and Python must load it. first_loan.c, plain_life.c and
+shared_life.c of bindings/c/examples, copied to a folder by themselves, must compile with the flags that pkg-config prints for the archive, for the
+shared library and for a static program, and run; only those of the shared library may need it. A second install must replace each file, and leave
+nothing else. If pkg-config isn't installed, nothing is compiled, which is printed. Without a library nothing is installed, with status 1.
 
 Prints each run that differs, and in the end the line 'N passed, M failed'.
 """
 
+import ctypes
+import dataclasses
 import os
 import pathlib
 import re
@@ -31,6 +35,8 @@ INSTALLED = {
     "share/zuphinka/zuphinka_pool.c": SOURCES / "zuphinka_pool.c",
     "share/zuphinka/zuphinka_pool_metrics.h": SOURCES / "zuphinka_pool_metrics.h",
 }
+# The libraries of the system that a program may need.
+SYSTEM = {"libc.so.6", "libpthread.so.0", "ld-linux-x86-64.so.2"}
 THREADS, ROUNDS = 4, 500
 # A run that takes longer hangs, in seconds.
 LONGEST = 600
@@ -57,45 +63,153 @@ def copies(prefix):
     return [name for name, source in INSTALLED.items() if (prefix / name).read_bytes() != source.read_bytes()]
 
 
-def flags_of(prefix):
-    """What differs in the version that pkg-config tells, and the flags."""
-    environment = os.environ | {"PKG_CONFIG_PATH": str(prefix / "lib/pkgconfig")}
-    version = re.search(r'^#define ZUPHINKA_VERSION "(.*)"$', (INCLUDE / "zuphinka.h").read_text(), flags=re.MULTILINE)[1]
-    told = run("pkg-config", "--modversion", "zuphinka", environment=environment)
-    flags = run("pkg-config", "--cflags", "--libs", "zuphinka", environment=environment)
-    return differing("the version", (version.encode() + b"\n", b"", 0), told), flags.stdout.decode().split()
+def version():
+    return re.search(r'^#define ZUPHINKA_VERSION "(.*)"$', (INCLUDE / "zuphinka.h").read_text(), flags=re.MULTILINE)[1]
 
 
-def program_differing(name, folder, flags, words, wanted):
+def unequal(what, wanted, got):
+    return [] if wanted == got else [f"{what}: wanted {wanted}, got {got}"]
+
+
+def declared():
+    """The functions without a body that the C compiler finds in zuphinka_pool.h and what it includes."""
+    text = run(compiler(), "-E", "-P", "-I", INCLUDE, INCLUDE / "zuphinka_pool.h").stdout.decode()
+    while (outer := re.sub(r"\{[^{}]*\}", ";", text)) != text:
+        text = outer
+    found = (re.match(r"(?!typedef|static)[\w\s*]+?\b(zuphinka_\w+)\s*\(", statement.strip()) for statement in text.split(";"))
+    return sorted(function[1] for function in found if function)
+
+
+def exported(library):
+    """The names that a shared library exports, each with its kind."""
+    lines = run("nm", "-D", "--defined-only", library).stdout.decode().splitlines()
+    return sorted((name, kind) for _, kind, name in map(str.split, lines))
+
+
+def dynamic(file, tag):
+    """What a shared library or a program says under a tag of its dynamic section."""
+    return re.findall(rf"\({tag}\) .*\[(.*)\]", run("readelf", "--dynamic", "--wide", file).stdout.decode())
+
+
+def version_loaded(library):
+    """The version that a shared library returns, or why it is not loaded."""
+    try:
+        return ctypes.CDLL(library).zuphinka_version()
+    except OSError as fault:
+        return str(fault)
+
+
+def shared_library(lib):
+    """What differs of the shared library and its links, by what is wanted of it."""
+    names = [f"libzuphinka.so.{version()}", f"libzuphinka.so.{version().partition('.')[0]}", "libzuphinka.so"]
+    whole, loaded, found = (lib / name for name in names)
+    major, minor, patch = map(int, version().split("."))
+    yield unequal("the exported names", [(name, "T") for name in declared()], exported(whole))
+    yield unequal("the name of the shared library", [loaded.name], dynamic(whole, "SONAME"))
+    yield unequal("what it needs", [], sorted({*dynamic(whole, "NEEDED")} - SYSTEM))
+    yield unequal("the links", [None, whole.name, loaded.name], [os.readlink(file) if file.is_symlink() else None for file in (whole, loaded, found)])
+    yield unequal("the version that Python finds in it", major * 1_000_000 + minor * 1_000 + patch, version_loaded(loaded))
+
+
+def told_by_pkg_config(prefix, *words):
+    return run("pkg-config", *words, environment=os.environ | {"PKG_CONFIG_PATH": str(prefix / "lib/pkgconfig")})
+
+
+def versions_told(prefix):
+    """What differs in the versions that pkg-config tells."""
+    told = {name: told_by_pkg_config(prefix, "--modversion", name).stdout for name in ("zuphinka", "zuphinka-static")}
+    return unequal("the versions that pkg-config tells", dict.fromkeys(told, version().encode() + b"\n"), told)
+
+
+@dataclasses.dataclass
+class Kind:
+    """A way to link a program: its name, the flags, the shared libraries of ours that the program needs, and the environment in which it runs."""
+
+    name: str
+    flags: list[str]
+    needs: list[str]
+    environment: dict[str, str] | None = None
+
+
+def kinds(prefix):
+    """The ways to link a program, by the flags of pkg-config."""
+    archive, shared, static = (
+        told_by_pkg_config(prefix, "--cflags", "--libs", *words).stdout.decode().split()
+        for words in (["zuphinka-static"], ["zuphinka"], ["--static", "zuphinka"])
+    )
+    yield Kind("with the archive", archive, [])
+    found = os.environ | {"LD_LIBRARY_PATH": str(prefix / "lib")}
+    yield Kind("with the shared library", shared, [f"libzuphinka.so.{version().partition('.')[0]}"], found)
+    yield Kind("as a static program", ["-static", *static], [])
+
+
+def program_differing(name, folder, kind, words, wanted):
     """What differs if an example is built with the installed files, and run."""
     source, program = folder / f"{name}.c", folder / name
     shutil.copy(EXAMPLES / source.name, source)
-    made = run(compiler(), *FLAGS, "-o", program, source, *flags)
-    return differing(f"{name} is compiled", (b"", b"", 0), made) or differing(name, (wanted, b"", 0), run(program, *words))
+    made = run(compiler(), *FLAGS, "-o", program, source, *kind.flags)
+    if made.returncode:
+        return differing(f"{name} is compiled {kind.name}", (b"", b"", 0), made)
+    needed = [library for library in dynamic(program, "NEEDED") if library not in SYSTEM]
+    done = run(program, *words, environment=kind.environment)
+    return unequal(f"what {name} needs, {kind.name}", kind.needs, needed) + differing(f"{name} {kind.name}", (wanted, b"", 0), done)
 
 
-def shared_differing(folder, flags):
+def shared_differing(folder, kind):
     """What differs where threads share a pool: each round has four entries at least."""
     settings, segments = folder / "settings", folder / "segments"
     settings.write_text("journalLimit = 1000\n")
     segments.mkdir()
-    found = program_differing("shared_life", folder, flags, [settings, segments, str(THREADS), str(ROUNDS)], b"")
+    found = program_differing("shared_life", folder, kind, [settings, segments, str(THREADS), str(ROUNDS)], b"")
     entries = sum(path.read_bytes().count(b" = ") for path in segments.iterdir())
-    return found or ([] if entries >= 4 * THREADS * ROUNDS else [f"shared_life: {entries} entries"])
+    return found or ([] if entries >= 4 * THREADS * ROUNDS else [f"shared_life {kind.name}: {entries} entries"])
+
+
+def programs(prefix):
+    """What differs of each example, linked in each way."""
+    for kind in kinds(prefix):
+        with tempfile.TemporaryDirectory() as name:
+            folder = pathlib.Path(name)
+            yield program_differing("first_loan", folder, kind, [], b"")
+            yield program_differing("plain_life", folder, kind, [TOP / "examples/settings.toml"], PLAIN_LIFE)
+            yield shared_differing(folder, kind)
+
+
+def files(prefix):
+    """The files and links below a prefix, with their numbers in the file system."""
+    return {path.relative_to(prefix).as_posix(): path.lstat().st_ino for path in prefix.rglob("*") if path.is_symlink() or path.is_file()}
+
+
+def second(prefix, library):
+    """What differs if all is installed once more: each library and link is another one, so that a program that runs keeps its own."""
+    before, done = files(prefix), install(prefix, library)
+    after = files(prefix)
+    kept = [name for name in before if name.startswith("lib/libzuphinka") and before[name] == after.get(name)]
+    yield unequal("a second install", (0, b""), (done.returncode, done.stderr))
+    yield unequal("the files of a second install", sorted(before), sorted(after))
+    yield unequal("libraries that a second install overwrites", [], kept)
+
+
+def checks(prefix, library):
+    """What differs of the installed files, and of the programs that are built with them; and after a second install."""
+    installed = install(prefix, library)
+    yield unequal("an install", (0, b""), (installed.returncode, installed.stderr))
+    if installed.returncode:
+        return
+    told = {str(pathlib.Path(line).relative_to(prefix)) for line in installed.stdout.decode().splitlines()}
+    yield unequal("the files that it prints", sorted(files(prefix)), sorted(told))
+    yield from second(prefix, library)
+    yield copies(prefix)
+    yield from shared_library(prefix / "lib")
+    if has("programs that are built by the installed files", "pkgconf"):
+        yield versions_told(prefix)
+        yield from programs(prefix)
 
 
 def main(library):
     with tempfile.TemporaryDirectory() as name:
-        folder, prefix = pathlib.Path(name), pathlib.Path(name) / "prefix"
-        found = [missing_library(folder)]
-        installed = install(prefix, library)
-        found.append([] if installed.returncode == 0 else [installed.stderr.decode()])
-        if installed.returncode == 0:
-            found.append(copies(prefix))
-            if has("programs that are built by the installed files", "pkgconf"):
-                version, flags = flags_of(prefix)
-                plain = program_differing("plain_life", folder, flags, [TOP / "examples/settings.toml"], PLAIN_LIFE)
-                found += [version, program_differing("first_loan", folder, flags, [], b""), plain, shared_differing(folder, flags)]
+        folder = pathlib.Path(name).resolve()
+        found = [missing_library(folder), *checks(folder / "prefix", library)]
     for line in (line for lines in found for line in lines):
         print(line[:2000])
     failed = sum(map(bool, found))

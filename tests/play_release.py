@@ -36,7 +36,8 @@ THREADS, ROUNDS = 4, 500
 # A run that takes longer hangs, in seconds.
 LONGEST = 1200
 PROGRAMS = ("pool", "judge", "journal_picture")
-TAMPERED = ("bin/pool", "lib/libzuphinka.a", "include/zuphinka.h", "rust/zuphinka/lib/libzuphinka.a", "rust/zuphinka/src/lib.rs", "LICENSE")
+LIBRARIES = ("lib/libzuphinka.a", "lib/libzuphinka.so", "rust/zuphinka/lib/libzuphinka.a")
+TAMPERED = (*LIBRARIES, "bin/pool", "include/zuphinka.h", "rust/zuphinka/src/lib.rs", "LICENSE")
 JAR = "java/zuphinka.jar"
 # The lines of a page that are indented by four spaces, in blocks.
 BLOCK = re.compile(r"(?:^    .*\n)+", flags=re.MULTILINE)
@@ -149,7 +150,8 @@ def checksums(top):
         text = files[name].read_bytes()
         files[name].write_bytes(text[:-2] + bytes([text[-2] ^ 1]) + text[-1:])
         said, _, status = shell(command, top)
-        yield f"{name}, changed by a bit", (f"{name}: FAILED\n".encode(), 1), (said, status)
+        same = [other for other, path in sorted(files.items()) if path.samefile(files[name])]
+        yield f"{name}, changed by a bit", ("".join(f"{other}: FAILED\n" for other in same).encode(), 1), (said, status)
         files[name].write_bytes(text)
     (top / "LICENSE").rename(top / "LICENCE")
     yield "a file that is missing", 1, shell(command, top)[2]
@@ -215,21 +217,27 @@ def java_part(top):
             yield from example(top, block, folder, reports[folder])
 
 
+def shared_life(top, package, before):
+    """Threads that share a pool in C, by the flags of a package of pkg-config, with words before the command."""
+    flags, folder = f"$(PKG_CONFIG_PATH=lib/pkgconfig pkg-config --cflags --libs {package})", top / f"by-{package}"
+    yield f"shared_life.c by {package}", (b"", b"", 0), shell(f"cc -Wall -Wextra -Werror -o shared_life examples/shared_life.c {flags}", top)
+    folder.mkdir()
+    (folder / "settings.toml").write_text("journalLimit = 1000\n")
+    command = f"{before}./shared_life {folder.name}/settings.toml {folder.name} {THREADS} {ROUNDS}"
+    yield f"shared_life by {package}", (b"", b"", 0), shell(command, top)
+    yield f"the journal of shared_life by {package}", *is_legal(top, folder)
+
+
 def programs(top):
-    """The programs, and threads that share a pool in C, by the flags of pkg-config."""
+    """The programs, and threads that share a pool in C, with the archive and with the shared library."""
     yield "a script", (PLAIN_LIFE, b"", 0), shell("bin/pool run examples/settings.toml examples/plain-life.script", top)
     (top / "plain.journal").write_bytes(PLAIN_LIFE)
     done = run(top / "bin/journal_picture", "plain.journal", folder=top)
     yield "a picture", (b"", 0, True), (done.stderr, done.returncode, done.stdout.startswith(b"<"))
     if not has("shared_life.c of the archive", "pkgconf"):
         return
-    flags = "$(PKG_CONFIG_PATH=lib/pkgconfig pkg-config --cflags --libs zuphinka)"
-    yield "shared_life.c", (b"", b"", 0), shell(f"cc -Wall -Wextra -Werror -o shared_life examples/shared_life.c {flags}", top)
-    shared = top / "shared"
-    shared.mkdir()
-    (shared / "settings.toml").write_text("journalLimit = 1000\n")
-    yield "shared_life", (b"", b"", 0), shell(f"./shared_life shared/settings.toml shared {THREADS} {ROUNDS}", top)
-    yield "the journal of shared_life", *is_legal(top, shared)
+    for package, before in ("zuphinka-static", ""), ("zuphinka", "LD_LIBRARY_PATH=lib "):
+        yield from shared_life(top, package, before)
     pool = run("cc", "-c", "-pthread", "-Iinclude", "-o", "pool.o", "share/zuphinka/zuphinka_pool.c", folder=top)
     yield "the source of the pool for threads", (b"", 0), (pool.stderr, pool.returncode)
 

@@ -1,27 +1,33 @@
 #!/usr/bin/env python3
-"""Installs the C library under a prefix: headers, one archive, the source of the pool for threads, and a file for pkg-config.
+"""Installs the C library under a prefix: headers, an archive and a shared library, the source of the pool for threads, and two files for pkg-config.
 
     tools/install.py --prefix FOLDER [--library FILE] [--heap FILE]
 
 `python3 tools/build.py zuphinka` builds the library first. FILE is libzuphinka.a, else that of crates/zuphinka/out; and the kit's liblibc_c.a,
-by which the library allocates, else that of the command `rt`. The C compiler that CC names, or cc, compiles the pool, and AR, or ar, makes the
-archive. Installed are
+by which the library allocates, else that of the command `rt`. The C compiler that CC names, or cc, compiles the pool and links the shared library,
+and AR, or ar, makes the archive. Installed are
 
     include/zuphinka.h, include/zuphinka_pool.h
     lib/libzuphinka.a             the library, what it allocates by, and the pool for threads
-    lib/pkgconfig/zuphinka.pc
+    lib/libzuphinka.so.VERSION    the same as a shared library, which exports the functions of the headers and nothing else
+    lib/libzuphinka.so.MAJOR      a link to it, by the name that programs load
+    lib/libzuphinka.so            a link to that, by the name that `-lzuphinka` finds
+    lib/pkgconfig/zuphinka.pc, lib/pkgconfig/zuphinka-static.pc
     share/zuphinka/zuphinka_pool.c, share/zuphinka/zuphinka_pool_metrics.h
 
-so that a program is built by
+so that a program is built with the archive by the first command, and with the shared library by the second:
 
+    cc -o server server.c $(PKG_CONFIG_PATH=FOLDER/lib/pkgconfig pkg-config --cflags --libs zuphinka-static)
     cc -o server server.c $(PKG_CONFIG_PATH=FOLDER/lib/pkgconfig pkg-config --cflags --libs zuphinka)
 
-Prints each file that it installs. The status is 1 if a file is missing or a command fails; what was installed before may then be in part new.
+What is installed already is replaced. Programs that have it loaded keep what they have. Prints each file that it installs. The status is 1 if a file
+is missing or a command fails; what was installed before may then be in part new.
 """
 
 import argparse
 import os
 import pathlib
+import re
 import shutil
 import subprocess
 import sys
@@ -33,17 +39,21 @@ HEADERS = [INCLUDE / "zuphinka.h", INCLUDE / "zuphinka_pool.h"]
 POOL = SOURCES / "zuphinka_pool.c"
 # The source of the pool, and the header that it alone includes.
 POOL_SOURCES = [POOL, SOURCES / "zuphinka_pool_metrics.h"]
+# What pkg-config prints for the linker, by the name of its file.
+LINKED = {"zuphinka": "-L${libdir} -lzuphinka", "zuphinka-static": "${libdir}/libzuphinka.a"}
 PKG_CONFIG = """prefix={prefix}
 includedir=${{prefix}}/include
 libdir=${{prefix}}/lib
 
-Name: zuphinka
+Name: {name}
 Description: An object pool whose decisions are proved, and a pool for threads over it
 Version: {version}
 License: Apache-2.0
 Cflags: -I${{includedir}} -pthread
-Libs: -L${{libdir}} -lzuphinka -pthread
+Libs: {linked} -pthread
 """
+# A function that a header declares, without a body, and that is no type.
+DECLARED = re.compile(r"^(?!static\b|typedef\b)\w[\w *]*?\b(zuphinka_\w+)\(", re.MULTILINE)
 
 
 def heap_of_kit():
@@ -75,15 +85,49 @@ def run(*words, text=None):
 
 def merge(archive, library, heap):
     """Makes an archive of the members of two and of the pool, compiled. Members of one name stay apart."""
-    with tempfile.TemporaryDirectory() as folder:
-        pool, merged = pathlib.Path(folder) / "zuphinka_pool.o", pathlib.Path(folder) / archive.name
-        for name, file in ("library.a", library), ("heap.a", heap):
-            (pathlib.Path(folder) / name).symlink_to(file.resolve())
-        flags = ["-std=c11", "-O2", "-fPIC", "-pthread", "-Wall", "-Wextra", "-I", INCLUDE]
-        run(os.environ.get("CC", "cc"), *flags, "-c", "-o", pool, POOL)
-        parts = f"ADDLIB {folder}/library.a\nADDLIB {folder}/heap.a\nADDMOD {pool}\n"
-        run(os.environ.get("AR", "ar"), "-M", text=f"CREATE {merged}\n{parts}SAVE\nEND\n")
-        shutil.copy(merged, archive)
+    folder = archive.parent
+    pool = folder / "zuphinka_pool.o"
+    for name, file in ("library.a", library), ("heap.a", heap):
+        (folder / name).symlink_to(file.resolve())
+    flags = ["-std=c11", "-O2", "-fPIC", "-pthread", "-Wall", "-Wextra", "-I", INCLUDE]
+    run(os.environ.get("CC", "cc"), *flags, "-c", "-o", pool, POOL)
+    parts = f"ADDLIB {folder}/library.a\nADDLIB {folder}/heap.a\nADDMOD {pool}\n"
+    run(os.environ.get("AR", "ar"), "-M", text=f"CREATE {archive}\n{parts}SAVE\nEND\n")
+
+
+def functions(header):
+    """The functions that a header declares and the library has."""
+    return DECLARED.findall(re.sub(r"/\*.*?\*/", "", header.read_text(), flags=re.DOTALL))
+
+
+def link(shared, archive, name):
+    """Links a shared library of this name from all members of an archive. It exports the functions of the headers, and calls its own directly."""
+    script = shared.with_name("exports.map")
+    exported = "".join(f" {function};" for header in HEADERS for function in functions(header))
+    script.write_text(f"{{ global:{exported} local: *; }};\n")
+    flags = ["-shared", "-fPIC", "-pthread", f"-Wl,-soname,{name}", f"-Wl,--version-script={script}", "-Wl,-Bsymbolic-functions", "-Wl,-z,defs"]
+    run(os.environ.get("CC", "cc"), *flags, "-o", shared, "-Wl,--whole-archive", archive, "-Wl,--no-whole-archive")
+
+
+def put(file, folder):
+    """Puts a file or a link into a folder, in place of one of its name, and gives its path. A program that uses the old one keeps it."""
+    there, part = folder / file.name, folder / f".{file.name}.part"
+    part.unlink(missing_ok=True)
+    shutil.copy(file, part, follow_symlinks=False)
+    os.replace(part, there)
+    return there
+
+
+def install_libraries(lib, library, heap):
+    """Installs the archive and the shared library with its links, and gives the files."""
+    names = [f"libzuphinka.so.{version()}", f"libzuphinka.so.{version().partition('.')[0]}", "libzuphinka.so"]
+    with tempfile.TemporaryDirectory() as name:
+        archive, shared, loaded, found = (pathlib.Path(name) / file for file in ["libzuphinka.a", *names])
+        merge(archive, library, heap)
+        link(shared, archive, loaded.name)
+        loaded.symlink_to(shared.name)
+        found.symlink_to(loaded.name)
+        return [put(file, lib) for file in (archive, shared, loaded, found)]
 
 
 def install(prefix, named, library, heap):
@@ -91,11 +135,13 @@ def install(prefix, named, library, heap):
     include, lib, share = prefix / "include", prefix / "lib", prefix / "share/zuphinka"
     for folder in include, lib / "pkgconfig", share:
         folder.mkdir(parents=True, exist_ok=True)
-    merge(lib / "libzuphinka.a", library, heap)
-    installed = [shutil.copy(header, include) for header in HEADERS] + [shutil.copy(source, share) for source in POOL_SOURCES]
-    description = lib / "pkgconfig/zuphinka.pc"
-    description.write_text(PKG_CONFIG.format(prefix=named, version=version()))
-    return [*installed, lib / "libzuphinka.a", description]
+    installed = install_libraries(lib, library, heap)
+    installed += [put(header, include) for header in HEADERS] + [put(source, share) for source in POOL_SOURCES]
+    for name, linked in LINKED.items():
+        description = lib / f"pkgconfig/{name}.pc"
+        description.write_text(PKG_CONFIG.format(prefix=named, name=name, version=version(), linked=linked))
+        installed.append(description)
+    return installed
 
 
 def main():

@@ -3,7 +3,7 @@
 
     tools/release.py [--gate FILE] [--output FOLDER] [--programs FOLDER] [--without-java]
 
-The archive has the C library with its headers and its file for pkg-config, the Rust crate and the jar for Java, each with the library in it, the
+The archive has the C library with its headers and its files for pkg-config, the Rust crate and the jar for Java, each with the library in it, the
 programs pool, judge and journal_picture, the man page, examples, the licence, a README, and PROVED. That file has what ./check came to, the commit,
 the kit's line and a checksum of each other file, as `sha256sum --check` reads it.
 

@@ -7,7 +7,7 @@
  * with status 0; or with status 1 if the port is not free, or there is no pool, no table or no sum.
  *
  *     python3 tools/install.py --prefix installed
- *     cc -I installed/include -I "$(pg_config --includedir)" -o postgres bindings/c/examples/postgres.c -L installed/lib -lzuphinka -lpq -pthread
+ *     cc -I installed/include -I "$(pg_config --includedir)" -o postgres bindings/c/examples/postgres.c installed/lib/libzuphinka.a -lpq -pthread
  */
 #define _POSIX_C_SOURCE 200809L
 

@@ -10,9 +10,10 @@
  * `zuphinka_cut`). docs/guide/program.md lists the inputs with their answers, docs/guide/concepts.md the phases of an object, and
  * docs/guide/c.md explains both C libraries.
  *
- * `python3 tools/build.py zuphinka` builds the library, and `python3 tools/install.py --prefix FOLDER` installs it with a file for pkg-config:
+ * `python3 tools/build.py zuphinka` builds the library, and `python3 tools/install.py --prefix FOLDER` installs it, as an archive and as a shared
+ * library, with files for pkg-config: zuphinka-static for the archive, and zuphinka for the shared library.
  *
- *     cc -o server server.c $(PKG_CONFIG_PATH=FOLDER/lib/pkgconfig pkg-config --cflags --libs zuphinka)
+ *     cc -o server server.c $(PKG_CONFIG_PATH=FOLDER/lib/pkgconfig pkg-config --cflags --libs zuphinka-static)
  *
  * In the repository, plain_life.c and long_life.c in bindings/c/examples are programs of one thread to copy from. zuphinka_pool.h is a pool for
  * threads over this library: bindings/c/src/zuphinka_pool.c shows how threads share a pool under a lock, and shared_life.c in

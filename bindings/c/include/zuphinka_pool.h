@@ -4,8 +4,8 @@
  * The host writes callbacks that make and destroy objects and, if it wishes, activate, test and passivate them. The pool lends the objects to
  * threads, with the settings of docs/guide/settings.md.
  *
- * The installed archive has this pool. Otherwise compile bindings/c/src/zuphinka_pool.c with the program, with -std=c11 and -pthread. zuphinka.h has
- * the commands. bindings/c/examples/shared_life.c is a program to copy from.
+ * The installed libraries have this pool. Otherwise compile bindings/c/src/zuphinka_pool.c with the program, with -std=c11 and -pthread. zuphinka.h
+ * has the commands. bindings/c/examples/shared_life.c is a program to copy from.
  *
  * The library of zuphinka.h decides what a call does next, which threads wait, which one is woken, and when a journal is dropped:
  * docs/proof/proved.md says what of that is proved. The lock, the sleep of threads, the loans and the segments of the journal are not proved but
