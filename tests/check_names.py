@@ -1,5 +1,5 @@
 #!/usr/bin/env python3
-"""Sees that what README.md, SECURITY.md and docs/ name is there.
+"""Sees that what README.md, SECURITY.md, bindings/c/README.md and docs/ name is there.
 
 check_names.py  The last line is 'N passed, M failed'.
 
@@ -34,7 +34,7 @@ SAID = r"\b(?:ensures|ghost|pub (?:trait|struct|enum|fn)|pub\(crate\) fn) %s\b"
 OTHERS = (
     *("bindings/c/include/*", "bindings/c/src/*", "bindings/c/examples/*", "bindings/rust/src/*.rs", "bindings/rust/examples/*"),
     *("bindings/java/src/zuphinka/*", "bindings/java/native/*", "bindings/java/examples/*", "tests/*.*", "tests/java/*", "tests/commons_pool/**/*"),
-    *("bench/*", "tools/*", "docs/pictures/*.py", "examples/*", "pool", "check", "crates.txt"),
+    *("bench/*", "tools/*", "docs/pictures/*.py", "examples/*", "pool", "check", "crates.txt", "bindings/c/Makefile"),
 )
 
 
@@ -223,7 +223,8 @@ def check_clauses(page):
 
 def main():
     passed, failed = 0, 0
-    checks = [(check, page) for page in (*PAGES, TOP / "SECURITY.md") for check in (check_mentions, check_beside, check_links)]
+    others = TOP / "SECURITY.md", TOP / "bindings/c/README.md"
+    checks = [(check, page) for page in (*PAGES, *others) for check in (check_mentions, check_beside, check_links)]
     checks += [(check_opening, page) for page in PAGES if page != TOP / "README.md"]
     checks += [(check_definitions, TOP / "docs" / name) for name in ("proof/definitions.md", "proof/sharing.md", "dev/architecture.md")]
     checks.append((check_clauses, TOP / "docs/proof/proved.md"))

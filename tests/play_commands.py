@@ -1,12 +1,13 @@
 #!/usr/bin/env python3
-"""Runs the commands that README.md, docs/ and the program's help show, and judges the journals.
+"""Runs the commands that README.md, bindings/c/README.md, docs/ and the program's help show, and judges the journals.
 
 play_commands.py POOL  The last line is 'N passed, M failed'.
 
 A block is what a page indents by four spaces, and the man page's section of examples. Each must be of commands, which are run one after the
 other with the repository's examples at hand, or as one where they have a loop; the lines of a journal, which must be legal with the default
 settings, cut into segments or not; the form of a line; or the line of `rt version` of a kit with the logic of this one, which may also be in a sentence.
-The command ./check is not run, since it runs this, nor is tools/build.py, since it has built the programs: there must be such a crate or binding.
+The command ./check is not run, since it runs this, nor is tools/build.py, also not by make, since it has built the programs: there must be such a
+crate or binding.
 Java's commands are run by play_java.py. What ./try does with the program without its proofs is done here by the program. Blocks between fences are not
 run: check_readme.py holds them against the sources. Names are for check_names.py. Cargo's commands are skipped if no cargo runs.
 """
@@ -18,13 +19,14 @@ import subprocess
 import sys
 import tempfile
 
-from skipping import NO_CARGO, skip
+from skipping import NO_CARGO, has, skip
 
 TOP = pathlib.Path(__file__).resolve().parent.parent
 # Commands that this does not run, since they run it.
 OWN = ("./check", "./check --install")
 COMMAND = re.compile(
-    r"(\./pool|\./try|\./check|pool|crates/\S+|\(cd|mkdir|printf|python3 tools/\S+|cc|\./plain_life|\./long_life|\./shared_life|cargo|java) "
+    r"(\./pool|\./try|\./check|pool|crates/\S+|\(cd|mkdir|printf|python3 tools/\S+|make|cc|(LD_LIBRARY_PATH=\S+ )?\./first_loan|\./plain_life|"
+    r"\./long_life|\./shared_life|cargo|java) "
 )
 ENTRY = re.compile(r"\d+ \d+ .* = ")
 BASE = re.compile(r"pool-journal 2 |\d+ (readying|adding|lent|returning|idle|testing|destroying) ")
@@ -80,7 +82,7 @@ class Place:
             return None
         if words.startswith("./try ") and not (TOP / "try").is_file():
             return "no such script"
-        words = re.sub(r"^(\./try|pool) ", "./pool ", words)
+        words = re.sub(r"^make ", "make --old-file=library ", re.sub(r"^(\./try|pool) ", "./pool ", words))
         done = subprocess.run(["bash", "-c", words], cwd=self.folder, capture_output=True, text=True, stdin=subprocess.DEVNULL)
         return f"status {done.returncode}: {done.stderr.strip()}" if done.returncode else None
 
@@ -135,7 +137,10 @@ def kit():
 
 def main(pool):
     passed, failed = 0, 0
-    for page in [TOP / "README.md", *sorted((TOP / "docs").rglob("*.md")), TOP / "docs/pool.1"]:
+    pages = [TOP / "README.md", *sorted((TOP / "docs").rglob("*.md")), TOP / "docs/pool.1"]
+    if has("the commands of bindings/c/README.md", "make"):
+        pages.append(TOP / "bindings/c/README.md")
+    for page in pages:
         with tempfile.TemporaryDirectory() as folder:
             for shown, fault in Place(folder, pathlib.Path(pool).resolve()).faults_of_page(page):
                 passed += not fault

@@ -8,7 +8,8 @@ version of the header. The shared library must export the functions that the C c
 links must be those of the version, it must need nothing but the system's C library, and Python must load it. first_loan.c, plain_life.c and
 shared_life.c of bindings/c/examples, copied to a folder by themselves, must compile with the flags that pkg-config prints for the archive, for the
 shared library and for a static program, and run; only those of the shared library may need it. A second install must replace each file, and leave
-nothing else. If pkg-config isn't installed, nothing is compiled, which is printed. Without a library nothing is installed, with status 1.
+nothing else. bindings/c/Makefile must build the library by tools/build.py, which isn't run here, install the same files, and compile the examples. If
+pkg-config or make isn't installed, what needs it is skipped, which is printed. Without a library nothing is installed, with status 1.
 
 Prints each run that differs, and in the end the line 'N passed, M failed'.
 """
@@ -190,6 +191,34 @@ def second(prefix, library):
     yield unequal("libraries that a second install overwrites", [], kept)
 
 
+def make(*words):
+    """Runs make in bindings/c, as if the library were just built."""
+    return run("make", "--no-print-directory", "--old-file=library", "-C", TOP / "bindings/c", *words)
+
+
+def compiled_by_make(out):
+    """What differs of the examples that make compiles in a folder: once, so that they run, and not again without a change."""
+    words, names = ["examples", f"OUT={out}"], sorted(path.stem for path in EXAMPLES.glob("*.c") if path.stem != "postgres")
+    yield unequal("make examples", (0, b""), ((done := make(*words)).returncode, done.stderr))
+    yield unequal("the programs of make examples", sorted([*names, "installed"]), sorted(path.name for path in out.iterdir()))
+    yield differing("first_loan by make", (b"", b"", 0), run(out / "first_loan"))
+    yield differing("plain_life by make", (PLAIN_LIFE, b"", 0), run(out / "plain_life", TOP / "examples/settings.toml"))
+    yield unequal("make examples, again", [], [line for line in make(*words).stdout.decode().splitlines() if not line.startswith("make: ")])
+    yield unequal("make clean", (0, False), (make("clean", f"OUT={out}").returncode, out.exists()))
+
+
+def by_make(prefix, folder):
+    """What differs of the targets of the Makefile, whose install has the files of that under a prefix."""
+    stage = folder / "stage"
+    built = run("make", "--no-print-directory", "--dry-run", "-C", TOP / "bindings/c")
+    yield differing("make", (b"python3 ../../tools/build.py zuphinka\n", b"", 0), built)
+    yield unequal("make install", 0, make("install", "PREFIX=/usr", f"DESTDIR={stage}").returncode)
+    yield unequal("the files of make install", sorted(f"usr/{name}" for name in files(prefix)), sorted(files(stage)))
+    descriptions = [(stage / f"usr/lib/pkgconfig/{name}.pc").read_text() for name in ("zuphinka", "zuphinka-static")]
+    yield unequal("the prefix of make install", ["prefix=/usr"] * 2, [text.partition("\n")[0] for text in descriptions])
+    yield from compiled_by_make(folder / "out")
+
+
 def checks(prefix, library):
     """What differs of the installed files, and of the programs that are built with them; and after a second install."""
     installed = install(prefix, library)
@@ -210,6 +239,8 @@ def main(library):
     with tempfile.TemporaryDirectory() as name:
         folder = pathlib.Path(name).resolve()
         found = [missing_library(folder), *checks(folder / "prefix", library)]
+        if has("bindings/c/Makefile", "make"):
+            found += by_make(folder / "prefix", folder)
     for line in (line for lines in found for line in lines):
         print(line[:2000])
     failed = sum(map(bool, found))

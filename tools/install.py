@@ -1,7 +1,7 @@
 #!/usr/bin/env python3
 """Installs the C library under a prefix: headers, an archive and a shared library, the source of the pool for threads, and two files for pkg-config.
 
-    tools/install.py --prefix FOLDER [--library FILE] [--heap FILE]
+    tools/install.py --prefix FOLDER [--destdir FOLDER] [--library FILE] [--heap FILE]
 
 `python3 tools/build.py zuphinka` builds the library first. FILE is libzuphinka.a, else that of crates/zuphinka/out; and the kit's liblibc_c.a,
 by which the library allocates, else that of the command `rt`. The C compiler that CC names, or cc, compiles the pool and links the shared library,
@@ -20,8 +20,11 @@ so that a program is built with the archive by the first command, and with the s
     cc -o server server.c $(PKG_CONFIG_PATH=FOLDER/lib/pkgconfig pkg-config --cflags --libs zuphinka-static)
     cc -o server server.c $(PKG_CONFIG_PATH=FOLDER/lib/pkgconfig pkg-config --cflags --libs zuphinka)
 
-What is installed already is replaced. Programs that have it loaded keep what they have. Prints each file that it installs. The status is 1 if a file
-is missing or a command fails; what was installed before may then be in part new.
+Under a folder of the system, such as /usr/local, run ldconfig afterwards, so that programs find the shared library.
+
+With --destdir the files are put below that folder, and name the prefix without it. What is installed already is replaced. Programs that have it
+loaded keep what they have. Prints each file that it installs. The status is 1 if a file is missing or a command fails; what was installed before may
+then be in part new.
 """
 
 import argparse
@@ -68,6 +71,7 @@ def heap_of_kit():
 def arguments():
     words = argparse.ArgumentParser(description="Installs the C library under a prefix.")
     words.add_argument("--prefix", required=True, type=pathlib.Path, help="the folder that gets include, lib and share")
+    words.add_argument("--destdir", default="", help="a folder that is put before the prefix")
     words.add_argument("--library", type=pathlib.Path, default=TOP / "crates/zuphinka/out/libzuphinka.a", help="libzuphinka.a")
     words.add_argument("--heap", type=pathlib.Path, help="the kit's liblibc_c.a")
     return words.parse_args()
@@ -151,7 +155,8 @@ def main():
         if not file.is_file():
             sys.exit(f"{file}: no such file; python3 tools/build.py zuphinka builds the library")
     prefix = given.prefix.resolve()
-    print(*install(prefix, prefix, given.library, heap), sep="\n")
+    place = pathlib.Path(given.destdir).resolve() / prefix.relative_to("/") if given.destdir else prefix
+    print(*install(place, prefix, given.library, heap), sep="\n")
 
 
 if __name__ == "__main__":

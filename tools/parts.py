@@ -237,6 +237,7 @@ PACKAGES = (
     Package("g++", "g++", ("c-programs", "c-pool"), "CXX"),
     Package("clang", "clang++", ("c-programs", "c-pool"), "CXX"),
     Package("valgrind", "valgrind", ("c-programs", "c-crowd", "c-many", "c-pool", "benchmarks")),
+    Package("make", "make", ("c-install", "commands")),
     Package("pkgconf", "pkg-config", ("c-install", "release")),
     # The cargo of Debian 12's package of that name is older than the Rust crate allows.
     Package("cargo-web", "cargo", ("rust", "rust-model", "commands", "benchmarks", "soak", "release", "postgres")),
