@@ -176,7 +176,7 @@ impl<M: Manager> Builder<M> {
         self
     }
 
-    /// Sets how often a waiting borrow is overtaken at most, from 0 to 2^32 - 1 (16; in Commons Pool 2 there is no limit unless `fairness` is set).
+    /// Sets how often a waiting borrow is overtaken at most, from 0 to 2^32 - 1 (64; in Commons Pool 2 there is no limit unless `fairness` is set).
     /// With 0 the pool is fair.
     ///
     /// A later borrow overtakes those who wait if it takes an object or a place, and no more are there than borrows that wait. Once the oldest was
@@ -363,7 +363,7 @@ impl<M: Manager + 'static> Builder<M> {
 const DEFAULT_WAIT_MILLIS: i64 = 30_000;
 
 /// How often a waiter is overtaken at most, if nothing else is set.
-const DEFAULT_OVERTAKES: u32 = 16;
+const DEFAULT_OVERTAKES: u32 = 64;
 
 /// The greatest `journalLimit`.
 const GREATEST_LIMIT: u64 = 1 << 32;

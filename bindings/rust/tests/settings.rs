@@ -265,7 +265,7 @@ fn a_pool_shows_the_defaults() {
     assert_eq!(pool.min_idle(), 0);
     assert!(pool.lifo() && pool.block_when_exhausted());
     assert_eq!(pool.max_wait(), Some(MINUTE / 2));
-    assert_eq!(pool.max_overtakes(), 16);
+    assert_eq!(pool.max_overtakes(), 64);
     assert_eq!(pool.min_evictable_idle(), Some(30 * MINUTE));
     assert_eq!(pool.tests_per_eviction_run(), 3);
     assert_eq!(pool.journal_limit(), 1 << 32);
