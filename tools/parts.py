@@ -97,6 +97,12 @@ PARTS = (
         ("zuphinka",),
     ),
     Part(
+        "commons-random",
+        "random calls of one thread, each made of the pool for Java and of Commons Pool 2, whose outcomes are compared",
+        "python3 tests/commons_random.py {zuphinka}",
+        ("zuphinka",),
+    ),
+    Part(
         "commons-pool",
         "the tests of Commons Pool 2, unchanged, over the pool for Java",
         "python3 tests/play_commons_pool.py {zuphinka} {pool}",
@@ -228,7 +234,7 @@ QUICK_ALONE = (
 QUICK = ("unproved", "rust-model", "case-files", "life", "times", "readme", "metrics", "names", "tables")
 
 JARS, CRATES = "/usr/share/java", "/usr/share/cargo/registry"
-IN_JAVA = ("java", "java-random", "commons-pool", "benchmarks", "release", "postgres")
+IN_JAVA = ("java", "java-random", "commons-random", "commons-pool", "benchmarks", "release", "postgres")
 OVER_POSTGRES = ("postgres", "benchmarks")
 
 PACKAGES = (

@@ -1,0 +1,159 @@
+#!/usr/bin/env python3
+"""Makes long random sequences of calls in one thread of Commons Pool 2 and of the pool for Java, by tests/commons_random, and compares them call by call.
+
+    commons_random.py [--seed N] [--runs N] LIBRARY
+
+LIBRARY is libzuphinka.a. The runs have the seeds from N on, from 0 if none is given. Settings, calls and the failures of the factory are random. Each
+call must have the same outcome in both pools, or the one that the rule for a row of docs/guide/differences.md says: its result or exception, the calls
+of the factory in their order, and the numbers of the pool. The pools read a clock that the test sets: the pool for Java is compiled from sources that
+read zuphinka.TestClock in place of System.nanoTime. Then runs over pools with a mistake must notice it. If there is no JDK or no Commons Pool 2, all
+of it is skipped.
+
+Prints the first calls that differ, each with the seed of its run and few calls before it, how often each of the named differences was met, and in the
+end the line 'N passed, M failed'.
+"""
+
+import argparse
+import concurrent.futures
+import os
+import pathlib
+import re
+import subprocess
+import sys
+import tempfile
+import typing
+
+from check_names import tables
+from playing import play_checks
+from skipping import skip
+
+TOP = pathlib.Path(__file__).resolve().parent.parent
+sys.path.append(str(TOP / "tools"))
+
+import java
+from install import heap_of_kit
+from play_java import COUNT
+from play_java_random import commons_pool_version
+
+PAGE = TOP / "docs/guide/differences.md"
+PROGRAM = TOP / "tests/commons_random"
+# How many runs there are if none is named; how many calls that differ are shown; and how many runs are to notice a mistake.
+RUNS, SHOWN, RUNS_OF_MISTAKE = 300, 3, 40
+CALLS = re.compile(r"^(\d+) calls in ", flags=re.MULTILINE)
+MET = re.compile(r"^met (\d+) times: (.+)$", flags=re.MULTILINE)
+
+
+class Mistake(typing.NamedTuple):
+    """A wrong pool for Java: one piece of a file, and what is in its place."""
+
+    name: str
+    file: str
+    right: str
+    wrong: str
+
+
+MISTAKES = (
+    Mistake("another object is lent", "CoreSettings", "config.getLifo()", "!config.getLifo()"),
+    Mistake("a count is off by one", "Sections", "failedOnBorrow++;", "failedOnBorrow += 2;"),
+    Mistake("a callback is left out", "ZuphinkaPool", "outcome = Core.PASSIVATE_FAILED;\n                factory.passivateObject(member.pooled);", ""),
+    Mistake("a mode is not passed on", "ZuphinkaPool", "factory.destroyObject(member.pooled, mode);", "factory.destroyObject(member.pooled);"),
+    Mistake("another exception", "Sections", '"Pool exhausted"', '"Timeout waiting for idle object"'),
+    Mistake("another minimum", "CoreSettings", "Math.max(0, config.getMinIdle())", "Math.max(1, config.getMinIdle())"),
+    Mistake("one limit for another", "CoreSettings", "config.getSoftMinEvictableIdleDuration()", "config.getMinEvictableIdleDuration()"),
+    Mistake("abandoned objects stay lent", "ZuphinkaPool", "if (settings.reclaimsOnMaintenance) {", "if (factory == null) {"),
+    Mistake("uses are not noted", "ZuphinkaPool", "sections.ask(Core.USE, member);", ""),
+)
+
+
+class Pools:
+    """Both pools and the program that calls them, compiled."""
+
+    def __init__(self, library, folder):
+        self.folder, self.native = folder, folder / "libzuphinka_jni.so"
+        java.compile_native(library, heap_of_kit(), self.native)
+        sources = [self.timed(source) for source in (java.JAVA / "src").rglob("*.java")]
+        java.compile_classes([*sources, *PROGRAM.rglob("*.java")], folder / "classes", java.commons_pool())
+
+    def timed(self, source):
+        """A copy of a source that reads the clock of the test."""
+        copy = self.folder / source.relative_to(java.JAVA)
+        copy.parent.mkdir(parents=True, exist_ok=True)
+        copy.write_text(source.read_text().replace("System.nanoTime()", "TestClock.nanoTime()"))
+        return copy
+
+    def with_mistake(self, mistake):
+        """The folder with the classes of a file that has a mistake."""
+        to = self.folder / mistake.name.replace(" ", "-")
+        to.mkdir()
+        text = (self.folder / f"src/zuphinka/{mistake.file}.java").read_text()
+        if text.count(mistake.right) != 1:
+            sys.exit(f"{mistake.file}.java: {mistake.right}: wanted once, got {text.count(mistake.right)} times\n0 passed, 1 failed")
+        (to / f"{mistake.file}.java").write_text(text.replace(mistake.right, mistake.wrong))
+        java.compile_classes([to / f"{mistake.file}.java"], to, self.folder / "classes", java.commons_pool())
+        return to
+
+    def played(self, seed, runs, shown, *first):
+        """Plays runs, over the classes in some folders first. Returns the status, and what was written."""
+        path = os.pathsep.join(map(str, [*first, self.folder / "classes", java.commons_pool()]))
+        options = [f"-Dzuphinka.library={self.native}", "-XX:-UsePerfData", java.QUICK, "-cp", path]
+        words = [java.jdk() / "bin/java", *options, "CommonsRandom", *map(str, (seed, runs, shown))]
+        done = subprocess.run(words, stdout=subprocess.PIPE, stderr=subprocess.STDOUT, text=True)
+        return done.returncode, done.stdout
+
+    def notice(self, mistake):
+        """Returns whether runs notice a mistake, and by their outcomes alone."""
+        status, text = self.played(0, RUNS_OF_MISTAKE, 0, self.with_mistake(mistake))
+        return status == 0 and not text.endswith(" 0 failed\n")
+
+
+def checks_of_page(text):
+    """What is wanted of the page, by what all runs have written."""
+    rows = list(tables(PAGE))
+    met = {row: int(times) for times, row in MET.findall(text)}
+    yield "differences that are rows of the page", set(met), {row["What"] for row in rows if "What" in row} & set(met)
+    yield "how often each was met", met, {row["What differs"]: int(row["How often it was met"]) for row in rows if "What differs" in row}
+    yield "the number of calls", True, f"{int(CALLS.search(text)[1]):,} calls" in PAGE.read_text()
+
+
+def checks_of_runs(pools, seed, runs):
+    """What is wanted of the runs, and what they are. The page names numbers of the runs that are made if none are named."""
+    status, text = pools.played(seed, runs, SHOWN)
+    print(f"commons-pool is version {commons_pool_version()}\n{text}", end="")
+    passed, failed = map(int, COUNT.findall(text)[-1]) if COUNT.search(text) else (0, 1)
+    yield "the status", 0, status
+    yield "runs that differ", 0, failed
+    yield from ((f"run {number}", True, True) for number in range(passed))
+    if (seed, runs, failed) == (0, RUNS, 0):
+        yield from checks_of_page(text)
+
+
+def checks(library, seed, runs):
+    with tempfile.TemporaryDirectory() as name:
+        pools = Pools(library, pathlib.Path(name))
+        yield from checks_of_runs(pools, seed, runs)
+        with concurrent.futures.ThreadPoolExecutor(os.cpu_count()) as workers:
+            for mistake, is_noticed in zip(MISTAKES, workers.map(pools.notice, MISTAKES)):
+                yield f"{mistake.name}: some run notices it", True, is_noticed
+
+
+def arguments():
+    words = argparse.ArgumentParser(description=__doc__, formatter_class=argparse.RawDescriptionHelpFormatter)
+    words.add_argument("--seed", type=int, default=0, metavar="N", help="the seed of the first run, 0 if none is given")
+    words.add_argument("--runs", type=int, default=RUNS, metavar="N", help=f"how many runs, {RUNS} if none is given")
+    words.add_argument("library", metavar="LIBRARY", type=pathlib.Path, help="libzuphinka.a")
+    return words.parse_args()
+
+
+def main():
+    given = arguments()
+    try:
+        java.jdk(), java.commons_pool()
+    except java.Missing as missing:
+        skip("random calls of the pool for Java and of Commons Pool 2", missing)
+        print("0 passed, 0 failed")
+        return 0
+    return play_checks(checks(given.library, given.seed, given.runs))
+
+
+if __name__ == "__main__":
+    sys.exit(main())

@@ -1,0 +1,111 @@
+import java.time.Duration;
+import java.util.ArrayList;
+import java.util.EnumMap;
+import java.util.List;
+import java.util.Map;
+import java.util.stream.Collectors;
+import java.util.stream.IntStream;
+import org.apache.commons.pool2.impl.DefaultPooledObject;
+import org.apache.commons.pool2.impl.PlacedPool;
+import zuphinka.TestClock;
+import zuphinka.ZuphinkaPool;
+
+/** One run: the same calls of Commons Pool and of {@code ZuphinkaPool}, compared one by one, until they differ or the pools have different objects. */
+final class Comparison {
+    private final Settings settings;
+    private final PlacedPool<Item> pool;
+    private final Side library;
+    private final Side ours;
+    /** The objects that were lent, and neither returned nor invalidated. */
+    private final List<Integer> held = new ArrayList<>();
+    private final List<String> texts = new ArrayList<>();
+    private final Map<Difference, Integer> met = new EnumMap<>(Difference.class);
+    private int compared;
+    private String fault;
+
+    private Comparison(Settings settings) {
+        this.settings = settings;
+        Items first = Items.of(settings, TimedItem::new);
+        Items second = Items.of(settings, DefaultPooledObject::new);
+        pool = new PlacedPool<>(first, settings.config, settings.abandoned);
+        library = Side.of(first, pool);
+        ours = Side.of(second, new ZuphinkaPool<>(second, settings.config, settings.abandoned));
+    }
+
+    static Comparison of(Settings settings, List<Call> calls) {
+        Comparison comparison = new Comparison(settings);
+        for (Call call : calls) {
+            if (!comparison.goesOnAfter(call)) {
+                break;
+            }
+        }
+        if (comparison.pool.moves() > 0) {
+            comparison.met.put(Difference.CONTINUED, comparison.pool.moves());
+        }
+        return comparison;
+    }
+
+    private boolean goesOnAfter(Call call) {
+        if (call.isOf(Call.Kind.HOUR)) {
+            TestClock.add(Duration.ofHours(1));
+            texts.add(call.text(0));
+            return true;
+        }
+        List<Integer> objects = objectsFor(call);
+        return objects.isEmpty() || compare(call, objects.get(call.chance % objects.size()));
+    }
+
+    /** Returns the objects that a call may be about, or any one if it is about none. */
+    private List<Integer> objectsFor(Call call) {
+        if (call.isForHeld()) {
+            return held;
+        }
+        IntStream others = IntStream.range(Item.FOREIGN, call.isForOther() ? ours.items.size() : 0);
+        return others.filter(number -> !held.contains(number)).boxed().collect(Collectors.toList());
+    }
+
+    private boolean compare(Call call, int number) {
+        library.make(call, number);
+        ours.make(call, number);
+        Step step = new Step(settings, call, number, library, ours.outcome());
+        for (Difference difference : Difference.values()) {
+            if (difference.rule.test(step)) {
+                met.merge(difference, 1, Integer::sum);
+            }
+        }
+        compared++;
+        noteHolder(call, number, step.got);
+        texts.add(call.text(number) + " = " + step.got);
+        if (!step.isSame()) {
+            fault = "expected: " + step.expected() + "\n     got: " + step.got;
+        }
+        return fault == null && !step.isLast();
+    }
+
+    private void noteHolder(Call call, int number, Outcome got) {
+        if (call.isBorrow() && got.lent != null) {
+            held.add(got.lent);
+        }
+        if (call.isOf(Call.Kind.RETURN, Call.Kind.INVALIDATE)) {
+            held.remove((Integer) number);
+        }
+    }
+
+    /** Returns what was expected and what came of the call that differs, or null. */
+    String fault() {
+        return fault;
+    }
+
+    int compared() {
+        return compared;
+    }
+
+    Map<Difference, Integer> met() {
+        return met;
+    }
+
+    /** Returns the calls, one in a line, each with what came of it. */
+    List<String> texts() {
+        return texts;
+    }
+}
