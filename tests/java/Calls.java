@@ -208,6 +208,9 @@ public final class Calls extends Expectations {
         expect("no more", "0 idle, 1 active, 1 created, 0 destroyed", counts(pool));
         Thread.currentThread().interrupt();
         expect("interrupted", "InterruptedException: null", result(() -> pool.borrowObject(Duration.ofMillis(50))));
+        Thread.currentThread().interrupt();
+        expect("interrupted without a wait", "InterruptedException: null", result(() -> pool.borrowObject(Duration.ZERO)));
+        expect("it is not interrupted any more", false, Thread.interrupted());
         expect("nobody waits", 0, pool.getNumWaiters());
         List<Object> served = whileWaiting(pool, 1, () -> pool.borrowObject(-1), () -> {
             Thread.sleep(100);

@@ -288,8 +288,7 @@ final class Sections<T> {
         for (;;) {
             long left = left(first, longestNanos);
             if (left <= 0 && longestNanos >= 0) {
-                timeouts++;
-                throw refusal(Core.TIMED_OUT);
+                throw timedOut();
             }
             waiters.sleepOn(waiter);
             if (isBehind(waiter)) {
@@ -413,7 +412,7 @@ final class Sections<T> {
         }
     }
 
-    private Member<T> found(long reply, long first) {
+    private Member<T> found(long reply, long first) throws InterruptedException {
         switch (Core.answer(reply)) {
             case Core.LENT:
                 journal.count();
@@ -424,11 +423,19 @@ final class Sections<T> {
             case Core.MAKE:
                 return members.add(Core.value(reply));
             case Core.TIMED_OUT:
-                timeouts++;
-                throw refusal(reply);
+                throw timedOut();
             default:
                 throw refusal(reply);
         }
+    }
+
+    /** Returns the exception for a borrow whose time is over. If its thread is interrupted it ends by that, also if it may not wait. */
+    private RuntimeException timedOut() throws InterruptedException {
+        if (Thread.interrupted()) {
+            throw new InterruptedException();
+        }
+        timeouts++;
+        return refusal(Core.TIMED_OUT);
     }
 
     /** Asks the core for an object, and makes room for that in a full journal. */

@@ -177,7 +177,7 @@ public class ZuphinkaPool<T> implements ObjectPool<T>, UsageTracking<T> {
      * @throws NoSuchElementException if no object and no place is free, and the configuration says not to wait or the time is over; or if a new
      *     object failed its activation or its test. What the factory threw is the cause, if it threw
      * @throws IllegalStateException if the pool is closed, also while it waits
-     * @throws InterruptedException if the thread is interrupted while it waits
+     * @throws InterruptedException if the thread is interrupted while it waits, or is when its time is over
      * @throws Exception if the factory fails to make an object; the same exception. If it returns null a {@link NullPointerException}, and an {@link
      *     IllegalStateException} if the pool has the object
      */
