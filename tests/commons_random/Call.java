@@ -26,6 +26,9 @@ final class Call {
         }
     }
 
+    /** One call in so many is made by an interrupted thread. */
+    private static final int INTERRUPTED = 32;
+
     final Kind kind;
     /** Chooses an object, and what the factory does in the call. */
     final int chance;
@@ -51,6 +54,11 @@ final class Call {
         return isOf(Kind.RETURN_OTHER, Kind.INVALIDATE_OTHER, Kind.USE_OTHER);
     }
 
+    /** Returns whether its thread was interrupted before. */
+    boolean isInterrupted() {
+        return chance % INTERRUPTED == 0;
+    }
+
     /** Returns how long a borrow with a limit of its own waits at most. */
     int limitMillis() {
         return chance % 2;
@@ -58,6 +66,7 @@ final class Call {
 
     /** Returns the call as a text, with the number of its object. */
     String text(int number) {
-        return String.format(kind.text, kind == Kind.BORROW_WITHIN ? limitMillis() : number);
+        String text = String.format(kind.text, kind == Kind.BORROW_WITHIN ? limitMillis() : number);
+        return isInterrupted() ? text + " while interrupted" : text;
     }
 }

@@ -98,6 +98,7 @@ final class Rules {
         if (isMet) {
             expectDestruction(step, test.number);
             step.expected().result = "NoSuchElementException: Unable to validate object";
+            step.expected().numbers.put("interrupted", step.call.isInterrupted() ? 1L : 0L); // Commons Pool waits
         }
         return isMet;
     }

@@ -32,6 +32,7 @@ final class Side {
     private final Map<String, LongSupplier> counts = new LinkedHashMap<>();
     private final Map<String, Long> before = new LinkedHashMap<>();
     private String result;
+    private boolean isInterrupted;
     private Integer lent;
 
     private Side(Items items, ObjectPool<Item> pool, UsageTracking<Item> usage, Borrow borrow, Act evict, Act prepare) {
@@ -43,6 +44,7 @@ final class Side {
         this.prepare = prepare;
         levels.put("idle", pool::getNumIdle);
         levels.put("active", pool::getNumActive);
+        levels.put("interrupted", () -> isInterrupted ? 1 : 0);
     }
 
     static Side of(Items items, PlacedPool<Item> pool) {
@@ -79,10 +81,18 @@ final class Side {
         items.begin(call);
         counts.forEach((name, count) -> before.put(name, count.getAsLong()));
         lent = null;
+        if (call.isInterrupted()) {
+            Thread.currentThread().interrupt();
+        }
+        result = result(call, call.isForHeld() || call.isForOther() ? items.item(number) : null);
+        isInterrupted = Thread.interrupted();
+    }
+
+    private String result(Call call, Item item) {
         try {
-            result = act(call, call.isForHeld() || call.isForOther() ? items.item(number) : null);
+            return act(call, item);
         } catch (Throwable e) {
-            result = text(e);
+            return text(e);
         }
     }
 
