@@ -5,9 +5,9 @@
 
 LIBRARY is libzuphinka.a. The runs have the seeds from N on, from 0 if none is given. Settings, calls and the failures of the factory are random. Each
 call must have the same outcome in both pools, or the one that the rule for a row of docs/guide/differences.md says: its result or exception, the calls
-of the factory in their order, and the numbers of the pool. The pools read a clock that the test sets: the pool for Java is compiled from sources that
-read zuphinka.TestClock in place of System.nanoTime. Then runs over pools with a mistake must notice it. If there is no JDK or no Commons Pool 2, all
-of it is skipped.
+of the factory in their order, the exceptions that are swallowed, and the numbers of the pool. The pools read a clock that the test sets: the pool for
+Java is compiled from sources that read zuphinka.TestClock in place of System.nanoTime. Then runs over pools with a mistake must notice it. If there
+is no JDK or no Commons Pool 2, all of it is skipped.
 
 Prints the first calls that differ, each with the seed of its run and few calls before it, how often each of the named differences was met, and in the
 end the line 'N passed, M failed'.
@@ -61,6 +61,8 @@ MISTAKES = (
     Mistake("another minimum", "CoreSettings", "Math.max(0, config.getMinIdle())", "Math.max(1, config.getMinIdle())"),
     Mistake("one limit for another", "CoreSettings", "config.getSoftMinEvictableIdleDuration()", "config.getMinEvictableIdleDuration()"),
     Mistake("abandoned objects stay lent", "ZuphinkaPool", "if (settings.reclaimsOnMaintenance) {", "if (factory == null) {"),
+    Mistake("a failure is not told", "ZuphinkaPool", "Core.PASSIVATE_FAILED, e);\n            swallow(e);", "Core.PASSIVATE_FAILED, e);"),
+    Mistake("an interrupt is passed over", "Sections", "if (Thread.interrupted()) {", "if (settings == null) {"),
     Mistake("uses are not noted", "ZuphinkaPool", "sections.ask(Core.USE, member);", ""),
 )
 

@@ -29,7 +29,12 @@ final class Comparison {
         Items second = Items.of(settings, DefaultPooledObject::new);
         pool = new PlacedPool<>(first, settings.config, settings.abandoned);
         library = Side.of(first, pool);
-        ours = Side.of(second, new ZuphinkaPool<>(second, settings.config, settings.abandoned));
+        ours = Side.of(second, new ZuphinkaPool<>(second, settings.config, settings.abandoned) {
+            @Override
+            protected void swallowed(Exception failure) {
+                ours.swallow(failure);
+            }
+        });
     }
 
     static Comparison of(Settings settings, List<Call> calls) {

@@ -14,6 +14,7 @@ enum Difference {
     FILL("`fill` (`preparePool`)", Rules::passivateInFill),
     ORDER("`clear` and `close` under `lifo`", Rules::reverseOrder),
     NOT_LENT("An object that is not lent is used", Rules::ignoreUse),
+    SWALLOWED("Swallowed errors", Rules::tellMore),
     IDLE_INVALIDATED("An idle object is invalidated", Rules::refuseInvalidation),
     NO_LIMIT("`maxIdle` is unlimited, and `minIdle` above 0", Rules::keepMinIdle),
     /** That of the class PlacedPool. */

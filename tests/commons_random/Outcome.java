@@ -3,7 +3,10 @@ import java.util.Comparator;
 import java.util.List;
 import java.util.Map;
 
-/** What came of a call: its result or what it threw, the calls of the factory in their order, and the numbers of the pool afterwards. */
+/**
+ * What came of a call: its result or what it threw, the calls of the factory in their order, what the pool told whoever receives swallowed exceptions,
+ * and the numbers of the pool afterwards.
+ */
 final class Outcome {
     static final List<String> COUNTS = List.of("created", "borrowed", "returned", "destroyed", "evicted", "invalid");
 
@@ -11,13 +14,17 @@ final class Outcome {
     /** The object that was lent, or null. */
     final Integer lent;
     final List<Callback> callbacks;
+    /** The messages, sorted. */
+    final List<String> swallowed;
     /** The numbers of objects, and by how much each count grew. */
     final Map<String, Long> numbers;
 
-    Outcome(String result, Integer lent, List<Callback> callbacks, Map<String, Long> numbers) {
+    Outcome(String result, Integer lent, List<Callback> callbacks, List<String> swallowed, Map<String, Long> numbers) {
         this.result = result;
         this.lent = lent;
         this.callbacks = sorted(callbacks);
+        this.swallowed = new ArrayList<>(swallowed);
+        this.swallowed.sort(null);
         this.numbers = numbers;
     }
 
@@ -48,6 +55,6 @@ final class Outcome {
 
     @Override
     public String toString() {
-        return result + " " + callbacks + " " + numbers;
+        return result + " " + callbacks + " " + (swallowed.isEmpty() ? "" : "swallowed " + swallowed + " ") + numbers;
     }
 }

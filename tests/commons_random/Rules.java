@@ -164,6 +164,18 @@ final class Rules {
         return isMet;
     }
 
+    /** Commons Pool tells its listener less, except where it empties the queue. */
+    static boolean tellMore(Step step) {
+        List<String> told = step.expected().swallowed;
+        List<String> all = step.got.swallowed;
+        boolean isMet = all.size() > told.size() && all.containsAll(told) && !step.call.isOf(Call.Kind.CLEAR, Call.Kind.CLOSE);
+        if (isMet) {
+            told.clear();
+            told.addAll(all);
+        }
+        return isMet;
+    }
+
     static boolean refuseInvalidation(Step step) {
         boolean isMet = step.call.isOf(Call.Kind.INVALIDATE_OTHER) && step.expected().number("destroyed") > 0;
         boolean isRefused = step.got.result.equals("IllegalStateException: Object is not lent");

@@ -1,5 +1,7 @@
 import java.time.Duration;
+import java.util.ArrayList;
 import java.util.LinkedHashMap;
+import java.util.List;
 import java.util.Map;
 import java.util.Set;
 import java.util.function.BooleanSupplier;
@@ -31,6 +33,7 @@ final class Side {
     private final Map<String, LongSupplier> levels = new LinkedHashMap<>();
     private final Map<String, LongSupplier> counts = new LinkedHashMap<>();
     private final Map<String, Long> before = new LinkedHashMap<>();
+    private final List<String> swallowed = new ArrayList<>();
     private String result;
     private boolean isInterrupted;
     private Integer lent;
@@ -49,6 +52,7 @@ final class Side {
 
     static Side of(Items items, PlacedPool<Item> pool) {
         Side side = new Side(items, pool, pool, pool::borrowObject, pool::evict, pool::preparePool);
+        pool.setSwallowedExceptionListener(side::swallow);
         side.count(pool::getCreatedCount, pool::getBorrowedCount, pool::getReturnedCount, pool::getDestroyedCount,
                 pool::getDestroyedByEvictorCount, pool::getDestroyedByBorrowValidationCount);
         side.look(pool::getNumWaiters, pool::isClosed, pool::listAllObjects);
@@ -61,6 +65,11 @@ final class Side {
                 pool::getDestroyedByEvictorCount, pool::getDestroyedByBorrowValidationCount);
         side.look(pool::getNumWaiters, pool::isClosed, pool::listAllObjects);
         return side;
+    }
+
+    /** Notes an exception that the pool swallows. */
+    void swallow(Exception exception) {
+        swallowed.add(exception.getMessage());
     }
 
     private void count(LongSupplier... each) {
@@ -79,6 +88,7 @@ final class Side {
     /** Makes a call with the object of this number. */
     void make(Call call, int number) {
         items.begin(call);
+        swallowed.clear();
         counts.forEach((name, count) -> before.put(name, count.getAsLong()));
         lent = null;
         if (call.isInterrupted()) {
@@ -165,6 +175,6 @@ final class Side {
         Map<String, Long> numbers = new LinkedHashMap<>();
         levels.forEach((name, level) -> numbers.put(name, level.getAsLong()));
         counts.forEach((name, count) -> numbers.put(name, count.getAsLong() - before.get(name)));
-        return new Outcome(result, lent, items.callbacks(), numbers);
+        return new Outcome(result, lent, items.callbacks(), swallowed, numbers);
     }
 }
