@@ -16,7 +16,7 @@ use std::time::Duration;
 use zuphinka::{caller_number, Builder, Error, Get, Pool, Pooled};
 
 with_and_without_hooks! {
-    a_waiter_is_overtaken_16_times_at_most
+    a_waiter_is_overtaken_64_times_at_most
     a_pool_may_be_fair
     a_waiter_that_was_woken_for_nothing_is_not_overtaken_again
     an_overtake_counts_against_each_waiter
@@ -26,6 +26,7 @@ with_and_without_hooks! {
     a_close_ends_waits_behind_a_waiter
     a_pair_makes_the_same_entries_while_another_waits
     a_thread_that_borrows_again_at_once_starves_nobody
+    one_that_is_overtaken_makes_no_entry
     threads_are_served_in_turns
 }
 
@@ -71,7 +72,7 @@ fn overtakes<const HOOKS: bool>(pool: &Numbered<HOOKS>, mut held: Pooled<Numbers
     unreachable!("it ends")
 }
 
-fn a_waiter_is_overtaken_16_times_at_most<const HOOKS: bool>() {
+fn a_waiter_is_overtaken_64_times_at_most<const HOOKS: bool>() {
     let (pool, bell) = (pool::<HOOKS>(1, |builder| builder), Bell::new());
     let held = pool.get().unwrap();
     let mut get = waiting(&pool, &bell);
@@ -232,6 +233,22 @@ fn a_pair_makes_the_same_entries_while_another_waits<const HOOKS: bool>() {
         assert_eq!(pairs[0], pairs[1], "{failing:?} fails");
         assert!(pairs[0][0].len() >= 4);
     }
+}
+
+fn one_that_is_overtaken_makes_no_entry<const HOOKS: bool>() {
+    let pool = pool::<HOOKS>(1, |builder| builder);
+    let (held, bell) = (pool.get().unwrap(), Bell::new());
+    let mut get = pool.get_async();
+    assert!(poll(&mut get, &bell).is_pending());
+    drop(held);
+    let held = pool.get().unwrap();
+    let steps = steps_of(&pool).len();
+    assert!(poll(&mut get, &bell).is_pending());
+    assert_eq!(steps_of(&pool).len(), steps);
+    drop(held);
+    assert_eq!(bell.rings(), 2);
+    assert!(poll(&mut get, &bell).is_ready());
+    assert_legal(&pool);
 }
 
 fn a_thread_that_borrows_again_at_once_starves_nobody<const HOOKS: bool>() {
