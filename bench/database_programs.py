@@ -1,15 +1,9 @@
 """The programs that `bench/database` runs: the pools in them, and how they are built."""
 
 import os
-import shutil
-import sys
 
-from entrants import C, JAVA, R2D2, TOP, build, built_by_cargo, runs_cargo, version_of_jdk
-
-sys.path.append(str(TOP / "tests"))
-
-import java
-from install import INCLUDE, POOL, heap_of_kit
+from contest import TOP, Contest, built_by_cargo, built_c, version_of_jdk
+from entrants import C, JAVA, R2D2
 from postgres_server import PROGRAMS, ROLE
 
 CRATE, TASKS, SEMAPHORE, DBCP, HIKARI, LIST = "crate", "crate, tasks", "semaphore, tasks", "DBCP2", "HikariCP", "list in C"
@@ -51,42 +45,31 @@ def looked_at(workers, row):
         yield f"short: {workers} workers: {our} / {best} is {ratio:.3f}, target {LEAST}" if ratio < LEAST else ""
 
 
-class Programs:
-    """The commands by their columns, built in a folder; the versions of what they use; and why others are left out, as lines.
+class Programs(Contest):
+    """The commands by their columns, built in a folder. `asked` has the places of what they need. The last word of a command has the place of the
+    server's port."""
 
-    `wanted` has the columns for which programs are built. The last word of a command has the place of the server's port."""
-
-    def __init__(self, folder, library, registry, jars, wanted=COLUMNS):
-        self.folder, self.library, self.registry, self.jars, self.wanted = folder, library, registry, jars, wanted
-        self.commands, self.versions, self.left_out = {}, [], []
+    def __init__(self, folder, asked):
+        super().__init__(folder, asked, COLUMNS)
+        self.jars, self.commands = asked.jars, {}
         self.enter_rust()
         self.enter_java()
         self.enter_c()
 
     def wanted_of(self, kinds, *needs):
-        """The columns of some kinds that are wanted, if all is there that they need. Each need is what was found, if anything was, and its name."""
-        columns = [column for column in kinds if column in self.wanted]
-        missing = [name for found, name in ((PROGRAMS, "postgresql"), *needs) if not found]
-        self.left_out += [f"left out: {column}: no {name}" for column in columns for name in missing]
-        return [] if missing else columns
-
-    def of_ours(self):
-        """What a pool of ours needs."""
-        return (self.library.exists(), f"libzuphinka.a ({self.library})"), (shutil.which(os.environ.get("CC", "cc")), "C compiler")
+        """The columns of some kinds that are wanted, if all is there that they need."""
+        columns = self.wants(*kinds)
+        return columns if self.has(columns, (PROGRAMS, "postgresql"), *needs) else []
 
     def enter(self, columns, kinds, words, server):
         self.commands |= {column: [*words, kinds[column], server] for column in columns}
 
     def enter_rust(self):
         """Enters the pools in Rust, which are all in one program."""
-        found = {name: sorted(self.registry.glob(f"{name}-[0-9]*")) for name in CRATES}
-        needs = [(found[name], f"{package} ({self.registry})") for name, package in CRATES.items()]
-        columns = self.wanted_of(RUST_KINDS, (runs_cargo(), "cargo"), *needs, *self.of_ours())
+        columns = self.wanted_of(RUST_KINDS, *self.of_crates(CRATES), *self.of_ours())
         if columns:
-            source = ["--config", 'source.crates-io.replace-with="debian"', "--config", f'source.debian.directory="{self.registry.resolve()}"']
-            program = built_by_cargo(TOP / "bench/database_rust", *source) / "database"
-            self.versions += [paths[-1].name for paths in found.values()]
-            self.enter(columns, RUST_KINDS, [program], OF_LIBPQ)
+            self.note(*(self.sources_of(name)[-1].name for name in CRATES))
+            self.enter(columns, RUST_KINDS, [built_by_cargo(TOP / "bench/database_rust", registry=self.registry) / "database"], OF_LIBPQ)
 
     def enter_java(self):
         """Enters the pools in Java, each if its jars are there."""
@@ -95,27 +78,15 @@ class Programs:
             jars = [((self.jars / f"{name}.jar").exists(), f"{package} ({self.jars}/{name}.jar)") for name, package in JARS[column].items()]
             columns += self.wanted_of([column], (jdk, "JDK"), *jars, *(self.of_ours() if column == JAVA else ()))
         if columns:
-            names = list(dict.fromkeys(name for column in columns for name in JARS[column]))
-            self.versions += [path.stem for name in names for path in sorted(self.jars.glob(f"{name}-[0-9]*.jar"))[-1:]] + [jdk]
-            self.enter(columns, JAVA_KINDS, self.built_java(columns, [self.jars / f"{name}.jar" for name in names]), OF_JDBC)
-
-    def built_java(self, columns, jars):
-        """Compiles the pools in Java. Returns the command that runs them."""
-        native, source = self.folder / "libzuphinka_jni.so", TOP / "bench/database_java"
-        files = [source / f"{name}.java" for name in ("Transfers", "Opener", *(JAVA_KINDS[column] for column in columns))]
-        if JAVA in columns:
-            java.compile_native(self.library, heap_of_kit(), native)
-            files += (java.JAVA / "src").rglob("*.java")
-        java.compile_classes(files, self.folder, *jars)
-        path = os.pathsep.join(map(str, [*jars, self.folder]))
-        return ["java", "-XX:-UsePerfData", f"-Dzuphinka.library={native}", "-cp", path, "Transfers"]
+            jars = [self.jars / f"{name}.jar" for name in dict.fromkeys(name for column in columns for name in JARS[column])]
+            self.note_jars(*jars)
+            self.note(jdk)
+            names = ["Transfers", "Opener", *(JAVA_KINDS[column] for column in columns)]
+            self.enter(columns, JAVA_KINDS, self.built_java(TOP / "bench/database_java", names, jars, JAVA in columns), OF_JDBC)
 
     def enter_c(self):
         """Enters the pools in C, which are both in one program."""
-        header = os.path.exists(f"{LIBPQ}/libpq-fe.h"), f"libpq-dev ({LIBPQ})"
-        columns = self.wanted_of(C_KINDS, header, *self.of_ours())
+        columns = self.wanted_of(C_KINDS, (os.path.exists(f"{LIBPQ}/libpq-fe.h"), f"libpq-dev ({LIBPQ})"), *self.of_ours())
         if columns:
-            program = self.folder / "database"
-            sources = TOP / "bench/database.c", POOL, self.library, heap_of_kit()
-            build(os.environ.get("CC", "cc"), "-std=c11", "-O2", "-pthread", "-I", INCLUDE, "-I", LIBPQ, "-o", program, *sources, "-lpq")
-            self.enter(columns, C_KINDS, [program], OF_LIBPQ)
+            words = TOP / "bench/database.c", *self.sources_of_c_pool(), "-I", LIBPQ, "-lpq"
+            self.enter(columns, C_KINDS, [built_c(self.folder / "database", *words)], OF_LIBPQ)

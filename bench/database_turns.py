@@ -4,14 +4,10 @@ import dataclasses
 import re
 import signal
 import subprocess
-import sys
 import threading
 import time
 
-from entrants import TOP, Miscounted
-
-sys.path.append(str(TOP / "tests"))
-
+from contest import Miscounted
 from postgres_server import ROLE, end_with_parent, sessions_of
 
 CONNECTIONS = 4

@@ -6,8 +6,8 @@ import pathlib
 import subprocess
 import time
 
-from entrants import JOURNAL_LIMIT, TOP, build, built_by_cargo, numbers, runs_cargo
-from install import INCLUDE, POOL
+from contest import LIBRARY, POOL, TOP, built_by_cargo, built_c, heap_of_kit, runs_cargo
+from entrants import JOURNAL_LIMIT, numbers
 
 THREADS = 4
 # The rounds of each thread of a load, whose journal stays in memory.
@@ -75,14 +75,6 @@ def fault_of_load(report):
     return None if pairs == [0, 0, THREADS * ROUNDS, THREADS * ROUNDS] and 1 <= created == destroyed else f"wrong report: {report}"
 
 
-def heap():
-    """The file by which the library allocates."""
-    if "ZUPHINKA_HEAP" in os.environ:
-        return os.environ["ZUPHINKA_HEAP"]
-    guide = subprocess.run(["rt", "doc"], capture_output=True, text=True, check=True).stdout.strip()
-    return pathlib.Path(guide).parent / "c/liblibc_c.a"
-
-
 class Soak:
     """The pools, and how many checks they passed and failed."""
 
@@ -111,11 +103,7 @@ class Soak:
         self.play("Rust crate", built_by_cargo(TOP / "bench/soak_rust") / "soak")
 
     def play_c(self):
-        program = self.folder / "soak_c"
-        library = pathlib.Path(os.environ.get("ZUPHINKA_LIB", TOP / "crates/zuphinka/out")) / "libzuphinka.a"
-        sources = TOP / "bench/soak_c.c", POOL, library, heap()
-        build(os.environ.get("CC", "cc"), "-std=c11", "-O2", "-pthread", "-I", INCLUDE, "-o", program, *sources)
-        self.play("C pool", program)
+        self.play("C pool", built_c(self.folder / "soak_c", TOP / "bench/soak_c.c", POOL, LIBRARY, heap_of_kit()))
 
     def play_load(self):
         """Runs loads until the length is over."""

@@ -56,17 +56,6 @@ def least_spent(runs, least, most, seconds):
         return shortest, [whole(sink) for sink in sinks]
 
 
-def least_elapsed(commands, most):
-    """The shortest of so many runs of each in seconds, and what each wrote last on its two streams."""
-    shortest, written = [float("inf")] * len(commands), [None] * len(commands)
-    for _ in range(most):
-        for place, command in enumerate(commands):
-            with tempfile.TemporaryFile() as sink, tempfile.TemporaryFile() as notes:
-                shortest[place] = min(shortest[place], elapsed(command, stdout=sink, stderr=notes))
-                written[place] = whole(sink), whole(notes).decode().strip()
-    return shortest, written
-
-
 def least_worked(commands, most, library):
     """The shortest of so many runs of each, and the shortest work of its threads, both in seconds, and what each wrote last on standard output. The
     library is that of bench/worked.c."""

@@ -11,7 +11,9 @@ import os
 import pathlib
 import random
 import re
-import signal
+
+from case_model import STATISTICS
+from playing import run
 
 TOP = pathlib.Path(__file__).resolve().parent.parent
 
@@ -34,11 +36,6 @@ SHORT, LONG, RANDOM_LISTS, SEED = 3, 6, 4000, 20
 OPERANDS = {"run": 2, "stats": 1, "load": 3}
 
 MOST_WORKERS, MOST_ROUNDS = 1023, 1_000_000
-
-# The lists that a process runs at a time, and the seconds that this may take.
-PART, PATIENCE = 250, 60
-
-NAMES = ["borrowed", "returned", "created", "destroyed", "evicted", "borrowtestfailed", "reclaimed", "longest", "total"]
 
 # The uses of the program stand in the place of its output if the words ask for help.
 USES = b"the uses"
@@ -96,7 +93,8 @@ def refusal(words):
 
 
 def statistics(*numbers):
-    return "".join(f"{name} {number}\n" for name, number in zip(NAMES, numbers)).encode()
+    """The lines of statistics."""
+    return "".join(f"{name} {number}\n" for name, number in zip(STATISTICS, numbers)).encode()
 
 
 def answer_of_load(workers, rounds):
@@ -120,7 +118,7 @@ def answer(words):
         return b"", f"pool: cannot open {lost}\n".encode(), 3
     if command == "load":
         return answer_of_load(*operands[1:])
-    output = {"run": b"", "check": b"legal 0\n", "stats": statistics(*[0] * len(NAMES))}[command]
+    output = {"run": b"", "check": b"legal 0\n", "stats": statistics(*[0] * len(STATISTICS))}[command]
     return output, b"", 0
 
 
@@ -134,52 +132,36 @@ def lists():
         yield [command, *chance.choices(RANDOM_WORDS, k=chance.randrange(SHORT, LONG))]
 
 
-class Runner:
-    """Runs a program in the current folder. Its output and its error go to files that have no name, which cost less than pipes."""
-
-    def __init__(self, program):
-        self.program = program
-        self.out, self.error = os.memfd_create("output"), os.memfd_create("error")
-        self.nothing = os.open(os.devnull, os.O_RDONLY)
-        streams = enumerate([self.nothing, self.out, self.error])
-        self.actions = [(os.POSIX_SPAWN_DUP2, stream, number) for number, stream in streams]
-
-    def run(self, words):
-        """The output, the error and the status of the program with these words."""
-        child = os.posix_spawn(self.program, [self.program, *words], os.environ, file_actions=self.actions)
-        _, status = os.waitpid(child, 0)
-        return self.written(self.out), self.written(self.error), os.waitstatus_to_exitcode(status)
-
-    def written(self, file):
-        """The text of a file, which is then empty again."""
-        size = os.lseek(file, 0, os.SEEK_CUR)
-        text = os.pread(file, size, 0)
-        os.ftruncate(file, 0)
-        os.lseek(file, 0, os.SEEK_SET)
-        return text
+def between(page, start, end):
+    """The lines of text of a section of a man page."""
+    section = page.partition(start + "\n")[2].partition(end)[0]
+    return [line for line in section.splitlines() if not line.startswith(".")]
 
 
-def faults(program, folder, is_help, chosen):
-    """A line for each of the lists whose answer is wrong."""
-    os.chdir(folder)
-    signal.alarm(PATIENCE)
-    runner, is_uses = Runner(program), functools.lru_cache(is_help)
-    wrong = []
-    for words in chosen:
-        output, error, status = runner.run(words)
-        found = USES if output and is_uses(output) else output, error, status
-        if found != answer(words):
-            wrong.append(f"{words}: {(output, error, status)}, and should be {answer(words)}")
-    signal.alarm(0)
-    return wrong
+@functools.cache
+def is_help(output):
+    """Whether an output is the uses of the program in the order of the man page, each told in some words, with the page's example of it."""
+    page = (TOP / "docs/pool.1").read_text()
+    named = [re.sub(r"\\f.", "", line) for line in between(page, ".SH SYNOPSIS", ".SH ")]
+    shown = [f"  {example}" for example in between(page, ".SH EXAMPLES", "\0")]
+    lines = output.decode().splitlines()
+    return lines[1::2] == shown and [line.partition("  ")[0] for line in lines[::2]] == named
 
 
-def compare(program, folder, is_help):
-    """Runs the program with all lists, on all processors: the number of lists, and a line for each wrong answer. `is_help` tells whether an
-    output is the uses."""
+def found(done):
+    """What a run gave, with USES for the uses."""
+    output = USES if done.stdout and is_help(done.stdout) else done.stdout
+    return output, done.stderr, done.returncode
+
+
+def differences(program, folder, words):
+    """What differs in a run with these words."""
+    got, wanted = found(run(program, *words, cwd=folder)), answer(words)
+    return [] if got == wanted else [f"{words}: {got}, and should be {wanted}"]
+
+
+def compare(program, folder):
+    """What differs in the runs with all lists."""
     (pathlib.Path(folder) / THERE).write_bytes(b"")
-    chosen = list(lists())
-    parts = [chosen[start : start + PART] for start in range(0, len(chosen), PART)]
     with concurrent.futures.ProcessPoolExecutor(os.cpu_count()) as workers:
-        told = workers.map(faults, *map(itertools.repeat, (program, folder, is_help)), parts)
-        return len(chosen), [line for lines in told for line in lines]
+        yield from workers.map(functools.partial(differences, program, folder), lists(), chunksize=250)

@@ -5,47 +5,32 @@
 
 unpacks the cases of the given files, and of all files below the given folders, to files that the program takes. Below FOLDER each case gets a folder
 with `settings.toml`, and with those of these files that it has: `script`, `journal`, `error`, `statistics`; `claimed`, `verdict`; for each segment
-`0.journal`, `0.statistics`, ..; `answer`. The status is 1 if a file breaks the format: the line on standard error names the file and the line.
+`0.journal`, `0.statistics`, ..; `answer`. The status is 1 if a file breaks the format: the line on standard error names the file and the case.
 """
 
 import dataclasses
 import pathlib
 import re
 import sys
+import tomllib
 
-from case_model import STATISTICS
+from case_model import SHORT, STATISTICS
 
 TOP = pathlib.Path(__file__).resolve().parent.parent
 CASES = TOP / "tests/cases"
 
-# The sections of a case in their order, a space after each.
+# The keys of a case in their order, a space after each.
 ORDER = re.compile(
     r"settings answer |(settings )?"
-    r"(run (rest error )?statistics ((changed )+verdict )?|claim verdict |(segment statistics )+(verdict )?)"
+    r"(run (rest error )?statistics (changed verdict )?|claim verdict |segments statistics (verdict )?)"
 )
-HEAD = re.compile(r"([a-z]+)(?: (\d+)-(\d+))?(?:: (.+))?")
-# These sections have their text after a colon, if that is one line as it stands.
-SHORT = ("answer", "error", "statistics", "verdict")
-ESCAPE = re.compile(rb"\\(?:x([0-9a-f]{2})|(.?))", re.DOTALL)
-ESCAPED = {b"n": b"\n", b"r": b"\r", b"t": b"\t", b"\\": b"\\"}
-SHOWN = {byte[0]: "\\" + name.decode() for name, byte in ESCAPED.items()}
-# Statistics of which no number is greater.
-ALL_ZERO = "all 0"
+# Bytes that are no part of UTF-8, as Python decodes them.
+NO_TEXT = re.compile("([\udc80-\udcff])")
+ESCAPED = SHORT | {'"': '\\"'}
 
 
 class CaseError(Exception):
-    """A file of cases breaks the format. The text names the file and the line."""
-
-
-@dataclasses.dataclass
-class Section:
-    """A section of a case: its text, the lines of the journal that it replaces, its file and line, and whether its text follows a colon."""
-
-    name: str
-    text: bytes = b""
-    lines: tuple | None = None
-    place: str = ""
-    is_short: bool = False
+    """A file of cases breaks the format. The text names the file and the case."""
 
 
 @dataclasses.dataclass
@@ -69,7 +54,7 @@ class Case:
     @property
     def script(self):
         """The script of the journal, with the lines that are read after it."""
-        return b"".join(line.partition(b" = ")[0] + b"\n" for line in lines_of(self.journal)) + self.rest
+        return script_of(self.journal) + self.rest
 
     @property
     def claimed(self):
@@ -97,10 +82,30 @@ class Case:
             texts |= {f"{number}.journal": text, f"{number}.statistics": statistics}
         return {name: text for name, text in texts.items() if text is not None}
 
+    def fault(self):
+        """What is wrong with the texts, or `None`."""
+        if any(b" = " not in line or not line.endswith(b"\n") for line in lines_of(self.journal or b"")):
+            return "a line of 'run' has no answer, or no end"
+        if not re.match(rb"pool: ", self.error or b"pool: "):
+            return "an error begins with 'pool: '"
+        if not re.match(rb"legal |illegal |pool: ", self.verdict or b"legal "):
+            return "a verdict begins with 'legal', 'illegal' or 'pool:'"
+        if not re.match(rb"ok\n|pool: ", self.answer or b"ok\n"):
+            return "an answer is 'ok', or begins with 'pool: '"
+        ends = [0, *(last for _, last, _ in self.changes), len(lines_of(self.journal or b""))]
+        starts = [first for first, _, _ in self.changes]
+        if any(not before < first <= last + 1 for before, first, last in zip(ends, starts, ends[1:])) or ends[-2] > ends[-1]:
+            return "changes are of lines of the journal, in their order"
+        return None
+
 
 def lines_of(text):
     """The lines of a text, each with its line feed, which alone ends a line."""
     return re.findall(rb"[^\n]*\n|[^\n]+", text)
+
+
+def script_of(journal):
+    return b"".join(line.partition(b" = ")[0] + b"\n" for line in lines_of(journal))
 
 
 def wanted_of(text):
@@ -113,109 +118,49 @@ def wanted_of(text):
 # Reading.
 
 
-def unescaped(text):
-    """The bytes of a line with escapes, or `None` if one of them is none."""
-    found = [escape for escape in ESCAPE.finditer(text) if not escape[1] and escape[2] not in ESCAPED]
-    return None if found else ESCAPE.sub(lambda escape: bytes.fromhex(escape[1].decode()) if escape[1] else ESCAPED[escape[2]], text)
+def bytes_of(value):
+    """The bytes of a text, or of a list of texts and of bytes that are no text."""
+    return b"".join(part.encode() if isinstance(part, str) else bytes([part]) for part in ([value] if isinstance(value, str) else value))
 
 
-def text_of_line(line, place):
-    """The bytes that a line of a section stands for."""
-    if not re.match(r"[|!]( |$)", line):
-        raise CaseError(f"{place}: a line of a section begins with '| ' or '! ', and a section with its name")
-    mark, text = line[0], line[2:].encode()
-    if mark == "|":
-        return text + b"\n"
-    text = unescaped(text)
-    if text is None:
-        raise CaseError(f"{place}: an escape is \\\\, \\n, \\r, \\t or \\x with two digits")
-    return text
+def line_of(value):
+    return value.encode() + b"\n"
 
 
-def section_of(line, place):
-    """The section that a line begins."""
-    found = HEAD.fullmatch(line)
-    if not found or (found[2] is not None) != (found[1] == "changed") or (found[4] and found[1] not in SHORT):
-        raise CaseError(f"{place}: not the first line of a section: {line!r}")
-    text = found[4]
-    lines = (int(found[2]), int(found[3])) if found[2] else None
-    return Section(found[1], b"" if text is None else text.encode() + b"\n", lines, place, text is not None)
+def statistics_text(value):
+    """The nine lines of statistics of which those that aren't 0 are named, or the program's line."""
+    if isinstance(value, str):
+        return line_of(value)
+    if not all(name in STATISTICS and isinstance(count, int) and count > 0 for name, count in value.items()):
+        raise ValueError("statistics are those that aren't 0, by their names")
+    return "".join(f"{name} {value.get(name, 0)}\n" for name in STATISTICS).encode()
 
 
-def sections_of(lines, path):
-    """The cases of the lines after a file's heading, each as its name, its place and its sections."""
-    cases = []
-    for number, line in lines:
-        place = f"{path}:{number}"
-        if line.startswith("case "):
-            cases.append((line.removeprefix("case "), place, []))
-        elif not cases:
-            raise CaseError(f"{place}: before the first case there are only lines that begin with '#'")
-        elif line[:1] not in ("|", "!"):
-            cases[-1][2].append(section_of(line, place))
-        elif not cases[-1][2] or cases[-1][2][-1].is_short:
-            raise CaseError(f"{place}: a text without a section")
-        else:
-            cases[-1][2][-1].text += text_of_line(line, place)
-    return cases
+def case_of(name, place, table):
+    """The case of a table."""
+    texts = {"settings": "settings", "run": "journal", "rest": "rest", "claim": "whole_claim"}
+    case = Case(name, place, **{field: bytes_of(table[key]) for key, field in texts.items() if key in table})
+    for key in {"error", "verdict", "answer"} & set(table):
+        setattr(case, key, line_of(table[key]))
+    case.changes = [(first, last, bytes_of(text)) for first, last, text in table.get("changed", [])]
+    if "segments" in table:
+        case.segments = [*zip(map(bytes_of, table["segments"]), map(statistics_text, table["statistics"]), strict=True)]
+    elif "statistics" in table:
+        case.statistics = statistics_text(table["statistics"])
+    return case
 
 
-def statistics_text(section):
-    """The nine lines that a section with statistics stands for, or the program's line."""
-    text = section.text.decode(errors="replace").removesuffix("\n")
-    if text.startswith("pool: "):
-        return section.text
-    numbers = {} if text == ALL_ZERO else dict(re.findall(r"(?:^|, )(\w+) ([1-9]\d*)(?=, |$)", text))
-    counts = {name: numbers.get(name, "0") for name in STATISTICS}
-    if text_of_counts(counts) != text:
-        raise CaseError(f"{section.place}: statistics are '{ALL_ZERO}', or those that aren't 0, in the order in which the program writes them")
-    return "".join(f"{name} {count}\n" for name, count in counts.items()).encode()
-
-
-def add_section(case, section):
-    """Adds what a section says to a case."""
-    text = section.text
-    if section.name == "run":
-        case.journal = text
-    elif section.name == "claim":
-        case.whole_claim = text
-    elif section.name == "segment":
-        case.segments.append((text, None))
-    elif section.name == "changed":
-        case.changes.append((*section.lines, text))
-    elif section.name == "statistics" and case.segments:
-        case.segments[-1] = case.segments[-1][0], statistics_text(section)
-    else:
-        setattr(case, section.name, statistics_text(section) if section.name == "statistics" else text)
-
-
-def fault_of(case):
-    """What is wrong with the texts of a case, or `None`."""
-    if any(b" = " not in line or not line.endswith(b"\n") for line in lines_of(case.journal or b"")):
-        return "a line of 'run' has no answer, or no end"
-    if case.error is not None and not case.error.startswith(b"pool: "):
-        return "an error begins with 'pool: '"
-    if case.verdict is not None and not re.match(rb"legal |illegal |pool: ", case.verdict):
-        return "a verdict begins with 'legal', 'illegal' or 'pool:'"
-    if case.answer is not None and case.answer != b"ok\n" and not case.answer.startswith(b"pool: "):
-        return "an answer is 'ok', or begins with 'pool: '"
-    ends = [0, *(last for _, last, _ in case.changes), len(lines_of(case.journal or b""))]
-    starts = [first for first, _, _ in case.changes]
-    if any(not before < first <= last + 1 for before, first, last in zip(ends, starts, ends[1:])) or ends[-2] > ends[-1]:
-        return "changes are of lines of the journal, in their order"
-    return None
-
-
-def case_of(name, place, sections):
-    """The case that its sections make."""
-    case, names = Case(name, place), [section.name for section in sections]
+def checked_case(name, place, table):
+    """The case of a table, or an error."""
     if not re.fullmatch(r"[\w-]+", name):
-        raise CaseError(f"{place}: a name is of letters, digits, '_' and '-': {name!r}")
-    if not ORDER.fullmatch("".join(f"{name} " for name in names)):
-        raise CaseError(f"{place}: no case has the sections {' '.join(names) or 'none'}")
-    for section in sections:
-        add_section(case, section)
-    fault = fault_of(case)
+        raise CaseError(f"{place}: a name is of letters, digits, '_' and '-'")
+    if not isinstance(table, dict) or not ORDER.fullmatch("".join(f"{key} " for key in table)):
+        raise CaseError(f"{place}: no case has the keys {' '.join(table) or 'none'}")
+    try:
+        case = case_of(name, place, table)
+        fault = case.fault()
+    except (TypeError, ValueError, AttributeError) as error:
+        raise CaseError(f"{place}: {error}") from None
     if fault:
         raise CaseError(f"{place}: {fault}")
     return case
@@ -223,23 +168,14 @@ def case_of(name, place, sections):
 
 def read_file(path):
     """The heading of a file, which is lines that begin with '#', and its cases."""
-    text = pathlib.Path(path).read_bytes()
     try:
-        lines = text.decode().split("\n")
-    except UnicodeDecodeError as error:
-        raise CaseError(f"{path}:{text[: error.start].count(10) + 1}: not UTF-8") from None
-    if lines.pop():
-        raise CaseError(f"{path}:{len(lines) + 1}: no line feed at the end")
-    heading = next((number for number, line in enumerate(lines) if not line.startswith("#")), len(lines))
-    numbered = [(number, line) for number, line in enumerate(lines, 1) if number > heading and line]
-    cases = [case_of(*found) for found in sections_of(numbered, path)]
-    if not cases:
-        raise CaseError(f"{path}:{max(len(lines), 1)}: no case")
-    known = {}
-    for case in cases:
-        if known.setdefault(case.name, case) is not case:
-            raise CaseError(f"{case.place}: the name of the case at {known[case.name].place}")
-    return lines[:heading], cases
+        text = pathlib.Path(path).read_bytes().decode()
+        tables = tomllib.loads(text)
+    except ValueError as error:
+        raise CaseError(f"{path}: {error}") from None
+    if not tables:
+        raise CaseError(f"{path}: no case")
+    return re.match(r"(?:#.*\n)*", text)[0].splitlines(), [checked_case(name, f"{path}: {name}", table) for name, table in tables.items()]
 
 
 def full_name(path, case):
@@ -251,7 +187,7 @@ def full_name(path, case):
 def files_of(paths):
     """The files of cases among the paths, and below those that are folders. Each path must have one."""
     for path in map(pathlib.Path, paths):
-        found = sorted(path.rglob("*.txt")) if path.is_dir() else [path]
+        found = sorted(path.rglob("*.toml")) if path.is_dir() else [path]
         if not found:
             raise CaseError(f"{path}: no file of cases")
         yield from found
@@ -266,7 +202,7 @@ def read_cases(*paths):
 
 def case_named(name):
     """The case of this name, such as worked/loans/plain_life."""
-    file = (CASES / name).parent.with_suffix(".txt")
+    file = (CASES / name).parent.with_suffix(".toml")
     found = [case for case in read_cases(file) if case.name == name] if file.is_file() else []
     if not found:
         raise CaseError(f"{file}: no case {name}")
@@ -290,69 +226,60 @@ def unpacked(room, *paths):
 # Writing.
 
 
-def is_plain(text):
-    """Whether a line can stand as it is: of characters that can be seen, with no space at its end."""
-    try:
-        line = text.decode()
-    except UnicodeDecodeError:
-        return False
-    return line.endswith("\n") and line[:-1].isprintable() and not line.endswith(" \n")
+def escaped(text):
+    """A text as it is in a string of TOML. A space at its end can be seen."""
+    shown = "".join(ESCAPED.get(sign) or (sign if sign.isprintable() else f"\\U{ord(sign):08X}") for sign in text)
+    return re.sub(" $", r"\\u0020", shown)
+
+
+def written_text(text):
+    """A text as a value of TOML: plain lines as they are, and else with escapes. In a list the bytes that are not UTF-8 stand between texts."""
+    shown = text.decode(errors="surrogateescape")
+    if NO_TEXT.search(shown):
+        parts = (str(ord(part) - 0xDC00) if NO_TEXT.match(part) else f'"{escaped(part)}"' for part in NO_TEXT.split(shown) if part)
+        return f"[{', '.join(parts)}]"
+    lines = shown.split("\n")
+    if len(lines) > 1 and "'''" not in shown and all(line.isprintable() and not line.endswith(" ") for line in lines):
+        return f"'''\n{shown}'''"
+    if len(lines) > 2:
+        return '"""\n' + "\n".join(map(escaped, lines)) + '"""'
+    return f'"{escaped(shown)}"'
 
 
 def written_line(text):
-    """A line of a section that stands for a line."""
-    if is_plain(text):
-        return f"| {text.decode()}".rstrip(" \n")
-    shown = "".join(SHOWN.get(byte) or (chr(byte) if 32 <= byte < 127 else f"\\x{byte:02x}") for byte in text)
-    return "! " + re.sub(" $", r"\\x20", shown)
-
-
-def written_section(name, text, lines=None):
-    """The lines of a section."""
-    head = name if lines is None else f"{name} {lines[0]}-{lines[1]}"
-    if name in SHORT and is_plain(text) and text.count(b"\n") == 1 and text != b"\n":
-        return [f"{head}: {text.decode()[:-1]}"]
-    return [head, *map(written_line, lines_of(text))]
-
-
-def text_of_counts(counts):
-    return ", ".join(f"{name} {counts[name]}" for name in STATISTICS if counts[name] != "0") or ALL_ZERO
+    return f'"{escaped(text.decode()[:-1])}"'
 
 
 def written_statistics(text):
-    """The lines of a section with statistics."""
     if text.startswith(b"pool: "):
-        return written_section("statistics", text)
-    counts = dict(line.split(" ") for line in text.decode().splitlines())
-    return [f"statistics: {text_of_counts(counts)}"]
+        return written_line(text)
+    counts = (line.split(" ") for line in text.decode().splitlines())
+    return "{" + ", ".join(f"{name} = {count}" for name, count in counts if count != "0") + "}"
+
+
+def written_list(values):
+    return "[\n" + "".join(f"{value},\n" for value in values) + "]"
 
 
 def written_case(case):
     """The lines of a case."""
-    lines = [f"case {case.name}"]
-    if case.settings or case.answer is not None:
-        lines += written_section("settings", case.settings)
-    if case.journal is not None:
-        lines += written_section("run", case.journal)
-    if case.error is not None:
-        lines += written_section("rest", case.rest) + written_section("error", case.error)
-    if case.statistics is not None:
-        lines += written_statistics(case.statistics)
-    for first, last, text in case.changes:
-        lines += written_section("changed", text, (first, last))
-    for text, statistics in case.segments:
-        lines += written_section("segment", text) + written_statistics(statistics)
-    for name, text in (("claim", case.whole_claim), ("verdict", case.verdict), ("answer", case.answer)):
-        lines += [] if text is None else written_section(name, text)
-    return lines
+    texts = {"settings": case.settings if case.settings or case.answer is not None else None, "run": case.journal}
+    texts |= {"rest": None if case.error is None else case.rest, "claim": case.whole_claim}
+    values = {key: written_text(text) for key, text in texts.items() if text is not None}
+    values |= {"error": written_line(case.error)} if case.error is not None else {}
+    values |= {"statistics": written_statistics(case.statistics)} if case.statistics is not None else {}
+    if case.changes:
+        values["changed"] = written_list(f"[{first}, {last}, {written_text(text)}]" for first, last, text in case.changes)
+    if case.segments:
+        values["segments"] = written_list(written_text(text) for text, _ in case.segments)
+        values["statistics"] = written_list(written_statistics(statistics) for _, statistics in case.segments)
+    values |= {key: written_line(text) for key, text in (("verdict", case.verdict), ("answer", case.answer)) if text is not None}
+    return [f"[{case.name}]", *(f"{key} = {value}" for key, value in values.items())]
 
 
 def written(heading, cases):
     """The text of a file with this heading and these cases."""
-    lines = [*heading]
-    for case in cases:
-        lines += ["", *written_case(case)]
-    return "".join(f"{line}\n" for line in lines)
+    return "\n".join([*heading, *(line for case in cases for line in ["", *written_case(case)]), ""])
 
 
 def main():

@@ -4,8 +4,8 @@
 check_cases.py  The last line is 'N passed, M failed'.
 
 - Each file is made anew, and must be the same, and so must the example of tests/cases/README.md. No two cases differ only in their names.
-- A new case gets its answers; one of NOT_MADE is an error, which names its file and line.
-- Each edit of FAULTS breaks a file: the error must name the file and the line. Unpacking it must end with that line and status 1.
+- A new case gets its answers; one of NOT_MADE is an error, which names its file and case.
+- Each edit of FAULTS breaks a file: the error must name the file. Unpacking it must end with that line and status 1.
 - Texts of all bytes must be the same if they are written and read again.
 """
 
@@ -22,76 +22,80 @@ from playing import play_checks
 
 GOOD = """# A heading.
 
-case one
-settings
-| maxTotal = 1
-run
-| 0 0 add = make 0
-rest
-| 0 0 and
-error: pool: line 2: not a line
-statistics: created 1
-changed 1-1
-| 0 0 add = wait
-verdict: illegal 0 make 0
+[one]
+settings = "maxTotal = 1\\n"
+run = "0 0 add = make 0\\n"
+rest = "0 0 and\\n"
+error = "pool: line 2: not a line"
+statistics = {created = 1}
+changed = [[1, 1, "0 0 add = wait\\n"]]
+verdict = "illegal 0 make 0"
 """
+SEGMENTS = '[one]\nsegments = ["0 0 add = make 0\\\\n"]\nstatistics = [{created = 1}]\n'
 
-# Edits of that file, each with the line that is at fault and a part of the error.
+# Edits of that file, each with a part of the error.
 FAULTS = (
-    ("case one\n", "", 3, "before the first case"),
-    ("case one", "case o ne", 3, "a name is of letters"),
-    ("settings\n", "setting\n", 3, "no case has the sections"),
-    ("settings\n", "Settings\n", 4, "not the first line of a section"),
-    ("| maxTotal = 1\nrun\n", "", 3, "no case has the sections"),
-    ("| maxTotal", "maxTotal", 5, "not the first line of a section"),
-    ("| maxTotal", "|maxTotal", 5, "a line of a section begins with"),
-    ("| maxTotal", "! \\q", 5, "an escape is"),
-    ("| maxTotal = 1", "! maxTotal\\", 5, "an escape is"),
-    ("| maxTotal", "! \\x1", 5, "an escape is"),
-    ("settings\n", "", 4, "a text without a section"),
-    ("run", "run 1-2", 6, "not the first line of a section"),
-    ("run", "run: 0 0 add = make 0", 6, "not the first line of a section"),
-    (" = make 0\nrest", "\nrest", 3, "a line of 'run' has no answer"),
-    ("rest\n| 0 0 and\n", "", 3, "no case has the sections"),
-    ("error: pool", "error: poll", 3, "an error begins with"),
-    ("statistics: created 1\n", "", 3, "no case has the sections"),
-    ("created 1", "created 0", 11, "statistics are"),
-    ("created 1", "created 01", 11, "statistics are"),
-    ("created 1", "created 1, borrowed 1", 11, "statistics are"),
-    ("created 1", "created 1, lost 1", 11, "statistics are"),
-    ("created 1", "created 1,", 11, "statistics are"),
-    ("changed 1-1", "changed", 12, "not the first line of a section"),
-    ("changed 1-1", "changed 1-", 12, "not the first line of a section"),
-    ("changed 1-1", "changed 2-2", 3, "changes are of lines of the journal"),
-    ("changed 1-1", "changed 0-0", 3, "changes are of lines of the journal"),
-    ("changed 1-1", "changed 1-1\nchanged 1-1", 3, "changes are of lines of the journal"),
-    ("verdict: illegal 0 make 0\n", "", 3, "no case has the sections"),
-    ("verdict: illegal", "verdict: wrong", 3, "a verdict begins with"),
-    ("make 0\n", "make 0\n| 0 0 add\n", 3, "a line of 'run' has no answer"),
-    ("verdict: illegal 0 make 0\n", "verdict: illegal 0 make 0\n| more\n", 15, "a text without a section"),
-    ("verdict: illegal 0 make 0\n", "verdict: illegal 0 make 0", 14, "no line feed at the end"),
-    ("verdict: illegal 0 make 0\n", "verdict: illegal 0 make 0\ncase one\nsettings\nanswer: ok\n", 15, "the name of the case at"),
-    ("verdict: illegal 0 make 0\n", "verdict: illegal 0 make 0\ncase two\nsettings\nanswer: no\n", 15, "an answer is"),
-    ("verdict: illegal 0 make 0\n", "verdict: illegal 0 make 0\ncase two\n", 15, "no case has the sections none"),
-    ("verdict: illegal 0 make 0\n", "verdict: illegal 0 make 0\n# More.\n", 15, "not the first line of a section"),
-    (GOOD, "# A heading.\n", 1, "no case"),
-    (GOOD, "", 1, "no case"),
+    ("[one]\n", "", "settings: no case has the keys"),
+    ("[one]", "[o ne]", "line 3"),
+    ("[one]", '["o ne"]', "a name is of letters"),
+    ("settings", "setting", "no case has the keys"),
+    ('"maxTotal = 1\\n"', "1", "object is not iterable"),
+    ('"maxTotal = 1\\n"', "[300]", "bytes must be in range"),
+    (" = make 0\\n", "\\n", "a line of 'run' has no answer"),
+    ("make 0\\n", "make 0", "a line of 'run' has no answer"),
+    ('rest = "0 0 and\\n"\n', "", "no case has the keys"),
+    ("pool: line 2", "poll: line 2", "an error begins with"),
+    ("statistics = {created = 1}\n", "", "no case has the keys"),
+    ("created = 1", "created = 0", "statistics are"),
+    ("created = 1", 'created = "1"', "statistics are"),
+    ("created = 1", "lost = 1", "statistics are"),
+    ("{created = 1}", "1", "no attribute"),
+    ("[[1, 1, ", "[[1, ", "not enough values"),
+    ("[[1, 1, ", "[[2, 2, ", "changes are of lines of the journal"),
+    ("[[1, 1, ", "[[0, 0, ", "changes are of lines of the journal"),
+    ("[[1, 1, ", '[[1, 1, ""], [1, 1, ', "changes are of lines of the journal"),
+    ('verdict = "illegal 0 make 0"\n', "", "no case has the keys"),
+    ("illegal 0", "wrong 0", "a verdict begins with"),
+    (GOOD, SEGMENTS.replace("{created = 1}", ""), "shorter"),
+    (GOOD, '[one]\nsettings = ""\nanswer = "no"\n', "an answer is"),
+    (GOOD, "[one]\n", "no case has the keys none"),
+    (GOOD, "# A heading.\n", "no case"),
 )
 
 
 # A script before its answers are made, and with them.
-NEW = "case new\nsettings\n| maxTotal = 1\nrun\n| 0 0 add = nothing\n| 0 0 add = nothing\n| 0 1 and = nothing\nstatistics: all 0\n"
-MADE = (
-    "\ncase new\nsettings\n| maxTotal = 1\nrun\n| 0 0 add = make 0\n| 0 0 add = noplace\n"
-    "rest\n| 0 1 and\nerror: pool: line 3: not a line\nstatistics: created 1\n"
-)
+NEW = """
+[new]
+settings = "maxTotal = 1\\n"
+run = '''
+0 0 add = nothing
+0 0 add = nothing
+0 1 and = nothing
+'''
+statistics = {}
+"""
+MADE = """
+[new]
+settings = '''
+maxTotal = 1
+'''
+run = '''
+0 0 add = make 0
+0 0 add = noplace
+'''
+rest = '''
+0 1 and
+'''
+error = "pool: line 3: not a line"
+statistics = {created = 1}
+"""
 
 # Cases for which nothing can be made, with their errors.
 NOT_MADE = (
     (NEW.replace("maxTotal", "maxTotl"), "the program does not take the settings: pool: settings: unknown key maxTotl"),
     (NEW.replace("= 1", "= one"), "the program does not take the settings: pool: settings: not TOML"),
     (
-        "case full\nsettings\n| journalLimit = 3\nsegment\n| 0 0 add = make 0\nstatistics: created 1\nverdict: legal 1\n",
+        SEGMENTS.replace("segments", 'settings = "journalLimit = 3"\nsegments').replace("one", "new") + 'verdict = "legal 1"\n',
         "the script of the segments ends with 'pool: line 1: journal full'; change its settings or segments",
     ),
 )
@@ -108,29 +112,34 @@ def check_made():
     """Each file of cases, and how it differs from that which is made."""
     for path, made in files_made():
         yield path.relative_to(CASES), None, first_difference(path.read_text(), made)
-    yield "the files of seeds", set(), set(SEEDED) - {path.relative_to(CASES).as_posix() for path in CASES.rglob("*.txt")}
+    yield "the files of seeds", set(), set(SEEDED) - {path.relative_to(CASES).as_posix() for path in CASES.rglob("*.toml")}
 
 
-def made_of(path):
-    """The text of a file as it is made anew, or the error."""
+def outcome(work, *words):
+    """What a call returns, or the text of its error."""
     try:
-        heading, cases = read_file(path)
-        return written(heading, map(remade, cases))
+        return work(*words)
     except CaseError as error:
         return str(error)
 
 
+def made_of(path):
+    """The text of a file as it is made anew."""
+    heading, cases = read_file(path)
+    return written(heading, map(remade, cases))
+
+
 def check_new(folder):
     """The example of the README as it is made, a new case, and cases that are errors."""
-    path, page = folder / "new.txt", (CASES / "README.md").read_text()
+    path, page = folder / "new.toml", (CASES / "README.md").read_text()
     example = re.search(r"## Format\n\n((?:    .*\n|\n)+)", page)[1].rstrip("\n") + "\n"
     text = re.sub("^    ", "", example, flags=re.MULTILINE)
     for name, text, made in [("the README's example", text, text), ("a new case", NEW, MADE)]:
         path.write_text(text)
-        yield name, made, made_of(path)
+        yield name, made, outcome(made_of, path)
     for text, error in NOT_MADE:
         path.write_text(text)
-        yield error, f"{path}:1: {error}", made_of(path)
+        yield error, f"{path}: new: {error}", outcome(made_of, path)
 
 
 def check_copies():
@@ -141,36 +150,27 @@ def check_copies():
         yield f"{case.name}, a copy", case.name, known.setdefault(contents, case.name)
 
 
-def error_of(path):
-    """The error of reading a file."""
-    try:
-        read_file(path)
-    except CaseError as error:
-        return str(error)
-    return None
-
-
 def check_faults(folder):
     """Each file with a fault, and whether its error is as wanted."""
-    path = folder / "faulty.txt"
-    for number, (old, new, line, told) in enumerate(FAULTS):
+    path = folder / "faulty.toml"
+    for old, new, told in FAULTS:
         path.write_text(GOOD.replace(old, new, 1))
-        error = error_of(path)
-        yield f"fault {number}: {error}", True, error is not None and error.startswith(f"{path}:{line}: ") and told in error
+        error = str(outcome(read_file, path))
+        yield f"{new!r} in place of {old!r}: {error}", True, error.startswith(f"{path}: ") and told in error
     path.write_bytes(GOOD.encode().replace(b"and", b"\xff"))
-    yield "not UTF-8", f"{path}:9: not UTF-8", error_of(path)
+    yield "not UTF-8", True, "can't decode byte 0xff" in str(outcome(read_file, path))
     path.write_text(GOOD)
-    yield "no fault", None, error_of(path)
+    yield "no fault", ["one"], [case.name for case in read_file(path)[1]]
 
 
 def check_unpacking(folder):
     """What the command ends with on a file without and with a fault, on one that is not there, and on a folder without files."""
-    good, bad, none = folder / "good.txt", folder / "bad.txt", folder / "none.txt"
+    good, bad, none = folder / "good.toml", folder / "bad.toml", folder / "none.toml"
     good.write_text(GOOD)
-    bad.write_text(GOOD.replace("case one", "case"))
+    bad.write_text(GOOD.replace("make 0\\n", ""))
     (folder / "empty").mkdir()
     wanted = {
-        good: (0, ""), bad: (1, f"{bad}:3: before the first case there are only lines that begin with '#'"),
+        good: (0, ""), bad: (1, f"{bad}: one: a line of 'run' has no answer, or no end"),
         none: (1, f"[Errno 2] No such file or directory: '{none}'"), folder / "empty": (1, f"{folder / 'empty'}: no file of cases"),
     }
     for number, (path, (status, told)) in enumerate(wanted.items()):
@@ -187,22 +187,23 @@ def check_unpacking(folder):
 
 def check_bytes(folder):
     """Texts of all bytes, of ends without a line feed, and of characters that are not ASCII."""
-    path = folder / "bytes.txt"
+    path = folder / "bytes.toml"
     texts = [bytes([byte]) for byte in range(256)] + [bytes([byte, 10]) for byte in range(256)]
     texts += [bytes(range(256)), bytes(range(255, -1, -1)), b"", b"\n\n", b" \n", b"a \n", "é\n".encode(), "a\u0085\n".encode(), b"a\\\n", b"| a\n"]
-    path.write_text(written([], [Case(str(number), settings=text, answer=b"pool: " + text) for number, text in enumerate(texts)]))
+    path.write_text(written([], [Case(str(number), settings=text, answer=b"ok\n") for number, text in enumerate(texts)]))
     for text, case in zip(texts, read_file(path)[1], strict=True):
-        yield f"bytes {text!r}", (text, b"pool: " + text), (case.settings, case.answer)
+        yield f"bytes {text!r}", text, case.settings
+    errors = [b"pool: " + bytes([byte]) + b"\n" for byte in range(128)] + ["pool: é\u0085\n".encode()]
+    path.write_text(written([], [Case(str(number), settings=b"", answer=error) for number, error in enumerate(errors)]))
+    for error, case in zip(errors, read_file(path)[1], strict=True):
+        yield f"the answer {error!r}", error, case.answer
 
 
 def check_found():
     """A case is found by its name, and one that is not there is an error."""
     yield "the name of a case", b"0 10 borrow 10\n", case_named("worked/loans/plain_life").script[:15]
     for name in ("worked/loans/none", "worked/none/plain_life", "none"):
-        try:
-            yield name, "an error", case_named(name)
-        except CaseError as error:
-            yield name, True, str(error).endswith(f"no case {name}")
+        yield name, True, str(outcome(case_named, name)).endswith(f"no case {name}")
 
 
 def main():

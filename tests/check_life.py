@@ -9,34 +9,23 @@ import pathlib
 import subprocess
 import sys
 
+import picture_model
 from case_files import read_cases
+from playing import tell
 
 TOP = pathlib.Path(__file__).resolve().parent.parent
 sys.path.insert(0, str(TOP / "docs/pictures"))
-import draw_life  # noqa: E402
-
-# What an answer moves its object to. Those of the first table name the object, those of the second stand for the input's.
-NAMED = {"take": "Readying", "test": "Testing", "destroyidle": "Destroying", "reclaimed": "Gone"}
-OF_INPUT = {"lent": "Lent", "check": "Returning", "parked": "Idle", "kept": "Idle", "destroy": "Destroying", "freed": "Gone"}
+import draw_life
 
 
 def moves(journal):
     """Each move of a journal: phase before, input, outcome or nothing, answer, phase after."""
     phases = {}
-    for line in journal.decode().splitlines():
-        words = line.split(" ")
-        equals = words.index("=")
-        asked, (answer, *told) = words[2:equals], words[equals + 1 :]
-        if answer == "make":
-            moved, after = told[0], "Readying" if asked[0] == "borrow" else "Adding"
-        elif answer in NAMED:
-            moved, after = told[0], NAMED[answer]
-        elif answer in OF_INPUT:
-            moved, after = asked[1], OF_INPUT[answer]
-        else:
-            continue
-        yield phases.get(moved, "Absent"), asked[0], asked[2] if len(asked) > 2 else "", answer, after
-        phases[moved] = after
+    for entry in picture_model.read(journal.decode()).entries:
+        if move := entry.moved():
+            id, after = move
+            yield phases.get(id, "Absent"), entry.asked[0], entry.asked[2] if len(entry.asked) > 2 else "", entry.answer[0], after
+            phases[id] = after
 
 
 def main():
@@ -55,10 +44,8 @@ def main():
     wrong += [] if journals else ["no journal"]
     drawn = subprocess.run([sys.executable, TOP / "docs/pictures/draw_life.py", "--check"], capture_output=True, text=True)
     wrong += [drawn.stdout.strip()] if drawn.returncode else []
-    print(*wrong, sep="\n", end="\n" if wrong else "")
-    print(f"{len(table) + 1 - min(len(wrong), len(table) + 1)} passed, {len(wrong)} failed")
-    sys.exit(1 if wrong else 0)
+    return tell([*([line] for line in wrong), *([] for _ in range(len(table) + 1 - len(wrong)))])
 
 
 if __name__ == "__main__":
-    main()
+    sys.exit(main())

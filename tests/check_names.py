@@ -1,12 +1,13 @@
 #!/usr/bin/env python3
-"""Sees that what README.md, SECURITY.md, bindings/c/README.md and docs/ name is there.
+"""Sees that what README.md, CONTRIBUTING.md, SECURITY.md, bindings/c/README.md, examples/README.md and docs/ name is there.
 
 check_names.py  The last line is 'N passed, M failed'.
 
 Each file, folder and heading that a page names or links to exists; each single name between backquotes is a word of some source or the name
 of an edit, and a method belongs to its type; each name that stands beside a source, as in "`name` in `file`", "`name` (`file`)" or a row of a table
 with a column "File", is declared in that source; and each clause that docs/proof/proved.md names is one of its crate. Each page of docs/ opens with a
-sentence that says for whom it is.
+sentence that says for whom it is. Each source in Rattle and of the Rust crate begins with a line that says what it has.
+The diffs of CONTRIBUTING.md fit the sources.
 """
 
 import functools
@@ -14,17 +15,19 @@ import pathlib
 import re
 import sys
 
+from playing import play_checks
+
 TOP = pathlib.Path(__file__).resolve().parent.parent
 PAGES = [TOP / "README.md", *sorted((TOP / "docs").rglob("*.md"))]
-# Names of other libraries, some by their beginnings; and what a page names because it is not there.
+# Names of other libraries and of the prover's modules, some by their beginnings; and what a page names because it is not there.
 FOREIGN = re.compile(
-    r"(get|list|log|use|add|prepare|evictor|timeBetween|max)[A-Z]\w*$|\w+ObjectPool$|DestroyMode$|Millis$|IsPartitionPoint-from_clause$"
+    r"(get|list|log|use|add|prepare|evictor|timeBetween|max)[A-Z]\w*$|\w+ObjectPool$|DestroyMode$|Millis$|(Lts|Tie|Proof)$|IsPartitionPoint-from_clause$"
 )
 ABSENT = {"proofs/Phrases.antt", "src/phrases.rt", "OnNone"}
 # The words with which names of predicates begin.
 BEGINNINGS = {"Is", "Has"}
 PLACEHOLDER = re.compile(r"[A-Z]*NAME|[<*]|X_")
-FILE = re.compile(r"[\w./-]*(?:/|\.(?:antt|rt|py|md|toml|txt|c|rs|svg|script))[\w./-]*$")
+FILE = re.compile(r"(?!\.\./)[\w./-]*(?:/|\.(?:antt|rt|py|md|toml|txt|c|rs|svg|script))[\w./-]*$")
 NAME = re.compile(r"[^\W\d]\w*(?:-\w+)*$")
 OPENING = re.compile(r"# .+\n\nThis page is for [^.]+\.\n\n")
 OWNED = re.compile(r"[^\W\d]\w*::\w+$")
@@ -34,7 +37,7 @@ SAID = r"\b(?:ensures|ghost|pub (?:trait|struct|enum|fn)|pub\(crate\) fn) %s\b"
 OTHERS = (
     *("bindings/c/include/*", "bindings/c/src/*", "bindings/c/examples/*", "bindings/rust/src/*.rs", "bindings/rust/examples/*"),
     *("bindings/java/src/zuphinka/*", "bindings/java/native/*", "bindings/java/examples/*", "tests/*.*", "tests/java/*", "tests/commons_pool/**/*"),
-    *("bench/*", "tools/*", "docs/pictures/*.py", "examples/*", "pool", "check", "crates.txt", "bindings/c/Makefile"),
+    *("bench/*", "tools/*", "docs/pictures/*.py", "examples/*.toml", "examples/*.script", "pool", "check", "crates.txt", "bindings/c/Makefile"),
 )
 
 
@@ -168,6 +171,24 @@ def check_opening(page):
     yield page.name, None if OPENING.match(page.read_text()) else "doesn't open with one sentence that says for whom it is"
 
 
+def check_beginning(source):
+    """A source begins with a line of its own that says in some words what it has; in Rattle it has at most 120 columns."""
+    first = source.read_text().partition("\n")[0]
+    says = first.startswith("//! ") and len(first.split()) > 3 and (source.suffix == ".rs" or len(first) <= 120)
+    yield source.relative_to(TOP), None if says else "doesn't begin with a line //! that says what it has"
+
+
+def check_diffs(page):
+    """Each line that a diff of a page keeps or takes away is in the file that the diff names."""
+    for block in re.findall(r"^```diff\n(.*?)^```$", page.read_text(), flags=re.MULTILINE | re.DOTALL):
+        lines = set()
+        for line in block.splitlines():
+            if line.startswith("--- "):
+                lines = {*(TOP / line[4:]).read_text().splitlines()}
+            elif not line.startswith("+"):
+                yield line, None if line[1:] in lines else "not in the file of the diff"
+
+
 def tables(page):
     """The rows of each table of a page, by the names of its columns."""
     yield from rows_in(page.read_text())
@@ -202,7 +223,7 @@ def check_definitions(page):
         else:
             continue
         if stands:
-            folders = [TOP / "crates", *(file.parent for file in files), *(TOP / "crates").glob("*/specs")]
+            folders = [TOP / "crates", TOP, *(file.parent for file in files), *(TOP / "crates").glob("*/specs")]
             files = [next((folder / name for folder in folders if (folder / name).exists()), TOP) for name in stands]
         text = "\n".join(file.read_text() for file in files if file.is_file())
         for name in names:
@@ -221,26 +242,19 @@ def check_clauses(page):
             yield token, None if said else f"no clause of {crate}"
 
 
-def main():
-    passed, failed = 0, 0
-    others = TOP / "SECURITY.md", TOP / "bindings/c/README.md"
-    checks = [(check, page) for page in (*PAGES, *others) for check in (check_mentions, check_beside, check_links)]
-    checks += [(check_opening, page) for page in PAGES if page != TOP / "README.md"]
-    checks += [(check_definitions, TOP / "docs" / name) for name in ("proof/definitions.md", "proof/sharing.md", "dev/architecture.md")]
-    checks.append((check_clauses, TOP / "docs/proof/proved.md"))
-    for check, page in checks:
-        found = list(check(page))
-        for named, fault in found:
-            passed += not fault
-            failed += bool(fault)
-            if fault:
-                print(f"{page.name}: {named}: {fault}")
-        if not found and check not in (check_links, check_mentions, check_beside):
-            failed += 1
-            print(f"{page.name}: nothing for {check.__name__}")
-    print(f"{passed} passed, {failed} failed")
-    return 1 if failed else 0
+def checks():
+    others = [TOP / name for name in ("CONTRIBUTING.md", "SECURITY.md", "bindings/c/README.md", "examples/README.md")]
+    found = [(check, page) for page in (*PAGES, *others) for check in (check_mentions, check_beside, check_links)]
+    found += [(check_opening, page) for page in PAGES if page != TOP / "README.md"]
+    found += [(check_definitions, TOP / "docs" / name) for name in ("proof/definitions.md", "proof/sharing.md", "dev/architecture.md")]
+    found += [(check_clauses, TOP / "docs/proof/proved.md"), (check_diffs, TOP / "CONTRIBUTING.md")]
+    found += [(check_beginning, source) for pattern in ("crates/*/src/**/*.rt", "bindings/rust/src/*.rs") for source in sorted(TOP.glob(pattern))]
+    for check, page in found:
+        named = list(check(page))
+        if not named and check not in (check_links, check_mentions, check_beside):
+            named = [(check.__name__, "nothing to check")]
+        yield from ((f"{page.name}: {name}", None, fault) for name, fault in named)
 
 
 if __name__ == "__main__":
-    sys.exit(main())
+    sys.exit(play_checks(checks()))

@@ -12,10 +12,8 @@ check_picture.py PROGRAM CASES..  The last line is 'N passed, M failed'.
   must end with the right status and message, and with no picture.
 """
 
-import os
 import pathlib
 import re
-import subprocess
 import sys
 import tempfile
 import xml.etree.ElementTree as xml
@@ -23,8 +21,9 @@ import xml.etree.ElementTree as xml
 import picture_model
 from case_files import unpacked
 from play_damaged import SETTINGS, Chance, journal_by_chance
+from playing import differing, run, tell, write_files
 from pool_model import cut_at, settings_of
-from preloading import preloaded
+from preloading import preloaded, refusals
 
 TOP = pathlib.Path(__file__).resolve().parent.parent
 SVG = "{http://www.w3.org/2000/svg}"
@@ -45,10 +44,6 @@ ARGUMENTS = [
     (["/"], 3, "journal_picture: /: read failed\n"),
 ]
 SEGMENT = "the segment does not begin where the one before it ends"
-
-
-def run(program, arguments, text=None, **more):
-    return subprocess.run([program, *arguments], input=text, capture_output=True, timeout=100, **more)
 
 
 def hints(picture, start):
@@ -171,7 +166,7 @@ def overview_differences(picture, text, journal):
 
 def differences(program, *files):
     """What the picture of the journal in these files shows otherwise."""
-    done = run(program, files)
+    done = run(program, *files)
     if done.returncode or done.stderr:
         return [f"status {done.returncode}, {done.stderr!r}"]
     text = done.stdout.decode()
@@ -232,25 +227,18 @@ def pool_journals(folder):
     settings = settings_of(SETTINGS)
     for length, positions in ((400, {1, 100, 101, 399}), (12_000, {5_000, 11_999}), (100_000, {10_000, 33_333, 90_000})):
         text = journal_by_chance(settings, length)
-        whole = folder / f"pool-{length}"
-        whole.write_bytes(text)
-        files = []
-        for number, segment in enumerate(cut_at(settings, text, positions)):
-            files.append(folder / f"pool-{length}.{number}")
-            files[-1].write_bytes(segment)
-        stream = folder / f"pool-{length}.stream"
-        stream.write_bytes(b"".join(file.read_bytes() for file in files))
+        segments, name = cut_at(settings, text, positions), f"pool-{length}"
+        texts = {name: text, f"{name}.stream": b"".join(segments)} | {f"{name}.{number}": segment for number, segment in enumerate(segments)}
+        whole, stream, *files = write_files(folder, texts)
         yield whole, files, stream
 
 
 def segment_differences(program, whole, files, stream):
     """What is drawn otherwise of segments: all of them give the picture of the whole, also as a stream, and the later ones a picture too."""
-    picture = run(program, [whole]).stdout
+    picture = run(program, whole).stdout
     yield from differences(program, whole)
-    for arguments, text in ((files, None), ([stream], None), (["-"], stream.read_bytes()), (["/dev/stdin"], stream.read_bytes())):
-        done = run(program, arguments, text)
-        if (done.returncode, done.stdout, done.stderr) != (0, picture, b""):
-            yield f"{arguments}: not the picture of the whole, {done.stderr!r}"
+    for words, given in (files, {}), ([stream], {}), (["-"], {"input": stream.read_bytes()}), (["/dev/stdin"], {"input": stream.read_bytes()}):
+        yield from differing(f"{words}, and the picture of the whole", (picture, b"", 0), run(program, *words, **given))
     yield from differences(program, *files[1:])
     yield from differences(program, files[-1])
 
@@ -258,33 +246,27 @@ def segment_differences(program, whole, files, stream):
 def broken(folder, files):
     """Segments that do not continue one another, with the line that reports it."""
     first, second, third = (str(file) for file in files[:3])
-    head, *others = pathlib.Path(second).read_text().splitlines()
-    words = head.split(" ")
-    position = int(words[2])
-    length = picture_model.read(pathlib.Path(third).read_text()).position
+    head, record, *others = pathlib.Path(second).read_text().splitlines()
+    words, fields = head.split(" "), record.split(" ")
+    position, length = words[2], picture_model.read(pathlib.Path(third).read_text()).position
+
+    def with_word(texts, place, word):
+        return " ".join([*texts[:place], word, *texts[place + 1 :]])
+
     yield [second, second], second, f"line 1: {SEGMENT}: position {position}, expected {length}"
     yield [first, third], third, f"line 1: {SEGMENT}: position {length}, expected {position}"
-    plain = str(with_lines(folder / "plain", ["0 1 add = make 0"]))
-    yield [first, plain], plain, f"line 1: {SEGMENT}: it has no first line of a segment"
-    names = {3: "next id", 6: "destroyed", 7: "evicted", 8: "reclaimed", 9: "number of objects"}
-    for place, name in names.items():
-        changed = [*words]
-        changed[place] = str(int(words[place]) + 1)
-        file = str(with_lines(folder / f"changed-{place}", [" ".join(changed), *others]))
-        yield [first, file], file, f"line 1: {SEGMENT}: {name} {changed[place]}, expected {words[place]}"
-    closed = str(with_lines(folder / "closed", [head.replace("open", "closed"), *others]))
-    yield [first, closed], closed, f"line 1: {SEGMENT}: whether the pool is closed"
-    cursor = [*words]
-    cursor[5] = "77777"
-    moved = str(with_lines(folder / "cursor", [" ".join(cursor), *others]))
-    yield [first, moved], moved, f"line 1: {SEGMENT}: where the last object was examined"
-    id, phase, parked, since, lent, used, age = others[0].split(" ")
-    changed = [id, phase, parked, since, lent, str(int(used) + 1), age], ["9" + id, phase, parked, since, lent, used, age]
-    for number, record in enumerate(changed):
-        file = str(with_lines(folder / f"record-{number}", [head, " ".join(record), *others[1:]]))
-        yield [first, file], file, f"line 2: {SEGMENT}: object {record[0]}"
-    twice = str(with_lines(folder / "twice", [head, others[0], others[0], *others[2:]]))
-    yield [first, twice], twice, f"line 3: {SEGMENT}: object {id}"
+    changed = {"plain": (["0 1 add = make 0"], 1, "it has no first line of a segment")}
+    for place, name in {3: "next id", 6: "destroyed", 7: "evicted", 8: "reclaimed", 9: "number of objects"}.items():
+        other = str(int(words[place]) + 1)
+        changed[f"changed-{place}"] = [with_word(words, place, other), record, *others], 1, f"{name} {other}, expected {words[place]}"
+    changed["closed"] = [with_word(words, 4, "closed"), record, *others], 1, "whether the pool is closed"
+    changed["cursor"] = [with_word(words, 5, "77777"), record, *others], 1, "where the last object was examined"
+    changed["used"] = [head, with_word(fields, 5, str(int(fields[5]) + 1)), *others], 2, f"object {fields[0]}"
+    changed["id"] = [head, with_word(fields, 0, "9" + fields[0]), *others], 2, f"object 9{fields[0]}"
+    changed["twice"] = [head, record, record, *others[1:]], 3, f"object {fields[0]}"
+    for name, (lines, number, what) in changed.items():
+        file = str(with_lines(folder / name, lines))
+        yield [first, file], file, f"line {number}: {SEGMENT}: {what}"
 
 
 def damaged(folder):
@@ -303,55 +285,40 @@ def damaged(folder):
         "far": (whole * 30_000 + "x\n", "line 30001: not a line"),
     }
     for name, (text, message) in texts.items():
-        file = folder / name
-        file.write_text(text)
+        (file,) = write_files(folder, {name: text.encode()})
         yield [str(file)], str(file), message
 
 
 def message_differences(program, cases):
     """The files that are not refused with their message."""
-    for arguments, path, message in cases:
-        done = run(program, arguments)
-        if (done.returncode, done.stdout, done.stderr.decode()) != (3, b"", f"journal_picture: {path}: {message}\n"):
-            yield f"{arguments}: {done}, expected {message}"
+    for words, path, message in cases:
+        yield from differing(f"{words}", (b"", f"journal_picture: {path}: {message}\n".encode(), 3), run(program, *words))
 
 
 def argument_differences(program, folder):
     """What other arguments, and a write that fails, end with otherwise."""
-    for arguments, status, message in ARGUMENTS:
-        done = run(program, arguments)
-        if (done.returncode, done.stdout, done.stderr.decode()) != (status, b"", message):
-            yield f"{arguments}: {done}"
+    named = folder / "a\nb"
+    for words, status, message in [*ARGUMENTS, ([named], 3, f"journal_picture: {folder}/a\\nb: cannot open the journal\n")]:
+        yield from differing(f"{words}", (b"", message.encode(), status), run(program, *words))
     version = re.search(r'^version = "(.*)"$', (TOP / "bindings/rust/Cargo.toml").read_text(), re.MULTILINE)[1]
     starts = dict.fromkeys(["--version", "-V"], f"journal_picture {version}\n") | dict.fromkeys(["--help", "-h"], "journal_picture JOURNAL..")
     for word, start in starts.items():
-        done = run(program, [word])
+        done = run(program, word)
         if (done.returncode, done.stderr) != (0, b"") or not done.stdout.decode().startswith(start):
             yield f"{word}: {done}"
-    empty = run(program, ["-"], b"")
+    empty = run(program, "-", input=b"")
     if empty.returncode or ">0 entries from position 0, 0 objects" not in empty.stdout.decode():
         yield f"empty input: {empty}"
-    named = folder / "a\nb"
-    if run(program, [named]).stderr.decode() != f"journal_picture: {folder}/a\\nb: cannot open the journal\n":
-        yield "a path with a control character is shown otherwise"
     with open("/dev/full", "wb") as full:
-        done = subprocess.run([program, "/dev/null"], stdout=full, stderr=subprocess.PIPE)
-        if (done.returncode, done.stderr) != (3, b"journal_picture: write failed\n"):
-            yield f"a write that fails: {done}"
+        yield from differing("a write that fails", (None, b"journal_picture: write failed\n", 3), run(program, "/dev/null", stdout=full))
 
 
 def refusal_differences(program, journal, folder):
     """The failed allocations after which the program ends otherwise than with the whole picture or an error."""
-    library, mark = preloaded("refuse", folder), folder / "refused"
-    whole = run(program, [journal]).stdout
-    for number in range(1, 10**6):
-        mark.unlink(missing_ok=True)
-        done = run(program, [journal], env=os.environ | {"LD_PRELOAD": str(library), "REFUSED": str(mark), "REFUSE": str(number)})
-        if not mark.exists():
-            return
+    whole = run(program, journal).stdout
+    for number, done in refusals(preloaded("refuse", folder), folder / "refused", program, journal):
         is_told = done.returncode == 3 and done.stderr.endswith((b"out of memory\n", b"cannot open the journal\n"))
-        refused = is_told and whole.startswith(done.stdout)
-        if not refused and (done.returncode, done.stdout) != (0, whole):
+        if not (is_told and whole.startswith(done.stdout)) and (done.returncode, done.stdout) != (0, whole):
             yield f"allocation {number} of {journal}: {done.returncode}, {done.stderr}, {len(done.stdout)} bytes"
 
 
@@ -371,16 +338,8 @@ def checks(program, paths, scratch):
 
 
 def main(program, paths):
-    played, wrong = 0, []
     with tempfile.TemporaryDirectory() as scratch:
-        for name, found in checks(program, paths, pathlib.Path(scratch)):
-            found = list(found)
-            played += 1
-            if found:
-                wrong.append(f"{name}: " + "\n  ".join(found[:5]))
-    print(*wrong, sep="\n", end="\n" if wrong else "")
-    print(f"{played - len(wrong)} passed, {len(wrong)} failed")
-    return 1 if wrong else 0
+        return tell([f"{name}: {line}" for line in [*found][:5]] for name, found in checks(program, paths, pathlib.Path(scratch)))
 
 
 if __name__ == "__main__":

@@ -16,6 +16,7 @@ Prints what fails, and in the end the line 'N passed, M failed'.
 import os
 import pathlib
 import re
+import shutil
 import subprocess
 import sys
 import tempfile
@@ -35,7 +36,7 @@ TYPES = {"u64": "uint64_t", "u32": "uint32_t", "i64": "int64_t", "i32": "int32_t
 # The structs that the header names otherwise, after the prefix.
 STRUCTS = {"Handle": "", "Settings": "_setup", "Counts": "_tally"}
 # The functions that the binding does without: it opens pools with options.
-UNUSED = {"zuphinka_version", "zuphinka_open"}
+UNUSED = {"zuphinka_version", "zuphinka_open", "zuphinka_set_overtakes", "zuphinka_is_lent"}
 # A run that takes longer hangs.
 LONGEST = 1200
 WORKERS, ROUNDS = 4, 20_000
@@ -52,10 +53,7 @@ def cargo(environment, *words, package=CRATE):
 
 def runs_cargo():
     """Whether there is a cargo, with a toolchain."""
-    try:
-        return subprocess.run(["cargo", "--version"], capture_output=True).returncode == 0
-    except OSError:
-        return False
+    return shutil.which("cargo") is not None and subprocess.run(["cargo", "--version"], capture_output=True).returncode == 0
 
 
 def run_tests(environment, *options, package=CRATE):
@@ -213,14 +211,11 @@ def main(pool):
     stored = [check_stored(examples / name, printed, pool) for name, printed in STORING.items()]
     checks = [faults, *stored, check_settings(examples / "settings"), check_pairs(examples / "pairs", pool)]
     checks += [check_examples(), check_trial(), check_binding(), check_version()]
-    for check in checks:
-        for fault in check:
-            if fault is None:
-                passed += 1
-            else:
-                failed += 1
-                print(fault)
-    print(f"{passed} passed, {failed} failed")
+    found = [fault for check in checks for fault in check]
+    for fault in filter(None, found):
+        print(fault)
+    failed += len(found) - found.count(None)
+    print(f"{passed + found.count(None)} passed, {failed} failed")
     return 1 if failed else 0
 
 

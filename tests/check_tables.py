@@ -21,6 +21,7 @@ import tomllib
 from case_files import CASES, read_cases
 from check_names import PAGES, TOP, backquoted, rows_in, sources, tables
 from play_mutants import function_at, replacements
+from playing import play_checks
 
 sys.path += [str(TOP / "docs/pictures"), str(TOP / "tools")]
 import draw_crates  # noqa: E402
@@ -72,8 +73,7 @@ def check_settings():
     wanted = defined()
     for where, found in (("docs/guide/settings.md", dict(told())), ("examples/settings.toml", dict(shown()))):
         for key in sorted({*wanted, *found}):
-            same = key in wanted and key in found and found[key] == wanted[key]
-            yield None if same else f"{where}: {key} is {found.get(key)}, the definitions say {wanted.get(key)}"
+            yield f"{where}: {key}", wanted.get(key, "no key"), found.get(key, "no key")
 
 
 def answers_in(page):
@@ -88,31 +88,24 @@ def answers_in(page):
 def check_answers():
     guide, definitions = answers_in(TOP / "docs/guide/program.md"), answers_in(DEFINITIONS)
     for name in sorted({*guide, *definitions}):
-        here, there = guide.get(name), definitions.get(name)
-        yield None if here == there else f"docs/guide/program.md: {name}: {here}, docs/proof/definitions.md: {there}"
-
-
-def journals_of_cases():
-    """The journals of the scripts of tests/cases, by the names of their cases; of a worked case the last part."""
-    for case in read_cases(CASES):
-        if case.journal is not None:
-            yield re.sub("^worked/.*/", "", case.name), case.journal.decode()
+        yield f"docs/guide/program.md: {name}", definitions.get(name), guide.get(name)
 
 
 def check_cases():
-    journals = dict(journals_of_cases())
+    """Each answer is in the journal of the case that the page names: of a worked case in its last part."""
+    journals = {re.sub("^worked/.*/", "", case.name): case.journal.decode() for case in read_cases(CASES) if case.journal is not None}
     for row in tables(DEFINITIONS):
         name = row.get("Input", "").strip("`")
         for answer, case in re.findall(r"`([a-z ]+)` ([\w/-]+)", row.get("Answers", "")):
             given = re.search(rf"^\d+ \d+ {name}\b.* = {answer}\b", journals.get(case, ""), re.MULTILINE)
-            yield None if given else f"docs/proof/definitions.md: {name}: {case} has no answer {answer}"
+            yield f"docs/proof/definitions.md: {name}: {case} has an answer {answer}", True, given is not None
 
 
 def check_trials():
     rows = {name for row in tables(TOP / "docs/dev/trials.md") for name in backquoted(row.get("Tests", ""))}
     files = {path.stem for path in (TOP / "crates/test_threads/src").glob("*.rt") if "#[test]" in path.read_text()}
     for name in sorted(rows | files):
-        yield None if name in rows & files else f"docs/dev/trials.md: {name}: {'no such file' if name in rows else 'no row'}"
+        yield f"docs/dev/trials.md: {name}: a file and a row", (True, True), (name in files, name in rows)
 
 
 def room_of_steps(weights):
@@ -132,11 +125,10 @@ def check_room():
     listed = [(re.sub(r"\(.*\)", "", row["Phase of the object"]), row["Outstanding entries"]) for row in rows if "Outstanding entries" in row]
     found = {phase: int(number) for phases, number in listed for phase in re.findall(r"\w+", phases)}
     for phase in sorted({*weights, *found}):
-        same = weights.get(phase) == found.get(phase)
-        yield None if same else f"docs/guide/operations.md: {phase}: {found.get(phase)}, the definitions say {weights.get(phase)}"
+        yield f"docs/guide/operations.md: {phase}", weights.get(phase), found.get(phase)
     needed = {row["Step"]: int(row["Room it needs"]) for row in rows if "Room it needs" in row}
     for step, number in room_of_steps(weights).items():
-        yield None if needed.get(step) == number else f"docs/guide/operations.md: {step}: {needed.get(step)}, by the definitions {number}"
+        yield f"docs/guide/operations.md: {step}", number, needed.get(step)
 
 
 def edits_in_order():
@@ -179,9 +171,8 @@ def check_edits():
             fault = f"{len(functions)} rows" if edit in edits else "no such edit"
         else:
             fault = fault_of_rows(edits[edit], functions)
-        yield f"docs/proof/edits.md: {': '.join(edit)}: {fault}" if fault else None
-    in_order = [*dict.fromkeys(edit for edit, _ in rows)] == list(edits)
-    yield None if in_order else "docs/proof/edits.md: not in the order of crates.txt and of names"
+        yield f"docs/proof/edits.md: {', '.join(edit)}", None, fault
+    yield "docs/proof/edits.md: the order of crates.txt and of names", list(edits), [*dict.fromkeys(edit for edit, _ in rows)]
 
 
 def check_crates():
@@ -192,13 +183,12 @@ def check_crates():
         start = starts.get(re.match(r"\w+", title)[0], "")
         for crate in crates:
             is_named = crate.startswith(start) and (start or not crate.startswith(tuple(starts.values())))
-            yield None if is_named else f"crates.txt: {crate}: in the section {title}"
-            yield None if f"**`{crate}`**" in page else f"docs/dev/architecture.md: {crate}: no paragraph"
+            yield f"crates.txt: {crate}: may be in the section {title}", True, bool(is_named)
+            yield f"docs/dev/architecture.md: {crate}: has a paragraph", True, f"**`{crate}`**" in page
     folders = {path.parent.name for path in (TOP / "crates").glob("*/src")}
-    listed = {crate for _, crates in groups for crate in crates}
-    yield None if folders == listed else f"crates.txt: {sorted(folders ^ listed)}: a folder or a line alone"
+    yield "crates.txt: the folders of crates", folders, {crate for _, crates in groups for crate in crates}
     drawn = (TOP / "docs/pictures/crates.svg").read_text() == draw_crates.picture(text)
-    yield None if drawn else "docs/pictures/crates.svg: draw it anew, by docs/pictures/draw_crates.py"
+    yield "docs/pictures/crates.svg is as docs/pictures/draw_crates.py draws it", True, drawn
 
 
 def check_commons_pool():
@@ -210,8 +200,8 @@ def check_commons_pool():
     shown = [{row["Test"].strip("`"): row["Difference"] for row in found if "Difference" in row} for found in (rows, tables(COMMONS_POOL_TESTS))]
     for test in sorted({*shown[0], *shown[1]}):
         one, other = (tests.get(test) for tests in shown)
-        yield None if one == other else f"docs/guide/differences.md: {test}: {one}, docs/guide/commons-pool-tests.md: {other}"
-        yield None if one in differences or f"{one}" in left_out else f"docs/guide/differences.md: {test}: there is no difference {one}"
+        yield f"docs/guide/differences.md: {test}: as in docs/guide/commons-pool-tests.md", other, one
+        yield f"docs/guide/differences.md: {test}: there is a difference {one}", True, one in differences or f"{one}" in left_out
 
 
 def ratios(page):
@@ -223,10 +213,9 @@ def check_ratios():
     measured = ratios(SPEED)
     for name in PAGES_OF_LANGUAGES:
         shown = ratios(TOP / name)
-        yield None if shown else f"{name}: no ratios"
+        yield f"{name}: has ratios", True, bool(shown)
         for place, ratio in shown.items():
-            wanted = measured.get(place)
-            yield None if ratio == wanted else f"{name}: {', '.join(place)}: {ratio}, docs/guide/speed.md says {wanted}"
+            yield f"{name}: {', '.join(place)}, as in docs/guide/speed.md", measured.get(place), ratio
 
 
 def check_platforms():
@@ -235,31 +224,25 @@ def check_platforms():
     crate = tomllib.loads((TOP / "bindings/rust/Cargo.toml").read_text())["package"]
     wanted = {"Rust": f"Rust {crate['rust-version']} or later", "Java": f"Java {java.RELEASE} or later"}
     for name, version in wanted.items():
-        yield None if rows.get(name, "").startswith(version) else f"docs/guide/platforms.md: {name}: not {version}"
-    version = (TOP / "VERSION").read_text().strip()
+        yield f"docs/guide/platforms.md: {name}", version, rows.get(name, "")[: len(version)]
     licences = [crate.get("license"), java.LICENCE, *re.findall(r"^License: (.*)$", install.PKG_CONFIG, flags=re.MULTILINE)]
-    yield None if licences == ["Apache-2.0"] * 3 else f"the licences of the package files are {licences}"
-    is_told = f"now {version}." in (TOP / "docs/guide/platforms.md").read_text()
-    yield None if is_told else f"docs/guide/platforms.md: not the version {version}"
-
-
-def faults_of_group(ids):
-    """What is wrong with the ids of a group of choices: they have its name, and numbers that ascend."""
-    names = {name.rpartition("-")[0] for name in ids}
-    numbers = [int(name.rpartition("-")[2]) for name in ids]
-    yield None if len(names) == 1 and numbers == sorted({*numbers}) else f"docs/DECISIONS.md: {' '.join(ids)}: not of one group, or not ascending"
+    yield "the licences of the package files", ["Apache-2.0"] * 3, licences
+    is_told = f"now {(TOP / 'VERSION').read_text().strip()}." in (TOP / "docs/guide/platforms.md").read_text()
+    yield "docs/guide/platforms.md has the version", True, is_told
 
 
 def check_decisions():
+    """The ids of a group of choices have its name, and numbers that ascend; no two choices have one id; and each id that is cited is there."""
     groups = re.split(r"^## ", (TOP / "docs/DECISIONS.md").read_text(), flags=re.MULTILINE)[1:]
-    known = [[row["Id"] for row in rows_in(group)] for group in groups]
+    known = [[row["Id"].rpartition("-") for row in rows_in(group)] for group in groups]
     for ids in known:
-        yield from faults_of_group(ids)
-    all_ids = [name for ids in known for name in ids]
-    yield None if len(all_ids) == len({*all_ids}) else "docs/DECISIONS.md: two choices have one id"
+        numbers = [int(number) for *_, number in ids]
+        yield f"docs/DECISIONS.md: the group of {ids[0][0]}", (1, sorted({*numbers})), (len({name for name, *_ in ids}), numbers)
+    all_ids = ["".join(found) for ids in known for found in ids]
+    yield "docs/DECISIONS.md: choices with one id", [], [name for name in {*all_ids} if all_ids.count(name) > 1]
     for text in (*(page.read_text() for page in PAGES), *sources().values()):
         for name in re.findall(r"\bdecision ([a-z]+-\d+)\b", text):
-            yield None if name in all_ids else f"there is no decision {name}"
+            yield f"there is a decision {name}", True, name in all_ids
 
 
 CHECKS = (
@@ -268,16 +251,10 @@ CHECKS = (
 )
 
 
-def main():
-    passed, wrong = 0, []
+def checks():
     for check in CHECKS:
-        faults = list(check())
-        passed += faults.count(None)
-        wrong += [fault for fault in faults if fault] if faults else [f"{check.__name__}: nothing to check"]
-    print(*wrong, sep="\n", end="\n" if wrong else "")
-    print(f"{passed} passed, {len(wrong)} failed")
-    return 1 if wrong else 0
+        yield from list(check()) or [(f"{check.__name__} has something to check", True, False)]
 
 
 if __name__ == "__main__":
-    sys.exit(main())
+    sys.exit(play_checks(checks()))

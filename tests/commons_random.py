@@ -54,16 +54,16 @@ class Mistake(typing.NamedTuple):
 
 MISTAKES = (
     Mistake("another object is lent", "CoreSettings", "config.getLifo()", "!config.getLifo()"),
-    Mistake("a count is off by one", "Sections", "failedOnBorrow++;", "failedOnBorrow += 2;"),
-    Mistake("a callback is left out", "ZuphinkaPool", "outcome = Core.PASSIVATE_FAILED;\n                factory.passivateObject(member.pooled);", ""),
-    Mistake("a mode is not passed on", "ZuphinkaPool", "factory.destroyObject(member.pooled, mode);", "factory.destroyObject(member.pooled);"),
-    Mistake("another exception", "Sections", '"Pool exhausted"', '"Timeout waiting for idle object"'),
+    Mistake("a count is off by one", "Sections", "report != Core.REPORT_SUCCEEDED ? 1 : 0;", "report != Core.REPORT_SUCCEEDED ? 2 : 0;"),
+    Mistake("a callback is left out", "Work", "        factory.passivateObject(call.member.pooled);\n", ""),
+    Mistake("a mode is not passed on", "Work", "factory.destroyObject(member.pooled, mode);", "factory.destroyObject(member.pooled);"),
+    Mistake("another exception", "Ends", '"Pool exhausted"', '"Timeout waiting for idle object"'),
     Mistake("another minimum", "CoreSettings", "Math.max(0, config.getMinIdle())", "Math.max(1, config.getMinIdle())"),
     Mistake("one limit for another", "CoreSettings", "config.getSoftMinEvictableIdleDuration()", "config.getMinEvictableIdleDuration()"),
-    Mistake("abandoned objects stay lent", "ZuphinkaPool", "if (settings.reclaimsOnMaintenance) {", "if (factory == null) {"),
-    Mistake("a failure is not told", "ZuphinkaPool", "Core.PASSIVATE_FAILED, e);\n            swallow(e);", "Core.PASSIVATE_FAILED, e);"),
-    Mistake("an interrupt is passed over", "Sections", "if (Thread.interrupted()) {", "if (settings == null) {"),
-    Mistake("uses are not noted", "ZuphinkaPool", "sections.ask(Core.USE, member);", ""),
+    Mistake("abandoned objects stay lent", "ZuphinkaPool", "if (settings.reclaimsOnMaintenance) {", "if (work == null) {"),
+    Mistake("a failure is not told", "Sections", "work.swallow(isReturned ? member.fault : null);", ""),
+    Mistake("an interrupt is passed over", "Ends", "Thread.interrupted() ||", "call == null ||"),
+    Mistake("uses are not noted", "ZuphinkaPool", "        sections.make(Core.KIND_TOUCH, member);\n", ""),
 )
 
 

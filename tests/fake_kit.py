@@ -1,7 +1,15 @@
-"""A kit that proves nothing and notes what it was asked to build, for tests of the tools that build by the kit."""
+"""A small repository, with a kit that proves nothing and notes what it was asked to build, for tests of the tools that build by the kit."""
 
+import os
+import pathlib
+import shutil
+import subprocess
 import sys
 
+TOP = pathlib.Path(__file__).resolve().parent.parent
+TOOLS = ("tools/build.py", "tools/kit.py", "tools/sources.py")
+# A run that takes longer hangs, in seconds.
+LONGEST = 60
 # What tools/kit.py uses of the kit's view of crates. The file that CALLS names has a line for each build: what is built, the crate, the words for
 # the kit, and how nice it is. MEANWHILE is a command that each build runs with the crate's name as $1.
 RTLIB = """import os, pathlib, subprocess
@@ -61,11 +69,35 @@ class Crate:
 """
 
 
-def lay_kit(folder, rt):
-    """Lays a kit into a folder, in which its first page would be GUIDE.md, with this text as its command `rt`, and beside it a command python3."""
-    (folder / "bin").mkdir()
-    (folder / "bin/rtlib.py").write_text(RTLIB)
-    (folder / "bin/rt").write_text(rt)
-    (folder / "bin/rt").chmod(0o755)
-    (folder / "python").mkdir()
-    (folder / "python/python3").symlink_to(sys.executable)
+def write(path, text, mode=0o644):
+    path.parent.mkdir(parents=True, exist_ok=True)
+    path.write_text(text)
+    path.chmod(mode)
+
+
+class Repository:
+    """Crates, by the heads of their lines with the libraries that they use; of the crates in `programs` each is a program. Beside them are copies of
+    the tools and of other files, a kit with this text as its command `rt`, and a command python3."""
+
+    def __init__(self, folder, crates, programs, rt, *copied):
+        self.folder, self.top, self.calls = folder, folder / "repository", folder / "calls"
+        write(folder / "bin/rtlib.py", RTLIB)
+        write(folder / "bin/rt", rt, 0o755)
+        (folder / "python").mkdir()
+        (folder / "python/python3").symlink_to(sys.executable)
+        for name in (*TOOLS, *copied):
+            (self.top / name).parent.mkdir(parents=True, exist_ok=True)
+            shutil.copy(TOP / name, self.top / name)
+        write(self.top / "HANDLES", "Handles allowed: none.\n")
+        write(self.top / "crates.txt", "# A crate.\n" + "".join(f"{head}: {names}\n" for head, names in crates.items()))
+        for name in (head.split()[0] for head in crates):
+            write(self.top / f"crates/{name}/src/{'main' if name in programs else 'lib'}.rt", f"// {name}\n")
+        self.environment = {**os.environ, "CALLS": str(self.calls), "PATH": f"{folder}/bin:{folder}/python:/usr/bin:/bin"}
+        self.environment.pop("RT_JOBS", None)
+
+    def run(self, *words, given="", **more):
+        """Runs a file of the repository with words, where the environment has more. What is noted is of this run alone."""
+        self.calls.write_text("")
+        options = {"cwd": self.folder, "env": self.environment | more, "input": given, "capture_output": True, "text": True}
+        words = [*[sys.executable] * str(words[0]).endswith(".py"), self.top / words[0], *words[1:]]
+        return subprocess.run(words, timeout=LONGEST, **options)

@@ -131,8 +131,8 @@ def cut_life(name, seed):
 
 # The files that are made from seeds: what makes a case, the first seed, the number of cases, each with the next seed, and the heading.
 SEEDED = {
-    "seeded/lives.txt": (life, 800, 40, "# Lives of objects, by chance. Most inputs have something to do. A journal is checked with a wrong line."),
-    "seeded/segments.txt": (cut_life, 2_300, 30, "# Lives of objects, cut by chance. Some segments are damaged, lost, repeated or exchanged."),
+    "seeded/lives.toml": (life, 800, 40, "# Lives of objects, by chance. Most inputs have something to do. A journal is checked with a wrong line."),
+    "seeded/segments.toml": (cut_life, 2_300, 30, "# Lives of objects, cut by chance. Some segments are damaged, lost, repeated or exchanged."),
 }
 
 

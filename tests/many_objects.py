@@ -21,55 +21,38 @@ def parked(objects):
             yield 4, (b"park", id, b"good"), (b"parked",)
 
 
-class Telling:
-    """A pool of the model that tells what it does."""
+def asked_of_some(pool):
+    """What is asked that has to do with some of the objects, by name or in their turn, until the pool is closed, as the model answers it."""
 
-    def __init__(self, settings):
-        self.pool, self.lines = Pool(settings), []
+    def ask(*asked):
+        return 5, asked, pool.reply(5, asked)
 
-    def tell(self, at, asked, answer):
-        self.lines.append(b"0 %d %s = %s\n" % (at, words_of(asked), words_of(answer)))
-        self.pool.step(at, asked, answer)
-
-    def ask(self, *asked):
-        """What the model answers."""
-        answer = self.pool.reply(5, asked)
-        self.tell(5, asked, answer)
-        return answer
-
-    def ask_of_some(self):
-        """Asks what has to do with some of the objects, by name or in their turn, until the pool is closed."""
-        taken = [self.ask(b"borrow", 5)[1] for _ in range(9)]
-        for id in taken:
-            self.ask(b"ready", id, b"good")
-        for id in taken[:5]:
-            self.ask(b"return", id)
-            self.ask(b"park", id, b"good")
-        for id in taken[5:]:
-            self.ask(b"invalidate", id)
-            self.ask(b"destroyed", id)
-        for id in (0, 10, self.pool.drawn):
-            self.ask(b"use", id)
-        self.ask(b"return", 0)
-        self.ask(b"park", 0, b"good")
-        for name in (b"evict", b"evictnext", b"evictnext", b"evictnext", b"add", b"clear", b"clearnext", b"close"):
-            self.ask(name)
-
-    def told(self):
-        """The lines that were told since this was asked last."""
-        lines, self.lines = self.lines, []
-        return b"".join(lines)
+    taken = []
+    for _ in range(9):
+        borrowed = ask(b"borrow", 5)
+        taken.append(borrowed[2][1])
+        yield borrowed
+    yield from (ask(b"ready", id, b"good") for id in taken)
+    for id in taken[:5]:
+        yield ask(b"return", id)
+        yield ask(b"park", id, b"good")
+    for id in taken[5:]:
+        yield ask(b"invalidate", id)
+        yield ask(b"destroyed", id)
+    yield from (ask(b"use", id) for id in (0, 10, pool.drawn))
+    yield ask(b"return", 0)
+    yield ask(b"park", 0, b"good")
+    yield from map(ask, (b"evict", b"evictnext", b"evictnext", b"evictnext", b"add", b"clear", b"clearnext", b"close"))
 
 
 def segments_of(settings, objects):
     """The journal of a pool with these settings, which limit no number: for each segment the text of its base and that of its
     entries; and the pool at its end."""
-    telling, found = Telling(settings), []
-    for part in (made, parked):
-        base = b"".join(telling.pool.base())
-        for told in part(objects):
-            telling.tell(*told)
-        found.append((base, telling.told()))
-    base = b"".join(telling.pool.base())
-    telling.ask_of_some()
-    return [*found, (base, telling.told())], telling.pool
+    pool, segments = Pool(settings), []
+    for steps in made(objects), parked(objects), asked_of_some(pool):
+        base, lines = b"".join(pool.base()), []
+        for at, asked, answer in steps:
+            lines.append(b"0 %d %s = %s\n" % (at, words_of(asked), words_of(answer)))
+            pool.step(at, asked, answer)
+        segments.append((base, b"".join(lines)))
+    return segments, pool

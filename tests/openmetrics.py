@@ -6,14 +6,19 @@
 `parse` refuses what the format forbids: lines that are no descriptor and no sample, names and labels that are none, escapes that it doesn't have,
 families and samples that come twice or are mixed, samples that don't fit the type of their family, counters below 0, histograms whose buckets are
 not in their order, decrease, or don't end with +Inf and the count, and a text that does not end with `# EOF`. Of numbers it takes those that a pool
-writes, without exponents. The test runs it over a text that is right, and over that text with each of many mistakes.
+writes, without exponents. If the command `promtool` is there (Debian's package prometheus), its reader must take the text too. The test runs it over
+a text that is right, and over that text with each of many mistakes.
 
 Prints what differs, and in the end the line 'N passed, M failed'.
 """
 
 import dataclasses
+import pathlib
 import re
+import shutil
+import subprocess
 import sys
+import tempfile
 
 from playing import play_checks
 
@@ -25,6 +30,8 @@ SAMPLE = re.compile(rf"({NAME})(?:\{{({LABEL}={VALUE}(?:,{LABEL}={VALUE})*)?\}})
 PAIR = re.compile(rf"({LABEL})=({VALUE})")
 HELP = re.compile(r'(?:[^\\"\n]|\\[\\"n])+')
 ESCAPE = re.compile(r"\\(.)")
+TIMELESS = re.compile(r"^([^#\n].*)$", re.MULTILINE)
+PROMTOOL = shutil.which("promtool")
 BOUND = re.compile(r"\d+\.\d+|\+Inf")
 # The endings of the samples of each type, in their order in a histogram.
 ENDINGS = {"gauge": [""], "counter": ["_total"], "histogram": ["_bucket", "_count", "_sum"]}
@@ -136,7 +143,19 @@ def parse(text):
     for family in families.values():
         if family.about.get("TYPE") == "histogram":
             check_histogram(family)
+    if PROMTOOL:
+        need_promtool(text)
     return families
+
+
+def need_promtool(text):
+    """Prometheus's own reader must take the text too. It wants a time with each sample."""
+    with tempfile.TemporaryDirectory() as folder:
+        timed = pathlib.Path(folder) / "text"
+        timed.write_text(TIMELESS.sub(r"\1 1700000000", text))
+        words = [PROMTOOL, "tsdb", "create-blocks-from", "openmetrics", timed, pathlib.Path(folder) / "blocks"]
+        done = subprocess.run(words, stdin=subprocess.DEVNULL, capture_output=True, text=True)
+    need(done.returncode == 0, f"promtool: {done.stderr.strip()}")
 
 
 def pools_of(text):

@@ -19,14 +19,13 @@ import subprocess
 import sys
 import tempfile
 
+from playing import play_checks
 from play_damaged import Chance
 from play_segments import damaged, judged
 from pool_model import settings_of, verdict_of_segments
 
 RUNS = 20
-
 WORKERS, REQUESTS = 4, 500
-
 ROOM = 300
 
 
@@ -76,36 +75,29 @@ def ways(segments, settings, chance):
         yield "one damaged", left, verdict_of_segments(settings, left)
 
 
-def differences(program, output, pool, chance):
-    """What is wrong in a run, and how much was tried."""
+def checks_of_run(program, output, pool, chance):
+    """What a run leaves."""
     with tempfile.TemporaryDirectory() as name:
         folder = pathlib.Path(name)
         done = run(program, folder)
-        if (done.stdout, done.stderr, done.returncode) != (output, b"", 0):
-            return [f"wrote {done.stdout!r} and {done.stderr!r}, status {done.returncode}"], 1
+        yield "the run", (output, b"", 0), (done.stdout, done.stderr, done.returncode)
+        if done.returncode:
+            return
         settings = folder / "archive.toml"
         files = [(path.name, path.read_bytes()) for path in sorted(folder.glob("segment-*"))]
-        found = [named_wrongly(files), miscounted(files)]
-        segments = [text for _, text in files]
-        for how, left, verdict in ways(segments, settings_of(settings.read_text()), chance):
-            found.append(judged(pool, how, settings, left, verdict))
+        yield "the names", None, named_wrongly(files)
+        yield "the calls", None, miscounted(files)
+        for how, left, verdict in ways([text for _, text in files], settings_of(settings.read_text()), chance):
+            yield how, "right", judged(pool, how, settings, left, verdict) or "right"
         again = run(program, folder)
-        after = [(path.name, path.read_bytes()) for path in sorted(folder.glob("segment-*"))]
-        found.append(None if again.returncode == 1 and after == files else "a second run was not refused")
-        return list(filter(None, found)), len(found)
+        yield "a second run", (1, True), (again.returncode, files == [(path.name, path.read_bytes()) for path in sorted(folder.glob("segment-*"))])
 
 
-def main(program, output, pool, runs=RUNS):
-    passed, failed, chance = 0, 0, Chance(13)
-    wanted = pathlib.Path(output).read_bytes()
+def checks(program, output, pool, runs=RUNS):
+    chance, wanted = Chance(13), pathlib.Path(output).read_bytes()
     for at in range(int(runs)):
-        found, tried = differences(program, wanted, pool, chance)
-        for told in found:
-            print(f"run {at}: {told}")
-        passed, failed = passed + tried - len(found), failed + len(found)
-    print(f"{passed} passed, {failed} failed")
-    return 1 if failed or not passed else 0
+        yield from ((f"run {at}: {name}", *found) for name, *found in checks_of_run(program, wanted, pool, chance))
 
 
 if __name__ == "__main__":
-    sys.exit(main(*sys.argv[1:]))
+    sys.exit(play_checks(checks(*sys.argv[1:])))

@@ -16,13 +16,11 @@ import sys
 import tempfile
 
 from check_picture import differences
+from playing import play_checks
 
 CRATE = pathlib.Path(__file__).resolve().parent.parent / "crates/example_bank"
-
 SETTINGS = re.compile('const SETTINGS: &str = "(.*?)";', re.DOTALL)
-
 CLERKS, ORDERS, BOOKS = 4, 25, 3
-
 # One loan for each order, and one more for the order over which a connection broke.
 STATISTICS = {
     "borrowed": CLERKS * ORDERS + 1,
@@ -53,38 +51,29 @@ def read_books(folder):
     return len(books), sums, wrong
 
 
-def faults(bank, pool, picture, folder):
-    """What is wrong with a run in a folder."""
+def checks_of_run(bank, pool, picture, folder):
+    """What a run leaves in a folder."""
     done = subprocess.run([bank], cwd=folder, stdin=subprocess.DEVNULL, capture_output=True, text=True, timeout=120)
-    if (done.stdout, done.stderr, done.returncode) != ((CRATE / "stdout").read_text(), "", 0):
-        return [f"it wrote {done.stdout!r} and {done.stderr!r}, status {done.returncode}"]
-    found = []
+    yield "the run", ((CRATE / "stdout").read_text(), "", 0), (done.stdout, done.stderr, done.returncode)
+    if done.returncode:
+        return
     journal, settings = folder / "bank.journal", folder / "settings.toml"
     settings.write_text(SETTINGS.search((CRATE / "src/main.rt").read_text())[1])
     judged = subprocess.run([pool, "check", settings, journal], capture_output=True, text=True)
-    if judged.stdout != f"legal {len(journal.read_text().splitlines())}\n" or judged.returncode:
-        found.append(f"the journal is judged {judged.stdout!r}, {judged.stderr!r}")
+    yield "the journal", (f"legal {len(journal.read_text().splitlines())}\n", "", 0), (judged.stdout, judged.stderr, judged.returncode)
     told = subprocess.run([pool, "stats", journal], capture_output=True, text=True).stdout
     statistics = {name: int(number) for name, number in map(str.split, told.splitlines())}
-    if not statistics.items() >= STATISTICS.items():
-        found.append(f"the statistics are {statistics}")
-    read = read_books(folder)
-    if read != (BOOKS, {account: owned(account) for account in range(CLERKS)}, []):
-        found.append(f"the books hold {read}")
-    return found + [f"the picture: {difference}" for difference in differences(picture, journal)]
+    yield "the statistics", STATISTICS, {name: statistics.get(name) for name in STATISTICS}
+    yield "the books", (BOOKS, {account: owned(account) for account in range(CLERKS)}, []), read_books(folder)
+    yield "the picture", [], list(differences(picture, journal))
 
 
-def main(bank, pool, picture, runs):
-    passed, failed = 0, 0
+def checks(bank, pool, picture, runs):
     for number in range(int(runs)):
         with tempfile.TemporaryDirectory() as folder:
-            found = faults(pathlib.Path(bank).resolve(), pool, picture, pathlib.Path(folder))
-        for fault in found:
-            print(f"run {number}: {fault}")
-        passed, failed = passed + (not found), failed + bool(found)
-    print(f"{passed} passed, {failed} failed")
-    return 1 if failed or not passed else 0
+            for name, wanted, got in checks_of_run(pathlib.Path(bank).resolve(), pool, picture, pathlib.Path(folder)):
+                yield f"run {number}: {name}", wanted, got
 
 
 if __name__ == "__main__":
-    sys.exit(main(*sys.argv[1:]))
+    sys.exit(play_checks(checks(*sys.argv[1:])))

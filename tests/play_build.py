@@ -1,6 +1,6 @@
 #!/usr/bin/env python3
 """Tests of what ./pool, tools/build.py and tools/sources.py build again, and what not: in a small repository of its own, with a kit that proves nothing
-and notes what it was asked to build.
+and notes what it was asked to build. And of the table of tools/gate_times.py.
 
     play_build.py
 
@@ -15,269 +15,191 @@ import subprocess
 import sys
 import tempfile
 
-from fake_kit import lay_kit
+from fake_kit import Repository, write
+from playing import play_checks
 
-TOP = pathlib.Path(__file__).resolve().parent.parent
-COPIED = ("pool", "tools/build.py", "tools/kit.py", "tools/sources.py", "tools/proof_seconds.txt")
 # pool stands on right and left, which stand on low, and on alone; archive is a static library; other is a program of its own.
-CRATES = {
-    "low": "",
-    "left": "low kit_library",
-    "right": "low",
-    "alone": "",
-    "pool": "left right alone",
-    "other": "low",
-    "archive staticlib": "low",
-}
-KIT = "rattle-kit-0 logic 0"
+CRATES = {"low": "", "left": "low kit_library", "right": "low", "alone": "", "pool": "left right alone", "other": "low", "archive staticlib": "low"}
+ALL = "low left right alone pool"
 RT = """#!/bin/sh
 [ $1 = version ] && exec cat "$KIT_LINE"
 [ $1 = doc ] && exec echo "$(dirname "$0")/../GUIDE.md"
 """
-# The lines that tell how far a build is.
-FAR = re.compile(r"\w+: (proves and builds|\d+ of \d+ crates, \d+:\d\d of about) ")
+# The lines that say how far a build is.
+FAR = re.compile(r"\w+: \d+ of \d+ crates, \d+:\d\d min: ")
+# What is changed, by which command, and what ./pool builds then.
+STEPS = [
+    ("unchanged", ":", ""),
+    ("a file with another time", "touch crates/low/src/lib.rt", ""),
+    ("files that aren't sources", "cd crates/left; mkdir tests; tee -a NOTES stdout args tests/case", ""),
+    ("an edit", "echo new >>crates/low/must-fail/turned.edit", ""),
+    ("another crate", "echo // more >>crates/other/src/main.rt; echo 1 >crates/other/NOTES", ""),
+    ("the line of another crate, the order", "sed -i 's/^other/& status=1/' crates.txt; tac crates.txt >../turned; mv ../turned crates.txt", ""),
+    ("the comments", "sed -i 's/^# A crate/# Another/' crates.txt", ""),
+    ("a definition", "echo -- more >>crates/left/specs/Meaning.antt", "left pool"),
+    ("a new proof", "mkdir -p crates/left/proofs/main; echo -- new >crates/left/proofs/main/New.antt", "left pool"),
+    ("another name", "mv crates/left/proofs/main/New.antt crates/left/proofs/main/Old.antt", "left pool"),
+    ("the lowest", "echo // more >>crates/low/src/lib.rt", "low left right pool"),
+    ("the program", "echo // more >>crates/pool/src/main.rt", "pool"),
+    ("the line of a crate", "sed -i 's/^right: /right may_wait=1: /' crates.txt", "right pool"),
+    ("the handles", "echo Handles allowed: Threads. >HANDLES", ALL),
+    ("another kit", "echo rattle-kit-1 logic 0 >$KIT_LINE", ALL),
+    ("a program that was exchanged", "echo '# another' >>crates/pool/out/pool", "pool"),
+    ("a library that is gone, below a program that isn't", "rm -r crates/right/out", ""),
+    ("and once the program has to be built", "echo // more >>crates/alone/src/lib.rt", "right alone pool"),
+]
 
 
-class Trial:
-    """A small repository, and what differs in it from what is wanted."""
-
+class Trial(Repository):
     def __init__(self, folder):
-        self.folder = folder
-        self.top = folder / "repository"
-        self.calls = folder / "calls"
-        self.passed, self.failed = 0, 0
-        self.without_rt = {**os.environ, "CALLS": str(self.calls), "KIT_LINE": str(folder / "kit"), "PATH": f"{folder}/python:/usr/bin:/bin"}
-        self.environment = {**self.without_rt, "PATH": f"{folder}/bin:{self.without_rt['PATH']}"}
-
-    def lay_out(self):
-        """Writes the repository and the kit."""
-        lay_kit(self.folder, RT)
-        write(self.folder / "kit", KIT + "\n")
-        for name in COPIED:
-            (self.top / name).parent.mkdir(parents=True, exist_ok=True)
-            shutil.copy(TOP / name, self.top / name)
-        write(self.top / "HANDLES", "Handles allowed: none.\n")
-        write(self.top / "crates.txt", "# A crate.\n" + "".join(f"{head}: {names}\n" for head, names in CRATES.items()))
-        for head in CRATES:
-            name = head.split()[0]
-            write(self.top / f"crates/{name}/src/{'main' if name in ('pool', 'other') else 'lib'}.rt", f"// {name}\n")
+        super().__init__(folder, CRATES, ("pool", "other"), RT, "pool", "tools/gate_times.py")
+        write(folder / "kit", "rattle-kit-0 logic 0\n")
+        self.environment["KIT_LINE"] = str(folder / "kit")
+        self.path_without_rt = f"{folder}/python:/usr/bin:/bin"
+        for name in (head.split()[0] for head in CRATES):
             write(self.top / f"crates/{name}/specs/Meaning.antt", f"-- {name}\n")
             write(self.top / f"crates/{name}/must-fail/turned.edit", "file: src/lib.rt\n")
 
-    def expect(self, what, wanted, got):
-        if wanted == got:
-            self.passed += 1
-        else:
-            self.failed += 1
-            print(f"{what}: wanted {wanted!r}, got {got!r}")
-
-    def run(self, *words, environment=None, given="", **more):
-        self.calls.write_text("")
-        words = [sys.executable, *words] if str(words[0]).endswith(".py") else words
-        environment = {**(environment or self.environment), **more}
-        return subprocess.run(words, cwd=self.folder, env=environment, input=given, capture_output=True, text=True)
+    def change(self, command):
+        subprocess.run(["bash", "-c", command], cwd=self.top, env=self.environment, input="1\n", stdout=subprocess.DEVNULL, text=True, check=True)
 
     def built(self):
         """The crates that the kit was asked to build, each once."""
         return [line.split()[1] for line in self.calls.read_text().splitlines()]
 
-    def expect_built(self, what, crates, top=None):
+    def rebuilt(self, **more):
+        self.run("pool", "x", **more)
+        return self.built()
+
+    def builds(self, what, crates, top=None):
         """Runs the program, which builds these crates and no others, and then gives its arguments, input and status."""
         done = self.run((top or self.top) / "pool", "run", "a b", given="input\n")
-        self.expect(f"{what}: is built", sorted(crates), sorted(self.built()))
-        self.expect(f"{what}: the run", ("run a b\ninput\n", 7), (done.stdout, done.returncode))
+        yield f"{what}: is built", sorted(crates.split()), sorted(self.built())
+        yield f"{what}: the run", ("run a b\ninput\n", 7), (done.stdout, done.returncode)
         strange = [line for line in done.stderr.splitlines() if not FAR.match(line)]
-        self.expect(f"{what}: standard error", ([], bool(crates)), (strange, bool(done.stderr)))
+        yield f"{what}: standard error", ([], bool(crates)), (strange, bool(done.stderr))
 
-    def expect_refused(self, what, crate, environment=None):
+    def refuses(self, what, reason, **more):
         """Runs the program, which can't be built."""
-        done = self.run(self.top / "pool", environment=environment)
-        self.expect(f"{what}: the status", (3, ""), (done.returncode, done.stdout))
-        self.expect(f"{what}: standard error tells of {crate}", True, crate in done.stderr)
+        done = self.run("pool", **more)
+        yield f"{what}: the status", (3, "", True), (done.returncode, done.stdout, reason in done.stderr or done.stderr)
 
 
-def write(path, text):
-    path.parent.mkdir(parents=True, exist_ok=True)
-    path.write_text(text)
-
-
-def add(path, text="\n// more\n"):
-    path.write_text(path.read_text() + text)
-
-
-def touch_first(trial):
-    """What is built at first, in which order, with how many jobs and how nice."""
-    trial.expect_built("at first", ["low", "left", "right", "alone", "pool"])
-    calls = [line.split() for line in trial.calls.read_text().splitlines()]
+def at_first(trial):
+    """What is built at first, in which order, with how many jobs and how nice; and with as many jobs as the environment says."""
+    yield from trial.builds("at first", ALL)
+    calls = {name: (what, int(jobs), int(nice)) for what, name, _, jobs, nice in map(str.split, trial.calls.read_text().splitlines())}
     most, own = len(os.sched_getaffinity(0)), os.nice(0)
-    trial.expect("the last to be built", "program pool", " ".join(calls[-1][:2]))
-    for _, name, *words in calls:
-        if name in ("low", "alone"):
-            jobs, nice = int(words[1]), int(words[2]) - own
-            trial.expect(f"{name}: the jobs of {words}", True, 1 <= jobs <= most)
-            trial.expect(f"{name}: how nice", 0 if name == "low" else min(3, 19 - own), nice)
+    yield "the last to be built", ("pool", "program"), ([*calls][-1], calls["pool"][0])
+    for name, nicer in ("low", 0), ("alone", min(3, 19 - own)):
+        yield f"{name}: the jobs and how nice", (True, own + nicer), (1 <= calls[name][1] <= most, calls[name][2])
+    trial.change("echo // more >>crates/low/src/lib.rt")
+    trial.run("pool", "x", BUILD_JOBS="1")
+    yield "with one job", ["1"] * 4, [line.split()[3] for line in trial.calls.read_text().splitlines()]
 
 
-def with_fewer_jobs(trial):
-    """A build that others run beside, with as many jobs as the environment says."""
-    add(trial.top / "crates/low/src/lib.rt")
-    trial.run(trial.top / "pool", "x", BUILD_JOBS="1")
-    calls = [line.split() for line in trial.calls.read_text().splitlines()]
-    trial.expect("with one job", dict.fromkeys(("low", "left", "right", "pool"), "1"), {name: jobs for _, name, _, jobs, *_ in calls})
-
-
-def unchanged(trial):
-    """What costs nothing."""
-    trial.expect_built("unchanged", [])
-    os.utime(trial.top / "crates/low/src/lib.rt")
-    trial.expect_built("a file with another time", [])
-    add(trial.top / "crates/low/must-fail/turned.edit")
-    for name in ("NOTES", "stdout", "args", "tests/case"):
-        write(trial.top / "crates/left" / name, "1\n")
-    trial.expect_built("files that aren't sources", [])
-    add(trial.top / "crates/other/src/main.rt")
-    write(trial.top / "crates/other/NOTES", "1\n")
-    trial.expect_built("another crate", [])
-    lines = (trial.top / "crates.txt").read_text().replace("other: low", "other status=1: low").splitlines()
-    write(trial.top / "crates.txt", "# Another comment.\n" + "\n".join(reversed(lines)) + "\n")
-    trial.expect_built("the line of another crate, the order and the comments", [])
+def steps(trial):
+    """What is built again after each step, and what isn't."""
+    for what, command, crates in STEPS:
+        trial.change(command)
+        yield from trial.builds(what, crates)
     copy = trial.folder / "elsewhere/copy"
-    shutil.copytree(trial.top, copy)
-    for path in copy.rglob("*"):
-        os.utime(path)
-    trial.expect_built("a copy", [], top=copy)
-    done = trial.run(trial.top / "pool", "x", environment=trial.without_rt)
-    trial.expect("without the kit", ("x\n", 7), (done.stdout, done.returncode))
-
-
-def changed(trial):
-    """What is built again where something changed."""
-    crates = trial.top / "crates"
-    add(crates / "left/specs/Meaning.antt", "\n-- more\n")
-    trial.expect_built("a definition", ["left", "pool"])
-    write(crates / "left/proofs/main/New.antt", "-- new\n")
-    trial.expect_built("a new proof", ["left", "pool"])
-    (crates / "left/proofs/main/New.antt").rename(crates / "left/proofs/main/Old.antt")
-    trial.expect_built("another name", ["left", "pool"])
-    add(crates / "low/src/lib.rt")
-    trial.expect_built("the lowest", ["low", "left", "right", "pool"])
-    add(crates / "pool/src/main.rt")
-    trial.expect_built("the program", ["pool"])
-    write(trial.top / "crates.txt", (trial.top / "crates.txt").read_text().replace("right: low", "right may_wait=1: low"))
-    trial.expect_built("the line of a crate", ["right", "pool"])
-    write(trial.top / "HANDLES", "Handles allowed: Threads.\n")
-    trial.expect_built("the handles", ["low", "left", "right", "alone", "pool"])
-    write(trial.folder / "kit", "rattle-kit-1 logic 0\n")
-    trial.expect_built("another kit", ["low", "left", "right", "alone", "pool"])
-    program = crates / "pool/out/pool"
-    write(program, program.read_text() + "# another\n")
-    trial.expect_built("a program that was exchanged", ["pool"])
-    shutil.rmtree(crates / "right/out")
-    trial.expect_built("a library that is gone, below a program that isn't", [])
-    add(crates / "alone/src/lib.rt")
-    trial.expect_built("and once the program has to be built", ["right", "alone", "pool"])
+    shutil.copytree(trial.top, copy, copy_function=shutil.copyfile)
+    for program in copy / "pool", copy / "crates/pool/out/pool":
+        program.chmod(0o755)
+    yield from trial.builds("a copy with other times", "", copy)
+    done = trial.run("pool", "x", PATH=trial.path_without_rt)
+    yield "without the kit", ("x\n", 7), (done.stdout, done.returncode)
 
 
 def refused(trial):
     """A build that fails fails again, until the fault is mended. What is proved is kept."""
-    broken = trial.top / "crates/right/src/broken"
-    add(trial.top / "crates/low/src/lib.rt")
-    write(broken, "")
-    trial.expect_refused("a crate that is refused", "right is refused")
-    trial.expect("what is built of it", True, "right" in trial.built() and "pool" not in trial.built())
-    trial.expect_refused("the same again", "right is refused")
+    trial.change("echo // more >>crates/low/src/lib.rt; touch crates/right/src/broken")
+    yield from trial.refuses("a crate that is refused", "right is refused")
+    yield "what is built of it", (True, False), ("right" in trial.built(), "pool" in trial.built())
+    yield from trial.refuses("the same again", "right is refused")
     # A build that ran beside it was stopped with it, or had ended.
-    trial.expect("only it is tried again, and what was stopped", True, {"right"} <= set(trial.built()) <= {"left", "right"})
-    broken.unlink()
-    trial.expect("once it is mended, at least", True, {"right", "pool"} <= set(rebuilt(trial)) <= {"left", "right", "pool"})
-    trial.expect_built("and then", [])
-    add(trial.top / "crates/low/src/lib.rt")
-    trial.expect_refused("without the kit", "rt is not on the PATH", environment=trial.without_rt)
-    trial.expect_built("with the kit", ["low", "left", "right", "pool"])
-
-
-def rebuilt(trial):
-    trial.run(trial.top / "pool")
-    return trial.built()
+    yield "only it is tried again, and what was stopped", True, {"right"} <= {*trial.built()} <= {"left", "right"}
+    trial.change("rm crates/right/src/broken")
+    yield "once it is mended, at least", True, {"right", "pool"} <= {*trial.rebuilt()} <= {"left", "right", "pool"}
+    yield from trial.builds("and then", "")
+    trial.change("echo // more >>crates/low/src/lib.rt")
+    yield from trial.refuses("without the kit", "rt is not on the PATH", PATH=trial.path_without_rt)
+    yield from trial.builds("with the kit", "low left right pool")
 
 
 def edited_meanwhile(trial):
     """A crate that is edited while it is built is built once more."""
-    edit = f'[ $1 != right ] || echo "// later" >> {trial.top}/crates/right/src/lib.rt'
-    add(trial.top / "crates/right/src/lib.rt")
-    trial.run(trial.top / "pool", MEANWHILE=edit)
-    trial.expect("edited meanwhile", ["right", "pool"], trial.built())
-    trial.expect_built("after an edit meanwhile", ["right", "pool"])
-    source = trial.top / "crates/right/src/lib.rt"
-    before = source.read_text() + "// before\n"
-    write(source, before)
-    trial.run(trial.top / "pool", MEANWHILE=edit)
-    write(source, before)
-    trial.expect_built("after an edit meanwhile that was taken back", ["right", "pool"])
+    edit = f"[ $1 != right ] || echo // later >>{trial.top}/crates/right/src/lib.rt"
+    trial.change("echo // more >>crates/right/src/lib.rt")
+    yield "edited meanwhile", ["right", "pool"], trial.rebuilt(MEANWHILE=edit)
+    yield from trial.builds("after an edit meanwhile", "right pool")
+    trial.change("echo // before >>crates/right/src/lib.rt; cp crates/right/src/lib.rt ..")
+    trial.rebuilt(MEANWHILE=edit)
+    trial.change("mv ../lib.rt crates/right/src")
+    yield from trial.builds("after an edit meanwhile that was taken back", "right pool")
 
 
 def archive(trial):
     """A static library, over libraries that are built."""
-    build = trial.top / "tools/build.py"
     for crates in ["archive"], []:
-        done = trial.run(build, "archive")
-        trial.expect(f"the static library: {crates}", (crates, 0), (trial.built(), done.returncode))
-    add(trial.top / "crates/left/src/lib.rt")
-    done = trial.run(build, "archive")
-    trial.expect("another crate of the program's", ([], 0), (trial.built(), done.returncode))
-    done = trial.run(build, "none")
-    trial.expect("a name of no crate", (1, "none: no crate of this repository\n"), (done.returncode, done.stderr))
-    trial.expect_built("the program's crate then", ["left", "pool"])
-
-
-def left_by_gate(trial, crate, text):
-    """Lays a library where the gate leaves it."""
-    write(trial.top / f"crates/{crate}/out/rlib/{crate}.rlib/interface/format", text)
+        yield f"the static library: {crates}", (0, crates), (trial.run("tools/build.py", "archive").returncode, trial.built())
+    trial.change("echo // more >>crates/left/src/lib.rt")
+    yield "another crate of the program's", (0, []), (trial.run("tools/build.py", "archive").returncode, trial.built())
+    done = trial.run("tools/build.py", "none")
+    yield "a name of no crate", (1, "none: no crate of this repository\n"), (done.returncode, done.stderr)
+    yield from trial.builds("the program's crate then", "left pool")
 
 
 def gate(trial):
     """What the gate has built is taken over and noted, but for crates that were edited meanwhile, and libraries of the kit's other commands."""
-    sources, sums = trial.top / "tools/sources.py", trial.folder / "sums"
-    for name in "other", "pool":
-        add(trial.top / f"crates/{name}/src/main.rt")
-    add(trial.top / "crates/alone/src/lib.rt")
-    sums.write_text(trial.run(sources).stdout)
-    program = trial.top / "crates/pool/out/pool"
-    write(program, program.read_text() + "# of the gate\n")
-    write(trial.top / "crates/other/out/other", "")
-    left_by_gate(trial, "alone", "of the gate")
-    add(trial.top / "crates/other/src/main.rt")
-    trial.run(sources, "--built", sums)
-    trial.expect_built("what the gate has built", [])
-    trial.run(trial.top / "tools/build.py", "other")
-    trial.expect("what was edited while the gate ran", ["other"], trial.built())
-    library = trial.top / "crates/alone/out/statements/alone.rlib/interface/format"
-    trial.expect("a library of the gate", "of the gate", library.read_text())
-    add(trial.top / "crates/pool/src/main.rt")
-    trial.expect_built("over a library of the gate", ["pool"])
-    add(trial.top / "crates/alone/src/lib.rt")
-    left_by_gate(trial, "alone", "of another command")
-    write(trial.top / "crates/alone/out/rlib/stamp", "")
-    sums.write_text(trial.run(sources).stdout)
-    trial.run(sources, "--built", sums)
-    trial.expect("a library of another command", "of the gate", library.read_text())
-    add(trial.top / "crates/pool/src/main.rt")
-    trial.expect_built("where the gate has put back such a library", ["alone", "pool"])
-    left_by_gate(trial, "low", "of a gate that failed")
-    trial.run(sources, "--left")
-    add(trial.top / "crates/pool/src/main.rt")
-    trial.expect_built("a library of a gate that failed", ["low", "pool"])
+    more = "echo // more >>crates/%s"
+    left = "mkdir -p crates/{0}/out/rlib/{0}.rlib/interface && echo '{1}' >crates/{0}/out/rlib/{0}.rlib/interface/format"
+    format = trial.top / "crates/alone/out/statements/alone.rlib/interface/format"
+
+    def pass_gate(command, sums="sources.all_sums()"):
+        """Takes over what a command leaves."""
+        program = f"import subprocess, sources; sums = {sums}; subprocess.run(['bash', '-c', {command!r}]); sources.take_over_all(sums)"
+        subprocess.run([sys.executable, "-c", program], cwd=trial.top, env=trial.environment | {"PYTHONPATH": f"{trial.top}/tools"}, check=True)
+
+    for file in "other/src/main.rt", "pool/src/main.rt", "alone/src/lib.rt":
+        trial.change(more % file)
+    programs = "echo '# of the gate' >>crates/pool/out/pool; mkdir -p crates/other/out; echo >crates/other/out/other"
+    pass_gate("\n".join([programs, left.format("alone", "of the gate"), more % "other/src/main.rt"]))
+    yield from trial.builds("what the gate has built", "")
+    trial.run("tools/build.py", "other")
+    yield "what was edited while the gate ran", ["other"], trial.built()
+    yield "a library of the gate", "of the gate\n", format.read_text()
+    trial.change(more % "pool/src/main.rt")
+    yield from trial.builds("over a library of the gate", "pool")
+    trial.change(more % "alone/src/lib.rt")
+    pass_gate(left.format("alone", "of another command") + "; touch crates/alone/out/rlib/stamp")
+    yield "a library of another command", "of the gate\n", format.read_text()
+    trial.change(more % "pool/src/main.rt")
+    yield from trial.builds("where the gate has put back such a library", "alone pool")
+    pass_gate(left.format("low", "of a gate that failed"), "{}")
+    trial.change(more % "pool/src/main.rt")
+    yield from trial.builds("a library of a gate that failed", "low pool")
 
 
-def main():
+def times(trial):
+    """The processor seconds of a prover, by its crate and what it is for, and the status of the command in which it ran."""
+    works = "import time\nwhile time.process_time() < 2.5: pass"
+    prover = f"(exec -a /x/rattle python3 -c '{works}' --crate-name left %s)"
+    done = trial.run("tools/gate_times.py", "bash", "-c", f"echo said; {prover % ''}; {prover % '--test'}; exit 3")
+    head, _, *rows = done.stderr.splitlines()
+    yield "the command", ("said\n", 3, "| crate | proofs | tests | edits | compiled |"), (done.stdout, done.returncode, head)
+    found = {crate: list(map(int, numbers)) for crate, *numbers in (row.replace("|", " ").split() for row in rows)}
+    yield "the crates", [*(head.split()[0] for head in CRATES), "all"], sorted(found, key=f"{ALL} other archive all".split().index)
+    yield "their seconds", [True, True, False, False], [1 <= seconds <= 3 for seconds in found["left"]]
+
+
+def checks():
     with tempfile.TemporaryDirectory() as name:
         trial = Trial(pathlib.Path(name))
-        trial.lay_out()
-        for part in touch_first, with_fewer_jobs, unchanged, changed, refused, edited_meanwhile, archive, gate:
-            part(trial)
-    print(f"{trial.passed} passed, {trial.failed} failed")
-    return 1 if trial.failed else 0
+        for part in at_first, steps, refused, edited_meanwhile, archive, gate, times:
+            yield from part(trial)
 
 
 if __name__ == "__main__":
-    sys.exit(main())
+    sys.exit(play_checks(checks()))

@@ -1830,12 +1830,15 @@ static void test_calls_of_an_empty_handle(void) {
   struct zuphinka_call call = {.number = 0};
   struct zuphinka_activity state = {.waiting = 7};
   uint64_t ticket = 7;
+  bool is_lent = true;
   for (uint32_t code = 0; code <= ZUPHINKA_KIND_MAINTAIN + 1; code++) {
     refuse(&pool, NULL, code, ZUPHINKA_STATUS_NOT_OPEN);
     refuse(&pool, &call, code, ZUPHINKA_STATUS_NOT_OPEN);
   }
   check(zuphinka_next_wake(&pool, &ticket) == ZUPHINKA_STATUS_NOT_OPEN && ticket == 7);
   check(zuphinka_state(&pool, &state) == ZUPHINKA_STATUS_NOT_OPEN && state.waiting == 7);
+  check(zuphinka_set_overtakes(&pool, 1, &ticket) == ZUPHINKA_STATUS_NOT_OPEN && ticket == 7);
+  check(zuphinka_is_lent(&pool, 0, &is_lent) == ZUPHINKA_STATUS_NOT_OPEN && is_lent);
   check(!pool.at);
 }
 
@@ -1905,6 +1908,104 @@ static void test_many_loans_at_once(void) {
     for (uint64_t n = MANY_LOANS; n-- > 0;) check(zuphinka_lend(&pool, 0, 1, &loan) == ZUPHINKA_STATUS_DONE && loan.id == n);
     check(zuphinka_counts(&pool, &counts) == ZUPHINKA_STATUS_DONE && counts.idle == 0 && counts.lent == MANY_LOANS);
   }
+  zuphinka_drop(&pool);
+}
+
+/* Reports at a time that a call was woken. */
+static void wake_at(struct zuphinka *pool, const struct zuphinka_call *call, uint64_t at, struct zuphinka_effects *effects) {
+  const struct zuphinka_event event = {.at = at, .report = ZUPHINKA_REPORT_WOKEN};
+  check(zuphinka_advance(pool, call, &event, effects) == ZUPHINKA_STATUS_DONE);
+}
+
+/* A borrow may wait longer than the settings say: it makes no entry before its own time is over, and then ends as one whose time is over. */
+static void test_longer_waits(void) {
+  const struct zuphinka_start patient = {.kind = ZUPHINKA_KIND_BORROW, .at = 10, .id = 50};
+  const struct zuphinka_start forever = {.kind = ZUPHINKA_KIND_BORROW, .at = 10, .id = UINT64_MAX};
+  static const char *const limits[] = {"maxTotal = 1\nmaxWaitMillis = 0\n", "maxTotal = 1\nmaxWaitMillis = 30\n"};
+  for (uint64_t n = 0; n < 2; n++) {
+    uint64_t limit = 30 * n, steps = 0, ticket = 0;
+    struct zuphinka pool = {.at = NULL};
+    struct zuphinka_call call, other;
+    struct zuphinka_effects effects;
+    check(zuphinka_open(&pool, limits[n], strlen(limits[n])) == ZUPHINKA_STATUS_DONE);
+    check(begin(&pool, ZUPHINKA_KIND_BORROW, &call, &effects) == ZUPHINKA_STATUS_DONE);
+    check(advance(&pool, &call, ZUPHINKA_REPORT_MADE, &effects) == ZUPHINKA_STATUS_DONE && effects.end == ZUPHINKA_END_LENT);
+    check(zuphinka_begin(&pool, &patient, &call, &effects) == ZUPHINKA_STATUS_DONE && effects.action == ZUPHINKA_ACTION_SLEEP);
+    check(effects.has_until && effects.until == 10 + limit + 50);
+    check(zuphinka_begin(&pool, &forever, &other, &effects) == ZUPHINKA_STATUS_DONE && effects.action == ZUPHINKA_ACTION_SLEEP);
+    check(effects.has_until && effects.until == UINT64_MAX);
+    check(zuphinka_steps(&pool, &steps) == ZUPHINKA_STATUS_DONE && steps == 2 + n); /* where the limit is 0 the core answers no wait */
+    wake_at(&pool, &call, 10 + limit + 49, &effects);
+    check(effects.action == ZUPHINKA_ACTION_SLEEP && effects.has_ticket);
+    wake_at(&pool, &call, 10 + limit + 50, &effects);
+    check(effects.action == ZUPHINKA_ACTION_DONE && effects.end == ZUPHINKA_END_TIMED_OUT);
+    wake_at(&pool, &other, 10 + limit + 1000, &effects);
+    check(effects.action == ZUPHINKA_ACTION_SLEEP);
+    check(zuphinka_steps(&pool, &steps) == ZUPHINKA_STATUS_DONE && steps == 2 + n);
+    const struct zuphinka_loan loan = {0, &maker};
+    check(zuphinka_take_back(&pool, 0, 2000, &loan) == ZUPHINKA_STATUS_DONE);
+    check(zuphinka_next_wake(&pool, &ticket) == ZUPHINKA_STATUS_DONE && ticket == effects.ticket);
+    wake_at(&pool, &other, 2000, &effects);
+    check(effects.end == ZUPHINKA_END_LENT && effects.number == 0);
+    zuphinka_drop(&pool);
+  }
+}
+
+/* Begins a borrow that lends at once, and returns its object. */
+static void overtake(struct zuphinka *pool) {
+  struct zuphinka_loan loan;
+  uint64_t ticket;
+  check(zuphinka_lend(pool, 0, 0, &loan) == ZUPHINKA_STATUS_DONE);
+  while (zuphinka_next_wake(pool, &ticket) == ZUPHINKA_STATUS_DONE) continue;
+  check(zuphinka_take_back(pool, 0, 0, &loan) == ZUPHINKA_STATUS_DONE);
+  while (zuphinka_next_wake(pool, &ticket) == ZUPHINKA_STATUS_DONE) continue;
+}
+
+/* The bound on overtakes can be raised and lowered while calls wait, but not below what the oldest has seen. */
+static void test_changed_overtakes(void) {
+  struct zuphinka pool = {.at = NULL};
+  struct zuphinka_call call;
+  struct zuphinka_effects effects;
+  struct zuphinka_loan loan = {0, &maker};
+  uint64_t bound = 7;
+  check(zuphinka_open(&pool, "maxTotal = 1\n", 13) == ZUPHINKA_STATUS_DONE);
+  check(zuphinka_set_overtakes(&pool, 3, &bound) == ZUPHINKA_STATUS_DONE && bound == 3);
+  check(begin(&pool, ZUPHINKA_KIND_BORROW, &call, &effects) == ZUPHINKA_STATUS_DONE);
+  check(advance(&pool, &call, ZUPHINKA_REPORT_MADE, &effects) == ZUPHINKA_STATUS_DONE && effects.end == ZUPHINKA_END_LENT);
+  check(begin(&pool, ZUPHINKA_KIND_BORROW, &call, &effects) == ZUPHINKA_STATUS_DONE && effects.action == ZUPHINKA_ACTION_SLEEP);
+  check(zuphinka_take_back(&pool, 0, 0, &loan) == ZUPHINKA_STATUS_DONE);
+  overtake(&pool);
+  overtake(&pool);
+  check(zuphinka_set_overtakes(&pool, 1, &bound) == ZUPHINKA_STATUS_DONE && bound == 2);
+  check(zuphinka_lend(&pool, 0, 0, &loan) == ZUPHINKA_STATUS_NOT_AT_ONCE);
+  check(zuphinka_set_overtakes(&pool, UINT64_MAX, &bound) == ZUPHINKA_STATUS_DONE && bound == UINT64_MAX);
+  overtake(&pool);
+  check(advance(&pool, &call, ZUPHINKA_REPORT_WOKEN, &effects) == ZUPHINKA_STATUS_DONE && effects.end == ZUPHINKA_END_LENT);
+  check(zuphinka_set_overtakes(&pool, 0, &bound) == ZUPHINKA_STATUS_DONE && bound == 0);
+  zuphinka_drop(&pool);
+}
+
+static bool is_lent(struct zuphinka *pool, uint64_t id) {
+  bool is_lent = false;
+  check(zuphinka_is_lent(pool, id, &is_lent) == ZUPHINKA_STATUS_DONE);
+  return is_lent;
+}
+
+/* An object is lent from its loan until its return, its end, or its removal from its holder. */
+static void test_lent_objects(void) {
+  const char *settings = "[abandoned]\nremoveAbandonedOnMaintenance = true\nremoveAbandonedTimeoutMillis = 10\n";
+  const struct zuphinka_start reclaim = {.kind = ZUPHINKA_KIND_RECLAIM, .at = 100};
+  struct zuphinka pool = {.at = NULL};
+  struct zuphinka_call call;
+  struct zuphinka_effects effects;
+  struct zuphinka_loan loan = {0, &maker};
+  check(zuphinka_open(&pool, settings, strlen(settings)) == ZUPHINKA_STATUS_DONE);
+  check(!is_lent(&pool, 0));
+  check(begin(&pool, ZUPHINKA_KIND_BORROW, &call, &effects) == ZUPHINKA_STATUS_DONE && !is_lent(&pool, 0));
+  check(advance(&pool, &call, ZUPHINKA_REPORT_MADE, &effects) == ZUPHINKA_STATUS_DONE && is_lent(&pool, 0) && !is_lent(&pool, 1));
+  check(zuphinka_take_back(&pool, 0, 0, &loan) == ZUPHINKA_STATUS_DONE && !is_lent(&pool, 0));
+  check(zuphinka_lend(&pool, 0, 0, &loan) == ZUPHINKA_STATUS_DONE && is_lent(&pool, 0));
+  check(zuphinka_begin(&pool, &reclaim, &call, &effects) == ZUPHINKA_STATUS_DONE && effects.count == 1 && !is_lent(&pool, 0));
   zuphinka_drop(&pool);
 }
 
@@ -2459,6 +2560,9 @@ static const struct {
     TEST(calls_of_an_empty_handle),
     TEST(loans_at_once),
     TEST(many_loans_at_once),
+    TEST(longer_waits),
+    TEST(changed_overtakes),
+    TEST(lent_objects),
     TEST(unknown_kinds),
     TEST(refused_reports),
     TEST(refused_reports_without_room),

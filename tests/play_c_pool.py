@@ -24,7 +24,6 @@ Prints each run that differs, and in the end the line 'N passed, M failed'.
 """
 
 import collections
-import concurrent.futures
 import os
 import pathlib
 import re
@@ -33,8 +32,8 @@ import sys
 import tempfile
 
 import openmetrics
-from play_library import EXAMPLES, FLAGS, INCLUDE, TOP, VALGRIND, compiler, header_runs, heap
-from playing import differing
+from play_library import EXAMPLES, FLAGS, INCLUDE, TOP, VALGRIND, compiler, header_runs, heap, run
+from playing import differing, side_by_side, tell
 from preloading import preloaded
 from skipping import has, skip
 
@@ -46,8 +45,6 @@ MEASURED = 400_000
 # Under valgrind and ThreadSanitizer, and while allocations fail.
 FEW_SEEDS, FEW_CALLS, MORE_THREADS = 6, 400, 8
 REFUSE_OF = 20
-# A run that takes longer hangs, in seconds.
-LONGEST = 600
 LENT = re.compile(rb"^(\d+) \d+ ready \d+ good = lent$", re.MULTILINE)
 ANSWER = re.compile(rb" = (\w+)")
 ANSWERS = set(
@@ -61,10 +58,6 @@ def built(folder, name, library, flags, main=TOP / "tests/play_c_pool.c"):
     program = pathlib.Path(folder) / name
     subprocess.run([compiler(), *POOL_FLAGS, *flags, "-o", program, main, POOL, library, heap()], check=True)
     return program
-
-
-def run(*words, environment=None):
-    return subprocess.run(words, stdin=subprocess.DEVNULL, capture_output=True, timeout=LONGEST, env=environment)
 
 
 def has_tsan(folder):
@@ -83,7 +76,7 @@ class Runs:
         self.answers = set()
 
     def run(self, *words):
-        return run(*self.words, *words, environment=self.environment)
+        return run(*self.words, *words, env=self.environment)
 
     def test(self, name):
         """What differs in a test."""
@@ -98,33 +91,27 @@ class Runs:
             return journal, [f"{name}: segments of a journal that is dropped"] if paths else []
         return journal, differing(f"{name}, judged", (b"legal %d\n" % steps, b"", 0), run(self.pool, "check", folder / "settings", *paths))
 
-    def told(self, name, folder, *words):
+    def told(self, name, *words):
         """Runs the program over a folder: what it printed, as pairs of words and a number, the journal, and what differs."""
-        done = self.run(*words, folder)
-        found = differing(name, (done.stdout, b"", 0), done)
-        pairs = [line.rsplit(b" ", 1) for line in done.stdout.splitlines()]
-        numbers = {words: int(number) for words, number in pairs}
-        if found:
-            return numbers, b"", found
-        journal, more = self.judged(name, folder, numbers[b"steps"])
-        return numbers, journal, more
+        with tempfile.TemporaryDirectory() as folder:
+            done = self.run(*words, folder)
+            numbers = {words: int(number) for words, number in (line.rsplit(b" ", 1) for line in done.stdout.splitlines())}
+            found = differing(name, (done.stdout, b"", 0), done)
+            return numbers, *(self.judged(name, pathlib.Path(folder), numbers[b"steps"]) if not found else (b"", found))
 
     def sink(self, at):
         """What differs in a run whose `store` fails at this call, and how often it was called."""
-        with tempfile.TemporaryDirectory() as folder:
-            numbers, _, found = self.told(f"{self.name}, a store that fails at call {at}", pathlib.Path(folder), "sink", str(at))
-            return found, numbers.get(b"called", 0)
+        numbers, _, found = self.told(f"{self.name}, a store that fails at call {at}", "sink", str(at))
+        return found, numbers.get(b"called", 0)
 
     def random(self, seed, threads, calls):
         """What differs in a run of threads that call at random."""
-        with tempfile.TemporaryDirectory() as folder:
-            name = f"{self.name}, seed {seed}"
-            numbers, journal, found = self.told(name, pathlib.Path(folder), "random", str(seed), str(threads), str(calls))
-            lent = collections.Counter(LENT.findall(journal))
-            wanted = {words.split()[1]: number for words, number in numbers.items() if words.startswith(b"caller ") and number}
-            if not found and journal and lent != wanted:
-                found = [f"{name}: threads counted the loans {wanted}, the journal has {dict(lent)}"]
-            return found
+        name = f"{self.name}, seed {seed}"
+        numbers, journal, found = self.told(name, "random", str(seed), str(threads), str(calls))
+        lent = collections.Counter(LENT.findall(journal))
+        wanted = {words.split()[1]: number for words, number in numbers.items() if words.startswith(b"caller ") and number}
+        is_counted = found or not journal or lent == wanted
+        return found + [f"{name}: threads counted the loans {wanted}, the journal has {dict(lent)}"] * (not is_counted)
 
     def soak(self):
         """What differs in a long life without a journal."""
@@ -134,8 +121,8 @@ class Runs:
         """What differs in the metrics that are read while threads borrow."""
         done = self.run("metrics", str(MEASURED), str(THREADS))
         texts = openmetrics.texts_of(done.stdout.decode())
-        fault = openmetrics.fault_of(openmetrics.check_course, texts, MEASURED) or ("" if len(texts) > 2 else f"{len(texts)} texts")
-        return differing(f"{self.name}, metrics", (done.stdout, b"", 0), done) + ([f"{self.name}, metrics: {fault}"] if fault else [])
+        fault = openmetrics.fault_of(openmetrics.check_course, texts, MEASURED) or f"{len(texts)} texts" * (len(texts) <= 2)
+        return differing(f"{self.name}, metrics", (done.stdout, b"", 0), done) + [f"{self.name}, metrics: {fault}"] * bool(fault)
 
     def shared(self, program):
         """What differs where the example lends connections to threads."""
@@ -147,16 +134,17 @@ class Runs:
             journal = b"".join(path.read_bytes() for path in sorted(folder.glob("segment-*")))
             wanted = [SHARED_ROUNDS] * THREADS
             lent = list(collections.Counter(LENT.findall(journal)).values())
-            told = [] if lent == wanted else [f"{name}: the journal has {lent} loans for its threads"]
+            found += [f"{name}: the journal has {lent} loans for its threads"] * (lent != wanted)
             again = run(program, folder / "settings", folder, "1", str(SHARED_ROUNDS))
             left = b"".join(path.read_bytes() for path in sorted(folder.iterdir()) if path.name != "settings")
-            told += [] if again.returncode == 1 and left == journal else [f"{name}: a second run replaces segments, or leaves more files"]
-            return found + told + self.judged(name, folder, journal.count(b" = "))[1]
+            is_refused = again.returncode == 1 and left == journal
+            found += [f"{name}: a second run replaces segments, or leaves more files"] * (not is_refused)
+            return found + self.judged(name, folder, journal.count(b" = "))[1]
 
     def sinks(self):
         """What differs where `store` fails at no call, and at each in turn."""
         found, called = self.sink(0)
-        return [found] + [self.sink(at)[0] for at in range(1, called + 1)] + [[] if called > 3 else [f"{self.name}: few calls of store"]]
+        return [found, *(self.sink(at)[0] for at in range(1, called + 1)), [f"{self.name}: few calls of store"] * (called <= 3)]
 
 
 def header_differing(folder):
@@ -184,7 +172,7 @@ def refused(plain, refuse, folder, seed):
     mark = pathlib.Path(folder) / f"refused_{seed}"
     changes = {"REFUSE_OF": str(REFUSE_OF), "REFUSE_SEED": str(seed), "REFUSED": str(mark), "LD_PRELOAD": str(refuse)}
     runs = Runs("allocations that fail", plain.words, plain.pool, os.environ | changes)
-    return runs.random(seed, THREADS, CALLS) + ([] if mark.exists() else [f"{runs.name}, seed {seed}: no allocation failed"])
+    return runs.random(seed, THREADS, CALLS) + [f"{runs.name}, seed {seed}: no allocation failed"] * (not mark.exists())
 
 
 def all_calls(plain, library, folder, watches):
@@ -199,26 +187,21 @@ def all_calls(plain, library, folder, watches):
     return calls + [(refused, plain, refuse, folder, seed) for seed in few]
 
 
-def differences(library, pool, folder):
+def found(library, pool, folder):
     """What differs in each run."""
+    yield from header_differing(folder)
     plain = Runs("plain", [built(folder, "plain", library, [])], str(pathlib.Path(pool).resolve()))
     calls = all_calls(plain, library, folder, list(tools(folder)))
-    with concurrent.futures.ThreadPoolExecutor(os.cpu_count()) as workers:
-        found = list(workers.map(lambda call: call[0](*call[1:]), calls))
+    yield from side_by_side(lambda call: call[0](*call[1:]), calls)
     shared = built(folder, "shared_life", library, [], EXAMPLES / "shared_life.c")
-    found += [plain.soak(), plain.metrics(), plain.shared(shared), *plain.sinks()]
+    yield from [plain.soak(), plain.metrics(), plain.shared(shared), *plain.sinks()]
     missing = ANSWERS - plain.answers
-    return [*found, [f"no journal has {sorted(missing)}"] if missing else []]
+    yield [f"no journal has {sorted(missing)}"] * bool(missing)
 
 
 def main(library, pool):
     with tempfile.TemporaryDirectory() as folder:
-        found = [*header_differing(folder), *differences(library, pool, folder)]
-    for line in (line for lines in found for line in lines):
-        print(line[:2000])
-    failed = sum(map(bool, found))
-    print(f"{len(found) - failed} passed, {failed} failed")
-    return 1 if failed or len(found) < SEEDS else 0
+        return tell(found(library, pool, folder), SEEDS)
 
 
 if __name__ == "__main__":

@@ -2,7 +2,6 @@
 """Plays calls of all kinds at random on PROGRAM, event by event, and compares each answer with that of a model.
 
     play_calls.py PROGRAM [--seeds N] [--seed SEED] [--commands N]
-    play_calls.py --record FOLDER [--seeds N] [--seed SEED] [--commands N]
 
 PROGRAM is test_calls. Each seed plays a pool with random settings: up to 16 callers make calls of all kinds, the factory fails at random, calls
 are given up at any point, waits end with their time, the journal is cut or has no room, hosts wake up for nothing, return what they do not hold, and
@@ -19,15 +18,12 @@ At the end all that is held is returned, only calls that were woken go on, and n
 pool_model.py. All seeds together see each action, each end of each kind of call, a failure and a call that is given up at each work of the factory,
 and calls of each kind that free something and so wake others. Then scripts with errors are refused.
 
-Prints what differs, and in the end the line 'N passed, M failed'. With --seed it plays that seed alone. With --record it plays no program, but writes
-the script of each seed into FOLDER with the answers of the model: `rt try --cases FOLDER` plays them on a program that is not proved.
+Prints what differs, and in the end the line 'N passed, M failed'. With --seed it plays that seed alone.
 """
 
 import argparse
 import concurrent.futures
-import functools
 import os
-import pathlib
 import random
 import subprocess
 import sys
@@ -35,7 +31,7 @@ import threading
 
 from call_model import FITTING, Driven
 from call_watch import HANDED, Difference, Watch, expect
-from playing import differing
+from playing import differing, run, tell
 from pool_model import settings_of, verdict_of_segments
 
 SLOTS = 16
@@ -118,7 +114,7 @@ class Program:
         self.watch.start()
         self.process.stdin.write("".join(line + "\n" for line in lines))
 
-    def ask(self, command, _):
+    def ask(self, command):
         """The lines of the answer to a command, up to the one with the counts."""
         lines = []
         try:
@@ -141,25 +137,6 @@ class Program:
         self.watch.cancel()
         self.process.kill()
         self.process.wait()
-
-
-class Record:
-    """In the place of the program: it writes the commands to a file, and gives the wanted answers and writes them to another."""
-
-    def __init__(self, path, lines):
-        self.path, self.commands, self.answers = path, [*lines], []
-
-    def ask(self, command, wanted):
-        self.commands.append(command)
-        self.answers += wanted
-        return wanted
-
-    def end(self):
-        return "", "", 0
-
-    def stop(self):
-        for path, lines in (self.path, self.commands), (self.path.with_suffix(".stdout"), self.answers):
-            path.write_text("".join(line + "\n" for line in lines))
 
 
 def text_of(settings):
@@ -199,9 +176,9 @@ def random_settings(dice):
 
 
 class Player:
-    """Plays so many commands of one seed on a program that `start` starts with its first lines, and then what is left."""
+    """Plays so many commands of one seed on a program, and then what is left."""
 
-    def __init__(self, start, seed, commands):
+    def __init__(self, path, seed, commands):
         self.dice = dice = random.Random(seed)
         settings = random_settings(dice)
         most, reclaims = settings["maxTotal"], "abandoned" in settings
@@ -213,7 +190,7 @@ class Player:
         self.watch = Watch(None if most < 0 else most, overtakes, reclaims)
         flags = ["yes" if flag else "no" for flag in (*(hooks[key] for key in HOOKS), self.drops)]
         self.first = [*lines, "", f"pool {overtakes} {' '.join(flags)}"]
-        self.program, self.most_commands = start(self.first), commands
+        self.program, self.most_commands = Program(path, self.first), commands
         # How likely a factory's call fails and a call is given up, and how many objects callers hold at most.
         self.failing = dice.choice((0.0, 0.05, 0.3))
         self.giving_up = dice.choice((0.0, 0.02, 0.1))
@@ -235,7 +212,7 @@ class Player:
     def send(self, command, wanted):
         """Sends a command, whose answer must be that of the model. Returns the answer."""
         self.commands.append(command)
-        got = self.program.ask(command, wanted)
+        got = self.program.ask(command)
         expect(command, wanted, got)
         self.woken.update(int(line.split(" ")[1]) for line in got if line.startswith("wake "))
         return got
@@ -455,65 +432,51 @@ class Player:
         expect("the end", ("", "", 0), self.program.end())
 
     def play(self):
-        """Plays. Returns what differs, if anything does."""
+        """Plays. Returns what differs."""
         try:
             while len(self.commands) < self.most_commands:
                 self.event()
             self.drain()
             self.end()
-            return None
+            return []
         except Difference as difference:
             script = "\n".join(["", *self.first, "..", *self.commands[-SHOWN:]]).replace("\n", "\n    ")
-            return f"after {len(self.commands)} commands: {difference}{script}"
+            return [f"after {len(self.commands)} commands: {difference}{script}"]
         finally:
             self.program.stop()
 
 
 def play_seed(seed, asked):
-    """Plays a seed. Returns what differs, if anything does, the number of commands, and what was seen."""
-    start = functools.partial(*((Program, asked.program) if asked.record is None else (Record, asked.record / f"seed-{seed}")))
-    player = Player(start, seed, asked.commands)
-    difference = player.play()
-    return difference and f"seed {seed}: {difference}", len(player.commands), player.seen
+    """Plays a seed. Returns what differs, the number of commands, and what was seen."""
+    player = Player(asked.program, seed, asked.commands)
+    return [f"seed {seed}: {difference}" for difference in player.play()], len(player.commands), player.seen
 
 
 def refused(path):
     """What differs at each script with an error."""
     for script, told in REFUSED.items():
-        done = subprocess.run([path], input=script, capture_output=True, text=True, timeout=LONGEST)
-        wanted = done.stdout, f"test_calls: {told}\n", 2
-        yield "\n".join(differing(repr(script), wanted, done)) or None
+        done = run(path, input=script.encode())
+        yield differing(repr(script), (done.stdout, f"test_calls: {told}\n".encode(), 2), done)
 
 
 def arguments():
     words = argparse.ArgumentParser(prog="play_calls.py", description=__doc__, formatter_class=argparse.RawDescriptionHelpFormatter)
-    words.add_argument("program", metavar="PROGRAM", nargs="?")
-    words.add_argument("--record", metavar="FOLDER", type=pathlib.Path, help="write scripts and answers there, and play no program")
+    words.add_argument("program", metavar="PROGRAM")
     words.add_argument("--seeds", metavar="N", type=int, default=56, help="how many seeds are played")
     words.add_argument("--seed", metavar="SEED", type=int, help="play this seed alone")
     words.add_argument("--commands", metavar="N", type=int, default=600, help="how many commands each seed has, at least")
-    asked = words.parse_args()
-    if (asked.program is None) == (asked.record is None):
-        words.error("either PROGRAM or --record FOLDER is needed")
-    return asked
+    return words.parse_args()
 
 
 def main():
     asked = arguments()
     seeds = range(1, asked.seeds + 1) if asked.seed is None else [asked.seed]
     with concurrent.futures.ProcessPoolExecutor(os.cpu_count()) as workers:
-        played = list(workers.map(play_seed, seeds, [asked] * len(seeds)))
-    print(f"{sum(count for _, count, _ in played)} commands")
-    found = [difference for difference, _, _ in played]
-    if asked.seed is None:
-        missing = WANTED.difference(*(seen for _, _, seen in played))
-        found.append(f"never seen: {sorted(missing)}" if missing else None)
-        found += refused(asked.program) if asked.program else []
-    for difference in filter(None, found):
-        print(difference)
-    failed = sum(map(bool, found))
-    print(f"{len(found) - failed} passed, {failed} failed")
-    return 1 if failed else 0
+        found, counts, seen = zip(*workers.map(play_seed, seeds, [asked] * len(seeds)))
+    print(f"{sum(counts)} commands")
+    missing = WANTED.difference(*seen)
+    of_all = [[f"never seen: {sorted(missing)}"] * bool(missing), *refused(asked.program)] if asked.seed is None else []
+    return tell([*found, *of_all])
 
 
 if __name__ == "__main__":

@@ -15,11 +15,10 @@ Journals of more than MOST_CHANGED lines are changed at MOST_CHANGED places only
 that differs, and in the end the line 'N passed, M failed'.
 """
 
-import subprocess
 import sys
 
 from case_files import wanted_of
-from playing import differing, play_unpacked
+from playing import differing, play_unpacked, run
 
 MOST_CHANGED = 200
 TEXT = "/dev/stdin"
@@ -73,8 +72,7 @@ def plays(cases):
 def differences(pool, play):
     """What is wanted and what is got, where they differ."""
     name, arguments, text, wanted = play
-    done = subprocess.run([pool, *arguments], input=text, capture_output=True, timeout=60)
-    return differing(f"{name}: {arguments[0]}", wanted, done)
+    return differing(f"{name}: {arguments[0]}", wanted, run(pool, *arguments, input=text))
 
 
 def main(pool, paths):

@@ -18,16 +18,14 @@ import sys
 import tempfile
 import time
 
-from fake_kit import lay_kit
+from fake_kit import LONGEST, TOP, Repository, write
 from playing import play_checks
 
-TOP = pathlib.Path(__file__).resolve().parent.parent
 sys.path.append(str(TOP / "tools"))
 
 import sources
 from parts import PACKAGES, PARTS, PROOFS, QUICK, QUICK_ALONE
 
-COPIED = ("check", ".ci/run", "tools/packages.py", "tools/runner.py", "tools/build.py", "tools/kit.py", "tools/sources.py", "tools/proof_seconds.txt")
 CRATES = {"low": "", "tool": "low", "wrong": "low", "archive staticlib": "low"}
 # Notes each call. `rt ci` builds all, but for what is broken: programs, and libraries where there is none with a stamp.
 RT = """#!/bin/sh
@@ -62,7 +60,7 @@ echo built archive >>$CALLS
 # A part: its name, how many lines it writes, for how long it waits behind each, what it counts (or -), its status, and files that are there.
 SAY = """name=$1 lines=$2 pause=$3 passed=$4 failed=$5 status=$6
 shift 6
-[ $pause != 60 ] || sleep 60 &
+[ $pause != 600 ] || sleep 600 &
 echo begin $name $$ $! >>$CALLS
 for number in $(seq $lines); do
   echo $name $number
@@ -115,44 +113,22 @@ BAD = [
     ("empty", "tests nothing", "empty 1 0 0 0 0"),
     ("wrong", "needs what can't be built", "wrong 1 0 1 0 0 {wrong}", "wrong"),
 ]
-ENDLESS = [("endless", "goes on", "endless 1 60 1 0 0"), ("next", "too", "next 1 60 1 0 0")]
+ENDLESS = [("endless", "goes on", "endless 1 600 1 0 0"), ("next", "too", "next 1 600 1 0 0")]
 # The names of Debian's packages, as the tests and the tools have them.
 PACKAGE = re.compile(r"\b(?:lib[a-z0-9+.-]+-java|librust-[a-z0-9-]+-dev|default-jdk-headless)\b")
-# A run that takes longer hangs, in seconds.
-LONGEST = 60
 Done = collections.namedtuple("Done", "lines status errors calls")
 
 
-def write(path, text):
-    path.parent.mkdir(parents=True, exist_ok=True)
-    path.write_text(text)
-
-
-class Trial:
-    """A small repository."""
-
+class Trial(Repository):
     def __init__(self, folder):
-        self.top, self.calls = folder / "repository", folder / "calls"
-        path = f"{folder}/bin:{folder}/python:/usr/bin:/bin"
-        self.environment = {**os.environ, "CALLS": str(self.calls), "MEANWHILE": MEANWHILE, "UNTIL": "", "PATH": path}
-        self.environment.pop("RT_JOBS", None)
-        lay_kit(folder, RT)
-        for name in COPIED:
-            (self.top / name).parent.mkdir(parents=True, exist_ok=True)
-            shutil.copy(TOP / name, self.top / name)
-        write(self.top / "tests/say", SAY)
-        write(self.top / "tests/needy", NEEDY)
+        super().__init__(folder, CRATES, ("tool", "wrong"), RT, "check", ".ci/run", "tools/packages.py", "tools/runner.py")
         self.signs = folder / "signs"
         self.signs.mkdir()
-        self.environment |= {"SIGNS": str(self.signs), "APT": ""}
+        self.environment |= {"MEANWHILE": MEANWHILE, "UNTIL": "", "SIGNS": str(self.signs), "APT": ""}
+        write(self.top / "tests/say", SAY)
+        write(self.top / "tests/needy", NEEDY)
         for name, text in ("apt-get", APT), ("sudo", SUDO):
-            write(folder / "bin" / name, text)
-            (folder / "bin" / name).chmod(0o755)
-        write(self.top / "HANDLES", "Handles allowed: none.\n")
-        write(self.top / "crates.txt", "".join(f"{head}: {names}\n" for head, names in CRATES.items()))
-        for head in CRATES:
-            name = head.split()[0]
-            write(self.top / f"crates/{name}/src/{'main' if name in ('tool', 'wrong') else 'lib'}.rt", f"// {name}\n")
+            write(folder / "bin" / name, text, 0o755)
         self.lay_table(GOOD)
 
     def lay_table(self, rows):
@@ -164,11 +140,9 @@ class Trial:
         rows = [*(f"    Part(*{part!r}),\n" for part in parts), ")\nPACKAGES = (\n", *(f"    Package(*{package!r}),\n" for package in packages)]
         write(self.top / "tools/parts.py", HEAD + "".join(rows) + ")\n")
 
-    def run(self, *words, until="", program="check", **changes):
+    def check(self, *words, until="", program="check", **changes):
         """Runs ./check with these words. A static library isn't built until this is noted."""
-        self.calls.write_text("")
-        options = {"cwd": "/", "env": self.environment | {"UNTIL": until} | changes, "stdin": subprocess.DEVNULL, "capture_output": True, "text": True}
-        done = subprocess.run([self.top / program, *words], timeout=LONGEST, **options)
+        done = self.run(program, *words, **{"UNTIL": until} | changes)
         return Done(done.stdout.splitlines(), done.returncode, done.stderr, self.noted())
 
     def noted(self):
@@ -193,26 +167,26 @@ def began(done):
 
 def listing(trial):
     """The list, and names of no part."""
-    done = trial.run("--list")
+    done = trial.check("--list")
     names = ["proofs", "brief", *(name for name, *_ in GOOD), "needy", "quick"]
     yield "the list", (names, 0, "", []), ([line.split()[0] for line in done.lines], done.status, done.errors, done.calls)
     yield "what quick tests", "quick    brief small late library", done.lines[-1]
     yield "what a part tests", "small    needs nothing", done.lines[5]
-    done = trial.run("small", "smalls")
+    done = trial.check("small", "smalls")
     told = "check: there is no part smalls: did you mean small? ./check --list names them all\n"
     yield "a name near to another", ([], 2, told, []), done
     told = "check: there is no part xxxxxxxx: ./check --list names them all\n"
-    yield "another name", ([], 2, told, []), trial.run("xxxxxxxx")
+    yield "another name", ([], 2, told, []), trial.check("xxxxxxxx")
 
 
 def alone(trial):
     """Parts that are named: alone, in the order of the table, once what they need is built."""
-    done = trial.run("small")
+    done = trial.check("small")
     head = ["check: part 1 of 1, small, after N:N min", "check: all parts have ended, after N:N min", "check: small, N s, alone by ./check small"]
     lines = [*head, "small 1", "1 passed, 0 failed", "1 passed, 0 failed, 0 skipped"]
     found = [re.sub(r"\d+:\d\d min", "N:N min", re.sub(r", \d+ s,", ", N s,", line)) for line in done.lines]
     yield "a part that needs nothing", (lines, 0, "", ["begin small"]), (found, *done[1:])
-    done = trial.run("folder", "tool", "small", "tool")
+    done = trial.check("folder", "tool", "small", "tool")
     order = [call for call in done.calls if call not in ("begin small", "begin folder")]
     yield "a program is built first", ["library low", "program tool", "begin tool"], order
     yield "its progress is shown", True, any(line.startswith("tool: 1 of 2 crates, ") for line in done.lines)
@@ -221,24 +195,24 @@ def alone(trial):
     yield "what is shown", (["tool", "small", "folder"], "5 passed, 0 failed, 0 skipped", 0), (shown(done), done.lines[-1], done.status)
     yield "the program", True, any(re.fullmatch("tool has .* # alone // tool", line) for line in done.lines)
     yield "the folder is there", True, (trial.top / "made/here").is_dir()
-    done = trial.run("tool")
+    done = trial.check("tool")
     yield "a program that is built", (["begin tool"], ["check: part 1 of 1, tool"]), (done.calls, began(done))
 
 
 def quickly(trial):
     """What `quick` names: all that is built, and the rest if it is named too."""
     shutil.rmtree(trial.top / "crates/archive/out", ignore_errors=True)
-    done = trial.run("quick")
+    done = trial.check("quick")
     told = "check: skipped: late: all of it: not built: archive; ./check late proves and builds that first"
     yield "quick without a library", ([told, "3 passed, 0 failed, 1 skipped"], 0), (done.lines[-2:], done.status)
     yield "quick proves nothing", ["begin brief", "begin library", "begin small"], sorted(done.calls)
     yield "how many parts begin", {"3"}, {line.split()[4].rstrip(",") for line in began(done)}
-    done = trial.run("quick", "late")
+    done = trial.check("quick", "late")
     yield "what is named is built", ("4 passed, 0 failed, 0 skipped", 0), (done.lines[-1], done.status)
     yield "by its build alone", ["archive archive", "built archive"], [call for call in done.calls if not call.startswith("begin ")]
     write(trial.top / "crates/low/src/lib.rt", "// changed\n")
-    yield "what was changed is not built", "2 passed, 0 failed, 2 skipped", trial.run("quick").lines[-1]
-    done = trial.run("quick", "--install")
+    yield "what was changed is not built", "2 passed, 0 failed, 2 skipped", trial.check("quick").lines[-1]
+    done = trial.check("quick", "--install")
     yield "nothing may be skipped", ("2 passed, 2 failed, 0 skipped", 1), (done.lines[-1], done.status)
     write(trial.top / "crates/low/src/lib.rt", "// low\n")
     shutil.rmtree(trial.top / "crates/archive/out")
@@ -247,17 +221,17 @@ def quickly(trial):
 def static(trial):
     """A static library is built over the libraries that are there, or else with them."""
     shutil.rmtree(trial.top / "crates/low/out")
-    done = trial.run("late")
+    done = trial.check("late")
     yield "with its library", (["library low", "archive archive", "built archive", "begin late"], 0), (done.calls, done.status)
     shutil.rmtree(trial.top / "crates/archive/out")
-    done = trial.run("late")
+    done = trial.check("late")
     yield "over its library", (["archive archive", "built archive", "begin late"], 0), (done.calls, done.status)
 
 
 def whole(trial):
     """All: the gate first, then builds and parts, whose output is shown in one piece and in order."""
     shutil.rmtree(trial.top / "crates/low/out")
-    done = trial.run(until="begin slow" if len(os.sched_getaffinity(0)) > 1 else "")
+    done = trial.check(until="begin slow" if len(os.sched_getaffinity(0)) > 1 else "")
     names = [*(name for name, *_ in GOOD), "needy"]
     yield "all: the count", ("15 passed, 0 failed, 1 skipped", 0), (done.lines[-1], done.status)
     yield "all: what is shown", ["proofs", *names], shown(done)
@@ -274,10 +248,10 @@ def whole(trial):
     for name in "slow", "loud":
         first = done.lines.index(f"{name} 1")
         yield f"all: {name} in one piece", [f"{name} {number}" for number in range(1, 5)], done.lines[first : first + 4]
-    done = trial.run("tool", "library", "late")
+    done = trial.check("tool", "library", "late")
     yield "what the gate has left serves", ["late", "library", "tool"], sorted(call.removeprefix("begin ") for call in done.calls)
     write(trial.top / "crates/low/src/lib.rt", "// another\n")
-    done = trial.run("library", "proofs")
+    done = trial.check("library", "proofs")
     yield "the gate by its name", (["proofs", "library"], "5 passed, 0 failed, 0 skipped"), (shown(done), done.lines[-1])
     yield "a library of an earlier gate is removed", True, "library has // another" in done.lines
     yield "and not built again after the gate", ["rt ci repository", "begin library"], done.calls
@@ -288,10 +262,10 @@ def jobs(trial):
     """How many proofs the gate may run at a time: one for each of a few processors, or as many as the caller says."""
     before = os.sched_getaffinity(0)
     os.sched_setaffinity(0, {min(before)})
-    trial.run("proofs")
+    trial.check("proofs")
     yield "a job for the processor", "rt ci repository 1\n", trial.calls.read_text()
     trial.environment["RT_JOBS"] = "3"
-    trial.run("proofs")
+    trial.check("proofs")
     yield "as many as the caller says", "rt ci repository 3\n", trial.calls.read_text()
     trial.environment.pop("RT_JOBS")
     os.sched_setaffinity(0, before)
@@ -301,7 +275,7 @@ def failing(trial):
     """Parts that fail, and those that can't run."""
     write(trial.top / "crates/wrong/src/broken", "")
     trial.lay_table([*BAD, *GOOD])
-    done = trial.run("small", *(name for name, *_ in BAD))
+    done = trial.check("small", *(name for name, *_ in BAD))
     yield "what fails", ("3 passed, 6 failed, 0 skipped", 1), (done.lines[-1], done.status)
     yield "what failed", "check: what failed, again: ./check failing status mute empty wrong", done.lines[-2]
     told = ["status: ended with status 3", "mute: ended with status 0 and without a count", "wrong: not run, since wrong can't be built"]
@@ -314,7 +288,7 @@ def failing(trial):
 
 def skipping(trial):
     """What a part skips is counted, and shown with its reason before the last line."""
-    done = trial.run("needy", "small")
+    done = trial.check("needy", "small")
     wanted = ["check: skipped: needy: a tool: not installed: Debian's tool-dev", "check: ./check --install installs what they need"]
     yield "what is skipped", ([*wanted, "2 passed, 0 failed, 1 skipped"], 0), (done.lines[-3:], done.status)
     yield "nothing is installed", ["begin needy", "begin small"], sorted(done.calls)
@@ -322,24 +296,24 @@ def skipping(trial):
 
 def installing(trial):
     """Packages are installed before what needs them runs, and then nothing may be skipped."""
-    done = trial.run("--install", "small")
+    done = trial.check("--install", "small")
     yield "nothing to install", ("1 passed, 0 failed, 0 skipped", 0, ["begin small"]), (done.lines[-1], done.status, done.calls)
-    done = trial.run("--install", "needy", APT="broken")
+    done = trial.check("--install", "needy", APT="broken")
     told = "check: not installed: "
     yield "it fails", ([INSTALL], 3, True), (done.lines, done.status, done.errors.startswith(told) and " status 100; " in done.errors)
     yield "nothing runs then", [INSTALL, "apt-get update", INSTALL], done.calls
-    done = trial.run("--install", "needy", APT="idle")
+    done = trial.check("--install", "needy", APT="idle")
     wanted = "check: failed, since nothing may be skipped: needy: a tool: not installed: Debian's tool-dev"
     yield "a part that still cannot run", ([wanted, "1 passed, 1 failed, 0 skipped"], 1), (done.lines[-2:], done.status)
     yield "what failed then", "check: what failed, again: ./check needy", done.lines[-3]
-    done = trial.run("--install", "needy", APT="stale")
+    done = trial.check("--install", "needy", APT="stale")
     yield "with an update", [INSTALL, "apt-get update", INSTALL, "begin needy"], done.calls
     yield "what is shown of it", (INSTALL, "2 passed, 0 failed, 0 skipped", 0), (done.lines[0], done.lines[-1], done.status)
-    done = trial.run("--install", "needy", APT="broken")
+    done = trial.check("--install", "needy", APT="broken")
     yield "it is installed", (["begin needy"], 0), (done.calls, done.status)
     (trial.top.parent / "bin/apt-get").rename(trial.top.parent / "bin/other")
     (trial.signs / "tool-dev").unlink()
-    done = trial.run("--install", "needy", PATH=f"{trial.top.parent}/bin:{trial.top.parent}/python:{without_apt(trial)}")
+    done = trial.check("--install", "needy", PATH=f"{trial.top.parent}/bin:{trial.top.parent}/python:{without_apt(trial)}")
     yield "no apt-get", ([INSTALL], 3, f"{told}there is no apt-get here; ./check alone skips what needs it\n"), (done.lines, done.status, done.errors)
     (trial.top.parent / "bin/other").rename(trial.top.parent / "bin/apt-get")
 
@@ -371,26 +345,28 @@ def fetching(trial):
     """What a part needs from the network is fetched with the packages."""
     write(trial.top / "tests/fetch", "echo fetched >>$CALLS; exit $FETCH\n")
     trial.lay_table(GOOD)
-    done = trial.run("--install", "needy", FETCH="1")
+    done = trial.check("--install", "needy", FETCH="1")
     told = "check: not installed: sh tests/fetch ended with status 1; ./check alone skips what needs it\n"
     yield "nothing is fetched", ([INSTALL, "fetched"], 3, told), (done.calls, done.status, done.errors)
-    done = trial.run("--install", "needy", FETCH="0")
+    done = trial.check("--install", "needy", FETCH="0")
     yield "it is fetched", (["fetched", "begin needy"], 0), (done.calls, done.status)
-    yield "only where it is needed", ["begin small"], trial.run("--install", "small", FETCH="1").calls
+    yield "only where it is needed", ["begin small"], trial.check("--install", "small", FETCH="1").calls
 
 
 def unattended(trial):
-    """.ci/run installs nothing, and skips what it must."""
+    """.ci/run installs what is missing. If that can't be installed or fetched, it skips what needs it."""
     sign = trial.signs / "tool-dev"
     sign.unlink()
-    done = trial.run(program=".ci/run", FETCH="0")
-    yield "without packages", ("15 passed, 0 failed, 1 skipped", 0, 0), (done.lines[-1], done.status, done.calls.count(INSTALL))
-    sign.touch()
-    done = trial.run(program=".ci/run", FETCH="0")
-    yield "with all", ("16 passed, 0 failed, 0 skipped", 0, 1), (done.lines[-1], done.status, done.calls.count("begin needy"))
+    done = trial.check(program=".ci/run", APT="broken", FETCH="0")
+    yield "nothing can be installed", ("15 passed, 0 failed, 1 skipped", 0, 2), (done.lines[-1], done.status, done.calls.count(INSTALL))
+    done = trial.check(program=".ci/run", FETCH="0")
+    counts = [done.calls.count(call) for call in (INSTALL, "fetched", "begin needy")]
+    yield "what was missing is installed", ("16 passed, 0 failed, 0 skipped", 0, [1, 1, 1]), (done.lines[-1], done.status, counts)
+    done = trial.check(program=".ci/run", FETCH="1")
+    yield "nothing can be fetched", ("16 passed, 0 failed, 0 skipped", 0, 1), (done.lines[-1], done.status, done.calls.count("begin needy"))
     (trial.top / "tests/fetch").unlink()
     trial.lay_table([*BAD[:1], *GOOD])
-    done = trial.run(program=".ci/run")
+    done = trial.check(program=".ci/run")
     yield "with a part that fails", ("17 passed, 2 failed, 0 skipped", 1, 1), (done.lines[-1], done.status, done.calls.count("begin needy"))
     trial.lay_table(GOOD)
 
@@ -402,23 +378,23 @@ def committed(trial):
         trial.git(*words)
     commit = trial.git("rev-parse", "HEAD").strip()
     write(trial.top / "crates/tool/src/main.rt", "// another\n")
-    done = trial.run()
+    done = trial.check()
     yield "a change", f"check: commit {commit}-changed", done.lines[0]
     yield "a gate that fails", ("15 passed, 1 failed, 0 skipped", 1), (done.lines[-1], done.status)
     yield "its programs are taken", True, "tool has # gate // another" in done.lines
     trial.git("commit", "-qam", "another")
     (trial.top / "crates/wrong/src/broken").rename(trial.top.parent / "broken")
-    done = trial.run("tool")
+    done = trial.check("tool")
     yield "and not for long", ["program tool", "begin tool"], done.calls
     yield "no commit where parts are named", False, any("commit" in line for line in done.lines)
     trial.git("commit", "-qam", "mended")
-    yield "the commit", f"check: commit {trial.git('rev-parse', 'HEAD').strip()}", trial.run().lines[0]
+    yield "the commit", f"check: commit {trial.git('rev-parse', 'HEAD').strip()}", trial.check().lines[0]
 
 
 def without_kit(trial):
     """Without the command `rt` only what is built serves."""
     (trial.top.parent / "bin/rt").rename(trial.top.parent / "bin/other")
-    done = trial.run("proofs", "tool")
+    done = trial.check("proofs", "tool")
     told = "proofs: not run, since the Rattle kit's command rt is not on the PATH"
     yield "without the kit", ("3 passed, 1 failed, 0 skipped", 1, True), (done.lines[-1], done.status, told in done.lines)
     (trial.top.parent / "bin/other").rename(trial.top.parent / "bin/rt")

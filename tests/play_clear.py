@@ -25,10 +25,5 @@ def journal(objects):
     yield f"0 2 add = make {objects}"
 
 
-def cases():
-    for objects in OBJECTS:
-        yield f"{objects} objects", "maxTotal = -1\n", journal(objects)
-
-
 if __name__ == "__main__":
-    sys.exit(play_journals(sys.argv[1], cases()))
+    sys.exit(play_journals(sys.argv[1], ((f"{objects} objects", "maxTotal = -1\n", journal(objects)) for objects in OBJECTS)))

@@ -19,6 +19,8 @@ import subprocess
 import sys
 import tempfile
 
+from check_rust import runs_cargo
+from playing import play_checks
 from skipping import NO_CARGO, has, skip
 
 TOP = pathlib.Path(__file__).resolve().parent.parent
@@ -48,14 +50,6 @@ def blocks(page):
 def commands(block):
     """The commands of a block: one in each line, but one alone where there is a loop."""
     return ["\n".join(block)] if any(line.startswith("for ") for line in block) else block
-
-
-def runs_cargo():
-    """Whether there is a cargo, with a toolchain."""
-    try:
-        return subprocess.run(["cargo", "--version"], capture_output=True).returncode == 0
-    except OSError:
-        return False
 
 
 class Place:
@@ -135,21 +129,15 @@ def kit():
     return subprocess.run(["rt", "version"], capture_output=True, text=True).stdout.strip()
 
 
-def main(pool):
-    passed, failed = 0, 0
+def checks(pool):
     pages = [TOP / "README.md", *sorted((TOP / "docs").rglob("*.md")), TOP / "docs/pool.1"]
     if has("the commands of bindings/c/README.md", "make"):
         pages.append(TOP / "bindings/c/README.md")
     for page in pages:
         with tempfile.TemporaryDirectory() as folder:
             for shown, fault in Place(folder, pathlib.Path(pool).resolve()).faults_of_page(page):
-                passed += not fault
-                failed += bool(fault)
-                if fault:
-                    print(f"{page.name}: {shown}: {fault}")
-    print(f"{passed} passed, {failed} failed")
-    return 1 if failed else 0
+                yield f"{page.name}: {shown}", None, fault
 
 
 if __name__ == "__main__":
-    sys.exit(main(sys.argv[1]))
+    sys.exit(play_checks(checks(sys.argv[1])))

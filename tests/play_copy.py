@@ -18,6 +18,8 @@ import subprocess
 import sys
 import tempfile
 
+from playing import play_checks
+
 TOP = pathlib.Path(__file__).resolve().parent.parent
 sys.path.append(str(TOP / "tools"))
 
@@ -57,29 +59,21 @@ def unneeded(folder, names):
     return [name for name in names if pathlib.Path(folder).name == "out" and name != "statements"]
 
 
-def unproved(room, name, command):
-    """Why a copy is not built by the command, if it isn't, or why more is."""
-    done = subprocess.run(["bash", "-ec", command], cwd=room, capture_output=True, text=True, env=os.environ | ONE_JOB)
-    if done.returncode or not (room / "crates" / name / "out" / name).is_file():
-        return f"the copy is not proved:\n{done.stderr}"
-    alone = f"{name}: proves and builds 1 of "
-    return None if done.stderr.startswith(alone) else f"more is built than the copy:\n{done.stderr}"
-
-
-def faults(room, lines, name):
-    """For each thing that must hold of a copy what is wrong, if it is."""
+def checks(room, lines, name):
+    """What must hold of a copy."""
     kept, copy = room / "crates" / CRATE, room / "crates" / name
     done = subprocess.run(["bash", "-ec", "\n".join(lines[:-2])], cwd=room, capture_output=True, text=True)
-    yield None if (done.returncode, done.stderr) == (0, "") else f"the commands end with status {done.returncode}, {done.stderr}"
-    if not copy.is_dir():
-        yield f"there is no crate {name}"
-        return
-    yield None if line_of(name, room) == line_of(CRATE, room) is not None else f"crates.txt has {line_of(name, room)} for the copy"
-    yield None if files(copy, name) == files(kept, name) else "the copy has other files"
-    yield None if named_by(kept, CRATE) and not named_by(copy, CRATE) else f"a proof of the copy names {CRATE}: {named_by(copy, CRATE)}"
-    yield None if lines[-2:] == [RUN.format(name), BUILD.format(name)] else f"the last commands are {lines[-2:]}"
+    yield "the commands", (0, "", True), (done.returncode, done.stderr, copy.is_dir())
+    yield "the line of crates.txt", (line_of(CRATE, room), False), (line_of(name, room), line_of(name, room) is None)
+    yield "the files of the copy", True, files(copy, name) == files(kept, name)
+    yield f"proofs that name {CRATE}", (True, []), (named_by(kept, CRATE) != [], named_by(copy, CRATE))
+    yield "the last commands", [RUN.format(name), BUILD.format(name)], lines[-2:]
     stale = [library for library in sources.below(CRATE) - {CRATE} if not sources.is_current(library)]
-    yield f"not built of their sources as they are: {', '.join(sorted(stale))}" if stale else unproved(room, name, lines[-1])
+    yield "what is not built of its sources as they are", [], sorted(stale)
+    if not stale:
+        done = subprocess.run(["bash", "-ec", lines[-1]], cwd=room, capture_output=True, text=True, env=os.environ | ONE_JOB)
+        yield "the copy is proved", (0, True), (done.returncode or done.stderr, (room / "crates" / name / "out" / name).is_file())
+        yield "no more is built", True, done.stderr.startswith(f"{name}: 0 of 1 crates, ") or done.stderr
 
 
 def main():
@@ -93,11 +87,7 @@ def main():
         shutil.copytree(TOP / "tools", room / "tools")
         shutil.copytree(TOP / "out/built", room / "out/built")
         shutil.copytree(TOP / "crates", room / "crates", ignore=unneeded, copy_function=os.link)
-        found = list(faults(room, lines, name))
-    wrong = [fault for fault in found if fault]
-    print(*wrong, sep="\n", end="\n" if wrong else "")
-    print(f"{len(found) - len(wrong)} passed, {len(wrong)} failed")
-    return 1 if wrong else 0
+        return play_checks(checks(room, lines, name))
 
 
 if __name__ == "__main__":

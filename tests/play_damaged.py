@@ -11,11 +11,13 @@ Prints each verdict that differs, and in the end the line 'N passed, M failed'.
 """
 
 import concurrent.futures
+import functools
 import os
-import subprocess
 import sys
 import tempfile
 
+from case_files import wanted_of
+from playing import differing, run, tell, write_files
 from pool_model import Journal, Pool, settings_of, words_of
 
 LENGTH = 10_000
@@ -84,70 +86,47 @@ def journal_by_chance(settings, length):
     return b"".join(lines)
 
 
-def damaged(journal, way, chance):
+def damaged(text, at, chance):
+    """The text with the byte at this place changed, dropped and doubled."""
+    byte = bytes([chance.one_of(b"0123456789 =\nabcdefghijklmnopqrstuvwxyz\x00\x7f\xff")])
+    yield text[:at] + byte + text[at + 1 :]
+    yield text[:at] + text[at + 1 :]
+    yield text[: at + 1] + text[at:]
+
+
+def damaged_in_way(journal, way, chance):
     """The text of the journal damaged in this way, and the first and the last line that may be others."""
-    count = len(journal.lines)
-    first = way * 7919 % count
-    start = journal.starts[first]
-    at = start + chance.below(len(journal.lines[first]))
-    text = journal.text
-    kind = way % 5
-    if kind == 0:
-        byte = bytes([chance.one_of(b"0123456789 =\nabcdefghijklmnopqrstuvwxyz\x00\x7f\xff")])
-        return text[:at] + byte + text[at + 1 :], first, first
-    if kind == 1:
-        return text[:at] + text[at + 1 :], first, first
-    if kind == 2:
-        return text[: at + 1] + text[at:], first, first
+    lines, first, kind = journal.lines, way * 7919 % len(journal.lines), way % 5
+    start, last = journal.starts[first], first
+    if kind < 3:
+        at = start + chance.below(len(lines[first]))
+        return [*damaged(journal.text, at, chance)][kind], first, first
+    others = []
     if kind == 3:
-        second = min(count - 1, first + chance.one_of([1, 1, 2, 10, 100]))
-        lines = journal.lines[first : second + 1]
-        changed = [lines[-1], *lines[1:-1], lines[0]] if second > first else lines
-        return text[:start] + b"".join(changed) + text[start + sum(map(len, lines)) :], first, second
-    return text[:start] + text[start + len(journal.lines[first]) :], first, first
+        last = min(len(lines) - 1, first + chance.one_of([1, 1, 2, 10, 100]))
+        others = [lines[last], *lines[first + 1 : last], lines[first]][: last - first + 1]
+    end = start + sum(map(len, lines[first : last + 1]))
+    return journal.text[:start] + b"".join(others) + journal.text[end:], first, last
 
 
-def answered(verdict):
-    """What the program must write, to standard output and to standard error, and its status."""
-    if verdict.startswith(b"pool: "):
-        return b"", verdict, 3
-    return verdict, b"", 0 if verdict.startswith(b"legal") else 1
+@functools.cache
+def journal():
+    settings = settings_of(SETTINGS)
+    return Journal(settings, journal_by_chance(settings, LENGTH))
 
 
-def differs(pool, settings, journal, way):
-    text, first, last = damaged(journal, way, Chance(way))
-    wanted = answered(journal.verdict(text, first, last))
-    done = subprocess.run([pool, "check", settings, "/dev/stdin"], input=text, capture_output=True, timeout=60)
-    got = done.stdout, done.stderr, done.returncode
-    return None if got == wanted else f"way {way}: wanted {wanted}, got {got}"
-
-
-_STATE = {}
-
-
-def begin(pool, path, text):
-    _STATE["given"] = pool, path, Journal(settings_of(SETTINGS), text)
-
-
-def difference(way):
-    return differs(*_STATE["given"], way)
+def differences(pool, settings, way):
+    """What differs where the journal is damaged in this way."""
+    text, first, last = damaged_in_way(journal(), way, Chance(way))
+    done = run(pool, "check", settings, "/dev/stdin", input=text)
+    return differing(f"way {way}", wanted_of(journal().verdict(text, first, last)), done)
 
 
 def main(pool, ways=WAYS):
-    found, passed = [], 0
-    text = journal_by_chance(settings_of(SETTINGS), LENGTH)
-    with tempfile.NamedTemporaryFile("w", suffix=".toml") as file:
-        file.write(SETTINGS)
-        file.flush()
+    with tempfile.TemporaryDirectory() as room, concurrent.futures.ProcessPoolExecutor(os.cpu_count()) as workers:
+        (settings,) = write_files(room, {"settings.toml": SETTINGS.encode()})
         tried = range(0, WAYS, max(1, WAYS // int(ways)))
-        with concurrent.futures.ProcessPoolExecutor(os.cpu_count(), initializer=begin, initargs=(pool, file.name, text)) as workers:
-            for told in workers.map(difference, tried, chunksize=50):
-                passed += told is None
-                found += [told] if told else []
-    for told in found:
-        print(told)
-    print(f"{passed} passed, {len(found)} failed")
-    return 1 if found else 0
+        return tell(workers.map(functools.partial(differences, pool, settings), tried, chunksize=50))
 
 
 if __name__ == "__main__":

@@ -12,6 +12,7 @@ import subprocess
 import sys
 import tempfile
 
+from playing import play_checks
 from sample_journal import Sample
 
 TOP = pathlib.Path(__file__).resolve().parent.parent
@@ -35,31 +36,21 @@ def is_drawn(picture, name, journal):
     return drawn == (PICTURES / f"{name}.svg").read_text()
 
 
-def main(program, picture):
-    wrong, played = [], 0
+def checks(program, picture):
     named = set()
     for settings, script, lines in rows():
-        played += 1
         named |= {settings, script}
         name = pathlib.Path(settings).stem
         done = subprocess.run([program, "run", TOP / settings, TOP / script], capture_output=True, text=True)
-        found = done.stdout.splitlines()
-        if done.returncode or done.stderr or not lines or not set(lines) <= set(found):
-            wrong.append(f"{settings} on {script}: wanted {lines}, got {found}, {done.stderr!r}, status {done.returncode}")
-        elif (PICTURES / f"{name}.svg").exists() and not is_drawn(picture, name, done.stdout):
-            wrong.append(f"{settings}: docs/pictures has another picture")
-    played += 1
-    if not is_drawn(picture, "overview", Sample().play().decode()):
-        wrong.append("docs/pictures/overview.svg is another picture than that of tests/sample_journal.py")
-    played += 1
-    if not is_drawn(picture, "leak", (PICTURES / "leak.journal").read_text()):
-        wrong.append("docs/pictures/leak.svg is another picture than that of docs/pictures/leak.journal")
-    unnamed = {f"examples/{path.name}" for path in (TOP / "examples").iterdir()} - named
-    wrong += [f"{name}: docs/guide/settings.md doesn't tell what it shows" for name in sorted(unnamed)]
-    print(*wrong, sep="\n", end="\n" if wrong else "")
-    print(f"{max(played - len(wrong), 0)} passed, {len(wrong)} failed")
-    return 1 if wrong else 0
+        yield f"{settings} on {script}", ("", 0), (done.stderr, done.returncode)
+        yield f"the lines of {settings} on {script}", (True, []), (lines != [], [line for line in lines if line not in done.stdout.splitlines()])
+        if (PICTURES / f"{name}.svg").exists():
+            yield f"docs/pictures/{name}.svg is drawn of {settings}", True, is_drawn(picture, name, done.stdout)
+    yield "docs/pictures/overview.svg is drawn of tests/sample_journal.py", True, is_drawn(picture, "overview", Sample().play().decode())
+    yield "docs/pictures/leak.svg is drawn of leak.journal", True, is_drawn(picture, "leak", (PICTURES / "leak.journal").read_text())
+    files = {f"examples/{path.name}" for path in (TOP / "examples").iterdir() if path.name != "README.md"}
+    yield "examples that docs/guide/settings.md doesn't name", set(), files - named
 
 
 if __name__ == "__main__":
-    sys.exit(main(sys.argv[1], sys.argv[2]))
+    sys.exit(play_checks(checks(*sys.argv[1:])))

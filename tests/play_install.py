@@ -25,7 +25,7 @@ import sys
 import tempfile
 
 from play_library import EXAMPLES, FLAGS, INCLUDE, PLAIN_LIFE, TOP, compiler
-from playing import differing
+from playing import play_checks
 from skipping import has
 
 SOURCES = TOP / "bindings/c/src"
@@ -51,25 +51,13 @@ def install(prefix, library):
     return run(sys.executable, TOP / "tools/install.py", "--prefix", prefix, "--library", library)
 
 
-def missing_library(folder):
-    """What differs if there is no library."""
-    prefix = folder / "nothing"
-    done = install(prefix, folder / "none.a")
-    told = [] if done.returncode == 1 and b"none.a: no such file" in done.stderr else [f"no library: {done}"]
-    return told + (["something was installed without a library"] if prefix.exists() else [])
-
-
-def copies(prefix):
-    """The installed files that differ from their sources."""
-    return [name for name, source in INSTALLED.items() if (prefix / name).read_bytes() != source.read_bytes()]
-
-
 def version():
     return re.search(r'^#define ZUPHINKA_VERSION "(.*)"$', (INCLUDE / "zuphinka.h").read_text(), flags=re.MULTILINE)[1]
 
 
-def unequal(what, wanted, got):
-    return [] if wanted == got else [f"{what}: wanted {wanted}, got {got}"]
+def outcome(done):
+    """What a run wrote, and its status."""
+    return done.stdout, done.stderr, done.returncode
 
 
 def declared():
@@ -101,15 +89,15 @@ def version_loaded(library):
 
 
 def shared_library(lib):
-    """What differs of the shared library and its links, by what is wanted of it."""
+    """The shared library and its links."""
     names = [f"libzuphinka.so.{version()}", f"libzuphinka.so.{version().partition('.')[0]}", "libzuphinka.so"]
     whole, loaded, found = (lib / name for name in names)
     major, minor, patch = map(int, version().split("."))
-    yield unequal("the exported names", [(name, "T") for name in declared()], exported(whole))
-    yield unequal("the name of the shared library", [loaded.name], dynamic(whole, "SONAME"))
-    yield unequal("what it needs", [], sorted({*dynamic(whole, "NEEDED")} - SYSTEM))
-    yield unequal("the links", [None, whole.name, loaded.name], [os.readlink(file) if file.is_symlink() else None for file in (whole, loaded, found)])
-    yield unequal("the version that Python finds in it", major * 1_000_000 + minor * 1_000 + patch, version_loaded(loaded))
+    yield "the exported names", [(name, "T") for name in declared()], exported(whole)
+    yield "the name of the shared library", [loaded.name], dynamic(whole, "SONAME")
+    yield "what it needs", [], sorted({*dynamic(whole, "NEEDED")} - SYSTEM)
+    yield "the links", [None, whole.name, loaded.name], [os.readlink(file) if file.is_symlink() else None for file in (whole, loaded, found)]
+    yield "the version that Python finds in it", major * 1_000_000 + minor * 1_000 + patch, version_loaded(loaded)
 
 
 def told_by_pkg_config(prefix, *words):
@@ -117,9 +105,9 @@ def told_by_pkg_config(prefix, *words):
 
 
 def versions_told(prefix):
-    """What differs in the versions that pkg-config tells."""
+    """The versions that pkg-config tells."""
     told = {name: told_by_pkg_config(prefix, "--modversion", name).stdout for name in ("zuphinka", "zuphinka-static")}
-    return unequal("the versions that pkg-config tells", dict.fromkeys(told, version().encode() + b"\n"), told)
+    return "the versions that pkg-config tells", dict.fromkeys(told, version().encode() + b"\n"), told
 
 
 @dataclasses.dataclass
@@ -144,36 +132,35 @@ def kinds(prefix):
     yield Kind("as a static program", ["-static", *static], [])
 
 
-def program_differing(name, folder, kind, words, wanted):
-    """What differs if an example is built with the installed files, and run."""
-    source, program = folder / f"{name}.c", folder / name
+def program(name, folder, kind, words, wanted):
+    """An example is built with the installed files, and run."""
+    source, built = folder / f"{name}.c", folder / name
     shutil.copy(EXAMPLES / source.name, source)
-    made = run(compiler(), *FLAGS, "-o", program, source, *kind.flags)
-    if made.returncode:
-        return differing(f"{name} is compiled {kind.name}", (b"", b"", 0), made)
-    needed = [library for library in dynamic(program, "NEEDED") if library not in SYSTEM]
-    done = run(program, *words, environment=kind.environment)
-    return unequal(f"what {name} needs, {kind.name}", kind.needs, needed) + differing(f"{name} {kind.name}", (wanted, b"", 0), done)
+    made = run(compiler(), *FLAGS, "-o", built, source, *kind.flags)
+    yield f"{name} is compiled {kind.name}", (b"", b"", 0), outcome(made)
+    if made.returncode == 0:
+        yield f"what {name} needs, {kind.name}", kind.needs, [library for library in dynamic(built, "NEEDED") if library not in SYSTEM]
+        yield f"{name} {kind.name}", (wanted, b"", 0), outcome(run(built, *words, environment=kind.environment))
 
 
-def shared_differing(folder, kind):
-    """What differs where threads share a pool: each round has four entries at least."""
+def shared_program(folder, kind):
+    """Threads share a pool: each round has four entries at least."""
     settings, segments = folder / "settings", folder / "segments"
     settings.write_text("journalLimit = 1000\n")
     segments.mkdir()
-    found = program_differing("shared_life", folder, kind, [settings, segments, str(THREADS), str(ROUNDS)], b"")
+    yield from program("shared_life", folder, kind, [settings, segments, str(THREADS), str(ROUNDS)], b"")
     entries = sum(path.read_bytes().count(b" = ") for path in segments.iterdir())
-    return found or ([] if entries >= 4 * THREADS * ROUNDS else [f"shared_life {kind.name}: {entries} entries"])
+    yield f"the entries of shared_life {kind.name}", True, entries >= 4 * THREADS * ROUNDS or entries
 
 
 def programs(prefix):
-    """What differs of each example, linked in each way."""
+    """Each example is linked in each way."""
     for kind in kinds(prefix):
         with tempfile.TemporaryDirectory() as name:
             folder = pathlib.Path(name)
-            yield program_differing("first_loan", folder, kind, [], b"")
-            yield program_differing("plain_life", folder, kind, [TOP / "examples/settings.toml"], PLAIN_LIFE)
-            yield shared_differing(folder, kind)
+            yield from program("first_loan", folder, kind, [], b"")
+            yield from program("plain_life", folder, kind, [TOP / "examples/settings.toml"], PLAIN_LIFE)
+            yield from shared_program(folder, kind)
 
 
 def files(prefix):
@@ -182,13 +169,13 @@ def files(prefix):
 
 
 def second(prefix, library):
-    """What differs if all is installed once more: each library and link is another one, so that a program that runs keeps its own."""
+    """All is installed once more: each library and link is another one, so that a program that runs keeps its own."""
     before, done = files(prefix), install(prefix, library)
     after = files(prefix)
     kept = [name for name in before if name.startswith("lib/libzuphinka") and before[name] == after.get(name)]
-    yield unequal("a second install", (0, b""), (done.returncode, done.stderr))
-    yield unequal("the files of a second install", sorted(before), sorted(after))
-    yield unequal("libraries that a second install overwrites", [], kept)
+    yield "a second install", (0, b""), (done.returncode, done.stderr)
+    yield "the files of a second install", sorted(before), sorted(after)
+    yield "libraries that a second install overwrites", [], kept
 
 
 def make(*words):
@@ -197,56 +184,53 @@ def make(*words):
 
 
 def compiled_by_make(out):
-    """What differs of the examples that make compiles in a folder: once, so that they run, and not again without a change."""
+    """Make compiles the examples in a folder: once, so that they run, and not again without a change."""
     words, names = ["examples", f"OUT={out}"], sorted(path.stem for path in EXAMPLES.glob("*.c") if path.stem != "postgres")
-    yield unequal("make examples", (0, b""), ((done := make(*words)).returncode, done.stderr))
-    yield unequal("the programs of make examples", sorted([*names, "installed"]), sorted(path.name for path in out.iterdir()))
-    yield differing("first_loan by make", (b"", b"", 0), run(out / "first_loan"))
-    yield differing("plain_life by make", (PLAIN_LIFE, b"", 0), run(out / "plain_life", TOP / "examples/settings.toml"))
-    yield unequal("make examples, again", [], [line for line in make(*words).stdout.decode().splitlines() if not line.startswith("make: ")])
-    yield unequal("make clean", (0, False), (make("clean", f"OUT={out}").returncode, out.exists()))
+    yield "make examples", (0, b""), ((done := make(*words)).returncode, done.stderr)
+    yield "the programs of make examples", sorted([*names, "installed"]), sorted(path.name for path in out.iterdir())
+    yield "first_loan by make", (b"", b"", 0), outcome(run(out / "first_loan"))
+    yield "plain_life by make", (PLAIN_LIFE, b"", 0), outcome(run(out / "plain_life", TOP / "examples/settings.toml"))
+    yield "make examples, again", [], [line for line in make(*words).stdout.decode().splitlines() if not line.startswith("make: ")]
+    yield "make clean", (0, False), (make("clean", f"OUT={out}").returncode, out.exists())
 
 
 def by_make(prefix, folder):
-    """What differs of the targets of the Makefile, whose install has the files of that under a prefix."""
+    """The targets of the Makefile, whose install has the files of that under a prefix."""
     stage = folder / "stage"
     built = run("make", "--no-print-directory", "--dry-run", "-C", TOP / "bindings/c")
-    yield differing("make", (b"python3 ../../tools/build.py zuphinka\n", b"", 0), built)
-    yield unequal("make install", 0, make("install", "PREFIX=/usr", f"DESTDIR={stage}").returncode)
-    yield unequal("the files of make install", sorted(f"usr/{name}" for name in files(prefix)), sorted(files(stage)))
+    yield "make", (b"python3 ../../tools/build.py zuphinka\n", b"", 0), outcome(built)
+    yield "make install", 0, make("install", "PREFIX=/usr", f"DESTDIR={stage}").returncode
+    yield "the files of make install", sorted(f"usr/{name}" for name in files(prefix)), sorted(files(stage))
     descriptions = [(stage / f"usr/lib/pkgconfig/{name}.pc").read_text() for name in ("zuphinka", "zuphinka-static")]
-    yield unequal("the prefix of make install", ["prefix=/usr"] * 2, [text.partition("\n")[0] for text in descriptions])
+    yield "the prefix of make install", ["prefix=/usr"] * 2, [text.partition("\n")[0] for text in descriptions]
     yield from compiled_by_make(folder / "out")
 
 
-def checks(prefix, library):
-    """What differs of the installed files, and of the programs that are built with them; and after a second install."""
+def installed_files(prefix, library):
+    """The installed files, and the programs that are built with them; and after a second install."""
     installed = install(prefix, library)
-    yield unequal("an install", (0, b""), (installed.returncode, installed.stderr))
+    yield "an install", (0, b""), (installed.returncode, installed.stderr)
     if installed.returncode:
         return
     told = {str(pathlib.Path(line).relative_to(prefix)) for line in installed.stdout.decode().splitlines()}
-    yield unequal("the files that it prints", sorted(files(prefix)), sorted(told))
+    yield "the files that it prints", sorted(files(prefix)), sorted(told)
     yield from second(prefix, library)
-    yield copies(prefix)
+    yield "files that differ from their sources", [], [name for name, file in INSTALLED.items() if (prefix / name).read_bytes() != file.read_bytes()]
     yield from shared_library(prefix / "lib")
     if has("programs that are built by the installed files", "pkgconf"):
         yield versions_told(prefix)
         yield from programs(prefix)
 
 
-def main(library):
+def checks(library):
     with tempfile.TemporaryDirectory() as name:
         folder = pathlib.Path(name).resolve()
-        found = [missing_library(folder), *checks(folder / "prefix", library)]
+        done = install(folder / "nothing", folder / "none.a")
+        yield "no library", (1, True, False), (done.returncode, b"none.a: no such file" in done.stderr, (folder / "nothing").exists())
+        yield from installed_files(folder / "prefix", library)
         if has("bindings/c/Makefile", "make"):
-            found += by_make(folder / "prefix", folder)
-    for line in (line for lines in found for line in lines):
-        print(line[:2000])
-    failed = sum(map(bool, found))
-    print(f"{len(found) - failed} passed, {failed} failed")
-    return 1 if failed else 0
+            yield from by_make(folder / "prefix", folder)
 
 
 if __name__ == "__main__":
-    sys.exit(main(*sys.argv[1:]))
+    sys.exit(play_checks(checks(sys.argv[1])))

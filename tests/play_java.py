@@ -81,11 +81,12 @@ def program(name, done):
 
 
 def codes():
-    """What is wanted of the codes that Java has, and what they are. It has all inputs, outcomes and answers, and some causes and statuses."""
+    """What is wanted of the codes that Java has, and what they are. It has all reports, actions and ends, and some kinds and statuses."""
     header = re.sub(r"/\*.*?\*/", "", (TOP / "bindings/c/include/zuphinka.h").read_text(), flags=re.DOTALL)
-    found = dict(re.findall(r"^    static final \w+ (\w+) = (-?\d+);$", (java.JAVA / "src/zuphinka/Core.java").read_text(), flags=re.MULTILINE))
-    for kind, name, code in re.findall(r"ZUPHINKA_(INPUT|OUTCOME|ANSWER|CAUSE|STATUS)_(\w+) = (\d+)", header):
-        if kind not in ("CAUSE", "STATUS") or name in found:
+    source = (java.JAVA / "src/zuphinka/Core.java").read_text()
+    found = dict(re.findall(r"^    static final int ((?:KIND|REPORT|ACTION|END|STATUS)_\w+) = (-?\d+);$", source, flags=re.MULTILINE))
+    for name, kind, code in re.findall(r"ZUPHINKA_((KIND|REPORT|ACTION|END|STATUS)_\w+) = (\d+)", header):
+        if kind not in ("KIND", "STATUS") or name in found:
             yield f"the code {name}", "-" * (kind == "STATUS") + code, found.pop(name, None)
     yield "codes that the header has not", {}, found
 

@@ -22,26 +22,24 @@ Prints what differs, and in the end the line 'N passed, M failed'.
 """
 
 import itertools
-import os
 import pathlib
 import re
 import subprocess
 import sys
 import tempfile
 
+import playing
 from argument_rules import version
 from case_files import unpacked
 from play_commands import TOP, blocks, commands
 from play_damaged import Chance
-from play_segments import THREE, damaged, segmented, told_by
+from play_segments import THREE, damaged_segments, play_trials, segmented
+from playing import differing, write_files
 from pool_model import settings_of, verdict_of_segments
-from preloading import preloaded
+from preloading import preloaded, refusals, refusing
 
-MEMORY = b"out of memory\n"
-
-
-def run(*command, **variables):
-    done = subprocess.run(command, capture_output=True, timeout=60, stdin=subprocess.DEVNULL, env=os.environ | variables)
+def run(*command):
+    done = playing.run(*command)
     return done.stdout, done.stderr, done.returncode
 
 
@@ -68,16 +66,13 @@ def are_joined(segments, reached):
 
 def reached_by(judge, settings, paths, chance):
     """What is written of each segment, judged in an order by chance, and nothing where it isn't legal."""
-    order, reached = list(range(len(paths))), {}
-    for at in range(len(order) - 1, 0, -1):
-        other = chance.below(at + 1)
-        order[at], order[other] = order[other], order[at]
-    for index in order:
+    reached = [None] * len(paths)
+    for index in sorted(range(len(paths)), key=lambda _: chance.below(2**32)):
         written, told, status = run(judge, settings, paths[index])
         if (status == 0) != (told == b"") or (status and written):
             raise ValueError(f"{paths[index]}: status {status}, wrote {written}, told {told}")
         reached[index] = written if status == 0 else None
-    return [reached[index] for index in range(len(paths))]
+    return reached
 
 
 def is_legal(case):
@@ -92,14 +87,13 @@ def texts_of(case):
 def of_cases(judge, cases):
     chance = Chance(5)
     for case, settings, paths in segmented(cases):
-        yield lambda case=case, settings=settings, paths=paths: of_case(judge, case, settings, paths, chance)
+        yield of_case, judge, case, settings, paths, chance
 
 
 def of_case(judge, case, settings, paths, chance):
     reached = reached_by(judge, settings, paths, chance)
-    if are_joined(texts_of(case), reached) != is_legal(case):
-        return f"{case.name}: legal is {is_legal(case)}, reached {reached}"
-    return None
+    wrong = are_joined(texts_of(case), reached) != is_legal(case)
+    return [f"{case.name}: legal is {is_legal(case)}, reached {reached}"] * wrong
 
 
 def scripts_of_page():
@@ -118,7 +112,7 @@ def scripts_of_page():
 def of_page(judge, cases):
     scripts, job = scripts_of_page()
     for (case, _, _), script in itertools.product(segmented(cases), scripts):
-        yield lambda case=case, script=script: of_commands(judge, script, job, case)
+        yield of_commands, judge, script, job, case
 
 
 def of_commands(judge, script, job, case):
@@ -136,33 +130,21 @@ def of_commands(judge, script, job, case):
             (room / f"archived/segment-{index:04}").write_bytes(EMPTY * bare + text)
         done = subprocess.run(["bash", "-c", script], cwd=room, capture_output=True, timeout=60, stdin=subprocess.DEVNULL)
     wanted = b"one legal journal\n" if is_legal(case) else b"not legal from archived/segment-"
-    if (done.returncode == 0) == is_legal(case) and done.stdout.startswith(wanted):
-        return None
-    return f"{case.name}, by the commands of the page: legal is {is_legal(case)}, {done}"
+    is_right = (done.returncode == 0) == is_legal(case) and done.stdout.startswith(wanted)
+    return [f"{case.name}, by the commands of the page: legal is {is_legal(case)}, {done}"] * (not is_right)
 
 
 def of_damage(judge, pool, settings):
-    read, chance = settings_of(pathlib.Path(settings).read_text()), Chance(13)
-    for index, text in enumerate(THREE):
-        for at in range(len(text)):
-            for changed in damaged(text, at, chance):
-                segments = [*THREE[:index], changed, *THREE[index + 1 :]]
-                legal = verdict_of_segments(read, segments).startswith(b"legal")
-                yield lambda name=f"segment {index}, byte {at}", segments=segments, legal=legal: of_segments(
-                    judge, pool, name, settings, segments, legal
-                )
+    for name, segments in damaged_segments():
+        yield of_segments, judge, pool, name, settings, segments, verdict_of_segments(settings_of(""), segments).startswith(b"legal")
 
 
 def of_segments(judge, pool, name, settings, segments, legal):
     with tempfile.TemporaryDirectory() as room:
-        paths = [pathlib.Path(room) / str(index) for index in range(len(segments))]
-        for path, text in zip(paths, segments):
-            path.write_bytes(text)
+        paths = write_files(room, dict(enumerate(segments)))
         joined = are_joined(segments, reached_by(judge, settings, paths, Chance(len(name))))
         checked = run(pool, "check", settings, *paths)[2] == 0
-    if (joined, checked) != (legal, legal):
-        return f"{name}: legal is {legal}, joined {joined}, checked {checked}"
-    return None
+    return [f"{name}: legal is {legal}, joined {joined}, checked {checked}"] * ((joined, checked) != (legal, legal))
 
 
 # Files by their names: what `judge FILE segment` prints of those that give no settings, ..
@@ -193,72 +175,58 @@ def line(path, told):
     return f"judge: {path}: {told}\n".replace("two\nlines", "two\\nlines").encode()
 
 
+def uses(room, settings):
+    """Uses that end otherwise than with a base, each with its line and its status."""
+    write_files(room, {name: text for name, (text, *_) in {**SETTINGS, **SEGMENTS}.items()} | {"small.toml": b"journalLimit = 2\n"})
+    lost, good = f"{room}/none", f"{room}/gone"
+    yield from (([f"{room}/{name}", good], line(f"{room}/{name}", told), 3) for name, (_, told) in SETTINGS.items())
+    yield from (([settings, f"{room}/{name}"], line(f"{room}/{name}", told), status) for name, (_, told, status) in SEGMENTS.items())
+    yield from ((words, WRONG, 2) for words in ([], [settings], [settings, good, good], ["help"], ["--version", "--help", "-h"]))
+    for words, opened in ([lost, good], lost), ([settings, lost], lost), (["--help", good], "--help"):
+        yield words, f"judge: cannot open {opened}\n".encode(), 3
+    yield [room, good], line(room, "read failed"), 3
+    yield [settings, room], line(room, "read failed"), 3
+    yield [f"{room}/small.toml", good], line(good, "line 2: journal full"), 3
+
+
 def of_uses(judge, settings):
-    """Uses that end otherwise than with a base, each with its output, its line and its status."""
     with tempfile.TemporaryDirectory() as room:
-        for name, (text, *_) in {**SETTINGS, **SEGMENTS}.items():
-            (pathlib.Path(room) / name).write_bytes(text)
-        small = pathlib.Path(room) / "small.toml"
-        small.write_text("journalLimit = 2\n")
-        lost, good = f"{room}/none", f"{room}/gone"
-        uses = [
-            *(([f"{room}/{name}", good], line(f"{room}/{name}", told), 3) for name, (_, told) in SETTINGS.items()),
-            *(([settings, f"{room}/{name}"], line(f"{room}/{name}", told), status) for name, (_, told, status) in SEGMENTS.items()),
-            *((words, WRONG, 2) for words in ([], [settings], [settings, good, good], ["help"], ["--version", "--help", "-h"])),
-            ([lost, good], f"judge: cannot open {lost}\n".encode(), 3),
-            ([settings, lost], f"judge: cannot open {lost}\n".encode(), 3),
-            (["--help", good], b"judge: cannot open --help\n", 3),
-            ([room, good], line(room, "read failed"), 3),
-            ([settings, room], line(room, "read failed"), 3),
-            ([small, good], line(good, "line 2: journal full"), 3),
-        ]
-        wrong = [f"{words}: {run(judge, *words)}" for words, told, status in uses if run(judge, *words) != (b"", told, status)]
+        wrong = [f"{words}: {ended}" for words, told, status in uses(room, settings) if (ended := run(judge, *words)) != (b"", told, status)]
     wrong += [f"{word}: {run(judge, word)}" for word in ("--version", "-V") if run(judge, word) != (version().replace(b"pool", b"judge"), b"", 0)]
-    wrong += [f"{word}: {run(judge, word)}" for word in ("--help", "-h") if not is_help(*run(judge, word))]
-    return "; ".join(wrong) or None
+    return wrong + [f"{word}: {run(judge, word)}" for word in ("--help", "-h") if not is_help(*run(judge, word))]
 
 
 def is_help(output, told, status):
     """Whether an output is the uses of the program, each in some words."""
-    uses = [line.partition("  ")[0] for line in output.decode().splitlines() if line.startswith("judge ")]
-    return (uses, told, status) == (["judge SETTINGS SEGMENT", "judge --help", "judge --version"], b"", 0)
+    named = [line.partition("  ")[0] for line in output.decode().splitlines() if line.startswith("judge ")]
+    return (named, told, status) == (["judge SETTINGS SEGMENT", "judge --help", "judge --version"], b"", 0)
 
 
-def of_refusals(judge, cases, library, room):
+def of_refusals(judge, cases, room):
     """The segments that another one follows, of the legal journals among the first twelve."""
-    marks = itertools.count()
+    library, marks = preloaded("refuse", room), itertools.count()
     for case, settings, paths in itertools.islice(segmented(cases), 12):
-        followed = zip(paths, texts_of(case)[1:]) if is_legal(case) else ()
-        for path, following in followed:
-            command, wanted, mark = (judge, settings, path), base_lines(following), room / f"refused-{next(marks)}"
-            yield lambda command=command, wanted=wanted, mark=mark: of_wanting(command, wanted, library, mark)
+        for path, following in zip(paths, texts_of(case)[1:]) if is_legal(case) else ():
+            yield of_refused, [judge, settings, path], base_lines(following), library, pathlib.Path(room) / f"refused-{next(marks)}"
 
 
-def of_wanting(command, wanted, library, mark):
-    """Refuses each allocation in turn, until one is asked for that was never made."""
-    for number in itertools.count(1):
-        mark.unlink(missing_ok=True)
-        written, told, status = run(*command, LD_PRELOAD=library, REFUSED=str(mark), REFUSE=str(number))
-        is_whole = (written, told, status) == (wanted, b"", 0)
-        if not mark.exists():
-            return None if is_whole and number > 1 else f"{command[2]}, no allocation refused: {status}, {told}, {written}"
-        if not is_whole and (written or status != 3 or not told.startswith(b"judge: ") or not told.endswith(MEMORY)):
-            return f"{command[2]}, allocation {number}: {status}, {told}, {written}"
-        if is_whole and number == 1:
-            return f"{command[2]}: it did without its first allocation"
+def of_refused(command, wanted, library, mark):
+    """What differs where each allocation is refused in turn, and where none is. The first cannot be done without."""
+    found = differing(f"{command[2]}, no allocation refused", (wanted, b"", 0), refusing(library, mark, 0, *command))
+    number = 0
+    for number, done in refusals(library, mark, *command):
+        is_whole = (done.stdout, done.stderr, done.returncode) == (wanted, b"", 0)
+        is_refused = (done.stdout, done.returncode) == (b"", 3) and re.fullmatch(rb"judge: .*out of memory\n", done.stderr)
+        if not is_refused and (not is_whole or number == 1):
+            found.append(f"{command[2]}, allocation {number}: {done}")
+    return found if number else [f"{command[2]}: no allocation"]
 
 
 def main(judge, pool, *words):
-    with tempfile.NamedTemporaryFile("w", suffix=".toml") as defaults, tempfile.TemporaryDirectory() as room:
-        library, cases = str(preloaded("refuse", pathlib.Path(room))), unpacked(room, *words)
-        trials = [
-            *of_cases(judge, cases),
-            *of_page(judge, cases),
-            *of_damage(judge, pool, defaults.name),
-            lambda: of_uses(judge, defaults.name),
-            *of_refusals(judge, cases, library, pathlib.Path(room)),
-        ]
-        return told_by(trials)
+    with tempfile.TemporaryDirectory() as room:
+        cases, (defaults,) = unpacked(room, *words), write_files(room, {"defaults.toml": b""})
+        trials = [*of_cases(judge, cases), *of_page(judge, cases), *of_damage(judge, pool, defaults), (of_uses, judge, defaults)]
+        return play_trials([*trials, *of_refusals(judge, cases, room)])
 
 
 if __name__ == "__main__":

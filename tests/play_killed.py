@@ -10,97 +10,73 @@ comes by a pipe whose end is held back, so that the program is killed before it 
 Prints each moment where that isn't so, and in the end the line 'N passed, M failed'.
 """
 
+import contextlib
 import os
-import pathlib
 import subprocess
 import sys
 import tempfile
 import threading
 
+from case_files import script_of
+from playing import differing, run, tell, write_files
+
 OBJECTS = 4_000
-
 MOMENTS = 20
-
-SETTINGS = b"maxTotal = -1\nmaxIdle = -1\n"
 
 
 def entries():
     """Objects are made and lent, and every second one comes back."""
     for i in range(OBJECTS):
-        yield f"3 {i} borrow {i} = make {i}"
-        yield f"3 {i} ready {i} good = lent"
+        yield f"3 {i} borrow {i} = make {i}\n3 {i} ready {i} good = lent\n"
     for i in range(0, OBJECTS, 2):
-        yield f"4 {i} return {i} = check"
-        yield f"4 {i} park {i} good = parked"
+        yield f"4 {i} return {i} = check\n4 {i} park {i} good = parked\n"
 
 
 def feed(file, script):
     """Hands the script to the program, and leaves the pipe open."""
-    try:
+    with contextlib.suppress(BrokenPipeError):
         file.write(script)
         file.flush()
-    except BrokenPipeError:
-        pass
 
 
 def killed_after(command, script, count):
     """What the program has written when it is killed after so many bytes of it were read, and how it ended."""
-    run = subprocess.Popen(command, stdin=subprocess.PIPE, stdout=subprocess.PIPE)
-    feeding = threading.Thread(target=feed, args=(run.stdin, script))
+    process = subprocess.Popen(command, stdin=subprocess.PIPE, stdout=subprocess.PIPE)
+    feeding = threading.Thread(target=feed, args=(process.stdin, script))
     feeding.start()
     output = b""
-    while len(output) < count:
-        more = os.read(run.stdout.fileno(), count - len(output))
-        if not more:
-            break
+    while len(output) < count and (more := os.read(process.stdout.fileno(), count - len(output))):
         output += more
-    run.kill()
-    output += run.stdout.read()
-    status = run.wait(60)
+    process.kill()
+    output += process.stdout.read()
+    status = process.wait(60)
     feeding.join(60)
-    run.stdout.close()
-    try:
-        run.stdin.close()
-    except BrokenPipeError:
-        pass
+    process.stdout.close()
+    with contextlib.suppress(BrokenPipeError):
+        process.stdin.close()
     return output, status
 
 
-def wrong(pool, folder, script, journal, count):
+def wrong(pool, folder, journal, count):
     """What is wrong where the program is killed after so many bytes, if anything."""
-    output, status = killed_after([pool, "run", "settings.toml", "/dev/stdin"], script, count)
-    whole = output[: output.rfind(b"\n") + 1]
-    (folder / "left").write_bytes(whole)
-    check = subprocess.run([pool, "check", "settings.toml", "left"], capture_output=True, timeout=60)
-    legal = b"legal %d\n" % whole.count(b"\n")
+    name = f"killed after {count} bytes"
+    (settings,) = write_files(folder, {"settings.toml": b"maxTotal = -1\nmaxIdle = -1\n"})
+    output, status = killed_after([pool, "run", settings, "/dev/stdin"], script_of(journal), count)
     if status != -9:
-        return f"the program ended with status {status}"
+        return [f"{name}: the program ended with status {status}"]
     if len(output) < count or not journal.startswith(output):
-        return f"{len(output)} bytes are no front of the journal"
-    if (check.stdout, check.stderr, check.returncode) != (legal, b"", 0):
-        return f"the journal that was left is judged {check}"
-    return None
+        return [f"{name}: {len(output)} bytes are no front of the journal"]
+    whole = output[: output.rfind(b"\n") + 1]
+    (left,) = write_files(folder, {"left": whole})
+    return differing(f"{name}: what was left", (b"legal %d\n" % whole.count(b"\n"), b"", 0), run(pool, "check", settings, left))
 
 
 def main(pool):
-    pool = str(pathlib.Path(pool).resolve())
-    journal = "".join(entry + "\n" for entry in entries()).encode()
-    script = "".join(entry.partition(" = ")[0] + "\n" for entry in entries()).encode()
+    journal = "".join(entries()).encode()
     # What is written last may wait for the end of the script.
     last = len(journal) - 2 * 65_536
-    failed = 0
-    with tempfile.TemporaryDirectory() as made:
-        folder = pathlib.Path(made)
-        (folder / "settings.toml").write_bytes(SETTINGS)
-        os.chdir(folder)
-        for count in [1 + last * moment // (MOMENTS - 1) for moment in range(MOMENTS)]:
-            told = wrong(pool, folder, script, journal, count)
-            if told:
-                failed += 1
-                print(f"killed after {count} bytes: {told}")
-        os.chdir("/")
-    print(f"{MOMENTS - failed} passed, {failed} failed")
-    return 1 if failed else 0
+    with tempfile.TemporaryDirectory() as folder:
+        return tell(wrong(pool, folder, journal, 1 + last * moment // (MOMENTS - 1)) for moment in range(MOMENTS))
 
 
 if __name__ == "__main__":

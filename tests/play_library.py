@@ -42,9 +42,11 @@ import subprocess
 import sys
 import tempfile
 
+import playing
+from case_files import script_of
 from many_objects import segments_of
 from play_cases import wanted_of_script, wanted_of_settings
-from playing import differing, play_unpacked
+from playing import differing, play_unpacked, tell, write_files
 from pool_model import cut_at, settings_of
 from skipping import has, skip
 
@@ -92,8 +94,8 @@ def compiled(name, library, folder, flags, sources=EXAMPLES):
     return program
 
 
-def run(*words):
-    return subprocess.run(words, stdin=subprocess.DEVNULL, capture_output=True, timeout=LONGEST)
+def run(*words, **options):
+    return playing.run(*words, timeout=LONGEST, **options)
 
 
 def plays(cases):
@@ -114,10 +116,7 @@ def segments(settings, journal, every):
 def verdict(pool, settings, parts):
     """What the program says of segments."""
     with tempfile.TemporaryDirectory() as folder:
-        paths = [pathlib.Path(folder) / str(position) for position in range(len(parts))]
-        for path, part in zip(paths, parts):
-            path.write_bytes(part)
-        return run(pool, "check", settings, *paths)
+        return run(pool, "check", settings, *write_files(folder, dict(enumerate(parts))))
 
 
 def differing_segments(play, pool, name, settings, script, every, parts):
@@ -137,41 +136,35 @@ def cut_cases(play, pool, case):
 
 def many_differing(play, pool):
     """What differs in a run over many objects."""
+    (first, made), (second, parked), (_, asked) = segments_of(settings_of(NO_LIMITS), OBJECTS)[0]
+    parts = [first + made, second + parked + asked]
     with tempfile.TemporaryDirectory() as folder:
-        settings, script = pathlib.Path(folder) / "settings", pathlib.Path(folder) / "script"
-        settings.write_text(NO_LIMITS)
-        (first, made), (second, parked), (_, asked) = segments_of(settings_of(NO_LIMITS), OBJECTS)[0]
-        script.write_bytes(b"".join(line.partition(b" = ")[0] + b"\n" for line in (made + parked + asked).splitlines()))
-        parts = [first + made, second + parked + asked]
+        settings, script = write_files(folder, {"settings": NO_LIMITS.encode(), "script": script_of(made + parked + asked)})
         return differing_segments(play, pool, f"{OBJECTS} objects", settings, script, made.count(b"\n"), parts)
 
 
 def long_differing(life, pool, before, rounds):
     """What differs in a long life with a short journal: four entries a round, and four to close the pool."""
     with tempfile.TemporaryDirectory() as folder:
-        settings, made = pathlib.Path(folder) / "settings", pathlib.Path(folder) / "made"
-        settings.write_text("journalLimit = 100\n")
+        (settings,), made = write_files(folder, {"settings": b"journalLimit = 100\n"}), pathlib.Path(folder) / "made"
         made.mkdir()
-        found = differing("long_life", (b"", b"", 0), run(*before, life, settings, made, str(rounds)))
+        command = [*before, life, settings, made, str(rounds)]
+        found = differing("long_life", (b"", b"", 0), run(*command))
         paths = sorted(made.iterdir())
         lengths = [path.read_bytes().count(b" = ") for path in paths]
         names = [f"segment-{first:020}" for first in itertools.accumulate(lengths[:-1], initial=0)]
         if [path.name for path in paths] != names or len(names) < rounds // 25:
             found.append(f"long_life: segments {[path.name for path in paths]}, of {lengths} entries")
-        found += differing("long_life, again", (b"", b"long_life: ended early\n", 1), run(*before, life, settings, made, str(rounds)))
+        found += differing("long_life, again", (b"", b"long_life: ended early\n", 1), run(*command))
         return found + differing("long_life, judged", (b"legal %d\n" % (4 * rounds + 4), b"", 0), run(pool, "check", settings, *paths))
 
 
-def play_many(play, life, pool):
-    """Plays a run over many objects and long lives, and gives the status to end with."""
-    runs = [many_differing(play, pool), long_differing(life, pool, [], ROUNDS)]
+def many_runs(play, life, pool):
+    """What differs in a run over many objects and in long lives."""
+    yield many_differing(play, pool)
+    yield long_differing(life, pool, [], ROUNDS)
     if has("long_life under valgrind", "valgrind"):
-        runs.append(long_differing(life, pool, VALGRIND, ROUNDS // 10))
-    for difference in itertools.chain(*runs):
-        print(difference[:1000])
-    failed = sum(map(bool, runs))
-    print(f"{len(runs) - failed} passed, {failed} failed")
-    return 1 if failed else 0
+        yield long_differing(life, pool, VALGRIND, ROUNDS // 10)
 
 
 def doublings(length):
@@ -208,19 +201,14 @@ def refused_in_crowd(words, size, refused):
     return differs
 
 
-def play_crowds(crowd):
-    """Plays crowds, and gives the status to end with."""
-    runs = []
+def crowds(crowd):
+    """What differs in each crowd."""
     for size in CROWDS:
         allocations, differs = unrefused_crowd(crowd, size)
-        runs += [differs, *(refused_in_crowd([crowd], size, refused) for refused in range(1, allocations + 1))]
+        yield differs
+        yield from (refused_in_crowd([crowd], size, refused) for refused in range(1, allocations + 1))
     if has("a crowd under valgrind", "valgrind"):
-        runs.append(refused_in_crowd([*VALGRIND, crowd], CROWDS[0], 2))
-    for difference in itertools.chain(*runs):
-        print(difference[:1000])
-    failed = sum(map(bool, runs))
-    print(f"{len(runs) - failed} passed, {failed} failed")
-    return 1 if failed else 0
+        yield refused_in_crowd([*VALGRIND, crowd], CROWDS[0], 2)
 
 
 def refusals(play, case):
@@ -240,13 +228,9 @@ def whole_runs(cases):
 
 def odd_runs(life, long, play, folder):
     """Runs with settings of the greatest size and one byte more, and of a script with a null."""
-    longest, longer, short, script = (pathlib.Path(folder) / name for name in ("longest", "longer", "short", "script"))
-    longest.write_bytes(b"#" * (LONGEST_SETTINGS - 1) + b"\n")
-    longer.write_bytes(b"#" * LONGEST_SETTINGS + b"\n")
-    short.write_bytes(b"")
-    script.write_bytes(b"0 0 add\n0 0 fill\0 0\n0 0 add\n")
-    early = pathlib.Path(folder) / "early"
-    early.write_bytes(b"0 0 add\n\0\n0 0 add\n")
+    texts = {"longest": b"#" * (LONGEST_SETTINGS - 1) + b"\n", "longer": b"#" * LONGEST_SETTINGS + b"\n", "short": b""}
+    texts |= {"script": b"0 0 add\n0 0 fill\0 0\n0 0 add\n", "early": b"0 0 add\n\0\n0 0 add\n"}
+    longest, longer, short, script, early = write_files(folder, texts)
     segments = pathlib.Path(folder) / "segments"
     segments.mkdir()
     yield "plain_life, longest settings", [life, longest], (PLAIN_LIFE, b"", 0)
@@ -298,13 +282,14 @@ def runs(life, play, cases):
 def main(kind, library, words):
     with tempfile.TemporaryDirectory() as built:
         if kind == "crowd":
-            return play_crowds(compiled("crowd", library, built, REFUSING, TOP / "tests"))
+            return tell(crowds(compiled("crowd", library, built, REFUSING, TOP / "tests")))
         play = compiled("play", library, built, REFUSING, TOP / "tests")
         if kind == "many":
-            return play_many(play, compiled("long_life", library, built, []), *words)
+            return tell(many_runs(play, compiled("long_life", library, built, []), *words))
         if kind == "programs":
             life, long = (compiled(name, library, built, []) for name in ("plain_life", "long_life"))
-            others = [*odd_runs(life, long, play, built), *ordered_runs(library, built), *header_runs(built, "zuphinka.h", "return zuphinka_status_text(0) == 0;")]
+            header = header_runs(built, "zuphinka.h", "return zuphinka_status_text(0) == 0;")
+            others = [*odd_runs(life, long, play, built), *ordered_runs(library, built), *header]
             all_runs = lambda cases: itertools.chain(runs(life, play, cases), others)
             return play_unpacked(words, all_runs, lambda case: differing(case[0], case[2], run(*case[1])))
         if kind == "refused":

@@ -9,15 +9,13 @@ lines of an object follow the first line of a base, which `check` reads after th
 Prints each case that differs, and in the end the line 'N passed, M failed'.
 """
 
-import concurrent.futures
-import os
+import itertools
 import pathlib
-import subprocess
 import sys
 import tempfile
 
 from play_program import FIRST_SEGMENT, PLAIN_LIFE, fault
-from playing import differing
+from playing import differing, run, side_by_side, tell, write_files
 
 # Words in the place of an input, by what is wrong with their line.
 NO_INPUTS = {
@@ -97,7 +95,7 @@ SCRIPTS = [
 
 def told_of(line, what):
     """What must be answered where a line is at fault and nothing is written before."""
-    return b"", *fault(f"line {line}: {what}")
+    return fault(f"line {line}: {what}")
 
 
 def lines_of(table, before=b"", behind=b""):
@@ -142,27 +140,17 @@ def of_changed_journals():
         yield ["check", "defaults"], PLAIN_LIFE[:at] + b"x" + PLAIN_LIFE[at + 1 :], told_of(1 + PLAIN_LIFE[:at].count(b"\n"), what)
 
 
-def differences(pool, folder, number, case):
+def differences(pool, folder, number, words, text, wanted):
     """What is wanted and what is got, where they differ. Each case has a file of its own."""
-    words, text, wanted = case
-    (folder / str(number)).write_bytes(text)
-    done = subprocess.run([pool, *words, str(number)], cwd=folder, stdin=subprocess.DEVNULL, capture_output=True, timeout=60)
-    return differing(f"{' '.join(words)} of {text!r}", wanted, done)
+    write_files(folder, {number: text})
+    return differing(f"{' '.join(words)} of {text!r}", wanted, run(pool, *words, str(number), cwd=folder))
 
 
 def main(pool):
-    pool = pathlib.Path(pool).resolve()
-    cases = [*of_scripts(), *of_journals(), *of_cut_journals(), *of_changed_journals()]
-    with tempfile.TemporaryDirectory() as made, concurrent.futures.ThreadPoolExecutor(os.cpu_count()) as workers:
-        folder = pathlib.Path(made)
-        (folder / "defaults").write_bytes(b"")
-        (folder / "first").write_bytes(FIRST_SEGMENT)
-        found = list(workers.map(lambda numbered: differences(pool, folder, *numbered), enumerate(cases)))
-    for difference in (line for lines in found for line in lines):
-        print(difference)
-    failed = sum(map(bool, found))
-    print(f"{len(found) - failed} passed, {failed} failed")
-    return 1 if failed else 0
+    cases = enumerate(itertools.chain(of_scripts(), of_journals(), of_cut_journals(), of_changed_journals()))
+    with tempfile.TemporaryDirectory() as folder:
+        write_files(folder, {"defaults": b"", "first": FIRST_SEGMENT})
+        return tell(side_by_side(lambda case: differences(pathlib.Path(pool).resolve(), folder, case[0], *case[1]), cases))
 
 
 if __name__ == "__main__":

@@ -9,22 +9,30 @@ words, and compares each answer with a reading of the rules in Python (argument_
 Prints each case that differs, and in the end the line 'N passed, M failed'.
 """
 
+import itertools
 import os
 import pathlib
-import re
 import resource
 import shutil
-import subprocess
 import sys
 import tempfile
 
-from argument_rules import compare, version
-
-TOP = pathlib.Path(__file__).resolve().parent.parent
+from argument_rules import WRONG, compare, found, refusal, statistics
+from case_files import script_of
+from case_model import STATISTICS
+from playing import run, side_by_side, tell, write_files
 
 MOST = 1_048_576
 
 LITTLE_MEMORY = 1 << 30
+
+# The most rounds that docs/guide/program.md says the default limit holds for one worker; and loads of several: settings, workers, rounds of each, and
+# the most objects.
+MOST_ROUNDS = 249_999
+MANY_WORKERS = [
+    ("four_objects.toml", 4, 10, 4), ("small.toml", 3, 7, 1), ("defaults.toml", 100, 3, 8), ("defaults.toml", 8, 249_995 // 8, 8),
+    ("defaults.toml", 9, 199_996 // 9, 8),
+]
 
 PLAIN_LIFE = b"""0 10 borrow 10 = make 0
 0 11 ready 0 good = lent
@@ -33,37 +41,17 @@ PLAIN_LIFE = b"""0 10 borrow 10 = make 0
 """
 
 FILES = {
-    "defaults.toml": b"",
-    "small.toml": b"maxTotal = 1\n",
-    "two_entries.toml": b"journalLimit = 2\n",
-    "seven_entries.toml": b"journalLimit = 7\n",
-    "four_objects.toml": b"maxTotal = 4\n",
-    "no_objects.toml": b"maxTotal = 0\nblockWhenExhausted = false\n",
-    "longest.toml": b"maxTotal = 1\n".ljust(MOST, b"\n"),
-    "too_long.toml": b"\xff".ljust(MOST + 1, b"\n"),
-    "not_utf8.toml": b"lifo = true # \xff\n",
-    "not_toml.toml": b"maxTotal =",
-    "unknown_key.toml": b"maxTotl = 8",
-    "wrong_type.toml": b'maxTotal = "8"',
-    "first_fault.toml": b"maxIdle = true\nlifo = 1\n",
-    "out_of_range.toml": b"minIdle = -1",
-    "-hyphen.toml": b"",
-    " spaced.toml ": b"maxTotal = 1\n",
-    "two\nlines.toml": b"maxTotal = 1\n",
-    "key_of_two_lines.toml": b'"a\\nb\\u001B\\\\" = 1',
-    "sp\u00e4t und leer.toml": b"",
-    "empty": b"",
-    "plain.script": b"".join(line.split(b" = ")[0] + b"\n" for line in PLAIN_LIFE.splitlines()),
-    "plain.journal": PLAIN_LIFE,
-    "two_borrows.script": b"0 0 borrow 0\n1 5 borrow 5\n",
-    "illegal.journal": PLAIN_LIFE.replace(b"check", b"parked"),
-    "long_line": b"a" * 300,
-    "not_a_line": b"0 1 borrow\n",
-    "bad_number": b"0 1 borrow 01\n",
-    "truncated": b"0 1 borrow 1",
+    "defaults.toml": b"", "small.toml": b"maxTotal = 1\n", "two_entries.toml": b"journalLimit = 2\n", "seven_entries.toml": b"journalLimit = 7\n",
+    "four_objects.toml": b"maxTotal = 4\n", "no_objects.toml": b"maxTotal = 0\nblockWhenExhausted = false\n",
+    "longest.toml": b"maxTotal = 1\n".ljust(MOST, b"\n"), "too_long.toml": b"\xff".ljust(MOST + 1, b"\n"),
+    "not_utf8.toml": b"lifo = true # \xff\n", "not_toml.toml": b"maxTotal =", "unknown_key.toml": b"maxTotl = 8",
+    "wrong_type.toml": b'maxTotal = "8"', "first_fault.toml": b"maxIdle = true\nlifo = 1\n", "out_of_range.toml": b"minIdle = -1",
+    "-hyphen.toml": b"", " spaced.toml ": b"maxTotal = 1\n", "two\nlines.toml": b"maxTotal = 1\n",
+    "key_of_two_lines.toml": b'"a\\nb\\u001B\\\\" = 1', "sp\u00e4t und leer.toml": b"", "empty": b"", "unreadable": b"",
+    "plain.script": script_of(PLAIN_LIFE), "plain.journal": PLAIN_LIFE, "two_borrows.script": b"0 0 borrow 0\n1 5 borrow 5\n",
+    "illegal.journal": PLAIN_LIFE.replace(b"check", b"parked"), "long_line": b"a" * 300, "not_a_line": b"0 1 borrow\n",
+    "bad_number": b"0 1 borrow 01\n", "truncated": b"0 1 borrow 1",
 }
-
-NAMES = ["borrowed", "returned", "created", "destroyed", "evicted", "borrowtestfailed", "reclaimed", "longest", "total"]
 
 TWO_BORROWS = b"0 0 borrow 0 = make 0\n1 5 borrow 5 = wait\n"
 
@@ -105,17 +93,13 @@ WRONG_ARGUMENTS = [
     # Numbers out of their ranges, where the settings are good.
     "load defaults.toml 0 1", "load defaults.toml 1 0", "load defaults.toml 0 0", "load defaults.toml 1024 1", "load defaults.toml 1 1000001",
     "load defaults.toml 4294967295 1", "load defaults.toml 1 18446744073709551615",
-]
-
-# Other wrong arguments, which ask for help besides.
-HELP = [
+    # Some that ask for help besides.
     "--help", "-h", "help", "run --help", "run -h", "check --help", "help run", "help check", "stats --help", "stats -h", "help stats",
     "load --help", "help load", "help help", "nonsense -h", "run defaults.toml plain.script -h", "help no such thing",
     "--version --help", "--version -h", "-V --help", "--help --version", "-h -V", "help --version",
+    # Some that ask for the version and not for help.
+    "--version", "-V", "--version run", "-V run defaults.toml plain.script", "--version help", "--version --", "-V -x", "--version --version",
 ]
-
-# Other wrong arguments, which ask for the version and not for help.
-VERSION = ["--version", "-V", "--version run", "-V run defaults.toml plain.script", "--version help", "--version --", "-V -x", "--version --version"]
 
 # Words that are no numbers of the format. They are told before any file is opened.
 NO_NUMBERS = ["", " ", "x", "01", "00", "+1", "1.0", "1e3", "0x1", "1_000", " 1", "1 ", "\u0661", "18446744073709551616", "9" * 300]
@@ -145,121 +129,57 @@ SETTINGS_FAULTS = {
 LINE_FAULTS = {"long_line": "line too long", "not_a_line": "not a line", "bad_number": "bad number", "truncated": "truncated"}
 
 
-def statistics(*numbers):
-    """The lines of statistics."""
-    return "".join(f"{name} {number}\n" for name, number in zip(NAMES, numbers)).encode()
-
-
-def is_help(output):
-    """Whether an output is the uses of the program in the order of the man page, each told in some words, with the page's example of it."""
-    page = (TOP / "docs/pool.1").read_text()
-    named = [re.sub(r"\\f.", "", line) for line in between(page, ".SH SYNOPSIS", ".SH")]
-    shown = [f"  {example}" for example in between(page, ".SH EXAMPLES", None)]
-    lines = output.decode().splitlines()
-    return lines[1::2] == shown and [line.partition("  ")[0] for line in lines[::2]] == named
-
-
-def between(page, start, end):
-    """The lines of text of a section of a man page."""
-    section = page.partition(start + "\n")[2]
-    section = section.partition(end + " ")[0] if end else section
-    return [line for line in section.splitlines() if not line.startswith(".")]
+def told(output):
+    """The answer of a run that ends well."""
+    return output, b"", 0
 
 
 def fault(text):
-    """What is told of a fault, and its status."""
-    return b"pool: " + text.encode() + b"\n", 3
+    """The answer of a run that ends with an error."""
+    return b"", b"pool: " + text.encode() + b"\n", 3
 
 
-class Play:
-    """Runs the program in a folder, and counts."""
-
-    def __init__(self, pool, folder):
-        self.pool, self.folder = pool, folder
-        self.passed, self.failed = 0, 0
-
-    def expect(self, arguments, output, error, status, **streams):
-        """The program must answer so. A stream that is not given is a pipe; where it is, nothing is compared there."""
-        done = self.run(arguments, **streams)
-        wanted = (output, error, status)
-        got = (
-            done.stdout if "stdout" not in streams else output,
-            done.stderr if "stderr" not in streams else error,
-            done.returncode,
-        )
-        if got == wanted:
-            self.passed += 1
-            return
-        self.failed += 1
-        for name, want, have in zip(("output", "standard error", "status"), wanted, got):
-            if want != have:
-                print(f"{arguments}: {name} is {have!r}, and should be {want!r}")
-
-    def run(self, arguments, **options):
-        """What the program answers. A stream that is not given is a pipe."""
-        words = [self.pool] + [word if isinstance(word, bytes) else word.encode() for word in arguments]
-        options = {"stdout": subprocess.PIPE, "stderr": subprocess.PIPE, "input": b"", **options}
-        if "stdin" in options:
-            del options["input"]
-        return subprocess.run(words, cwd=self.folder, timeout=60, **options)
-
-    def note(self, good, told):
-        """Counts a case, and tells what was answered where that is wrong."""
-        if good:
-            self.passed += 1
-        else:
-            self.failed += 1
-            print(told)
+# The runs: each its words, its answer, and perhaps its standard input or other streams. What a stream gets that is given is not compared.
 
 
-def make_files(folder):
-    for name, contents in FILES.items():
-        (folder / name).write_bytes(contents)
-    (folder / "folder").mkdir()
-    (folder / "unreadable").write_bytes(b"")
-    (folder / "unreadable").chmod(0)
-
-
-def play_good(play):
+def good_runs():
     script, journal = FILES["plain.script"], FILES["plain.journal"]
-    play.expect([], b"", b"", 0)
-    play.expect([], journal, b"", 0, input=script)
+    yield [], told(b"")
+    yield [], told(journal), {"input": script}
     for settings in ["defaults.toml", "small.toml", "longest.toml", "sp\u00e4t und leer.toml", "./defaults.toml"]:
-        play.expect(["run", settings, "plain.script"], journal, b"", 0)
-        play.expect(["run", settings, "empty"], b"", b"", 0)
-        play.expect(["check", settings, "plain.journal"], b"legal 4\n", b"", 0)
-        play.expect(["check", settings, "empty"], b"legal 0\n", b"", 0)
-        play.expect(["check", settings, "illegal.journal"], b"illegal 2 check\n", b"", 1)
-    play.expect(["run", "--", "-hyphen.toml", "plain.script"], journal, b"", 0)
-    play.expect(["run", "defaults.toml", "plain.script", "--"], journal, b"", 0)
-    play.expect(["check", "defaults.toml", "plain.journal", "--"], b"legal 4\n", b"", 0)
-    play.expect(["run", "/dev/stdin", "plain.script"], journal, b"", 0, input=b"maxTotal = 1\n")
-    play.expect(["run", "small.toml", "/dev/stdin"], journal, b"", 0, input=script)
+        yield ["run", settings, "plain.script"], told(journal)
+        yield ["run", settings, "empty"], told(b"")
+        yield ["check", settings, "plain.journal"], told(b"legal 4\n")
+        yield ["check", settings, "empty"], told(b"legal 0\n")
+        yield ["check", settings, "illegal.journal"], (b"illegal 2 check\n", b"", 1)
+    yield ["run", "--", "-hyphen.toml", "plain.script"], told(journal)
+    yield ["run", "defaults.toml", "plain.script", "--"], told(journal)
+    yield ["check", "defaults.toml", "plain.journal", "--"], told(b"legal 4\n")
+    yield ["run", "/dev/stdin", "plain.script"], told(journal), {"input": b"maxTotal = 1\n"}
+    yield ["run", "small.toml", "/dev/stdin"], told(journal), {"input": script}
     # The settings that the file says are those that hold.
     for settings in ["small.toml", "longest.toml"]:
-        play.expect(["run", settings, "two_borrows.script"], TWO_BORROWS, b"", 0)
-    play.expect(["check", "defaults.toml", "/dev/stdin"], b"illegal 1 make 1\n", b"", 1, input=TWO_BORROWS)
-    play.expect(["check", "small.toml", "/dev/stdin"], b"legal 2\n", b"", 0, input=TWO_BORROWS)
+        yield ["run", settings, "two_borrows.script"], told(TWO_BORROWS)
+    yield ["check", "defaults.toml", "/dev/stdin"], (b"illegal 1 make 1\n", b"", 1), {"input": TWO_BORROWS}
+    yield ["check", "small.toml", "/dev/stdin"], told(b"legal 2\n"), {"input": TWO_BORROWS}
 
 
-def play_statistics(play):
-    play.expect(["stats", "plain.journal"], statistics(1, 1, 1, 0, 0, 0, 0, 4, 4), b"", 0)
-    play.expect(["stats", "--", "plain.journal"], statistics(1, 1, 1, 0, 0, 0, 0, 4, 4), b"", 0)
-    play.expect(["stats", "empty"], statistics(0, 0, 0, 0, 0, 0, 0, 0, 0), b"", 0)
-    play.expect(["stats", "illegal.journal"], statistics(1, 0, 1, 0, 0, 0, 0, 0, 0), b"", 0)
-    play.expect(["stats", "/dev/stdin"], statistics(0, 1, 0, 0, 0, 0, 0, 0, 0), b"", 0, input=b"0 5 return 0 = check\n")
+def runs_of_statistics():
+    plain, most = told(statistics(1, 1, 1, 0, 0, 0, 0, 4, 4)), 2**64 - 1
+    yield ["stats", "plain.journal"], plain
+    yield ["stats", "--", "plain.journal"], plain
+    yield ["stats", "empty"], told(statistics(*[0] * 9))
+    yield ["stats", "illegal.journal"], told(statistics(1, 0, 1, 0, 0, 0, 0, 0, 0))
+    yield ["stats", "/dev/stdin"], told(statistics(0, 1, 0, 0, 0, 0, 0, 0, 0)), {"input": b"0 5 return 0 = check\n"}
     longest = b"0 0 ready 0 good = lent\n0 18446744073709551615 return 0 = check\n"
-    most = 2**64 - 1
-    play.expect(["stats", "/dev/stdin"], statistics(2, 2, 0, 0, 0, 0, 0, most, most), b"", 0, input=longest * 2)
-    for name, told in LINE_FAULTS.items():
+    yield ["stats", "/dev/stdin"], told(statistics(2, 2, 0, 0, 0, 0, 0, most, most)), {"input": longest * 2}
+    for name, what in LINE_FAULTS.items():
         claimed = FILES[name].replace(b"\n", b" = make 0\n")
-        play.expect(["stats", "/dev/stdin"], b"", *fault("line 1: " + told), input=claimed)
-        play.expect(["stats", "/dev/stdin"], b"", *fault("line 5: " + told), input=PLAIN_LIFE + claimed)
-    play.expect(["stats", "plain.script"], b"", *fault("line 1: not a line"))
-    play.expect(["stats", "missing"], b"", *fault("cannot open missing"))
-    play.expect(["stats", "folder"], b"", *fault("read failed"))
-    with open("/dev/full", "wb") as full:
-        play.expect(["stats", "plain.journal"], b"", *fault("write failed"), stdout=full)
+        yield ["stats", "/dev/stdin"], fault("line 1: " + what), {"input": claimed}
+        yield ["stats", "/dev/stdin"], fault("line 5: " + what), {"input": PLAIN_LIFE + claimed}
+    yield ["stats", "plain.script"], fault("line 1: not a line")
+    yield ["stats", "missing"], fault("cannot open missing")
+    yield ["stats", "folder"], fault("read failed")
 
 
 def load_lines(workers, rounds, refused, *numbers):
@@ -267,111 +187,55 @@ def load_lines(workers, rounds, refused, *numbers):
     return f"workers {workers}\nrounds {rounds}\nrefused {refused}\n".encode() + statistics(*numbers)
 
 
-def numbers_of(lines):
-    """The numbers of a load's lines, by their names."""
-    return {name: int(number) for name, number in (line.split(" ") for line in lines.decode().splitlines())}
-
-
-def play_loads(play):
-    once = (1, 1, 1, 1, 0, 0, 0, 1, 1)
+def runs_of_loads():
+    once, most = told(load_lines(1, 1, 0, 1, 1, 1, 1, 0, 0, 0, 1, 1)), MOST_ROUNDS
     for settings in ["defaults.toml", "seven_entries.toml", "small.toml", "four_objects.toml"]:
-        play.expect(["load", settings, "1", "1"], load_lines(1, 1, 0, *once), b"", 0)
-    play.expect(["load", "--", "-hyphen.toml", "1", "1"], load_lines(1, 1, 0, *once), b"", 0)
-    play.expect(["load", "/dev/stdin", "1", "1"], load_lines(1, 1, 0, *once), b"", 0, input=b"journalLimit = 7\n")
-    play.expect(["load", "defaults.toml", "1", "1000"], load_lines(1, 1000, 0, 1000, 1000, 1, 1, 0, 0, 0, 1, 1000), b"", 0)
-    play.expect(["load", "no_objects.toml", "3", "5"], load_lines(3, 5, 15, 0, 0, 0, 0, 0, 0, 0, 0, 0), b"", 0)
-    play.expect(["load", "seven_entries.toml", "1", "2"], b"", *fault("journal full"))
-    play_largest_loads(play)
-    play.expect(["load", "two_entries.toml", "1023", "1000000"], b"", *fault("journal full"))
-    play_many_workers(play, "four_objects.toml", 4, 10)
-    play_many_workers(play, "small.toml", 3, 7)
-    play_many_workers(play, "defaults.toml", 100, 3)
-
-
-def play_largest_loads(play):
-    """The loads that docs/guide/program.md says the default limit holds, and one round more of the first."""
-    most = 249_999
-    play.expect(["load", "defaults.toml", "1", str(most)], load_lines(1, most, 0, most, most, 1, 1, 0, 0, 0, 1, most), b"", 0)
-    play.expect(["load", "defaults.toml", "1", str(most + 1)], b"", *fault("journal full"))
-    play_many_workers(play, "defaults.toml", 8, 249_995 // 8)
-    play_many_workers(play, "defaults.toml", 9, 199_996 // 9)
-
-
-def play_many_workers(play, settings, workers, rounds):
-    """Where borrows wait, each round lends an object, which comes back."""
-    done = play.run(["load", settings, str(workers), str(rounds)])
-    found = numbers_of(done.stdout)
-    objects = int(found["created"])
-    all_rounds = workers * rounds
-    most = {"four_objects.toml": 4, "small.toml": 1}.get(settings, 8)
-    told = [found[name] for name in ("workers", "rounds", "refused", "borrowed", "returned", "destroyed")]
-    got = (list(found), *told, done.stderr, done.returncode)
-    wanted = (["workers", "rounds", "refused", *NAMES], workers, rounds, 0, all_rounds, all_rounds, objects, b"", 0)
-    play.note(got == wanted and 1 <= objects <= most, f"load {settings} {workers} {rounds}: {done}")
-
-
-def play_load_faults(play):
-    wrong = (b"", b"pool: wrong arguments\n", 2)
+        yield ["load", settings, "1", "1"], once
+    yield ["load", "--", "-hyphen.toml", "1", "1"], once
+    yield ["load", "/dev/stdin", "1", "1"], once, {"input": b"journalLimit = 7\n"}
+    for rounds in (1000, most):
+        yield ["load", "defaults.toml", "1", str(rounds)], told(load_lines(1, rounds, 0, rounds, rounds, 1, 1, 0, 0, 0, 1, rounds))
+    yield ["load", "no_objects.toml", "3", "5"], told(load_lines(3, 5, 15, *[0] * 9))
+    yield ["load", "seven_entries.toml", "1", "2"], fault("journal full")
+    yield ["load", "defaults.toml", "1", str(most + 1)], fault("journal full")
+    yield ["load", "two_entries.toml", "1023", "1000000"], fault("journal full")
     for settings in ["defaults.toml", "missing.toml", "not_toml.toml"]:
         for word in NO_NUMBERS:
-            play.expect(["load", settings, word, "1"], *wrong)
-            play.expect(["load", settings, "1", word], *wrong)
+            yield ["load", settings, word, "1"], (b"", WRONG, 2)
+            yield ["load", settings, "1", word], (b"", WRONG, 2)
         for word in NO_WORKERS:
-            play.expect(["load", settings, word, "1"], *wrong)
-    for settings, told in SETTINGS_FAULTS.items():
-        play.expect(["load", settings, "1", "1"], b"", *fault(told))
-        # They are judged before the numbers are.
-        play.expect(["load", settings, "0", "18446744073709551615"], b"", *fault(told))
-    with open("/dev/full", "wb") as full:
-        play.expect(["load", "defaults.toml", "1", "1"], b"", *fault("write failed"), stdout=full)
+            yield ["load", settings, word, "1"], (b"", WRONG, 2)
     # There is no memory for the stacks of so many threads.
-    done = play.run(["load", "defaults.toml", "1023", "1"], preexec_fn=with_little_memory)
-    play.note((done.stdout, done.stderr, done.returncode) == (b"", *fault("no thread")), f"load with too many threads: {done}")
+    yield ["load", "defaults.toml", "1023", "1"], fault("no thread"), {"preexec_fn": with_little_memory}
 
 
 def with_little_memory():
     resource.setrlimit(resource.RLIMIT_AS, (LITTLE_MEMORY, LITTLE_MEMORY))
 
 
-def play_wrong_arguments(play):
-    wrong = (b"", b"pool: wrong arguments\n", 2)
+def wrong_arguments():
     for words in WRONG_ARGUMENTS:
-        play.expect(words.split(" "), *wrong)
+        yield words.split(" "), refusal(words.split(" "))
     for words in NOT_TEXT:
-        play.expect(words, *wrong)
-    for words in HELP:
-        done = play.run(words.split(" "))
-        play.note(is_help(done.stdout) and (done.stderr, done.returncode) == wrong[1:], f"{words}: {done}")
-    for words in VERSION:
-        play.expect(words.split(" "), version(), *wrong[1:])
+        yield words, (b"", WRONG, 2)
     # These name files.
-    play.expect(["run", "--", "-h", "--help"], b"", *fault("cannot open -h"))
-    play.expect(["stats", "help"], b"", *fault("cannot open help"))
-    play.expect(["stats", "--", "--help"], b"", *fault("cannot open --help"))
-    play.expect(["stats", "--", "--version"], b"", *fault("cannot open --version"))
-    play.expect(["stats", "--", "--"], b"", *fault("cannot open --"))
-    play.expect(["check", "defaults.toml", "plain.journal", "missing", "--", "-x"], b"", *fault("cannot open missing"))
-    play.expect(["check", "defaults.toml", "plain.journal", "--", "plain.journal", "-x"], b"", *fault("cannot open -x"))
+    yield ["run", "--", "-h", "--help"], fault("cannot open -h")
+    yield ["stats", "help"], fault("cannot open help")
+    for word in ("--help", "--version", "--"):
+        yield ["stats", "--", word], fault(f"cannot open {word}")
+    yield ["check", "defaults.toml", "plain.journal", "missing", "--", "-x"], fault("cannot open missing")
+    yield ["check", "defaults.toml", "plain.journal", "--", "plain.journal", "-x"], fault("cannot open -x")
 
 
-def play_all_words(play):
-    """Lists of words, for each of which the rules say the answer."""
-    folder = play.folder / "words"
-    folder.mkdir()
-    count, wrong = compare(play.pool, folder, is_help)
-    play.passed += count - len(wrong)
-    play.failed += len(wrong)
-    for line in wrong:
-        print(line)
-
-
-def play_settings_faults(play):
-    for settings, told in SETTINGS_FAULTS.items():
-        play.expect(["run", settings, "plain.script"], b"", *fault(told))
-        play.expect(["check", settings, "plain.journal"], b"", *fault(told))
-        # They are judged before the next file is opened.
-        play.expect(["run", settings, "missing.script"], b"", *fault(told))
-        play.expect(["check", settings, "missing.journal"], b"", *fault(told))
+def settings_faults():
+    for settings, what in SETTINGS_FAULTS.items():
+        yield ["run", settings, "plain.script"], fault(what)
+        yield ["check", settings, "plain.journal"], fault(what)
+        # They are judged before the next file is opened, and before the numbers are.
+        yield ["run", settings, "missing.script"], fault(what)
+        yield ["check", settings, "missing.journal"], fault(what)
+        yield ["load", settings, "1", "1"], fault(what)
+        yield ["load", settings, "0", "18446744073709551615"], fault(what)
 
 
 # A journal of five entries in two segments.
@@ -402,121 +266,122 @@ SEGMENTS = [
 ]
 
 
-def play_segments(play):
+def runs_of_segments(folder):
     """A journal in several files is judged as one; of a file by itself the statistics are those of its entries."""
-    for texts, wanted in SEGMENTS:
-        names = [f"segment{index}" for index in range(len(texts))]
-        for name, text in zip(names, texts):
-            (play.folder / name).write_bytes(text)
+    for number, (texts, wanted) in enumerate(SEGMENTS):
+        names = [path.name for path in write_files(folder, {f"segment{number}.{index}": text for index, text in enumerate(texts)})]
         # A segment has the room of a journal, whatever was cut before it.
         for settings in ["defaults.toml", "seven_entries.toml"]:
-            play.expect(["check", settings, *names], *wanted)
-        play.expect(["check", "--", "defaults.toml", *names], *wanted)
+            yield ["check", settings, *names], wanted
+        yield ["check", "--", "defaults.toml", *names], wanted
         for at in range(len(names) + 1):
-            play.expect(["check", "defaults.toml", *names[:at], "--", *names[at:]], *wanted)
-    (play.folder / "second").write_bytes(SECOND_SEGMENT)
-    names = b"borrowed returned created destroyed evicted borrowtestfailed reclaimed longest total".split()
-    play.expect(["stats", "second"], b"".join(name + b" 0\n" for name in names), b"", 0)
-    play.expect(["check", "defaults.toml", "second", "missing"], b"", *fault("cannot open missing"))
+            yield ["check", "defaults.toml", *names[:at], "--", *names[at:]], wanted
+    write_files(folder, {"second": SECOND_SEGMENT})
+    yield ["stats", "second"], told(statistics(*[0] * 9))
+    yield ["check", "defaults.toml", "second", "missing"], fault("cannot open missing")
 
 
-def play_stream_faults(play):
-    begun = FILES["plain.script"][:15], PLAIN_LIFE[:24]
-    for name, told in LINE_FAULTS.items():
-        play.expect(["run", "defaults.toml", name], b"", *fault("line 1: " + told))
-        play.expect([], b"", *fault("line 1: " + told), input=FILES[name])
-        play.expect([], begun[1], *fault("line 2: " + told), input=begun[0] + FILES[name])
+def line_faults():
+    for name, what in LINE_FAULTS.items():
+        yield ["run", "defaults.toml", name], fault("line 1: " + what)
+        yield [], fault("line 1: " + what), {"input": FILES[name]}
+        yield [], (PLAIN_LIFE[:24], *fault("line 2: " + what)[1:]), {"input": FILES["plain.script"][:15] + FILES[name]}
         claimed = FILES[name].replace(b"\n", b" = make 0\n")
-        play.expect(["check", "defaults.toml", "/dev/stdin"], b"", *fault("line 2: " + told), input=PLAIN_LIFE[:24] + claimed)
+        yield ["check", "defaults.toml", "/dev/stdin"], fault("line 2: " + what), {"input": PLAIN_LIFE[:24] + claimed}
     for command in ["run", "check"]:
-        play.expect([command, "defaults.toml", "missing"], b"", *fault("cannot open missing"))
-        play.expect([command, "defaults.toml", "folder"], b"", *fault("read failed"))
+        yield [command, "defaults.toml", "missing"], fault("cannot open missing")
+        yield [command, "defaults.toml", "folder"], fault("read failed")
     # An object needs room until its place is free.
-    play.expect(["run", "two_entries.toml", "plain.script"], b"", *fault("line 1: journal full"))
-    play.expect(["check", "two_entries.toml", "plain.journal"], b"", *fault("line 1: journal full"))
+    yield ["run", "two_entries.toml", "plain.script"], fault("line 1: journal full")
+    yield ["check", "two_entries.toml", "plain.journal"], fault("line 1: journal full")
 
 
-def play_paths(play):
+def runs_of_paths(folder):
     """A path is a file's name as it stands, and is told on one line."""
     script, journal = FILES["plain.script"], FILES["plain.journal"]
     for settings in [" spaced.toml ", "two\nlines.toml"]:
-        play.expect(["run", settings, "plain.script"], journal, b"", 0)
-        play.expect(["run", settings, "two_borrows.script"], TWO_BORROWS, b"", 0)
-    for path, told in TOLD_PATHS.items():
-        play.expect(["run", path, "plain.script"], b"", *fault("cannot open " + told))
-        play.expect(["check", "defaults.toml", path], b"", *fault("cannot open " + told))
-        play.expect(["stats", path], b"", *fault("cannot open " + told))
-        play.expect(["load", path, "1", "1"], b"", *fault("cannot open " + told))
+        yield ["run", settings, "plain.script"], told(journal)
+        yield ["run", settings, "two_borrows.script"], told(TWO_BORROWS)
+    for path, shown in TOLD_PATHS.items():
+        for words in ["run", path, "plain.script"], ["check", "defaults.toml", path], ["stats", path], ["load", path, "1", "1"]:
+            yield words, fault("cannot open " + shown)
     # A hyphen is a file's name, and not that of standard input.
-    play.expect(["run", "defaults.toml", "-"], b"", *fault("cannot open -"), input=script)
-    play.expect(["stats", "-"], b"", *fault("cannot open -"), input=journal)
-    (play.folder / "-").write_bytes(script)
-    play.expect(["run", "defaults.toml", "-"], journal, b"", 0, input=b"0 0 close\n")
-    (play.folder / "-").unlink()
+    yield ["run", "defaults.toml", "-"], fault("cannot open -"), {"input": script}
+    yield ["stats", "-"], fault("cannot open -"), {"input": journal}
+    write_files(folder / "folder", {"-": script, "defaults.toml": b""})
+    yield ["run", "defaults.toml", "-"], told(journal), {"input": b"0 0 close\n", "cwd": folder / "folder"}
 
 
-def play_defaults(play):
+def runs_with_defaults():
     """Standard input is played with the default settings."""
-    script = b"".join(line.split(b" = ")[0] + b"\n" for line in DEFAULT_ANSWERS.splitlines())
-    play.expect([], DEFAULT_ANSWERS, b"", 0, input=script)
-    play.expect(["run", "defaults.toml", "/dev/stdin"], DEFAULT_ANSWERS, b"", 0, input=script)
+    yield [], told(DEFAULT_ANSWERS), {"input": script_of(DEFAULT_ANSWERS)}
+    yield ["run", "defaults.toml", "/dev/stdin"], told(DEFAULT_ANSWERS), {"input": script_of(DEFAULT_ANSWERS)}
     # The last entry but one that fits is followed by the one that closes the pool.
-    uses = b"0 0 use 0\n" * 1_000_000
-    done = play.run([], input=uses)
-    good = done.stdout == b"0 0 use 0 = refused notlent\n" * 999_999 and (done.stderr, done.returncode) == fault("line 1000000: journal full")
-    play.note(good, f"a million lines: {done.stderr!r}, status {done.returncode}")
+    full = b"0 0 use 0 = refused notlent\n" * 999_999, *fault("line 1000000: journal full")[1:]
+    yield [], full, {"input": b"0 0 use 0\n" * 1_000_000}
 
 
-def play_unreadable(play):
+def failing_streams(folder):
+    """Runs whose output is lost, and one without standard input."""
+    full, lost = open("/dev/full", "wb"), fault("write failed")
+    yield [], lost, {"input": FILES["plain.script"], "stdout": full}
+    for words in "run defaults.toml plain.script", "check defaults.toml plain.journal", "check defaults.toml illegal.journal":
+        yield words.split(), lost, {"stdout": full}
+    yield ["stats", "plain.journal"], lost, {"stdout": full}
+    yield ["load", "defaults.toml", "1", "1"], lost, {"stdout": full}
+    yield ["nonsense"], (b"", b"", 2), {"stderr": full}
+    yield ["run", "missing", "missing"], (b"", b"", 3), {"stderr": full}
+    yield [], fault("read failed"), {"stdin": os.open(folder, os.O_RDONLY)}
+
+
+def runs_of_unreadable():
     """A file that may not be read can't be opened. Root may read everything, and tries it as nobody."""
-    options = {}
-    if os.geteuid() == 0:
-        shutil.copy(play.pool, play.folder / "pool")
-        (play.folder / "pool").chmod(0o755)
-        play.folder.chmod(0o755)
-        play.pool, options = os.fsencode(play.folder / "pool"), {"user": NOBODY, "group": NOBODY, "extra_groups": []}
-    refused = fault("cannot open unreadable")
-    play.expect(["run", "unreadable", "plain.script"], b"", *refused, **options)
-    play.expect(["run", "defaults.toml", "unreadable"], b"", *refused, **options)
-    play.expect(["check", "defaults.toml", "unreadable"], b"", *refused, **options)
-    play.expect(["stats", "unreadable"], b"", *refused, **options)
-    play.expect(["load", "unreadable", "1", "1"], b"", *refused, **options)
-    play.expect(["run", "defaults.toml", "plain.script"], FILES["plain.journal"], b"", 0, **options)
+    as_nobody = {} if os.geteuid() else {"user": NOBODY, "group": NOBODY, "extra_groups": []}
+    commands = "run unreadable plain.script", "run defaults.toml unreadable", "check defaults.toml unreadable", "stats unreadable", "load unreadable 1 1"
+    for words in commands:
+        yield words.split(), fault("cannot open unreadable"), as_nobody
+    yield ["run", "defaults.toml", "plain.script"], told(FILES["plain.journal"]), as_nobody
 
 
-def play_failing_streams(play):
-    script, lost = FILES["plain.script"], fault("write failed")
-    with open("/dev/full", "wb") as full:
-        play.expect([], b"", *lost, input=script, stdout=full)
-        play.expect(["run", "defaults.toml", "plain.script"], b"", *lost, stdout=full)
-        play.expect(["check", "defaults.toml", "plain.journal"], b"", *lost, stdout=full)
-        play.expect(["check", "defaults.toml", "illegal.journal"], b"", *lost, stdout=full)
-        play.expect(["nonsense"], b"", b"", 2, stderr=full)
-        play.expect(["run", "missing", "missing"], b"", b"", 3, stderr=full)
-    closed = os.open(play.folder, os.O_RDONLY)
-    play.expect([], b"", *fault("read failed"), stdin=closed)
-    os.close(closed)
+def differences(program, folder, words, wanted, options={}):
+    """What differs in a run. The answer has no stream that is given."""
+    done = run(program, *words, **{"cwd": folder, **options})
+    got = tuple(part or b"" if isinstance(part, bytes | None) else part for part in found(done))
+    return [] if got == wanted else [f"{words}: {got}, and should be {wanted}"]
+
+
+def many_workers(program, folder, settings, workers, rounds, most):
+    """What differs in a load whose borrows wait: each round lends an object, which comes back."""
+    done = run(program, "load", settings, str(workers), str(rounds), cwd=folder)
+    numbers = {name: int(number) for name, number in (line.split(" ") for line in done.stdout.decode().splitlines())}
+    every, made = workers * rounds, numbers.get("created", 0)
+    wanted = {"workers": workers, "rounds": rounds, "refused": 0, "borrowed": every, "returned": every, "destroyed": made}
+    is_right = [*numbers] == ["workers", "rounds", "refused", *STATISTICS] and wanted.items() <= numbers.items() and 1 <= made <= most
+    return [] if is_right and (done.stderr, done.returncode) == (b"", 0) else [f"load {settings} {workers} {rounds}: {done}"]
+
+
+def found_by_all(program, folder):
+    """What differs in each run."""
+    plays = [good_runs(), runs_of_statistics(), runs_of_loads(), wrong_arguments(), settings_faults(), runs_of_segments(folder), line_faults()]
+    plays += [runs_of_paths(folder), runs_with_defaults(), failing_streams(folder), runs_of_unreadable()]
+    yield from side_by_side(lambda play: differences(program, folder, *play), itertools.chain(*plays))
+    for load in MANY_WORKERS:
+        yield many_workers(program, folder, *load)
+    (folder / "words").mkdir()
+    yield from compare(program, folder / "words")
 
 
 def main(pool):
     with tempfile.TemporaryDirectory() as made:
-        play = Play(str(pathlib.Path(pool).resolve()).encode(), pathlib.Path(made))
-        make_files(play.folder)
-        play_good(play)
-        play_statistics(play)
-        play_loads(play)
-        play_load_faults(play)
-        play_wrong_arguments(play)
-        play_all_words(play)
-        play_settings_faults(play)
-        play_segments(play)
-        play_stream_faults(play)
-        play_paths(play)
-        play_defaults(play)
-        play_failing_streams(play)
-        play_unreadable(play)
-    print(f"{play.passed} passed, {play.failed} failed")
-    return 1 if play.failed else 0
+        folder = pathlib.Path(made)
+        write_files(folder, FILES)
+        (folder / "folder").mkdir()
+        (folder / "unreadable").chmod(0)
+        folder.chmod(0o755)
+        # Where nobody may run it.
+        program = shutil.copy(pathlib.Path(pool).resolve(), folder / "pool")
+        program.chmod(0o755)
+        return tell(found_by_all(program, folder))
 
 
 if __name__ == "__main__":

@@ -18,16 +18,15 @@ Each of the first and the third is judged on all processors, side by side, and o
 Prints each verdict that differs, and in the end the line 'N passed, M failed'.
 """
 
-import concurrent.futures
 import os
 import pathlib
-import subprocess
 import sys
 import tempfile
 
 from case_files import unpacked, wanted_of
 from measuring import launcher
-from play_damaged import Chance, journal_by_chance
+from play_damaged import Chance, damaged, journal_by_chance
+from playing import differing, run, side_by_side, tell, write_files
 from pool_model import cut_at, settings_of, verdict_of_segments
 
 # The most segments that are handed to one run.
@@ -63,24 +62,20 @@ def on_one():
     os.sched_setaffinity(0, {min(os.sched_getaffinity(0))})
 
 
-def differing(name, command, wanted, on=None):
-    done = subprocess.run(command, capture_output=True, timeout=60, stdin=subprocess.DEVNULL, preexec_fn=on)
-    got = done.stdout, done.stderr, done.returncode
-    return None if got == wanted else f"{name}: wanted {wanted}, got {got}"
+def checked(name, command, wanted):
+    """What differs in a run of the program."""
+    return differing(name, wanted, run(*command))
 
 
-def differing_anyhow(name, command, wanted):
+def checked_anyhow(name, command, wanted):
     """What differs on all processors, or else on one."""
-    return differing(name, command, wanted) or differing(f"{name}, on one processor", command, wanted, on_one)
+    return checked(name, command, wanted) or differing(f"{name}, on one processor", wanted, run(*command, preexec_fn=on_one))
 
 
-def judged(pool, name, settings, segments, verdict, compare=differing):
+def judged(pool, name, settings, segments, verdict, compare=checked):
     """What differs where the segments, written to files, are judged."""
     with tempfile.TemporaryDirectory() as room:
-        paths = [pathlib.Path(room) / str(index) for index in range(len(segments))]
-        for path, text in zip(paths, segments):
-            path.write_bytes(text)
-        return compare(name, [pool, "check", settings, *paths], wanted_of(verdict))
+        return compare(name, [pool, "check", settings, *write_files(room, dict(enumerate(segments)))], wanted_of(verdict))
 
 
 def segmented(cases):
@@ -92,8 +87,7 @@ def segmented(cases):
 
 def of_segmented(pool, cases):
     for case, settings, segments in segmented(cases):
-        command = [pool, "check", settings, *segments]
-        yield lambda case=case, command=command: differing_anyhow(case.name, command, wanted_of(case.verdict))
+        yield checked_anyhow, case.name, [pool, "check", settings, *segments], wanted_of(case.verdict)
 
 
 def ways(segments, chance):
@@ -111,12 +105,10 @@ def of_journal(pool, case, settings, chance):
     count = text.count(b"\n")
     step = max(1, count // MOST_SEGMENTS)
     every = cut_at(read, text, set(range(1, count, step)))
-    yield lambda: judged(pool, f"{case.name}, cut everywhere", settings, every, b"legal %d\n" % count)
+    yield judged, pool, f"{case.name}, cut everywhere", settings, every, b"legal %d\n" % count
     some = cut_at(read, text, {1 + chance.below(max(1, count)) for _ in range(3)})
     for how, segments in ways(some, chance):
-        yield lambda how=how, segments=segments: judged(
-            pool, f"{case.name}, {how}", settings, segments, verdict_of_segments(read, segments)
-        )
+        yield judged, pool, f"{case.name}, {how}", settings, segments, verdict_of_segments(read, segments)
 
 
 def of_cases(pool, cases):
@@ -126,75 +118,52 @@ def of_cases(pool, cases):
             yield from of_journal(pool, case, folder / "settings.toml", chance)
 
 
-def damaged(text, at, chance):
-    """The text with the byte at this place changed, dropped and doubled."""
-    byte = bytes([chance.one_of(b"0123456789 =\nabcdefghijklmnopqrstuvwxyz\x00\x7f\xff")])
-    yield text[:at] + byte + text[at + 1 :]
-    yield text[:at] + text[at + 1 :]
-    yield text[: at + 1] + text[at:]
-
-
-def of_damage(pool, settings):
-    read, chance = settings_of(pathlib.Path(settings).read_text()), Chance(11)
+def damaged_segments():
+    """The segments THREE with each of their bytes damaged, each with a name."""
+    chance = Chance(11)
     for index, text in enumerate(THREE):
         for at in range(len(text)):
             for changed in damaged(text, at, chance):
-                segments = [*THREE[:index], changed, *THREE[index + 1 :]]
-                yield lambda name=f"segment {index}, byte {at}", segments=segments: judged(
-                    pool, name, settings, segments, verdict_of_segments(read, segments), differing_anyhow
-                )
+                yield f"segment {index}, byte {at}", [*THREE[:index], changed, *THREE[index + 1 :]]
+
+
+def of_damage(pool, settings):
+    read = settings_of("")
+    for name, segments in damaged_segments():
+        yield judged, pool, name, settings, segments, verdict_of_segments(read, segments), checked_anyhow
 
 
 def peak(room, command, on=None):
     """The most memory that a run took, in KiB, and whether it ended well."""
     note = pathlib.Path(room) / "peak"
-    done = subprocess.run([launcher(room), note, *command], stdout=subprocess.DEVNULL, stdin=subprocess.DEVNULL, preexec_fn=on)
+    done = run(launcher(room), note, *command, preexec_fn=on)
     return int(note.read_text()), done.returncode == 0
 
 
 def of_memory(pool, settings):
-    """A thousand segments of 50 entries, and the first of them alone."""
-    read = settings_of(pathlib.Path(settings).read_text())
+    """What differs in the memory of a thousand segments of 50 entries, and of the first of them alone."""
+    read = settings_of("")
     segments = cut_at(read, journal_by_chance(read, 50_000), set(range(50, 50_000, 50)))
     with tempfile.TemporaryDirectory() as room:
-        paths = [pathlib.Path(room) / str(index) for index in range(len(segments))]
-        for path, text in zip(paths, segments):
-            path.write_bytes(text)
-        none = pathlib.Path(room) / "none"
-        none.write_bytes(b"")
+        none, *paths = write_files(room, {"none": b"", **dict(enumerate(segments))})
         least, longest = (peak(room, [pool, "check", settings, path])[0] for path in (none, paths[0]))
         (in_turn, is_well), (at_once, are_well) = (peak(room, [pool, "check", settings, *paths], on) for on in (on_one, None))
     files_at_once = FILES_PER_PROCESSOR * len(os.sched_getaffinity(0))
     most = least + files_at_once * (longest - least + 512)
     if not (is_well and are_well) or in_turn > longest * 1.1 + 512 or at_once > most:
-        return f"memory: {len(segments)} segments took {in_turn} KiB in turn and {at_once} at once; one took {longest}, none {least}"
-    return None
+        return [f"memory: {len(segments)} segments took {in_turn} KiB in turn and {at_once} at once; one took {longest}, none {least}"]
+    return []
 
 
-def told_by(trials):
-    """Makes the trials, side by side, prints what differs and how many passed and failed, and gives the status to end with. Fewer than a
-    hundred that passed count as a failure."""
-    found, passed = [], 0
-    with concurrent.futures.ThreadPoolExecutor(os.cpu_count()) as workers:
-        for told in workers.map(lambda trial: trial(), trials):
-            passed += told is None
-            found += [told] if told else []
-    for told in found:
-        print(told)
-    print(f"{passed} passed, {len(found)} failed")
-    return 1 if found or passed < 100 else 0
+def play_trials(trials):
+    """Makes trials, each a function and its arguments, side by side, and tells of them. Fewer than a hundred that passed count as a failure."""
+    return tell(side_by_side(lambda trial: trial[0](*trial[1:]), trials), 100)
 
 
 def main(pool, *paths):
-    with tempfile.NamedTemporaryFile("w", suffix=".toml") as defaults, tempfile.TemporaryDirectory() as room:
-        cases = unpacked(room, *paths)
-        trials = [
-            *of_segmented(pool, cases),
-            *of_cases(pool, cases),
-            *of_damage(pool, defaults.name),
-            lambda: of_memory(pool, defaults.name),
-        ]
-        return told_by(trials)
+    with tempfile.TemporaryDirectory() as room:
+        cases, (defaults,) = unpacked(room, *paths), write_files(room, {"defaults.toml": b""})
+        return play_trials([*of_segmented(pool, cases), *of_cases(pool, cases), *of_damage(pool, defaults), (of_memory, pool, defaults)])
 
 
 if __name__ == "__main__":

@@ -10,13 +10,14 @@ tests/pool_model.py.
 Prints each case that differs, and in the end the line 'N passed, M failed'.
 """
 
-import concurrent.futures
 import pathlib
-import subprocess
 import sys
 import tempfile
 
+from argument_rules import statistics
+from case_files import script_of
 from many_objects import segments_of
+from playing import differing, run, side_by_side, tell, write_files
 from pool_model import settings_of
 
 LONGEST_TEXT = 1_048_576
@@ -43,134 +44,106 @@ def lengths(limit):
     return sorted(length for length in found if 0 < length <= limit)
 
 
-class Play:
-    def __init__(self, pool, folder):
-        self.pool, self.folder = pool, folder
-        self.passed = self.failed = 0
-        self.put("empty", b"")
-
-    def expect(self, name, arguments, wanted):
-        """A run must write this to standard output and standard error, and end with this status."""
-        done = subprocess.run([self.pool, *arguments], cwd=self.folder, capture_output=True, timeout=60)
-        told = f"{name}: status {done.returncode}, wrote {done.stdout[:100]!r} .. and {done.stderr[:100]!r}"
-        self.note((done.stdout, done.stderr, done.returncode) == wanted, told)
-
-    def note(self, is_right, told):
-        """Counts a case, and tells what was answered where that is wrong."""
-        if is_right:
-            self.passed += 1
-        else:
-            self.failed += 1
-            print(told)
-
-    def put(self, name, text):
-        (self.folder / name).write_bytes(text)
-
-    def journal(self, name, entries, limit):
-        """Runs the script of these entries, and checks the journal, where it may have so many entries, or is without limit."""
-        text = "".join(entry + "\n" for entry in entries).encode()
-        count = len(entries)
-        self.put("journal", text)
-        self.put("script", "".join(entry.partition(" = ")[0] + "\n" for entry in entries).encode())
-        self.put("limits.toml", (NO_LIMITS if limit is None else NO_LIMITS.replace("4294967296", str(limit))).encode())
-        self.expect(f"run: {name}", ["run", "limits.toml", "script"], (text, b"", 0))
-        self.expect(f"check: {name}", ["check", "limits.toml", "journal"], (b"legal %d\n" % count, b"", 0))
+# What a part plays, in a folder of its own: functions that yield the name of a run, its words and its answer, once its files are there.
 
 
-def play_lines(play):
+def with_limit(folder, limit):
+    write_files(folder, {"limits.toml": NO_LIMITS.replace("4294967296", str(limit)).encode()})
+
+
+def journal_runs(folder, name, entries):
+    """Runs of the script of these entries, and of the checks of their journal."""
+    text = "".join(entry + "\n" for entry in entries).encode()
+    write_files(folder, {"journal": text, "script": script_of(text)})
+    yield f"run: {name}", ["run", "limits.toml", "script"], (text, b"", 0)
+    yield f"check: {name}", ["check", "limits.toml", "journal"], (b"legal %d\n" % len(entries), b"", 0)
+
+
+def lines(folder):
     for count in LINES:
         # An open pool owes the entry that closes it.
-        play.journal(f"{count} lines", [f"7 {i} use {i} = refused notlent" for i in range(count)], count + 1)
-        told = b"borrowed 0\nreturned 0\ncreated 0\ndestroyed 0\nevicted 0\nborrowtestfailed 0\nreclaimed 0\nlongest 0\ntotal 0\n"
-        play.expect(f"stats: {count} lines", ["stats", "journal"], (told, b"", 0))
-        play.put("limits.toml", NO_LIMITS.replace("4294967296", str(count)).encode())
-        full = b"pool: line %d: journal full\n" % count
-        play.expect(f"full: {count} lines", ["check", "limits.toml", "journal"], (b"", full, 3))
+        with_limit(folder, count + 1)
+        yield from journal_runs(folder, f"{count} lines", [f"7 {i} use {i} = refused notlent" for i in range(count)])
+        yield f"stats: {count} lines", ["stats", "journal"], (statistics(*[0] * 9), b"", 0)
+        with_limit(folder, count)
+        yield f"full: {count} lines", ["check", "limits.toml", "journal"], (b"", b"pool: line %d: journal full\n" % count, 3)
 
 
-def play_objects(play):
+def objects(folder):
+    with_limit(folder, 2**32)
     for count in OBJECTS:
         entries = [line for i in range(count) for line in (f"0 0 add = make {i}", f"0 1 added {i} good = parked")]
         entries += [f"0 2 borrow 2 = take {count - 1}", f"0 3 ready {count - 1} good = lent"]
-        play.journal(f"{count} objects", entries, None)
-        lent = b"borrowed 1\nreturned 0\ncreated %d\ndestroyed 0\nevicted 0\nborrowtestfailed 0\nreclaimed 0\nlongest 0\ntotal 0\n"
-        play.expect(f"stats: {count} objects", ["stats", "journal"], (lent % count, b"", 0))
+        yield from journal_runs(folder, f"{count} objects", entries)
+        yield f"stats: {count} objects", ["stats", "journal"], (statistics(1, 0, count, *[0] * 6), b"", 0)
 
 
-def play_bases(play):
-    play.put("limits.toml", NO_LIMITS.encode())
-    files = ["first", "second", "third"]
+def bases(folder):
+    with_limit(folder, 2**32)
+    check, files = ["check", "limits.toml"], ["first", "second", "third"]
     for count in RECORDS:
         segments, pool = segments_of(settings_of(NO_LIMITS), count)
-        for name, (base, entries) in zip(files, segments):
-            play.put(name, base + entries)
-        check = ["check", "limits.toml"]
-        play.expect(f"bases of {count} objects", [*check, *files], (b"legal %d\n" % pool.position, b"", 0))
-        play.expect(f"a base of {count} objects, one lost", [*check, "first", "third"], (b"illegal base 1\n", b"", 1))
+        write_files(folder, {name: base + entries for name, (base, entries) in zip(files, segments)})
+        yield f"bases of {count} objects", [*check, *files], (b"legal %d\n" % pool.position, b"", 0)
+        yield f"a base of {count} objects, one lost", [*check, "first", "third"], (b"illegal base 1\n", b"", 1)
         # The last record says that its object is new.
         base, entries = segments[2]
-        play.put("third", base.removesuffix(b"old\n") + b"new\n" + entries)
-        play.expect(f"a base of {count} objects, changed at its end", [*check, *files], (b"illegal base 2\n", b"", 1))
+        write_files(folder, {"third": base.removesuffix(b"old\n") + b"new\n" + entries})
+        yield f"a base of {count} objects, changed at its end", [*check, *files], (b"illegal base 2\n", b"", 1)
 
 
-def play_loads(play):
-    play.put("limits.toml", NO_LIMITS.encode())
-    for workers, rounds in LOADS:
-        done = subprocess.run([play.pool, "load", "limits.toml", str(workers), str(rounds)], cwd=play.folder, capture_output=True, timeout=60)
-        told = dict(line.split() for line in done.stdout.decode().splitlines())
-        every = str(workers * rounds)
-        none = {"refused": "0", "evicted": "0", "borrowtestfailed": "0", "reclaimed": "0"}
-        wanted = {"workers": str(workers), "rounds": str(rounds), "borrowed": every, "returned": every} | none
-        # How many objects are made depends on the threads' turns.
-        is_right = wanted.items() <= told.items() and told["created"] == told["destroyed"] and 1 <= int(told["created"]) <= workers
-        play.note(is_right and (done.stderr, done.returncode) == (b"", 0), f"{workers} workers, {rounds} rounds: {done}")
-
-
-def play_settings(play):
-    known, unknown = b"lifo = false\n", b"life = false\n"
-    fault = b"pool: settings: unknown key life\n"
+def texts(folder):
+    """Settings of all lengths."""
+    known, unknown, taken = b"lifo = false\n", b"life = false\n", (b"", b"", 0)
     for length in lengths(LONGEST_TEXT):
-        comment = b"#".ljust(length, b"c")
-        play.put("a.toml", comment)
-        play.expect(f"a comment of {length} bytes", ["run", "a.toml", "empty"], (b"", b"", 0))
+        write_files(folder, {"a.toml": b"#".ljust(length, b"c")})
+        yield f"a comment of {length} bytes", ["run", "a.toml", "/dev/null"], taken
         if length > len(known):
-            play.put("a.toml", b"#".ljust(length - len(known) - 1, b"c") + b"\n" + known)
-            play.expect(f"a setting at the end of {length} bytes", ["run", "a.toml", "empty"], (b"", b"", 0))
-            play.put("a.toml", unknown + b"#".ljust(length - len(unknown), b"c"))
-            play.expect(f"an unknown key before {length} bytes", ["check", "a.toml", "empty"], (b"", fault, 3))
-    play.put("a.toml", b"#".ljust(LONGEST_TEXT + 1, b"c"))
-    play.expect("a comment that is too long", ["run", "a.toml", "empty"], (b"", b"pool: settings: too long\n", 3))
+            write_files(folder, {"a.toml": b"#".ljust(length - len(known) - 1, b"c") + b"\n" + known})
+            yield f"a setting at the end of {length} bytes", ["run", "a.toml", "/dev/null"], taken
+            write_files(folder, {"a.toml": unknown + b"#".ljust(length - len(unknown), b"c")})
+            yield f"an unknown key before {length} bytes", ["check", "a.toml", "/dev/null"], settings_fault(b"unknown key life")
+    write_files(folder, {"a.toml": b"#".ljust(LONGEST_TEXT + 1, b"c")})
+    yield "a comment that is too long", ["run", "a.toml", "/dev/null"], settings_fault(b"too long")
 
 
-def play_keys(play):
+def settings_fault(told):
+    return b"", b"pool: settings: " + told + b"\n", 3
+
+
+def keys(folder):
     for length in lengths(LONGEST_TEXT - len(b" = 1")):
-        play.put("a.toml", b"k" * length + b" = 1")
-        fault = b"pool: settings: unknown key " + b"k" * length + b"\n"
-        play.expect(f"a key of {length} bytes", ["run", "a.toml", "empty"], (b"", fault, 3))
+        write_files(folder, {"a.toml": b"k" * length + b" = 1"})
+        yield f"a key of {length} bytes", ["run", "a.toml", "/dev/null"], settings_fault(b"unknown key " + b"k" * length)
     for length in lengths(LONGEST_TEXT // 2 - 4):
-        play.put("a.toml", b'"' + b"\\n" * length + b'"=1')
-        fault = b"pool: settings: unknown key " + b"\\n" * length + b"\n"
-        play.expect(f"a key of {length} line feeds", ["run", "a.toml", "empty"], (b"", fault, 3))
-        play.put("a.toml", b"[abandoned]\n" + b"k" * length + b"=1")
-        fault = b"pool: settings: unknown key abandoned." + b"k" * length + b"\n"
-        play.expect(f"a key of {length} bytes in the table", ["check", "a.toml", "empty"], (b"", fault, 3))
+        write_files(folder, {"a.toml": b'"' + b"\\n" * length + b'"=1'})
+        yield f"a key of {length} line feeds", ["run", "a.toml", "/dev/null"], settings_fault(b"unknown key " + b"\\n" * length)
+        write_files(folder, {"a.toml": b"[abandoned]\n" + b"k" * length + b"=1"})
+        yield f"a key of {length} bytes in the table", ["check", "a.toml", "/dev/null"], settings_fault(b"unknown key abandoned." + b"k" * length)
 
 
 def played(pool, part):
-    """How many cases of a part passed and failed. It has a folder of its own."""
-    with tempfile.TemporaryDirectory() as made:
-        play = Play(str(pathlib.Path(pool).resolve()), pathlib.Path(made))
-        part(play)
-    return play.passed, play.failed
+    """What differs in each run of a part."""
+    with tempfile.TemporaryDirectory() as folder:
+        return [differing(name, wanted, run(pool, *words, cwd=folder)) for name, words, wanted in part(pathlib.Path(folder))]
+
+
+def load_differences(pool, workers, rounds):
+    """What differs in a load. How many objects are made depends on the threads' turns."""
+    with tempfile.TemporaryDirectory() as folder:
+        with_limit(folder, 2**32)
+        done = run(pool, "load", "limits.toml", str(workers), str(rounds), cwd=folder)
+    told = {name: int(number) for name, number in (line.split() for line in done.stdout.decode().splitlines())}
+    wanted = {"workers": workers, "rounds": rounds, **dict.fromkeys(("borrowed", "returned"), workers * rounds)}
+    wanted |= dict.fromkeys(("refused", "evicted", "borrowtestfailed", "reclaimed"), 0)
+    is_right = wanted.items() <= told.items() and told["created"] == told["destroyed"] and 1 <= told["created"] <= workers
+    return [] if is_right and (done.stderr, done.returncode) == (b"", 0) else [f"{workers} workers, {rounds} rounds: {done}"]
 
 
 def main(pool):
-    parts = [play_lines, play_objects, play_bases, play_loads, play_settings, play_keys]
-    with concurrent.futures.ThreadPoolExecutor(len(parts)) as workers:
-        found = list(workers.map(lambda part: played(pool, part), parts))
-    passed, failed = (sum(numbers) for numbers in zip(*found))
-    print(f"{passed} passed, {failed} failed")
-    return 1 if failed else 0
+    pool = pathlib.Path(pool).resolve()
+    found = [found for part in side_by_side(lambda part: played(pool, part), [lines, objects, bases, texts, keys]) for found in part]
+    return tell([*found, *(load_differences(pool, *load) for load in LOADS)])
 
 
 if __name__ == "__main__":

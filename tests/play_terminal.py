@@ -20,27 +20,21 @@ import tempfile
 import threading
 import time
 
-ENTRY = b"7 0 use 0 = refused notlent\n"
+from playing import play_checks
 
+ENTRY = b"7 0 use 0 = refused notlent\n"
 # More than is read at once, and longer apart than a second.
 PIECE = 3_000
 PAUSE = 1.2
-
 WIPED = b"\r\x1b[K"
-
 NOTHING = re.compile(b"")
-
 TOLD = re.compile(rb"(\rpool: \d+ MB)+" + re.escape(WIPED))
-
-
 LIFE = b"""0 10 borrow 10 = make 0
 0 11 ready 0 good = lent
 0 15 return 0 = check
 0 16 park 0 good = parked
 """
-
 SEGMENT = b"pool-journal 2 4 1 open none 0 0 0 1\n0 idle 3 16 11 11 old\n0 20 borrow 20 = take 0\n"
-
 FILES = {
     "defaults.toml": b"",
     "two.toml": b"journalLimit = 2\n",
@@ -150,40 +144,35 @@ def hint_cases(pool, folder):
     (folder / "folder").mkdir()
     for words, (first, *hints) in HINTS:
         lines = [f"pool: {first}", *(f"  {hint}" for hint in hints)]
-        yield f"{words}, at a terminal", used(pool, folder, words, True), "".join(f"{line}\r\n" for line in lines).encode()
-        yield f"{words}, to a pipe", used(pool, folder, words, False), f"{lines[0]}\n".encode()
+        yield f"{words}, at a terminal", "".join(f"{line}\r\n" for line in lines).encode(), used(pool, folder, words, True)
+        yield f"{words}, to a pipe", f"{lines[0]}\n".encode(), used(pool, folder, words, False)
 
 
-def is_right(got, wanted):
-    """Whether what was written and the status are as wanted: to standard error what tells how far it is, and then a fault."""
-    output, told, status = got
-    wanted_output, form, fault, wanted_status = wanted
-    front = told.removesuffix(fault)
-    return output == wanted_output and told.endswith(fault) and bool(form.fullmatch(front)) and status == wanted_status
-
-
-def main(pool):
-    pool = str(pathlib.Path(pool).resolve())
+def progress_cases(pool, folder):
+    """Journals that come slowly, or at once, what is wanted of each and what it is: standard output, the status, and on standard error what tells how
+    far it is, and then a fault."""
     wrong = ENTRY.replace(b"refused notlent", b"gone")
-    legal, illegal = b"legal %d\n" % (3 * PIECE), b"illegal %d refused notlent\n" % (3 * PIECE)
+    legal, illegal = b"legal %d\n", b"illegal %d refused notlent\n" % (3 * PIECE)
     fault = b"pool: line %d: not a line\r\n  in journal\r\n" % (3 * PIECE + 1)
-    with tempfile.TemporaryDirectory() as made:
-        folder = pathlib.Path(made)
-        cases = [
-            ("slow", judge(pool, folder, 3, b"", True), (legal, TOLD, b"", 0)),
-            ("illegal", judge(pool, folder, 3, wrong, True), (illegal, TOLD, b"", 1)),
-            ("with a fault", judge(pool, folder, 3, b"x\n", True), (b"", TOLD, fault, 3)),
-            ("to a pipe", judge(pool, folder, 2, b"", False), (b"legal %d\n" % (2 * PIECE), NOTHING, b"", 0)),
-            ("quick", judge(pool, folder, 1, b"", True), (b"legal %d\n" % PIECE, NOTHING, b"", 0)),
-        ]
-    with tempfile.TemporaryDirectory() as made:
-        hints = list(hint_cases(pool, pathlib.Path(made)))
-    wrong_ones = [f"{name}: {got}" for name, got, wanted in cases if not is_right(got, wanted)]
-    wrong_ones += [f"{name}: {got}, and should be {wanted}" for name, got, wanted in hints if got != wanted]
-    print(*wrong_ones, sep="\n", end="\n" if wrong_ones else "")
-    print(f"{len(cases) + len(hints) - len(wrong_ones)} passed, {len(wrong_ones)} failed")
-    return 1 if wrong_ones else 0
+    cases = [
+        ("slow", (3, b"", True), legal % (3 * PIECE), TOLD, b"", 0),
+        ("illegal", (3, wrong, True), illegal, TOLD, b"", 1),
+        ("with a fault", (3, b"x\n", True), b"", TOLD, fault, 3),
+        ("to a pipe", (2, b"", False), legal % (2 * PIECE), NOTHING, b"", 0),
+        ("quick", (1, b"", True), legal % PIECE, NOTHING, b"", 0),
+    ]
+    for name, asked, output, form, end, status in cases:
+        found, told, ended = judge(pool, folder, *asked)
+        is_told = told.endswith(end) and bool(form.fullmatch(told.removesuffix(end)))
+        yield name, (output, True, status), (found, is_told or told, ended)
+
+
+def checks(pool):
+    pool = str(pathlib.Path(pool).resolve())
+    for cases in progress_cases, hint_cases:
+        with tempfile.TemporaryDirectory() as made:
+            yield from cases(pool, pathlib.Path(made))
 
 
 if __name__ == "__main__":
-    sys.exit(main(sys.argv[1]))
+    sys.exit(play_checks(checks(sys.argv[1])))

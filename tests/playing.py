@@ -1,50 +1,89 @@
-"""What the scripts that play cases share."""
+"""What the scripts share that run programs, and compare what they do with what is wanted."""
 
 import concurrent.futures
-import itertools
 import os
+import pathlib
 import subprocess
 import tempfile
 
-from case_files import unpacked
+from case_files import script_of, unpacked
 
 KINDS = ("output", "standard error", "status")
-# How much of a difference is printed, in characters.
-MOST_PRINTED = 2_000
+# How much of a difference is printed, and how much of what is the same before it, in characters.
+MOST_PRINTED, BEFORE = 2_000, 100
+
+
+def run(*words, **options):
+    """Runs a program to its end, with nothing on standard input if none is given. A run that takes longer than a minute hangs."""
+    streams = dict.fromkeys(("stdout", "stderr"), subprocess.PIPE) | ({} if "input" in options else {"stdin": subprocess.DEVNULL})
+    return subprocess.run(words, **{**streams, "timeout": 60, **options})
+
+
+def write_files(folder, texts):
+    """Writes texts to files of a folder, by their names. Returns the paths."""
+    paths = [pathlib.Path(folder) / str(name) for name in texts]
+    for path, text in zip(paths, texts.values()):
+        path.write_bytes(text)
+    return paths
+
+
+def from_difference(want, have):
+    """Two long texts, from a little before the first place at which they differ."""
+    if isinstance(want, int) or type(want) is not type(have) or len(want) <= MOST_PRINTED:
+        return want, have
+    start = max(0, len(os.path.commonprefix([want, have])) - BEFORE)
+    return want[start:], have[start:]
 
 
 def differing(name, wanted, done):
     """What is wanted of a run and what it gave, for each of the streams and the status that differ."""
-    got = done.stdout, done.stderr, done.returncode
-    return [f"{name}: {kind}: wanted {want!r}, got {have!r}" for kind, want, have in zip(KINDS, wanted, got) if want != have]
+    pairs = zip(KINDS, wanted, (done.stdout, done.stderr, done.returncode))
+    found = [(kind, *from_difference(want, have)) for kind, want, have in pairs if want != have]
+    return [f"{name}: {kind}: wanted {want!r:.{MOST_PRINTED}}, got {have!r:.{MOST_PRINTED}}" for kind, want, have in found]
 
 
-def play_unpacked(paths, plays, differences):
-    """Unpacks the cases of each file, or of all files below a folder. Makes the `plays` of them side by side, prints what differs and how many passed
-    and failed, and gives the status to end with. A path without a play counts as failed."""
+def side_by_side(work, *lists):
+    """What calls return that run side by side, in their order."""
+    with concurrent.futures.ThreadPoolExecutor(os.cpu_count()) as workers:
+        yield from workers.map(work, *lists)
+
+
+def tell(found, least=1):
+    """Prints the differences that each of some checks has found, and how many passed and failed. Gives the status to end with, which is a failure too if
+    fewer than the least passed."""
     passed, failed = 0, 0
-    with tempfile.TemporaryDirectory() as room, concurrent.futures.ThreadPoolExecutor(os.cpu_count()) as workers:
-        for path in paths:
-            found = list(workers.map(differences, plays(unpacked(room, path))))
-            for difference in (line for lines in found for line in lines):
-                print(difference)
-            if not found:
-                print(f"{path}: no case")
-            bad = sum(map(bool, found))
-            passed, failed = passed + len(found) - bad, failed + bad + (not found)
+    for lines in found:
+        passed, failed = passed + (not lines), failed + bool(lines)
+        for line in lines:
+            print(line[: 2 * MOST_PRINTED])
     print(f"{passed} passed, {failed} failed")
-    return 1 if failed else 0
+    return 1 if failed or passed < least else 0
 
 
 def play_checks(checks):
-    """Prints the checks that fail, each a name, what is wanted and what it is; and how many passed and failed. Gives the status to end with."""
-    passed, failed = 0, 0
-    for name, wanted, got in checks:
-        passed, failed = passed + (wanted == got), failed + (wanted != got)
-        if wanted != got:
-            print(f"{name}: wanted {wanted!r}, got {got!r}"[:MOST_PRINTED])
-    print(f"{passed} passed, {failed} failed")
-    return 1 if failed else 0
+    """Tells of checks that have each a name, what is wanted and what it is."""
+    return tell(([f"{name}: wanted {wanted!r}, got {got!r}"[:MOST_PRINTED]] * (wanted != got) for name, wanted, got in checks), 0)
+
+
+def play_unpacked(paths, plays, differences):
+    """Unpacks the cases of each file, or of all files below a folder, makes the `plays` of them side by side, and tells of these. A path without a play
+    counts as failed."""
+    with tempfile.TemporaryDirectory() as room:
+        found = ([*side_by_side(differences, plays(unpacked(room, path)))] or [[f"{path}: no case"]] for path in paths)
+        return tell(lines for of_path in found for lines in of_path)
+
+
+def play_journals(pool, cases):
+    """Plays the scripts of journals on the program, each with a name and settings. It must write the journals."""
+
+    def differences(case):
+        name, settings, entries = case
+        journal = "".join(f"{entry}\n" for entry in entries).encode()
+        with tempfile.TemporaryDirectory() as room:
+            (file,) = write_files(room, {"settings.toml": settings.encode()})
+            return differing(name, (journal, b"", 0), run(pool, "run", file, "/dev/stdin", input=script_of(journal)))
+
+    return tell(map(differences, cases))
 
 
 def stocking(objects):
@@ -52,32 +91,3 @@ def stocking(objects):
     for i in range(objects):
         yield f"0 0 add = make {i}"
         yield f"0 0 added {i} good = parked"
-
-
-def first_difference(pool, settings, journal):
-    """Plays the script of a journal on the program, with these settings: the first line that differs from the journal's, or
-    how the run ended where it isn't with status 0; None where the journal is written as it is."""
-    with tempfile.NamedTemporaryFile("w", suffix=".toml") as file:
-        file.write(settings)
-        file.flush()
-        script = "".join(entry.partition(" = ")[0] + "\n" for entry in journal)
-        done = subprocess.run([pool, "run", file.name, "/dev/stdin"], input=script, capture_output=True, text=True, timeout=60)
-    pairs = itertools.zip_longest(journal, done.stdout.splitlines())
-    differing = next((f"wanted {want!r}, got {have!r}" for want, have in pairs if want != have), None)
-    ended = None if (done.stderr, done.returncode) == ("", 0) else f"status {done.returncode}, {done.stderr!r}"
-    return differing or ended
-
-
-def play_journals(pool, cases):
-    """Plays named cases of settings and a journal, prints what differs and how many passed and failed, and gives the status to
-    end with."""
-    passed, failed = 0, 0
-    for name, settings, journal in cases:
-        different = first_difference(pool, settings, list(journal))
-        if different is None:
-            passed += 1
-        else:
-            failed += 1
-            print(f"{name}: {different}")
-    print(f"{passed} passed, {failed} failed")
-    return 1 if failed or not passed else 0

@@ -1,8 +1,11 @@
 """Libraries that are loaded before a program, to refuse or count what it asks of the system."""
 
+import itertools
 import os
 import pathlib
 import subprocess
+
+from playing import run
 
 HERE = pathlib.Path(__file__).resolve().parent
 
@@ -13,3 +16,19 @@ def preloaded(name, folder):
     compiler = os.environ.get("CC", "cc")
     subprocess.run([compiler, "-O1", "-shared", "-fPIC", "-o", library, HERE / f"{name}.c", "-ldl"], check=True)
     return library
+
+
+def refusing(library, mark, number, *words, **options):
+    """Runs a program with one allocation refused, by the library of refuse.c, or none if the number is 0. The file `mark` is there then if it was."""
+    mark.unlink(missing_ok=True)
+    settings = {"LD_PRELOAD": str(library), "REFUSED": str(mark), "REFUSE": str(number)}
+    return run(*words, env=os.environ | settings, **options)
+
+
+def refusals(library, mark, *words, **options):
+    """Runs a program once for each of its allocations, which is refused then. Yields its number and what came of the run."""
+    for number in itertools.count(1):
+        done = refusing(library, mark, number, *words, **options)
+        if not mark.exists():
+            return
+        yield number, done

@@ -12,56 +12,50 @@ Prints each run that is wrong and each such call that never was, and in the end 
 """
 
 import collections
+import os
 import pathlib
 import subprocess
 import sys
 import tempfile
 
-from refuse_memory import Program
+from playing import run, tell
+from preloading import preloaded
+from refuse_memory import is_whole
 
 ONE_OF = 6
 CALLS = {"SharedPool::open", "borrow", "add", "fill", "maintain", "journal_copy", "cut"}
 
 
-def run(program, settings):
-    """What it writes: output, error, status. A program that doesn't end writes nothing."""
-    try:
-        return program.run(settings)
-    except subprocess.TimeoutExpired:
-        return b"", b"", None
-
-
 def calls_in(error):
     """How often each call was refused."""
-    calls = collections.Counter()
-    for line in error.decode().splitlines():
-        call, _, number = line.rpartition(" ")
-        calls[call] += int(number)
-    return calls
+    pairs = (line.rpartition(" ") for line in error.decode().splitlines())
+    return sum((collections.Counter({call: int(number)}) for call, _, number in pairs), collections.Counter())
 
 
-def main(path, output_file, seeds):
-    passed, failed, refused = 0, 0, collections.Counter()
+def ended(path, variables):
+    """What came of a run. One that does not end has no status."""
+    try:
+        return run(path, env=os.environ | variables)
+    except subprocess.TimeoutExpired:
+        return subprocess.CompletedProcess([path], None, b"", b"")
+
+
+def found(path, output_file, seeds):
+    """What is wrong with each run, and which calls were never refused."""
+    wanted, refused = pathlib.Path(output_file).read_bytes(), collections.Counter()
     with tempfile.TemporaryDirectory() as folder:
-        program = Program(pathlib.Path(folder), path, output_file, [])
+        library, mark = preloaded("refuse", folder), pathlib.Path(folder) / "refused"
         for seed in range(int(seeds) + 1):
-            output, error, status = run(program, {"REFUSE_SEED": str(seed), "REFUSE_OF": str(ONE_OF)} if seed else {})
-            is_right = program.is_whole(output, error, status)
-            if is_right:
-                calls = calls_in(error)
-                refused += calls
-                is_right = bool(seed) == bool(calls) and calls.total() <= program.refusals()
-            if is_right:
-                passed += 1
-            else:
-                failed += 1
-                print(f"seed {seed}: status {status}, wrote {output!r} and {error!r}, {program.refusals()} were refused")
-    for call in sorted(CALLS - refused.keys()):
-        failed += 1
-        print(f"{call}: never refused")
-    print(f"{passed} passed, {failed} failed")
-    return 1 if failed else 0
+            mark.unlink(missing_ok=True)
+            by_chance = {"REFUSE_SEED": str(seed), "REFUSE_OF": str(ONE_OF)} if seed else {}
+            done = ended(path, {"LD_PRELOAD": str(library), "REFUSED": str(mark)} | by_chance)
+            calls = calls_in(done.stderr) if is_whole(done, wanted) else collections.Counter()
+            refused += calls
+            times = mark.stat().st_size if mark.exists() else 0
+            is_right = is_whole(done, wanted) and bool(seed) == bool(calls) and calls.total() <= times
+            yield [f"seed {seed}: {done}, {times} were refused"] * (not is_right)
+    yield from ([f"{call}: never refused"] for call in sorted(CALLS - refused.keys()))
 
 
 if __name__ == "__main__":
-    sys.exit(main(*sys.argv[1:]))
+    sys.exit(tell(found(*sys.argv[1:])))

@@ -12,30 +12,21 @@ Prints each run and each call that is wrong, and in the end the line 'N passed, 
 
 import pathlib
 import sys
-import tempfile
 
-from refuse_memory import Program, runs
+from playing import tell
+from refuse_memory import runs
 
 
-def main(path, output_file, calls_file):
-    wanted = set(pathlib.Path(calls_file).read_text().splitlines())
-    passed, failed, refused = 0, 0, set()
-    with tempfile.TemporaryDirectory() as folder:
-        program = Program(pathlib.Path(folder), path, output_file, [])
-        for number, (output, error, status), is_right in runs(program, False):
-            named = error.decode().splitlines()
-            refused.update(named)
-            if is_right and (named == [] or number > 0):
-                passed += 1
-            else:
-                failed += 1
-                print(f"allocation {number}: status {status}, wrote {output!r} and {error!r}")
-    for call in sorted(wanted ^ refused):
-        failed += 1
-        print(f"{call}: " + ("never refused" if call in wanted else "not to be refused"))
-    print(f"{passed + len(wanted & refused)} passed, {failed} failed")
-    return 1 if failed else 0
+def found(path, output_file, calls_file):
+    """What is wrong with each run, and with each call that is named."""
+    wanted, refused = set(pathlib.Path(calls_file).read_text().splitlines()), set()
+    for number, done, is_right in runs([path], pathlib.Path(output_file).read_bytes(), False):
+        named = done.stderr.decode().splitlines()
+        refused.update(named)
+        yield [f"allocation {number}: {done}"] * (not is_right or (number == 0 and named != []))
+    for call in sorted(wanted | refused):
+        yield [f"{call}: " + ("never refused" if call in wanted else "not to be refused")] * (call not in wanted & refused)
 
 
 if __name__ == "__main__":
-    sys.exit(main(*sys.argv[1:]))
+    sys.exit(tell(found(*sys.argv[1:])))

@@ -12,21 +12,17 @@ from the front of that answer, and the line 'pool: out of memory', 'pool: no thr
 Prints each run that is wrong, and in the end the line 'N passed, M failed'.
 """
 
-import concurrent.futures
 import dataclasses
 import itertools
-import os
 import pathlib
-import subprocess
 import sys
 import tempfile
 
-from argument_rules import WRONG, version
-from case_files import CASES, TOP, unpacked, wanted_of
-from preloading import preloaded
-
-# The file with the uses of the program, one constant.
-HELP = TOP / "crates/pool_tasks/src/help.rt"
+from argument_rules import USES, found, refusal, statistics
+from case_files import CASES, script_of, unpacked, wanted_of
+from play_program import PLAIN_LIFE, fault, load_lines, told
+from playing import side_by_side, write_files
+from preloading import preloaded, refusals, refusing
 
 # Of the scripts, the statistics, and the journals in segments every such one is played.
 EACH = 4
@@ -34,37 +30,17 @@ EACH = 4
 # Longer scripts take the same allocations, and more time.
 LONGEST = 20_000
 
-JOURNAL = b"""0 10 borrow 10 = make 0
-0 11 ready 0 good = lent
-0 15 return 0 = check
-0 16 park 0 good = parked
-"""
-
-SCRIPT = b"".join(line.split(b" = ")[0] + b"\n" for line in JOURNAL.splitlines())
-
-STATISTICS = b"borrowed 1\nreturned 1\ncreated 1\ndestroyed 0\nevicted 0\nborrowtestfailed 0\nreclaimed 0\nlongest 4\ntotal 4\n"
-
-LOAD = b"""workers 1
-rounds 1
-refused 0
-borrowed 1
-returned 1
-created 1
-destroyed 1
-evicted 0
-borrowtestfailed 0
-reclaimed 0
-longest 1
-total 1
-"""
-
 FILES = {
     "a.toml": b"maxTotal = 4\n", "all.toml": b"lifo = true\nmaxIdle = 3\nminIdle = 1\n[abandoned]\nremoveAbandonedOnBorrow = true\n",
     "key.toml": b"'a long key that no setting has' = 1\n", "table.toml": b"[abandoned]\nnone = 1\n", "type.toml": b"lifo = 1\n",
     "range.toml": b"minIdle = -1\n", "not.toml": b"maxTotal =", "bytes.toml": b"\xff", "long.toml": b"#".ljust(1_048_577, b"c"),
-    "two.toml": b"journalLimit = 2\n", "seven.toml": b"journalLimit = 7\n", "script": SCRIPT, "journal": JOURNAL,
-    "illegal": JOURNAL.replace(b"check", b"gone"), "bad": b"0 1 borrow 01\n", "empty": b"",
+    "two.toml": b"journalLimit = 2\n", "seven.toml": b"journalLimit = 7\n", "script": script_of(PLAIN_LIFE), "journal": PLAIN_LIFE,
+    "illegal": PLAIN_LIFE.replace(b"check", b"gone"), "bad": b"0 1 borrow 01\n", "empty": b"",
 }
+
+
+STATISTICS = statistics(1, 1, 1, 0, 0, 0, 0, 4, 4)
+LOAD = load_lines(1, 1, 0, 1, 1, 1, 1, 0, 0, 0, 1, 1)
 
 
 @dataclasses.dataclass
@@ -77,61 +53,47 @@ class Use:
     is_task: bool = True
 
 
-def fault(told):
-    return b"", b"pool: " + told + b"\n", 3
+# Uses over the files above with their outputs, and perhaps what is on standard input.
+GOOD = [
+    ("", PLAIN_LIFE, FILES["script"]), ("run a.toml script", PLAIN_LIFE), ("run all.toml /dev/stdin", PLAIN_LIFE, FILES["script"]),
+    ("run /dev/stdin script", PLAIN_LIFE, FILES["all.toml"]), ("run -- a.toml script", PLAIN_LIFE), ("check a.toml journal", b"legal 4\n"),
+    ("check all.toml /dev/stdin", b"legal 4\n", PLAIN_LIFE), ("check /dev/stdin journal", b"legal 4\n", FILES["a.toml"]), ("run a.toml empty", b""),
+    ("stats journal", STATISTICS), ("stats /dev/stdin", STATISTICS, PLAIN_LIFE), ("load a.toml 1 1", LOAD),
+    ("load /dev/stdin 1 1", LOAD, FILES["all.toml"]), ("check a.toml empty -- journal", b"legal 4\n"), ("stats journal --", STATISTICS),
+]
+# Words that name no task.
+WRONG_WORDS = [
+    "nonsense", "--", "run", "run a.toml", "run a.toml script more", "run a.toml -- script more", "run -x a.toml script", "run --version",
+    "check a.toml", "check a.toml journal journal -x", "stats", "load a.toml 1", "load a.toml 1 x", "load a.toml 1 01",
+    "help", "--help", "-h", "run --help", "check a.toml journal -h", "--version", "-V",
+]
+# What is told of the other settings.
+SETTINGS_FAULTS = {
+    "key.toml": "unknown key a long key that no setting has", "table.toml": "unknown key abandoned.none", "type.toml": "wrong type lifo",
+    "range.toml": "out of range minIdle", "not.toml": "not TOML", "bytes.toml": "not TOML", "long.toml": "too long",
+}
+OTHER_FAULTS = {
+    "run a.toml bad": "line 1: bad number", "check a.toml script": "line 1: not a line", "stats script": "line 1: not a line",
+    "run two.toml script": "line 1: journal full", "load seven.toml 1 2": "journal full",
+}
 
 
 def uses():
     """Uses over the files above."""
-    good = [
-        ([], JOURNAL, SCRIPT), (["run", "a.toml", "script"], JOURNAL, b""), (["run", "all.toml", "/dev/stdin"], JOURNAL, SCRIPT),
-        (["run", "/dev/stdin", "script"], JOURNAL, FILES["all.toml"]), (["run", "--", "a.toml", "script"], JOURNAL, b""),
-        (["check", "a.toml", "journal"], b"legal 4\n", b""), (["check", "all.toml", "/dev/stdin"], b"legal 4\n", JOURNAL),
-        (["check", "/dev/stdin", "journal"], b"legal 4\n", FILES["a.toml"]), (["run", "a.toml", "empty"], b"", b""),
-        (["stats", "journal"], STATISTICS, b""), (["stats", "/dev/stdin"], STATISTICS, JOURNAL),
-        (["load", "a.toml", "1", "1"], LOAD, b""), (["load", "/dev/stdin", "1", "1"], LOAD, FILES["all.toml"]),
-        (["check", "a.toml", "empty", "--", "journal"], b"legal 4\n", b""), (["stats", "journal", "--"], STATISTICS, b""),
-    ]
-    for arguments, output, given in good:
-        yield Use(arguments, (output, b"", 0), given)
+    for words, output, *given in GOOD:
+        yield Use(words.split(), told(output), *given)
     yield Use(["check", "a.toml", "illegal"], (b"illegal 2 check\n", b"", 1))
-    yield Use(["load", "a.toml", "0", "1"], (b"", WRONG, 2))
-    yield from wrong_words()
-    told = {
-        "key.toml": b"unknown key a long key that no setting has", "table.toml": b"unknown key abandoned.none", "type.toml": b"wrong type lifo",
-        "range.toml": b"out of range minIdle", "not.toml": b"not TOML", "bytes.toml": b"not TOML", "long.toml": b"too long",
-    }
-    for name, line in told.items():
-        for arguments in (["run", name, "script"], ["check", name, "journal"], ["load", name, "1", "1"]):
-            yield Use(arguments, fault(b"settings: " + line))
-    for command in (["run", "a.toml"], ["check", "a.toml"], ["stats"]):
-        yield Use([*command, "missing"], fault(b"cannot open missing"))
-        yield Use([*command, "."], fault(b"read failed"))
-    yield Use(["run", "a.toml", "bad"], fault(b"line 1: bad number"))
-    yield Use(["check", "a.toml", "script"], fault(b"line 1: not a line"))
-    yield Use(["stats", "script"], fault(b"line 1: not a line"))
-    yield Use(["run", "two.toml", "script"], fault(b"line 1: journal full"))
-    yield Use(["load", "seven.toml", "1", "2"], fault(b"journal full"))
-
-
-def wrong_words():
-    """Uses with words that name no task."""
-    answers = {
-        b"": [
-            "nonsense", "--", "run", "run a.toml", "run a.toml script more", "run a.toml -- script more", "run -x a.toml script", "run --version",
-            "check a.toml", "check a.toml journal journal -x", "stats", "load a.toml 1", "load a.toml 1 x", "load a.toml 1 01",
-        ],
-        printed_uses(): ["help", "--help", "-h", "run --help", "check a.toml journal -h"],
-        version(): ["--version", "-V"],
-    }
-    for output, lines in answers.items():
-        for words in lines:
-            yield Use(words.split(), (output, WRONG, 2), is_task=False)
-
-
-def printed_uses():
-    """The uses that the program prints if it is asked for help."""
-    return HELP.read_text().partition('USES: &str = "\\\n')[2].partition('";')[0].encode()
+    yield Use(["load", "a.toml", "0", "1"], refusal(["load"]))
+    for words in WRONG_WORDS:
+        yield Use(words.split(), refusal(words.split()), is_task=False)
+    for name, line in SETTINGS_FAULTS.items():
+        for words in ["run", name, "script"], ["check", name, "journal"], ["load", name, "1", "1"]:
+            yield Use(words, fault(f"settings: {line}"))
+    for command in ["run", "a.toml"], ["check", "a.toml"], ["stats"]:
+        yield Use([*command, "missing"], fault("cannot open missing"))
+        yield Use([*command, "."], fault("read failed"))
+    for words, line in OTHER_FAULTS.items():
+        yield Use(words.split(), fault(line))
 
 
 def uses_of_script(case, folder):
@@ -169,56 +131,31 @@ def is_refused(use, answer):
     if not use.is_task:
         return answer == (b"", b"pool: out of memory\n", 3)
     output, error, status = answer
-    told = {b"pool: out of memory\n"} | {b"pool: cannot open %s\n" % path.encode() for path in use.arguments[1:]}
+    lines = {b"pool: out of memory\n"} | {b"pool: cannot open %s\n" % path.encode() for path in use.arguments[1:]}
     if use.arguments[:1] == ["load"]:
-        told.add(b"pool: no thread\n")
-    return status == 3 and error in told and output[-1:] in (b"", b"\n") and use.answer[0].startswith(output)
+        lines.add(b"pool: no thread\n")
+    return status == 3 and error in lines and output[-1:] in (b"", b"\n") and use.answer[0].startswith(output)
 
 
-class Refuser:
-    """A program, and the library that refuses it allocations. Files of uses are in the folder."""
-
-    def __init__(self, pool, folder):
-        self.pool, self.folder, self.library = pool, folder, preloaded("refuse", folder)
-        self.marks = itertools.count()
-
-    def answer(self, use, number, mark):
-        """What is answered where this allocation is refused, or none where the number is 0."""
-        settings = {"LD_PRELOAD": str(self.library), "REFUSE": str(number), "REFUSED": str(mark)}
-        run = subprocess.run([self.pool, *use.arguments], input=use.given, cwd=self.folder, env=settings, capture_output=True, timeout=60)
-        return run.stdout, run.stderr, run.returncode
-
-    def runs(self, use):
-        """How many runs of the use were right, and what is told of the others. In some run memory must have run out."""
-        mark = self.folder / f"refused{next(self.marks)}"
-        right, refused, wrong = 0, 0, []
-        for number in itertools.count():
-            mark.unlink(missing_ok=True)
-            answer = self.answer(use, number, mark)
-            if number and not mark.exists():
-                break
-            ran_out = number > 0 and is_refused(use, answer)
-            refused += ran_out
-            if ran_out or answer == use.answer:
-                right += 1
-            else:
-                wrong.append(f"{use.arguments}: allocation {number}: {answer}")
-        if not refused:
-            wrong.append(f"{use.arguments}: no allocation was missed")
-        return right, wrong
+def runs(pool, library, mark, use):
+    """How many runs of the use were right, and what is told of the others. In some run memory must have run out."""
+    options = {"input": use.given, "cwd": mark.parent}
+    all_runs = itertools.chain([(0, refusing(library, mark, 0, pool, *use.arguments, **options))], refusals(library, mark, pool, *use.arguments, **options))
+    answers = [(number, found(done)) for number, done in all_runs]
+    refused = {number for number, answer in answers[1:] if is_refused(use, answer)}
+    wrong = [f"{use.arguments}: allocation {number}: {answer}" for number, answer in answers if number not in refused and answer != use.answer]
+    return len(answers) - len(wrong), wrong + [f"{use.arguments}: no allocation was missed"] * (not refused)
 
 
 def main(pool):
-    passed, failed = 0, 0
+    passed, failed, pool = 0, 0, pathlib.Path(pool).resolve()
     with tempfile.TemporaryDirectory() as made:
-        refuser = Refuser(str(pathlib.Path(pool).resolve()), pathlib.Path(made))
-        for name, text in FILES.items():
-            (refuser.folder / name).write_bytes(text)
-        with concurrent.futures.ThreadPoolExecutor(os.cpu_count()) as workers:
-            for right, wrong in workers.map(refuser.runs, [*uses(), *uses_of_cases(refuser.folder / "cases")]):
-                passed, failed = passed + right, failed + len(wrong)
-                for told in wrong:
-                    print(told)
+        folder, library = pathlib.Path(made), preloaded("refuse", made)
+        write_files(folder, FILES)
+        played = enumerate([*uses(), *uses_of_cases(folder / "cases")])
+        for right, wrong in side_by_side(lambda use: runs(pool, library, folder / f"refused{use[0]}", use[1]), played):
+            passed, failed = passed + right, failed + len(wrong)
+            print(*wrong, sep="\n", end="\n" * bool(wrong))
     print(f"{passed} passed, {failed} failed")
     return 1 if failed else 0
 

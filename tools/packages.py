@@ -7,7 +7,7 @@ import shutil
 import subprocess
 
 # An installation that takes longer hangs, in seconds.
-LONGEST = 1800
+LONGEST = 900
 
 
 @dataclasses.dataclass(frozen=True)

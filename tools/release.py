@@ -109,7 +109,8 @@ def lay_out(stage, programs):
     install.install(stage, shown, built(LIBRARY, programs), install.heap_of_kit())
     crate = stage / "rust/zuphinka"
     places = {stage / "bin": [built(name, programs) for name in PROGRAMS], stage / "share/man/man1": [TOP / "docs/pool.1"]}
-    places[stage / "examples"] = [*(TOP / "bindings/c/examples" / name for name in C_EXAMPLES), *(TOP / "examples").iterdir()]
+    places[stage / "examples"] = [TOP / "bindings/c/examples" / name for name in C_EXAMPLES]
+    places[stage / "examples"] += [path for path in (TOP / "examples").iterdir() if path.name != "README.md"]
     places[stage] = [TOP / "LICENSE", TOP / "CHANGELOG.md"]
     places[crate / "lib"] = [stage / "lib/libzuphinka.a"]
     for folder, files in places.items():

@@ -3,6 +3,7 @@
 What a part writes is kept, and shown in one piece once all have ended. A build shows how far it is as it goes on.
 """
 
+import asyncio
 import contextlib
 import dataclasses
 import os
@@ -22,19 +23,25 @@ SKIPPED = re.compile(r"^skipped: (.+)$", re.MULTILINE)
 PAUSE = 0.05
 # For how long a command may go on that was told to end, in seconds.
 GRACE = 10
+PROCESSORS = len(os.sched_getaffinity(0))
 
 
 @dataclasses.dataclass(frozen=True)
 class Part:
-    """A part of ./check: what it tests; its command, in which {NAME} is what a build of the crate NAME leaves; the crates that are built before
-    it; the folders that are there before it; and the command by which ./check --install fetches what it needs besides packages."""
+    """A part of ./check: what it tests; its command, in which {NAME} is what a build of the crate NAME leaves; the crates besides these that are
+    built before it; the folders that are there before it; and the command by which ./check --install fetches what it needs besides packages."""
 
     name: str
     tests: str
     command: str
-    needs: tuple[str, ...] = ()
+    others: tuple[str, ...] = ()
     folders: tuple[str, ...] = ()
     fetch: str = ""
+
+    @property
+    def needs(self):
+        """The crates that are built before it."""
+        return tuple(dict.fromkeys([*re.findall(r"{(\w+)}", self.command), *self.others]))
 
     def words(self):
         """The words of its command."""
@@ -55,7 +62,7 @@ class Result:
     skipped: tuple[str, ...] = ()
 
 
-def result_of(text, seconds, status):
+def result_of(text, status, seconds):
     """The result of a command that ended with this status: by its last line 'N passed, M failed', and its lines 'skipped: WHAT: REASON'. Without such a
     last line it failed, and so it did where only the status says so, or where it counted nothing and skipped nothing."""
     counts, skipped = COUNT.findall(text), tuple(SKIPPED.findall(text))
@@ -66,68 +73,37 @@ def result_of(text, seconds, status):
     return Result(text, seconds, passed, 1, ending + ("" if counts else " and without a count"), skipped)
 
 
-class Command:
-    """A command that runs, in a session of its own, so that all that it starts can be ended with it; in this environment, or else in this process's."""
-
-    def __init__(self, words, environment=None):
-        self.log = tempfile.TemporaryFile()
-        self.shown = 0
-        self.began = time.monotonic()
-        options = {"cwd": TOP, "stdin": subprocess.DEVNULL, "stdout": self.log, "stderr": self.log, "start_new_session": True, "env": environment}
-        self.process = subprocess.Popen(words, **options)
-
-    def has_ended(self):
-        return self.process.poll() is not None
-
-    def seconds(self):
-        return int(time.monotonic() - self.began)
-
-    def written(self, begin):
-        """The bytes that it has written from this place on. The place at which it goes on to write stays as it is."""
-        file = self.log.fileno()
-        return os.pread(file, os.fstat(file).st_size - begin, begin)
-
-    def text(self):
-        """All that it has written."""
-        text = self.written(0).decode(errors="replace")
-        return text if text.endswith("\n") or not text else text + "\n"
-
-    def new_lines(self):
-        """The lines that it has ended since this was last asked; once it has ended itself, all of the rest."""
-        has_ended = self.has_ended()
-        written = self.written(self.shown)
-        if not has_ended:
-            written = written[: written.rfind(b"\n") + 1]
-        self.shown += len(written)
-        text = written.decode(errors="replace")
-        return [line + "\n" for line in text.removesuffix("\n").split("\n")] if text else []
-
-    def result(self):
-        """What came of it, once it has ended."""
-        return result_of(self.text(), self.seconds(), self.process.returncode)
+async def end(process):
+    """Ends a command that still runs, and all that it has started: by an interrupt first, so that they remove their temporary files."""
+    if process.returncode is None:
+        for number in signal.SIGINT, signal.SIGKILL:
+            with contextlib.suppress(ProcessLookupError):
+                os.killpg(process.pid, number)
+            with contextlib.suppress(asyncio.TimeoutError):
+                await asyncio.wait_for(process.wait(), GRACE)
 
 
-def signal_all(commands, number):
-    """Sends a signal to commands and all that they have started."""
-    for command in commands:
-        with contextlib.suppress(ProcessLookupError):
-            os.killpg(command.process.pid, number)
-
-
-def stop(commands):
-    """Ends those of the commands that still run, and all that they have started: by an interrupt first, so that they remove their temporary files."""
-    alive = [command for command in commands if not command.has_ended()]
-    if not alive:
-        return
-    for number in signal.SIGHUP, signal.SIGINT, signal.SIGTERM:
-        signal.signal(number, signal.SIG_IGN)
-    signal_all(alive, signal.SIGINT)
-    until = time.monotonic() + GRACE
-    while time.monotonic() < until and not all(command.has_ended() for command in alive):
-        time.sleep(PAUSE)
-    signal_all(alive, signal.SIGKILL)
-    for command in alive:
-        command.process.wait()
+async def run(words, environment=None, show=None):
+    """Runs a command, in a session of its own, so that all that it starts can be ended with it; in this environment, or else in this process's. Calls
+    `show` with each line as soon as it is written. Returns what it wrote, its status and its seconds."""
+    began, rest = time.monotonic(), ""
+    with tempfile.TemporaryFile() as log, open(f"/proc/self/fd/{log.fileno()}", encoding="utf-8", errors="replace", newline="\n") as written:
+        options = {"cwd": TOP, "stdin": subprocess.DEVNULL, "stdout": log, "stderr": log, "start_new_session": True, "env": environment}
+        process = await asyncio.create_subprocess_exec(*words, **options)
+        ended = asyncio.create_task(process.wait())
+        try:
+            while not ended.done():
+                await asyncio.wait([ended], timeout=PAUSE if show else None)
+                *lines, rest = (rest + written.read()).split("\n") if show else [rest]
+                for line in lines:
+                    show(line + "\n")
+        finally:
+            await end(process)
+        written.seek(0)
+        text = written.read()
+    if rest:
+        show(rest + "\n")
+    return text if text.endswith("\n") or not text else text + "\n", process.returncode, int(time.monotonic() - began)
 
 
 class Progress:
@@ -146,100 +122,72 @@ class Progress:
         self.say(f"part {self.at} of {self.total}, {part.name}")
 
 
-def is_there(crate):
-    """Whether something is built of a crate, of whatever sources."""
-    product = sources.product(crate)
-    return product.is_file() or any(product.glob("*/*"))
-
-
 def is_ready(crate, gate):
     """Whether a crate needs no build: it is built of its sources as they are, or it is a program that the gate has just built, which first sets aside
     what was built before. Of a gate that failed, all that it left is taken: to build the rest would fail too, after minutes."""
-    if gate is not None and (sources.is_program(crate) or gate.failed) and is_there(crate):
+    if gate is not None and (sources.is_program(crate) or gate.failed) and sources.sum_of_product(crate):
         return True
     return sources.is_current(crate)
 
 
 class Work:
-    """Parts that wait, the crates that are to be built for them, and what runs."""
+    """Parts that wait, the crates that are to be built for them, and what came of those that have ended, by name."""
 
     def __init__(self, parts, progress, gate):
         self.progress, self.gate = progress, gate
-        self.waiting = list(parts)
-        self.unbuilt = list(dict.fromkeys(crate for part in parts for crate in part.needs))
-        self.built, self.lost = set(), set()
-        self.building, self.running = {}, {}
+        self.waiting = list(enumerate(parts))
+        self.unbuilt = [crate for crate in dict.fromkeys(crate for part in parts for crate in part.needs) if not is_ready(crate, gate)]
+        self.lost = set()
+        self.ready, self.left = asyncio.PriorityQueue(), len(parts)
         self.results = {}
+        self.pass_on()
 
-    def pass_over(self):
-        """Takes out the crates that need no build, or that no part waits for any more."""
-        self.built.update(crate for crate in self.unbuilt if is_ready(crate, self.gate))
-        wanted = {crate for part in self.waiting for crate in part.needs} - self.built - self.lost
-        self.unbuilt = [crate for crate in self.unbuilt if crate in wanted]
+    def pass_on(self):
+        """Passes on the parts that wait for no build any more, or for one that has failed."""
+        for place, part in list(self.waiting):
+            if self.lost.intersection(part.needs) or not set(self.unbuilt).intersection(part.needs):
+                self.waiting.remove((place, part))
+                self.ready.put_nowait((place, part))
 
-    def has_room(self):
-        """Whether a processor is free."""
-        return len(self.running) + len(self.building) < len(os.sched_getaffinity(0))
+    async def build(self):
+        """Builds what is needed, one crate at a time, which has processors enough for itself: after the gate half of them, beside other parts."""
+        environment = None if self.gate is None else {"BUILD_JOBS": str(max(1, PROCESSORS // 2)), **os.environ}
+        while wanted := [crate for crate in self.unbuilt if any(crate in part.needs for _, part in self.waiting)]:
+            crate = wanted[0]
+            if not is_ready(crate, self.gate):
+                await self.build_one(crate, environment)
+            self.unbuilt.remove(crate)
+            self.pass_on()
 
-    def build_environment(self):
-        """The environment of a build. After the gate only parts' libraries are built, beside other parts, which take the other half of the processors."""
-        half = max(1, len(os.sched_getaffinity(0)) // 2)
-        return None if self.gate is None else {"BUILD_JOBS": str(half), **os.environ}
+    async def build_one(self, crate, environment):
+        """Builds a crate, and shows how far that is, by the lines that begin with its name; and once it has ended in vain, its other lines."""
+        head = f"{crate}: "
+        self.progress.say(f"build of {crate}")
+        text, status, _ = await run(["python3", "tools/build.py", crate], environment, lambda line: line.startswith(head) and print(line, end=""))
+        if status:
+            self.lost.add(crate)
+            others = [line for line in text.splitlines(keepends=True) if not line.startswith(head)]
+            print(f"{''.join(others)}{head}not built")
 
-    def start(self):
-        """Starts what can begin: one build at a time, which has processors enough for itself, and then parts in the order of the table."""
-        if self.unbuilt and not self.building and self.has_room():
-            crate = self.unbuilt.pop(0)
-            self.progress.say(f"build of {crate}")
-            self.building[crate] = Command(["python3", "tools/build.py", crate], self.build_environment())
-        for part in [part for part in self.waiting if self.built.issuperset(part.needs)]:
-            if not self.has_room():
-                break
-            self.waiting.remove(part)
+    async def play(self, builds_first):
+        """Plays parts as they are ready, those first that are first in the table."""
+        if builds_first and self.unbuilt:
+            await self.build()
+        while self.left:
+            self.left -= 1
+            _, part = await self.ready.get()
+            lost = [crate for crate in part.needs if crate in self.lost]
+            if lost:
+                self.results[part.name] = Result("", 0, 0, 1, f"not run, since {lost[0]} can't be built")
+                continue
             for folder in part.folders:
                 (TOP / folder).mkdir(parents=True, exist_ok=True)
             self.progress.begin(part)
-            self.running[part.name] = Command(part.words())
+            self.results[part.name] = result_of(*await run(part.words()))
 
-    def collect_build(self, crate):
-        """Shows how far a build is, by the lines that begin with the crate's name; and once it has ended in vain, its other lines."""
-        command, head = self.building[crate], f"{crate}: "
-        has_ended = command.has_ended()
-        print("".join(line for line in command.new_lines() if line.startswith(head)), end="")
-        if not has_ended:
-            return
-        del self.building[crate]
-        if command.process.returncode:
-            others = [line for line in command.text().splitlines(keepends=True) if not line.startswith(head)]
-            print(f"{''.join(others)}{head}not built")
-            self.lose(crate)
-        else:
-            self.built.add(crate)
-            self.pass_over()
-
-    def lose(self, crate):
-        """Gives up the parts that need a crate which can't be built."""
-        self.lost.add(crate)
-        for part in [part for part in self.waiting if crate in part.needs]:
-            self.waiting.remove(part)
-            self.results[part.name] = Result("", 0, 0, 1, f"not run, since {crate} can't be built")
-        self.pass_over()
-
-    def collect(self):
-        """Takes out what has ended."""
-        for crate in list(self.building):
-            self.collect_build(crate)
-        for name in [name for name, command in self.running.items() if command.has_ended()]:
-            self.results[name] = self.running.pop(name).result()
-
-    def run(self):
+    async def run(self):
         """Runs all parts, and returns their results by name."""
-        self.pass_over()
-        try:
-            while self.waiting or self.running or self.building:
-                self.start()
-                time.sleep(PAUSE)
-                self.collect()
-        finally:
-            stop([*self.running.values(), *self.building.values()])
+        async with asyncio.TaskGroup() as players:
+            for number in range(PROCESSORS):
+                players.create_task(self.play(number == 0))
         return self.results

@@ -1,10 +1,5 @@
-#!/usr/bin/env python3
 """Says by checksums whether what is built of a crate is still that of its sources: the files of src/, specs/ and proofs/ of the crate and of all
 below it, their lines of crates.txt, HANDLES, and the kit by its line of `rt version`. Times, other files and other crates don't count.
-
-    tools/sources.py               writes the kit's line, and the checksum of each crate's sources
-    tools/sources.py --built FILE  takes over what `rt ci` has built of each crate whose checksum is still that in FILE, and notes it
-    tools/sources.py --left        takes over the libraries of an `rt ci` that failed, and notes nothing
 
 A note is kept in out/built/, and holds for a copy of the whole folder too. `rt ci` leaves programs, no static libraries, and libraries that have only
 their statements, which are taken over. Libraries with a stamp are of the kit's other commands.
@@ -15,7 +10,6 @@ import hashlib
 import pathlib
 import shutil
 import subprocess
-import sys
 
 TOP = pathlib.Path(__file__).resolve().parent.parent
 NOTES = TOP / "out" / "built"
@@ -154,26 +148,16 @@ def take_over(crate):
     return True
 
 
-def sums():
-    """The kit's line, and a line for each crate."""
-    return [str(kit()), *(f"{crate} {sum_of_sources(crate)}" for crate in declared())]
+def all_sums():
+    """The checksum of the sources of each crate, as they are now."""
+    sum_of_sources.cache_clear()
+    return {crate: sum_of_sources(crate) for crate in declared()}
 
 
-def main():
-    if len(sys.argv) == 1:
-        print(*sums(), sep="\n")
-    elif sys.argv[1:] == ["--left"]:
-        for crate in libraries():
-            take_over(crate)
-    elif len(sys.argv) == 3 and sys.argv[1] == "--built":
-        earlier = pathlib.Path(sys.argv[2]).read_text().splitlines()
-        now = sums()
-        for crate, line in zip(declared(), now[1:]):
-            if earlier[:1] == now[:1] and line in earlier and take_over(crate):
-                note(crate)
-    else:
-        sys.exit(__doc__)
-
-
-if __name__ == "__main__":
-    main()
+def take_over_all(earlier):
+    """Takes over what `rt ci` has left, and notes it of each crate whose checksum is still what it was before. Of an `rt ci` that failed, `earlier`
+    is empty: then nothing is noted."""
+    now = all_sums()
+    for crate in libraries():
+        if take_over(crate) and earlier.get(crate) == now[crate]:
+            note(crate)

@@ -1,9 +1,6 @@
 #!/usr/bin/env python3
 """Draws docs/pictures/crates.svg, the graph of the crates, from crates.txt.
 
-draw_crates.py          writes the picture
-draw_crates.py --check  fails if the picture in the file is another one
-
 An arrow leads from a crate to one that it depends on, unless a chain of other arrows leads there. A crate is in the lowest row that is above all
 crates that it depends on. Its colour is that of its section of crates.txt.
 """
@@ -11,7 +8,6 @@ crates that it depends on. Its colour is that of its section of crates.txt.
 import html
 import pathlib
 import re
-import sys
 
 HERE = pathlib.Path(__file__).resolve().parent
 LIST = HERE.parent.parent / "crates.txt"
@@ -145,15 +141,5 @@ def picture(text):
     return "\n".join([*parts, "</svg>", ""])
 
 
-def main():
-    drawn = picture(LIST.read_text())
-    target = HERE / "crates.svg"
-    if sys.argv[1:] == ["--check"]:
-        same = target.exists() and target.read_text() == drawn
-        print("docs/pictures/crates.svg is as drawn" if same else "docs/pictures/crates.svg: draw it anew, by docs/pictures/draw_crates.py")
-        sys.exit(0 if same else 1)
-    target.write_text(drawn)
-
-
 if __name__ == "__main__":
-    main()
+    (HERE / "crates.svg").write_text(picture(LIST.read_text()))

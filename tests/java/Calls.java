@@ -1037,7 +1037,7 @@ public final class Calls extends Expectations {
         abandonment();
         uses();
         shortTimes();
-        expect("objects by slot and id", List.of(), within(begun(Finding::faults)));
+        expect("objects by slot", List.of(), within(begun(Finding::faults)));
         wrappers();
         trackedUse();
         refusals();

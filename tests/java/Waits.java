@@ -212,7 +212,7 @@ public final class Waits extends Expectations {
         GenericObjectPoolConfig<Object> config = new GenericObjectPoolConfig<>();
         config.setJmxEnabled(false);
         config.setMaxTotal(1);
-        for (int most : new int[] {16, 3, 0}) {
+        for (int most : new int[] {64, 3, 0}) {
             config.setFairness(most == 0);
             ZuphinkaPool<Object> pool = new ZuphinkaPool<>(new Plain(), config, null, Journal.kept().limit(50_000_000));
             if (most == 3) {

@@ -259,7 +259,8 @@ enum zuphinka_kind {
 /* What begins a call. Set all fields: `struct zuphinka_start start = {.at = .., ..};` sets the others to 0. */
 struct zuphinka_start {
   uint64_t at;     /* the time, in milliseconds */
-  uint64_t id;     /* the object's id, of a return, an invalidation, a detachment or a touch */
+  uint64_t id;     /* the object's id, of a return, an invalidation, a detachment or a touch; of a borrow the number of milliseconds by which its wait
+                      may be longer than maxWaitMillis, and 0 as a rule */
   void *object;    /* its token, of a return, an invalidation or a detachment */
   uint32_t caller; /* the caller's number in the journal */
   uint32_t kind;   /* enum zuphinka_kind */
@@ -339,7 +340,7 @@ struct zuphinka_effects {
   uint64_t number;    /* the id of the object that the action is for, or that is lent; else 0 */
   void *object;       /* the token of the call's object; null if it has none yet */
   uint64_t ticket;    /* the ticket of a call that waits, if has_ticket is true; else 0 */
-  uint64_t until;     /* the time at which the wait of a borrow is over by the settings, in milliseconds, if has_until is true; else 0 */
+  uint64_t until;     /* the time at which the wait of a borrow is over, in milliseconds, if has_until is true; else 0 */
   uint64_t wake;      /* the ticket of the call to wake first, if has_wake is true; else 0 */
   uint64_t count;     /* how many objects a fill made, a reclaim took, an eviction run examined, a clear or a close destroyed so far; else 0.
                          Of maintenance: how many its eviction run examined */
@@ -533,6 +534,20 @@ uint32_t zuphinka_take_back(struct zuphinka *pool, uint32_t caller, uint64_t at,
  * unchanged.
  */
 uint32_t zuphinka_next_wake(struct zuphinka *pool, uint64_t *ticket);
+
+/*
+ * Lets each call that waits be overtaken at most `most` times from now on, 0 for never, and stores this bound in `bound`. If the oldest one was
+ * already overtaken more often, the bound is the number of times it was; ask again once it waits no longer.
+ *
+ * Returns ZUPHINKA_STATUS_DONE; or ZUPHINKA_STATUS_NOT_OPEN, and `bound` is unchanged.
+ */
+uint32_t zuphinka_set_overtakes(struct zuphinka *pool, uint64_t most, uint64_t *bound);
+
+/*
+ * Stores in `is_lent` whether the object with this id is lent: not so one that was reclaimed from its holder. Returns ZUPHINKA_STATUS_DONE; or
+ * ZUPHINKA_STATUS_NOT_OPEN, and `is_lent` is unchanged.
+ */
+uint32_t zuphinka_is_lent(struct zuphinka *pool, uint64_t id, bool *is_lent);
 
 /* Stores in `state` what is true of the pool. Returns ZUPHINKA_STATUS_DONE; or ZUPHINKA_STATUS_NOT_OPEN, and `state` is unchanged. */
 uint32_t zuphinka_state(struct zuphinka *pool, struct zuphinka_activity *state);

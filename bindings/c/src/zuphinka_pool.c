@@ -25,8 +25,7 @@ enum {
   FIRST_PLACES = 16,   /* of loans */
   MOST_OVERTAKES = 64, /* of a borrow that waits, if the host doesn't say */
   MOST_LINES = 256,    /* that are copied in one critical section */
-  LONGEST_PART = MOST_LINES * ZUPHINKA_LONGEST_LINE,
-  TRIES = 16, /* allocations that fail one after the other before a copy gives up */
+  TRIES = 16,          /* allocations that fail one after the other before a copy gives up */
 };
 
 /* How long a thread pauses before it looks again, at first and at most, and in all before it sleeps; in nanoseconds. */
@@ -39,15 +38,15 @@ static const uint64_t LONGEST_WAIT = UINT64_C(1) << 42; /* of all limits, in mil
 /* A segment of the journal: its text is copied line by line, then the journal is cut, and the segment is to be stored. */
 struct segment {
   char *text; /* null: none */
-  size_t size, capacity;
+  size_t size;
   uint64_t first;         /* the position of its first entry in the history */
   uint64_t base, entries; /* lines of the base and of the journal that were copied */
 };
 
-/* What threads sleep on. It is there as long as the pool: whoever wakes a thread may signal when that thread has left. */
+/* What threads sleep on. */
 struct condition {
   pthread_cond_t changed;
-  atomic_uint_least64_t wakes; /* how often it was to be signalled; a thread that pauses reads it without the lock */
+  atomic_uint_least64_t wakes; /* how often it was signalled; a thread that pauses reads it without the lock */
 };
 
 /* A place of a loan: its number, or 0 while a call begins or ends it, and when its object was lent, in nanoseconds; or the next free place. */
@@ -75,7 +74,6 @@ struct zuphinka_pool {
   uint64_t cuts;           /* how often the journal was cut */
   uint64_t low;            /* the room below which a segment is stored */
   uint64_t cutter;         /* the thread that cuts the journal or stores what was cut off, which no other one may: its number and 1; 0: none */
-  struct condition *woken; /* is to be signalled, once the lock is let go; or null */
   struct condition conditions[CONDITIONS]; /* a thread that waits for an object has that of its ticket, alone if not very many wait */
 };
 
@@ -91,33 +89,33 @@ struct run {
 
 /* The text of each error, and the end of a call or the status of an opening that it stands for, if there is one. */
 static const struct {
-  uint32_t end, status;
   const char *text;
+  uint32_t end, status;
 } errors[] = {
     [ZUPHINKA_POOL_ERROR_NONE] = {.text = "the call is done"},
-    [ZUPHINKA_POOL_ERROR_CLOSED] = {.end = ZUPHINKA_END_CLOSED, .text = "the pool is closed"},
-    [ZUPHINKA_POOL_ERROR_EXHAUSTED] = {.end = ZUPHINKA_END_EXHAUSTED, .text = "all objects of the pool are lent"},
-    [ZUPHINKA_POOL_ERROR_TIMED_OUT] = {.end = ZUPHINKA_END_TIMED_OUT, .text = "timed out waiting for an object of the pool"},
-    [ZUPHINKA_POOL_ERROR_MAKE_FAILED] = {.end = ZUPHINKA_END_MAKE_FAILED, .text = "an object could not be made"},
-    [ZUPHINKA_POOL_ERROR_CREATE_TEST_FAILED] = {.end = ZUPHINKA_END_CREATE_TEST_FAILED, .text = "a new object did not pass its test"},
-    [ZUPHINKA_POOL_ERROR_ACTIVATE_FAILED] = {.end = ZUPHINKA_END_ACTIVATE_FAILED, .text = "a new object could not be activated"},
-    [ZUPHINKA_POOL_ERROR_BORROW_TEST_FAILED] = {.end = ZUPHINKA_END_BORROW_TEST_FAILED,
-                                                .text = "a new object did not pass its test before it was lent"},
-    [ZUPHINKA_POOL_ERROR_PASSIVATE_FAILED] = {.end = ZUPHINKA_END_PASSIVATE_FAILED, .text = "a new object could not be passivated"},
-    [ZUPHINKA_POOL_ERROR_NO_PLACE] = {.end = ZUPHINKA_END_NO_PLACE, .text = "the pool has no place for one more object"},
-    [ZUPHINKA_POOL_ERROR_GONE] = {.end = ZUPHINKA_END_GONE, .text = "the object was reclaimed from its holder"},
-    [ZUPHINKA_POOL_ERROR_NOT_LENT] = {.text = "the object is not lent"},
+    [ZUPHINKA_POOL_ERROR_CLOSED] = {.text = "the pool is closed", .end = ZUPHINKA_END_CLOSED},
+    [ZUPHINKA_POOL_ERROR_EXHAUSTED] = {.text = "all objects of the pool are lent", .end = ZUPHINKA_END_EXHAUSTED},
+    [ZUPHINKA_POOL_ERROR_TIMED_OUT] = {.text = "timed out waiting for an object of the pool", .end = ZUPHINKA_END_TIMED_OUT},
+    [ZUPHINKA_POOL_ERROR_MAKE_FAILED] = {.text = "an object could not be made", .end = ZUPHINKA_END_MAKE_FAILED},
+    [ZUPHINKA_POOL_ERROR_CREATE_TEST_FAILED] = {.text = "a new object did not pass its test", .end = ZUPHINKA_END_CREATE_TEST_FAILED},
+    [ZUPHINKA_POOL_ERROR_ACTIVATE_FAILED] = {.text = "a new object could not be activated", .end = ZUPHINKA_END_ACTIVATE_FAILED},
+    [ZUPHINKA_POOL_ERROR_BORROW_TEST_FAILED] = {.text = "a new object did not pass its test before it was lent",
+                                                .end = ZUPHINKA_END_BORROW_TEST_FAILED},
+    [ZUPHINKA_POOL_ERROR_PASSIVATE_FAILED] = {.text = "a new object could not be passivated", .end = ZUPHINKA_END_PASSIVATE_FAILED},
+    [ZUPHINKA_POOL_ERROR_NO_PLACE] = {.text = "the pool has no place for one more object", .end = ZUPHINKA_END_NO_PLACE},
+    [ZUPHINKA_POOL_ERROR_GONE] = {.text = "the object was reclaimed from its holder", .end = ZUPHINKA_END_GONE},
+    [ZUPHINKA_POOL_ERROR_NOT_LENT] = {.text = "the object is not lent", .end = ZUPHINKA_END_NOT_LENT},
     [ZUPHINKA_POOL_ERROR_IN_USE] = {.text = "objects of the pool are lent"},
-    [ZUPHINKA_POOL_ERROR_JOURNAL_FULL] = {.end = ZUPHINKA_END_JOURNAL_FULL, .text = "the journal of the pool is full"},
+    [ZUPHINKA_POOL_ERROR_JOURNAL_FULL] = {.text = "the journal of the pool is full", .end = ZUPHINKA_END_JOURNAL_FULL},
     [ZUPHINKA_POOL_ERROR_STORE_FAILED] = {.text = "a segment of the journal could not be stored"},
-    [ZUPHINKA_POOL_ERROR_OUT_OF_MEMORY] = {.end = ZUPHINKA_END_OUT_OF_MEMORY, .text = "out of memory"},
+    [ZUPHINKA_POOL_ERROR_OUT_OF_MEMORY] = {.text = "out of memory", .end = ZUPHINKA_END_OUT_OF_MEMORY, .status = ZUPHINKA_STATUS_OUT_OF_MEMORY},
     [ZUPHINKA_POOL_ERROR_NO_LOCK] = {.text = "the system has no mutex or condition variable"},
     [ZUPHINKA_POOL_ERROR_MISSING_CALLBACK] = {.text = "a callback is missing"},
-    [ZUPHINKA_POOL_ERROR_NOT_TEXT] = {.status = ZUPHINKA_STATUS_NOT_TEXT, .text = "the settings are not UTF-8"},
-    [ZUPHINKA_POOL_ERROR_NOT_TOML] = {.status = ZUPHINKA_STATUS_NOT_TOML, .text = "the settings are not a TOML document"},
-    [ZUPHINKA_POOL_ERROR_UNKNOWN_KEY] = {.status = ZUPHINKA_STATUS_UNKNOWN_KEY, .text = "the settings have an unknown key"},
-    [ZUPHINKA_POOL_ERROR_WRONG_TYPE] = {.status = ZUPHINKA_STATUS_WRONG_TYPE, .text = "a value in the settings has the wrong type"},
-    [ZUPHINKA_POOL_ERROR_OUT_OF_RANGE] = {.status = ZUPHINKA_STATUS_OUT_OF_RANGE, .text = "a number in the settings is out of range"},
+    [ZUPHINKA_POOL_ERROR_NOT_TEXT] = {.text = "the settings are not UTF-8", .status = ZUPHINKA_STATUS_NOT_TEXT},
+    [ZUPHINKA_POOL_ERROR_NOT_TOML] = {.text = "the settings are not a TOML document", .status = ZUPHINKA_STATUS_NOT_TOML},
+    [ZUPHINKA_POOL_ERROR_UNKNOWN_KEY] = {.text = "the settings have an unknown key", .status = ZUPHINKA_STATUS_UNKNOWN_KEY},
+    [ZUPHINKA_POOL_ERROR_WRONG_TYPE] = {.text = "a value in the settings has the wrong type", .status = ZUPHINKA_STATUS_WRONG_TYPE},
+    [ZUPHINKA_POOL_ERROR_OUT_OF_RANGE] = {.text = "a number in the settings is out of range", .status = ZUPHINKA_STATUS_OUT_OF_RANGE},
     [ZUPHINKA_POOL_ERROR_NULL_POINTER] = {.text = "a pointer is null"},
     [ZUPHINKA_POOL_ERROR_UNKNOWN_JOURNAL] = {.text = "the journal has no such use"},
     [ZUPHINKA_POOL_ERROR_FOREIGN] = {.text = "the object is not one of the pool's"},
@@ -141,15 +139,10 @@ static int64_t after(uint64_t milliseconds) {
 
 /* Returns the time by the pool's clock, without the lock. */
 static struct moment time_of(const struct zuphinka_pool *pool) {
-  struct moment now;
-  if (pool->host.now) {
-    now.milliseconds = pool->host.now(pool->host.context);
-    now.nanoseconds = now.milliseconds * (uint64_t)MILLISECOND;
-  } else {
-    now.nanoseconds = (uint64_t)(monotonic() - pool->opened);
-    now.milliseconds = now.nanoseconds / (uint64_t)MILLISECOND;
-  }
-  return now;
+  uint64_t passed = (uint64_t)(monotonic() - pool->opened);
+  if (!pool->host.now) return (struct moment){passed / (uint64_t)MILLISECOND, passed};
+  uint64_t now = pool->host.now(pool->host.context);
+  return (struct moment){now, now * (uint64_t)MILLISECOND};
 }
 
 uint32_t zuphinka_pool_caller(void) {
@@ -165,11 +158,10 @@ uint32_t zuphinka_pool_caller(void) {
 static bool pause_once(int64_t began, int64_t end) {
   int64_t now = monotonic(), until = least(now + least(now - began + FIRST_PAUSE, LONGEST_PAUSE), end);
   if (now >= end) return false;
-  while (now < until) {
+  while (monotonic() < until) {
 #ifdef __x86_64__
     __builtin_ia32_pause();
 #endif
-    now = monotonic();
   }
   return true;
 }
@@ -184,57 +176,20 @@ static void lock(struct zuphinka_pool *pool) {
   pthread_mutex_lock(&pool->lock);
 }
 
-/* Lets the lock go, and only then signals the condition that is to be: so that a thread that wakes finds the lock free. */
-static void unlock(struct zuphinka_pool *pool) {
-  struct condition *woken = pool->woken;
-  pool->woken = NULL;
-  pthread_mutex_unlock(&pool->lock);
-  if (woken) pthread_cond_broadcast(&woken->changed);
-}
+static void unlock(struct zuphinka_pool *pool) { pthread_mutex_unlock(&pool->lock); }
 
-/* Reads the clock with the lock held. A clock of the host's runs without it. */
-static struct moment time_under_lock(struct zuphinka_pool *pool) {
-  if (!pool->host.now) return time_of(pool);
-  unlock(pool);
-  struct moment at = time_of(pool);
-  lock(pool);
-  return at;
-}
+static struct condition *condition_of(struct zuphinka_pool *pool, uint64_t ticket) { return &pool->conditions[ticket % CUT]; }
 
-/* Has a condition signalled once the lock is let go, or none if it is null, and signals the one before it at once; with the lock held. */
-static void wake(struct zuphinka_pool *pool, struct condition *condition) {
-  if (pool->woken) pthread_cond_broadcast(&pool->woken->changed);
-  if (condition) condition->wakes++;
-  pool->woken = condition;
+/* Wakes all threads that sleep on a condition, with the lock held. */
+static void wake(struct condition *condition) {
+  condition->wakes++;
+  pthread_cond_broadcast(&condition->changed);
 }
 
 /* Sleeps until a condition is signalled or a time is reached, with the lock held before and after. Returns whether it is not reached. */
 static bool sleep_on(struct zuphinka_pool *pool, struct condition *condition, int64_t end) {
-  struct timespec time = {.tv_sec = (time_t)(end / SECOND), .tv_nsec = (long)(end % SECOND)};
-  wake(pool, NULL);
-  if (end == NEVER) return pthread_cond_wait(&condition->changed, &pool->lock) == 0;
-  return pthread_cond_timedwait(&condition->changed, &pool->lock, &time) == 0;
-}
-
-/* Returns what is true of a pool, with the lock held. */
-static struct zuphinka_activity state_of(struct zuphinka_pool *pool) {
-  struct zuphinka_activity state = {.running = 0};
-  zuphinka_state(&pool->core, &state);
-  return state;
-}
-
-/* Notes what the clock says to a call. */
-static void set_time(struct run *run, struct moment at) {
-  run->at = at;
-  run->event.at = at.milliseconds;
-}
-
-/* A call begins now. It lacks memory if it does not get on. */
-static void begin_run(const struct zuphinka_pool *pool, struct run *run) {
-  run->next.end = ZUPHINKA_END_OUT_OF_MEMORY;
-  run->first = time_of(pool);
-  run->start.at = run->first.milliseconds;
-  set_time(run, run->first);
+  struct timespec time = {.tv_sec = end / SECOND, .tv_nsec = end % SECOND};
+  return pthread_cond_clockwait(&condition->changed, &pool->lock, CLOCK_MONOTONIC, &time) == 0;
 }
 
 /* Returns when the wait of a call ends, by the settings or by its caller. */
@@ -243,26 +198,27 @@ static int64_t end_of_wait(const struct run *run) {
   return least(run->limit, after(run->next.until > run->event.at ? run->next.until - run->event.at : 0));
 }
 
-/* Pauses until a condition has had more than so many wakes, since a short loan ends meanwhile; with the lock held before and after. There is no pause
- * if the threads that have an object or are in a call need all processors: it would keep one of them from running. */
-static void pause_until_woken(struct zuphinka_pool *pool, const struct condition *condition, uint64_t wakes, int64_t end) {
-  struct zuphinka_tally counts = {.lent = 0};
-  int64_t began = monotonic();
-  zuphinka_counts(&pool->core, &counts);
-  if (counts.lent + state_of(pool).running > pool->processors) return;
-  unlock(pool);
-  while (condition->wakes == wakes && pause_once(began, least(began + ALL_PAUSES, end))) continue;
-  lock(pool);
+/* Returns what is true of a pool at one time, with the lock held. */
+static struct snapshot look(struct zuphinka_pool *pool) {
+  struct snapshot seen = {.measures = pool->measures, .is_low = zuphinka_is_low(&pool->core, pool->quarter)};
+  zuphinka_counts(&pool->core, &seen.counts);
+  zuphinka_state(&pool->core, &seen.state);
+  return seen;
 }
 
-/* Pauses, and then sleeps until a call is woken or its wait ends, with the lock held before and after. Returns the report. */
-static uint32_t wait_for_wake(struct zuphinka_pool *pool, struct run *run) {
-  struct condition *condition = &pool->conditions[run->next.ticket % CUT];
-  if (run->limit <= monotonic()) return ZUPHINKA_REPORT_GIVEN_UP;
-  int64_t end = end_of_wait(run);
-  pause_until_woken(pool, condition, run->wakes, end);
+/* Waits until a call is woken or its wait ends, with the lock held before and after. Returns the report. It pauses before it sleeps, since a short
+ * loan ends meanwhile; but not if the threads that have an object or are in a call need all processors: it would keep one of them from running. */
+static uint32_t wait_for_wake(struct zuphinka_pool *pool, const struct run *run) {
+  struct condition *condition = condition_of(pool, run->next.ticket);
+  int64_t now = monotonic(), end = end_of_wait(run), end_of_pause = least(now + ALL_PAUSES, end);
+  if (run->limit <= now) return ZUPHINKA_REPORT_GIVEN_UP;
+  struct snapshot seen = look(pool);
+  if (seen.counts.lent + seen.state.running <= pool->processors) {
+    unlock(pool);
+    while (condition->wakes == run->wakes && pause_once(now, end_of_pause)) continue;
+    lock(pool);
+  }
   while (condition->wakes == run->wakes && sleep_on(pool, condition, end)) continue;
-  set_time(run, time_under_lock(pool));
   return ZUPHINKA_REPORT_WOKEN;
 }
 
@@ -299,96 +255,80 @@ static enum zuphinka_pool_error error_of_loan(const struct zuphinka_pool *pool, 
 
 /* ---- segments */
 
-static void free_text(struct segment *segment) {
-  free(segment->text);
-  *segment = (struct segment){.text = NULL};
-}
-
 /* Copies the next line of the base or of the journal, with the lock held. Returns its status: after the last one ZUPHINKA_STATUS_NO_ENTRY. */
-static uint32_t copy_line(struct zuphinka_pool *pool, struct segment *segment) {
+static uint32_t copy_line(struct zuphinka_pool *pool, struct segment *segment, size_t capacity) {
   char *end = segment->text + segment->size;
-  uint64_t left = segment->capacity - segment->size, size = 0, *lines = &segment->base;
+  uint64_t left = capacity - segment->size, size = 0, *lines = &segment->base;
   uint32_t status = zuphinka_base(&pool->core, *lines, end, left, &size);
-  if (status == ZUPHINKA_STATUS_NO_ENTRY) {
-    lines = &segment->entries;
-    status = zuphinka_line(&pool->core, *lines, end, left, &size);
-  }
+  if (status == ZUPHINKA_STATUS_NO_ENTRY) status = zuphinka_line(&pool->core, *(lines = &segment->entries), end, left, &size);
   if (status != ZUPHINKA_STATUS_DONE) return status;
   segment->size += size;
   ++*lines;
   return status;
 }
 
-/* Copies lines in one critical section, MOST_LINES at most, and cuts the journal after the last one. Returns whether it is cut. A pool that drops
- * entries would drop some between two sections, so all of its lines are copied in one. */
-static bool copy_part(struct zuphinka_pool *pool, struct segment *segment) {
-  struct zuphinka_tally counts = {.steps = 0};
-  bool is_whole = pool->journal == ZUPHINKA_POOL_JOURNAL_OFF;
-  uint32_t status = ZUPHINKA_STATUS_DONE;
-  if (segment->capacity - segment->size < LONGEST_PART) {
-    size_t capacity = 2 * (segment->size + LONGEST_PART);
-    char *text = realloc(segment->text, capacity);
-    if (!text) return false;
-    segment->text = text;
-    segment->capacity = capacity;
-  }
-  lock(pool);
-  if (is_whole) *segment = (struct segment){.text = segment->text, .capacity = segment->capacity};
-  for (int lines = 0; status == ZUPHINKA_STATUS_DONE && (is_whole || lines < MOST_LINES); lines++) status = copy_line(pool, segment);
-  bool is_cut = status == ZUPHINKA_STATUS_NO_ENTRY && zuphinka_cut(&pool->core) == ZUPHINKA_STATUS_DONE;
-  pool->cuts += is_cut;
-  zuphinka_counts(&pool->core, &counts);
-  segment->first = counts.steps - segment->entries;
-  unlock(pool);
-  return is_cut;
-}
-
-/* Cuts the stored entries off: they are the unstored segment then. Each line allocates, and other threads may free memory until the next try. */
+/* Copies the base and the stored entries, and cuts them off: they are the unstored segment then. A critical section is for MOST_LINES lines at most.
+ * A pool that drops entries would drop some between two sections, so all of its lines are copied in one. Each line allocates, and other threads may
+ * free memory until the next try. */
 static enum zuphinka_pool_error copy_segment(struct zuphinka_pool *pool) {
-  struct segment *segment = &pool->unstored;
-  bool is_cut = false;
-  for (int failures = 0; failures < TRIES && !is_cut;) {
-    size_t before = segment->size;
-    is_cut = copy_part(pool, segment);
-    failures = segment->size > before ? 0 : failures + 1;
+  struct segment segment = {.text = NULL};
+  bool is_whole = pool->journal == ZUPHINKA_POOL_JOURNAL_OFF, is_cut = false;
+  for (int failures = 0; failures < TRIES && !is_cut; failures++) {
+    size_t before = segment.size, capacity = 2 * (before + MOST_LINES * ZUPHINKA_LONGEST_LINE);
+    char *text = realloc(segment.text, capacity);
+    uint32_t status = ZUPHINKA_STATUS_DONE;
+    if (!text) continue;
+    segment.text = text;
+    lock(pool);
+    if (is_whole) segment = (struct segment){.text = text};
+    for (int lines = 0; status == ZUPHINKA_STATUS_DONE && (is_whole || lines < MOST_LINES); lines++) status = copy_line(pool, &segment, capacity);
+    is_cut = status == ZUPHINKA_STATUS_NO_ENTRY && zuphinka_cut(&pool->core) == ZUPHINKA_STATUS_DONE;
+    pool->cuts += is_cut;
+    segment.first = look(pool).counts.steps - segment.entries;
+    unlock(pool);
+    if (segment.size > before) failures = -1;
   }
-  if (!is_cut) free_text(segment);
+  if (is_cut) pool->unstored = segment;
+  else free(segment.text);
   return is_cut ? ZUPHINKA_POOL_ERROR_NONE : ZUPHINKA_POOL_ERROR_OUT_OF_MEMORY;
 }
 
-/* Passes the unstored segment to the host, and adds its entries to `entries`, unless it is null. */
-static enum zuphinka_pool_error store_segment(struct zuphinka_pool *pool, zuphinka_pool_store *store, void *context, uint64_t *entries) {
-  struct segment *segment = &pool->unstored;
-  if (!segment->text) return ZUPHINKA_POOL_ERROR_NONE;
-  if (!store(context, segment->first, segment->text, segment->size)) return ZUPHINKA_POOL_ERROR_STORE_FAILED;
-  if (entries) *entries += segment->entries;
-  free_text(segment);
-  return ZUPHINKA_POOL_ERROR_NONE;
-}
-
-/* Stores the unstored segment and then the journal, as the thread that cuts, with the lock held before and after, and not meanwhile. After an error
- * the next borrow that tries again is one that finds half of the room that is left. */
+/* Stores the unstored segment and then the journal, as the thread that cuts, with the lock held before and after, and not meanwhile. Adds the stored
+ * entries to `entries`, unless it is null. After an error the next borrow that tries again is one that finds half of the room that is left. */
 static enum zuphinka_pool_error cut_and_store(struct zuphinka_pool *pool, zuphinka_pool_store *store, void *context, uint64_t *entries) {
-  uint64_t stored = 0, room = 0;
-  zuphinka_steps(&pool->core, &stored);
+  struct segment *segment = &pool->unstored;
+  enum zuphinka_pool_error error = ZUPHINKA_POOL_ERROR_NONE;
+  uint64_t steps = 0, room = 0;
+  zuphinka_steps(&pool->core, &steps);
   pool->cutter = UINT64_C(1) + zuphinka_pool_caller();
   unlock(pool);
-  enum zuphinka_pool_error error = store_segment(pool, store, context, entries);
-  if (!error && stored > 0) error = copy_segment(pool);
-  if (!error) error = store_segment(pool, store, context, entries);
+  for (bool is_copied = steps == 0; !error && (segment->text || !is_copied);) {
+    if (!segment->text) {
+      error = copy_segment(pool);
+      is_copied = true;
+    } else if (store(context, segment->first, segment->text, segment->size)) {
+      if (entries) *entries += segment->entries;
+      free(segment->text);
+      segment->text = NULL;
+    } else {
+      error = ZUPHINKA_POOL_ERROR_STORE_FAILED;
+    }
+  }
   lock(pool);
   zuphinka_room(&pool->core, &room);
   pool->low = error && room / 2 < pool->quarter ? room / 2 : pool->quarter;
   pool->cutter = 0;
-  wake(pool, &pool->conditions[CUT]);
+  wake(&pool->conditions[CUT]);
   return error;
 }
 
-/* Stores the journal in time, or if one was not stored and is due; with the lock held before and after, and not meanwhile. */
-static void keep_room(struct zuphinka_pool *pool, uint64_t room, bool is_due) {
-  if (pool->journal != ZUPHINKA_POOL_JOURNAL_SEGMENTS || pool->cutter) return;
-  if (!(is_due && pool->unstored.text) && !zuphinka_is_low(&pool->core, room)) return;
-  cut_and_store(pool, pool->host.store, pool->host.context, NULL);
+/* Stores the journal in time for a borrow, or earlier for maintenance, which also tries a segment again that was not stored; with the lock held
+ * before and after, and not meanwhile. */
+static void keep_room(struct zuphinka_pool *pool, uint32_t kind) {
+  bool maintains = kind == ZUPHINKA_KIND_MAINTAIN;
+  if (pool->journal != ZUPHINKA_POOL_JOURNAL_SEGMENTS || pool->cutter || !(maintains || kind == ZUPHINKA_KIND_BORROW)) return;
+  bool is_due = maintains ? pool->unstored.text || zuphinka_is_low(&pool->core, 2 * pool->low) : zuphinka_is_low(&pool->core, pool->low);
+  if (is_due) cut_and_store(pool, pool->host.store, pool->host.context, NULL);
 }
 
 /* Sleeps while another thread cuts the journal, until `end` at most, with the lock held before and after. Returns whether none cuts any more. */
@@ -399,126 +339,118 @@ static bool wait_for_cut(struct zuphinka_pool *pool, int64_t end) {
 }
 
 /* Makes room in a full journal, with the lock held before and after. It waits for a cut as long as for an object. Returns the report. */
-static uint32_t make_room(struct zuphinka_pool *pool, struct run *run) {
+static uint32_t make_room(struct zuphinka_pool *pool, const struct run *run) {
   uint64_t cuts = pool->cuts;
   if (pool->journal != ZUPHINKA_POOL_JOURNAL_SEGMENTS) return ZUPHINKA_REPORT_NO_ROOM;
   if (wait_for_cut(pool, end_of_wait(run)) && pool->cuts == cuts) cut_and_store(pool, pool->host.store, pool->host.context, NULL);
-  set_time(run, time_under_lock(pool));
   return pool->cuts != cuts ? ZUPHINKA_REPORT_ROOM_MADE : ZUPHINKA_REPORT_NO_ROOM;
 }
 
 /* ---- the course of a call */
 
-/* Ends the program: the library answered what it never answers. */
-static _Noreturn void broken(const struct run *run, uint32_t status) {
-  fprintf(stderr, "zuphinka_pool: a call of kind %u has status %u, action %u and end %u\n", run->start.kind, status, run->next.action, run->next.end);
-  abort();
+/* A call begins now. It lacks memory if it does not get on. */
+static void begin_run(const struct zuphinka_pool *pool, struct run *run) {
+  run->next.end = ZUPHINKA_END_OUT_OF_MEMORY;
+  run->first = run->at = time_of(pool);
+  run->start.at = run->event.at = run->at.milliseconds;
+  run->start.caller = run->event.caller = zuphinka_pool_caller();
 }
 
 /* Returns the error of an end or of a status, the other of which is 0; or none. */
 static enum zuphinka_pool_error find_error(uint32_t end, uint32_t status) {
-  enum zuphinka_pool_error error = ZUPHINKA_POOL_ERROR_FOREIGN;
-  while (error > ZUPHINKA_POOL_ERROR_NONE && (errors[error].end != end || errors[error].status != status)) error--;
+  enum zuphinka_pool_error error = ZUPHINKA_POOL_ERROR_BUFFER_TOO_SMALL;
+  while (error > ZUPHINKA_POOL_ERROR_NONE && !(end && errors[error].end == end) && !(status && errors[error].status == status)) error--;
   return error;
 }
 
-/* Returns the error of a call that is over, with the lock held. A closed pool is closed, whatever a call lacks. */
+/* Returns the error of a call that is over, with the lock held. A closed pool is closed, whatever a call lacks. Ends the program if the library
+ * answered what it never answers. */
 static enum zuphinka_pool_error error_of_end(struct zuphinka_pool *pool, const struct run *run) {
   uint32_t kind = run->start.kind, end = run->next.end;
-  bool is_done = end == ZUPHINKA_END_LENT || end == ZUPHINKA_END_PARKED || end == ZUPHINKA_END_NOTED || end == ZUPHINKA_END_COMPLETE;
-  bool is_new = kind == ZUPHINKA_KIND_ADD || kind == ZUPHINKA_KIND_FILL; /* the object: only a pool that was closed meanwhile destroys it */
-  if (is_done) return ZUPHINKA_POOL_ERROR_NONE;
-  if (end == ZUPHINKA_END_DESTROYED) return is_new ? ZUPHINKA_POOL_ERROR_CLOSED : ZUPHINKA_POOL_ERROR_NONE;
-  if (end == ZUPHINKA_END_CANCELLED) return run->limit == AT_ONCE ? ZUPHINKA_POOL_ERROR_EXHAUSTED : ZUPHINKA_POOL_ERROR_TIMED_OUT;
-  bool lacks = end == ZUPHINKA_END_JOURNAL_FULL || end == ZUPHINKA_END_OUT_OF_MEMORY;
+  bool makes = kind == ZUPHINKA_KIND_ADD || kind == ZUPHINKA_KIND_FILL; /* an object, which only a pool that was closed meanwhile destroys */
   bool evicts = kind == ZUPHINKA_KIND_EVICT || kind == ZUPHINKA_KIND_MAINTAIN;
   bool fails_closed = kind == ZUPHINKA_KIND_BORROW || kind == ZUPHINKA_KIND_ADD || evicts;
-  if (lacks && fails_closed && state_of(pool).is_closed) return ZUPHINKA_POOL_ERROR_CLOSED;
+  bool is_done = end == ZUPHINKA_END_LENT || end == ZUPHINKA_END_PARKED || end == ZUPHINKA_END_NOTED || end == ZUPHINKA_END_COMPLETE;
+  if (is_done || (end == ZUPHINKA_END_DESTROYED && !makes)) return ZUPHINKA_POOL_ERROR_NONE;
+  if (end == ZUPHINKA_END_DESTROYED) return ZUPHINKA_POOL_ERROR_CLOSED;
+  if (end == ZUPHINKA_END_CANCELLED) return run->limit == AT_ONCE ? ZUPHINKA_POOL_ERROR_EXHAUSTED : ZUPHINKA_POOL_ERROR_TIMED_OUT;
   enum zuphinka_pool_error error = find_error(end, ZUPHINKA_STATUS_DONE);
-  if (end == ZUPHINKA_END_NONE || !error) broken(run, ZUPHINKA_STATUS_DONE);
-  return error;
+  bool lacks = error == ZUPHINKA_POOL_ERROR_JOURNAL_FULL || error == ZUPHINKA_POOL_ERROR_OUT_OF_MEMORY;
+  if (lacks && fails_closed && look(pool).state.is_closed) return ZUPHINKA_POOL_ERROR_CLOSED;
+  if (error) return error;
+  fprintf(stderr, "zuphinka_pool: a call of kind %u has action %u and end %u\n", kind, run->next.action, end);
+  abort();
 }
 
-/* Takes the next action of a call, with the lock held before and after, and not while a callback runs. Returns the report. */
+/* Takes the next action of a call, with the lock held before and not after, nor while a callback runs. Returns the report. */
 static uint32_t act(struct zuphinka_pool *pool, struct run *run) {
   const struct zuphinka_pool_host *host = &pool->host;
   void *context = host->context, *object = run->next.object;
-  uint32_t action = run->next.action, report = ZUPHINKA_REPORT_SUCCEEDED;
+  uint32_t action = run->next.action, report = ZUPHINKA_REPORT_GO_ON;
   bool succeeds = true;
-  if (action == ZUPHINKA_ACTION_SLEEP) return wait_for_wake(pool, run);
-  if (action == ZUPHINKA_ACTION_MAKE_ROOM) return make_room(pool, run);
-  if (action == ZUPHINKA_ACTION_GO_ON) report = ZUPHINKA_REPORT_GO_ON;
-  if (action == ZUPHINKA_ACTION_MAKE) report = ZUPHINKA_REPORT_MADE;
+  if (action == ZUPHINKA_ACTION_SLEEP) report = wait_for_wake(pool, run);
+  if (action == ZUPHINKA_ACTION_MAKE_ROOM) report = make_room(pool, run);
   unlock(pool);
   switch (action) {
-    case ZUPHINKA_ACTION_GO_ON: break;
-    case ZUPHINKA_ACTION_MAKE: succeeds = host->make(context, run->next.number, &run->event.object); break;
+    case ZUPHINKA_ACTION_MAKE: return host->make(context, run->next.number, &run->event.object) ? ZUPHINKA_REPORT_MADE : ZUPHINKA_REPORT_FAILED;
     case ZUPHINKA_ACTION_ACTIVATE: succeeds = host->activate(context, object); break;
     case ZUPHINKA_ACTION_VALIDATE: succeeds = host->validate(context, object); break;
     case ZUPHINKA_ACTION_PASSIVATE: succeeds = host->passivate(context, object); break;
     case ZUPHINKA_ACTION_DESTROY: host->destroy(context, object); break;
-    default: broken(run, ZUPHINKA_STATUS_DONE);
+    default: return report;
   }
-  set_time(run, time_of(pool));
-  lock(pool);
-  return succeeds ? report : ZUPHINKA_REPORT_FAILED;
+  return succeeds ? ZUPHINKA_REPORT_SUCCEEDED : ZUPHINKA_REPORT_FAILED;
 }
 
 /* Wakes the calls that may find something now, with the lock held. */
 static void wake_more(struct zuphinka_pool *pool) {
   uint64_t ticket;
-  while (zuphinka_next_wake(&pool->core, &ticket) == ZUPHINKA_STATUS_DONE) wake(pool, &pool->conditions[ticket % CUT]);
+  while (zuphinka_next_wake(&pool->core, &ticket) == ZUPHINKA_STATUS_DONE) wake(condition_of(pool, ticket));
 }
 
-/* Begins a call and goes on with it to its end, with the lock held before and after, and not while a callback runs. Returns its error. */
+/* Makes a borrow or a return that needs no callback and no wait, with the lock held. Returns whether it is over. */
+static inline bool run_at_once(struct zuphinka_pool *pool, struct run *run) {
+  struct zuphinka_loan loan = {run->start.id, run->start.object};
+  uint32_t status = ZUPHINKA_STATUS_NOT_AT_ONCE;
+  if (run->start.kind == ZUPHINKA_KIND_BORROW) status = zuphinka_lend(&pool->core, run->start.caller, run->start.at, &loan);
+  if (run->start.kind == ZUPHINKA_KIND_RETURN) status = zuphinka_take_back(&pool->core, run->start.caller, run->start.at, &loan);
+  if (status != ZUPHINKA_STATUS_DONE) return false;
+  run->next.number = loan.id;
+  run->next.object = loan.object;
+  wake_more(pool);
+  return true;
+}
+
+/* Makes a call from its beginning to its end, with the lock held before and after, and not while a callback runs. Returns its error. */
 static enum zuphinka_pool_error drive(struct zuphinka_pool *pool, struct run *run) {
   struct zuphinka_call call;
-  run->start.caller = run->event.caller = zuphinka_pool_caller();
   uint32_t status = zuphinka_begin(&pool->core, &run->start, &call, &run->next);
-  if (status == ZUPHINKA_STATUS_OUT_OF_MEMORY) return error_of_end(pool, run);
   while (status == ZUPHINKA_STATUS_DONE) {
-    if (run->next.action == ZUPHINKA_ACTION_SLEEP) run->wakes = pool->conditions[run->next.ticket % CUT].wakes;
-    if (run->next.has_wake) {
-      wake(pool, &pool->conditions[run->next.wake % CUT]);
-      wake_more(pool);
-    }
-    if (run->next.action == ZUPHINKA_ACTION_DONE) return error_of_end(pool, run);
+    if (run->next.action == ZUPHINKA_ACTION_SLEEP) run->wakes = condition_of(pool, run->next.ticket)->wakes;
+    if (run->next.has_wake) wake(condition_of(pool, run->next.wake));
+    if (run->next.has_wake) wake_more(pool);
+    if (run->next.action == ZUPHINKA_ACTION_DONE) break;
     run->event.report = act(pool, run);
+    run->at = time_of(pool);
+    run->event.at = run->at.milliseconds;
+    lock(pool);
     status = zuphinka_advance(&pool->core, &call, &run->event, &run->next);
   }
-  broken(run, status);
+  return error_of_end(pool, run);
 }
 
 /* ---- the calls */
-
-/* Lends an idle object, if that needs no callback and no wait. */
-static bool lend(struct zuphinka_pool *pool, struct run *run) {
-  struct zuphinka_loan loan;
-  if (zuphinka_lend(&pool->core, zuphinka_pool_caller(), run->start.at, &loan) != ZUPHINKA_STATUS_DONE) return false;
-  wake_more(pool);
-  run->next.number = loan.id;
-  run->next.object = loan.object;
-  return true;
-}
-
-/* Takes an object back, if that needs no callback, and wakes who may have it. */
-static bool take_back(struct zuphinka_pool *pool, const struct run *run) {
-  struct zuphinka_loan loan = {run->start.id, run->start.object};
-  if (zuphinka_take_back(&pool->core, zuphinka_pool_caller(), run->start.at, &loan) != ZUPHINKA_STATUS_DONE) return false;
-  wake_more(pool);
-  return true;
-}
 
 static enum zuphinka_pool_error borrow(struct zuphinka_pool *pool, int64_t limit, struct zuphinka_pool_loan *loan) {
   struct run run = {.start = {.kind = ZUPHINKA_KIND_BORROW}, .limit = limit};
   begin_run(pool, &run);
   uint64_t place = 0;
   lock(pool);
-  keep_room(pool, pool->low, false);
-  bool has_place = take_place(pool, &place);
+  keep_room(pool, ZUPHINKA_KIND_BORROW);
   enum zuphinka_pool_error error = ZUPHINKA_POOL_ERROR_NONE;
+  bool has_place = take_place(pool, &place);
   if (!has_place) error = error_of_end(pool, &run);
-  else if (!lend(pool, &run)) error = drive(pool, &run);
+  else if (!run_at_once(pool, &run)) error = drive(pool, &run);
   if (!error) {
     pool->places[place] = (struct place){.number = ++pool->last_loan, .lent_at = run.at.nanoseconds};
     *loan = (struct zuphinka_pool_loan){run.next.object, run.next.number, pool->number, place, pool->last_loan};
@@ -542,13 +474,13 @@ enum zuphinka_pool_error zuphinka_pool_get_timed(struct zuphinka_pool *pool, uin
 /* Ends a loan by a return or an invalidation. Meanwhile no copy of it is a loan. It has not ended if the call lacked something. */
 static enum zuphinka_pool_error end_loan(struct zuphinka_pool *pool, uint32_t kind, struct zuphinka_pool_loan *loan) {
   struct run run = {.start = {.id = loan->id, .object = loan->object, .kind = kind}, .limit = NEVER};
-  begin_run(pool, &run);
   uint64_t place = loan->place, number = loan->number;
+  begin_run(pool, &run);
   lock(pool);
   enum zuphinka_pool_error error = error_of_loan(pool, loan);
   if (!error) {
     pool->places[place].number = 0;
-    if (kind != ZUPHINKA_KIND_RETURN || !take_back(pool, &run)) error = drive(pool, &run);
+    if (!run_at_once(pool, &run)) error = drive(pool, &run);
     pool->places[place].number = number;
     if (!error) measure(&pool->measures.loans, pool->places[place].lent_at, run.first.nanoseconds);
     if (!error || error == ZUPHINKA_POOL_ERROR_GONE) {
@@ -568,97 +500,75 @@ enum zuphinka_pool_error zuphinka_pool_invalidate(struct zuphinka_pool *pool, st
   return end_loan(pool, ZUPHINKA_KIND_INVALIDATE, loan);
 }
 
-enum zuphinka_pool_error zuphinka_pool_touch(struct zuphinka_pool *pool, const struct zuphinka_pool_loan *loan) {
-  struct run run = {.start = {.id = loan->id, .kind = ZUPHINKA_KIND_TOUCH}, .limit = NEVER};
+/* Makes a call that begins and ends no loan, for one or, if it is null, for none. Stores what it came to. */
+static enum zuphinka_pool_error call(struct zuphinka_pool *pool, uint32_t kind, const struct zuphinka_pool_loan *loan,
+                                     struct zuphinka_effects *last) {
+  struct run run = {.start = {.id = loan ? loan->id : 0, .kind = kind}, .limit = NEVER};
   begin_run(pool, &run);
   lock(pool);
-  enum zuphinka_pool_error error = error_of_loan(pool, loan);
+  keep_room(pool, kind);
+  enum zuphinka_pool_error error = loan ? error_of_loan(pool, loan) : ZUPHINKA_POOL_ERROR_NONE;
   if (!error) error = drive(pool, &run);
-  unlock(pool);
-  return error;
-}
-
-/* Makes a call that is for no object. Stores what it came to. */
-static enum zuphinka_pool_error call(struct zuphinka_pool *pool, uint32_t kind, struct zuphinka_effects *last) {
-  struct run run = {.start = {.kind = kind}, .limit = NEVER};
-  begin_run(pool, &run);
-  lock(pool);
-  enum zuphinka_pool_error error = drive(pool, &run);
   unlock(pool);
   *last = run.next;
   return error;
 }
 
-/* Makes such a call, and stores its count, unless the pointer is null. */
-static enum zuphinka_pool_error call_and_count(struct zuphinka_pool *pool, uint32_t kind, uint64_t *count) {
+/* Makes such a call for no loan, and stores its count, unless the pointer is null. */
+static enum zuphinka_pool_error count_by(struct zuphinka_pool *pool, uint32_t kind, uint64_t *count) {
   struct zuphinka_effects last;
-  enum zuphinka_pool_error error = call(pool, kind, &last);
+  enum zuphinka_pool_error error = call(pool, kind, NULL, &last);
   if (count) *count = last.count;
   return error;
 }
 
-enum zuphinka_pool_error zuphinka_pool_add(struct zuphinka_pool *pool) { return call_and_count(pool, ZUPHINKA_KIND_ADD, NULL); }
+enum zuphinka_pool_error zuphinka_pool_touch(struct zuphinka_pool *pool, const struct zuphinka_pool_loan *loan) {
+  struct zuphinka_effects last;
+  return call(pool, ZUPHINKA_KIND_TOUCH, loan, &last);
+}
 
-enum zuphinka_pool_error zuphinka_pool_fill(struct zuphinka_pool *pool, uint64_t *filled) { return call_and_count(pool, ZUPHINKA_KIND_FILL, filled); }
+enum zuphinka_pool_error zuphinka_pool_add(struct zuphinka_pool *pool) { return count_by(pool, ZUPHINKA_KIND_ADD, NULL); }
+
+enum zuphinka_pool_error zuphinka_pool_fill(struct zuphinka_pool *pool, uint64_t *filled) { return count_by(pool, ZUPHINKA_KIND_FILL, filled); }
 
 enum zuphinka_pool_error zuphinka_pool_evict(struct zuphinka_pool *pool, struct zuphinka_pool_eviction *eviction) {
   struct zuphinka_effects last;
-  enum zuphinka_pool_error error = call(pool, ZUPHINKA_KIND_EVICT, &last);
+  enum zuphinka_pool_error error = call(pool, ZUPHINKA_KIND_EVICT, NULL, &last);
   if (eviction) *eviction = (struct zuphinka_pool_eviction){last.count, last.destroyed};
   return error;
 }
 
 enum zuphinka_pool_error zuphinka_pool_reclaim(struct zuphinka_pool *pool, uint64_t *reclaimed) {
-  return call_and_count(pool, ZUPHINKA_KIND_RECLAIM, reclaimed);
+  return count_by(pool, ZUPHINKA_KIND_RECLAIM, reclaimed);
 }
 
 enum zuphinka_pool_error zuphinka_pool_maintain(struct zuphinka_pool *pool, struct zuphinka_pool_maintenance *done) {
   struct zuphinka_effects last;
-  lock(pool);
-  keep_room(pool, 2 * pool->low, true);
-  unlock(pool);
-  enum zuphinka_pool_error error = call(pool, ZUPHINKA_KIND_MAINTAIN, &last);
+  enum zuphinka_pool_error error = call(pool, ZUPHINKA_KIND_MAINTAIN, NULL, &last);
   if (done) *done = (struct zuphinka_pool_maintenance){{last.count, last.destroyed}, last.reclaimed, last.filled};
   return error;
 }
 
 enum zuphinka_pool_error zuphinka_pool_clear(struct zuphinka_pool *pool, uint64_t *destroyed) {
-  return call_and_count(pool, ZUPHINKA_KIND_CLEAR, destroyed);
+  return count_by(pool, ZUPHINKA_KIND_CLEAR, destroyed);
 }
 
 uint64_t zuphinka_pool_close(struct zuphinka_pool *pool) {
   uint64_t destroyed = 0;
-  if (pool->process == getpid()) call_and_count(pool, ZUPHINKA_KIND_CLOSE, &destroyed);
+  if (pool->process == getpid()) count_by(pool, ZUPHINKA_KIND_CLOSE, &destroyed);
   return destroyed;
 }
 
-bool zuphinka_pool_is_closed(struct zuphinka_pool *pool) {
+static struct snapshot snapshot_of(struct zuphinka_pool *pool) {
   lock(pool);
-  bool is_closed = state_of(pool).is_closed;
+  struct snapshot seen = look(pool);
   unlock(pool);
-  return is_closed;
+  return seen;
 }
 
-void zuphinka_pool_counts(struct zuphinka_pool *pool, struct zuphinka_tally *counts) {
-  lock(pool);
-  zuphinka_counts(&pool->core, counts);
-  unlock(pool);
-}
-
-static void take_snapshot(struct zuphinka_pool *pool, struct snapshot *snapshot) {
-  lock(pool);
-  snapshot->measures = pool->measures;
-  snapshot->waiting = state_of(pool).waiting;
-  zuphinka_counts(&pool->core, &snapshot->counts);
-  unlock(pool);
-}
-
-bool zuphinka_pool_is_low(struct zuphinka_pool *pool) {
-  lock(pool);
-  bool is_low = zuphinka_is_low(&pool->core, pool->quarter);
-  unlock(pool);
-  return is_low;
-}
+bool zuphinka_pool_is_closed(struct zuphinka_pool *pool) { return snapshot_of(pool).state.is_closed; }
+bool zuphinka_pool_is_low(struct zuphinka_pool *pool) { return snapshot_of(pool).is_low; }
+void zuphinka_pool_counts(struct zuphinka_pool *pool, struct zuphinka_tally *counts) { *counts = snapshot_of(pool).counts; }
 
 enum zuphinka_pool_error zuphinka_pool_cut(struct zuphinka_pool *pool, zuphinka_pool_store *store, void *context, uint64_t *entries) {
   if (entries) *entries = 0;
@@ -670,25 +580,8 @@ enum zuphinka_pool_error zuphinka_pool_cut(struct zuphinka_pool *pool, zuphinka_
 
 /* ---- the pool */
 
-static void close_locks(struct zuphinka_pool *pool, int conditions) {
-  while (conditions > 0) pthread_cond_destroy(&pool->conditions[--conditions].changed);
-  pthread_mutex_destroy(&pool->lock);
-}
-
-/* Makes the lock and the conditions, all or nothing. */
-static bool open_locks(struct zuphinka_pool *pool) {
-  pthread_condattr_t attributes;
-  int conditions = 0;
-  if (pthread_condattr_init(&attributes) != 0) return false;
-  bool has_lock = pthread_condattr_setclock(&attributes, CLOCK_MONOTONIC) == 0 && pthread_mutex_init(&pool->lock, NULL) == 0;
-  while (has_lock && conditions < CONDITIONS && pthread_cond_init(&pool->conditions[conditions].changed, &attributes) == 0) conditions++;
-  pthread_condattr_destroy(&attributes);
-  if (has_lock && conditions < CONDITIONS) close_locks(pool, conditions);
-  return conditions == CONDITIONS;
-}
-
-/* Opens the core and the locks of a pool whose callbacks are set. */
-static enum zuphinka_pool_error open_parts(struct zuphinka_pool *pool, const char *settings, size_t length) {
+/* Opens the core of a pool whose callbacks are set. */
+static enum zuphinka_pool_error open_core(struct zuphinka_pool *pool, const char *settings, size_t length) {
   const struct zuphinka_pool_host *host = &pool->host;
   struct zuphinka_options options = {.pool = pool->number,
                                      .max_overtakes = host->max_overtakes ? host->max_overtakes : MOST_OVERTAKES,
@@ -700,18 +593,32 @@ static enum zuphinka_pool_error open_parts(struct zuphinka_pool *pool, const cha
   uint64_t room = 0;
   if (host->is_fair) options.max_overtakes = 0;
   uint32_t status = zuphinka_open_with(&pool->core, settings, length, &options);
-  enum zuphinka_pool_error error = find_error(ZUPHINKA_END_NONE, status);
-  if (status != ZUPHINKA_STATUS_DONE) return error ? error : ZUPHINKA_POOL_ERROR_OUT_OF_MEMORY;
-  if (!open_locks(pool)) {
-    zuphinka_drop(&pool->core);
-    return ZUPHINKA_POOL_ERROR_NO_LOCK;
-  }
   zuphinka_room(&pool->core, &room);
   pool->low = pool->quarter = (room + 1) / 4; /* the entry of the close is set aside */
   pool->processors = sched_getaffinity(0, sizeof processors, &processors) == 0 ? (uint64_t)CPU_COUNT(&processors) : CPU_SETSIZE;
   pool->opened = monotonic();
   pool->last_loan = UINT64_C(1) << 63;
-  return ZUPHINKA_POOL_ERROR_NONE;
+  return find_error(ZUPHINKA_END_NONE, status);
+}
+
+static void close_conditions(struct zuphinka_pool *pool, int count) {
+  while (count > 0) pthread_cond_destroy(&pool->conditions[--count].changed);
+}
+
+/* Makes the conditions, all or nothing. */
+static bool open_conditions(struct zuphinka_pool *pool) {
+  int count = 0;
+  while (count < CONDITIONS && pthread_cond_init(&pool->conditions[count].changed, NULL) == 0) count++;
+  if (count < CONDITIONS) close_conditions(pool, count);
+  return count == CONDITIONS;
+}
+
+/* Frees the memory of a pool, except for its objects. */
+static void free_pool(struct zuphinka_pool *pool) {
+  zuphinka_drop(&pool->core);
+  free(pool->unstored.text);
+  free(pool->places);
+  free(pool);
 }
 
 enum zuphinka_pool_error zuphinka_pool_open(struct zuphinka_pool **pool, const char *settings, size_t length, const struct zuphinka_pool_host *host,
@@ -723,41 +630,35 @@ enum zuphinka_pool_error zuphinka_pool_open(struct zuphinka_pool **pool, const c
   if (!host->make || !host->destroy || lacks_store) return ZUPHINKA_POOL_ERROR_MISSING_CALLBACK;
   struct zuphinka_pool *opened = malloc(sizeof *opened);
   if (!opened) return ZUPHINKA_POOL_ERROR_OUT_OF_MEMORY;
-  *opened = (struct zuphinka_pool){.host = *host, .journal = journal, .number = atomic_fetch_add(&numbered, 1) + 1, .process = getpid()};
-  enum zuphinka_pool_error error = open_parts(opened, settings, length);
-  if (!error) *pool = opened;
-  if (error) free(opened);
+  *opened = (struct zuphinka_pool){.host = *host, .journal = journal, .lock = PTHREAD_MUTEX_INITIALIZER};
+  opened->number = atomic_fetch_add(&numbered, 1) + 1;
+  opened->process = getpid();
+  enum zuphinka_pool_error error = open_core(opened, settings, length);
+  if (!error && !open_conditions(opened)) error = ZUPHINKA_POOL_ERROR_NO_LOCK;
+  if (error) free_pool(opened);
+  else *pool = opened;
   return error;
 }
 
-/* Frees the memory of a pool, except for its objects. */
-static void free_pool(struct zuphinka_pool *pool) {
-  zuphinka_drop(&pool->core);
-  free(pool->unstored.text);
-  free(pool->places);
-  free(pool);
-}
-
-/* Frees the copy of a pool in a forked process, unless another thread was in a call when it forked, whose work is unfinished for ever. */
-static enum zuphinka_pool_error free_copy(struct zuphinka_pool *pool) {
-  if (pthread_mutex_trylock(&pool->lock) != 0) return ZUPHINKA_POOL_ERROR_NONE;
-  bool is_finished = !pool->cutter && state_of(pool).running == 0;
-  pthread_mutex_unlock(&pool->lock);
-  if (is_finished) free_pool(pool);
-  return ZUPHINKA_POOL_ERROR_NONE;
+/* Returns whether no thread is in a call of the copy of a pool in a forked process: one of another thread is unfinished for ever. */
+static bool is_finished(struct zuphinka_pool *pool) {
+  return pthread_mutex_trylock(&pool->lock) == 0 && !pool->cutter && look(pool).state.running == 0;
 }
 
 enum zuphinka_pool_error zuphinka_pool_end(struct zuphinka_pool *pool) {
   enum zuphinka_pool_error error = ZUPHINKA_POOL_ERROR_NONE;
-  struct zuphinka_tally counts;
   if (!pool) return error;
-  if (pool->process != getpid()) return free_copy(pool);
-  if (!zuphinka_pool_is_closed(pool)) zuphinka_pool_close(pool);
-  zuphinka_pool_counts(pool, &counts);
-  if (counts.lent + counts.reserved > 0) return ZUPHINKA_POOL_ERROR_IN_USE;
-  if (pool->journal == ZUPHINKA_POOL_JOURNAL_SEGMENTS) error = zuphinka_pool_cut(pool, pool->host.store, pool->host.context, NULL);
-  if (error) return error;
-  close_locks(pool, CONDITIONS);
+  bool is_copy = pool->process != getpid();
+  if (is_copy && !is_finished(pool)) return error;
+  if (!is_copy) {
+    if (!zuphinka_pool_is_closed(pool)) zuphinka_pool_close(pool);
+    struct zuphinka_tally counts = snapshot_of(pool).counts;
+    if (counts.lent + counts.reserved > 0) return ZUPHINKA_POOL_ERROR_IN_USE;
+    if (pool->journal == ZUPHINKA_POOL_JOURNAL_SEGMENTS) error = zuphinka_pool_cut(pool, pool->host.store, pool->host.context, NULL);
+    if (error) return error;
+    close_conditions(pool, CONDITIONS);
+    pthread_mutex_destroy(&pool->lock);
+  }
   free_pool(pool);
   return error;
 }

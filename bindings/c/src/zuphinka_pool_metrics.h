@@ -1,4 +1,4 @@
-/* What both sources of the pool for threads measure, and its text in the OpenMetrics format. zuphinka_pool.h explains `zuphinka_pool_metrics`. */
+/* What the pool for threads measures, and its text in the OpenMetrics format. zuphinka_pool.h explains `zuphinka_pool_metrics`. */
 #ifndef ZUPHINKA_POOL_METRICS_H
 #define ZUPHINKA_POOL_METRICS_H
 
@@ -38,16 +38,17 @@ struct measures {
   uint64_t timeouts;
 };
 
-/* What the text says of a pool, all of one time. */
+/* What is true of a pool, all of one time, and its name in a text. */
 struct snapshot {
   struct measures measures;
   struct zuphinka_tally counts;
-  uint64_t waiting;
+  struct zuphinka_activity state;
+  bool is_low;
   const char *name;
 };
 
-/* Stores what is true of a pool. Each source has it. */
-static void take_snapshot(struct zuphinka_pool *pool, struct snapshot *snapshot);
+/* Returns what is true of a pool, without a name. */
+static struct snapshot snapshot_of(struct zuphinka_pool *pool);
 
 /* Counts the time between two readings of a clock; if it went back, as none. */
 static void measure(struct histogram *histogram, uint64_t begin, uint64_t end) {
@@ -151,7 +152,7 @@ static void put_samples(struct output *to, enum family family, const struct snap
   switch (family) {
     case IDLE: put_line(to, name, "", of->name, NULL, of->counts.idle); break;
     case LENT: put_line(to, name, "", of->name, NULL, of->counts.lent); break;
-    case WAITING: put_line(to, name, "", of->name, NULL, of->waiting); break;
+    case WAITING: put_line(to, name, "", of->name, NULL, of->state.waiting); break;
     case CREATED: put_line(to, name, "_total", of->name, NULL, of->counts.created); break;
     case DESTROYED: put_line(to, name, "_total", of->name, NULL, of->counts.destroyed + of->counts.reclaimed); break;
     case BORROWS: put_line(to, name, "_total", of->name, NULL, total(&of->measures.waits)); break;
@@ -180,7 +181,7 @@ static void put_family(struct output *to, enum family family, const struct snaps
 static struct snapshot *take_snapshots(const struct zuphinka_pool_named *pools, size_t count) {
   struct snapshot *snapshots = calloc(count + 1, sizeof *snapshots);
   for (size_t n = 0; snapshots && n < count; n++) {
-    take_snapshot(pools[n].pool, &snapshots[n]);
+    snapshots[n] = snapshot_of(pools[n].pool);
     snapshots[n].name = pools[n].name;
   }
   return snapshots;

@@ -1,14 +1,15 @@
 /*
- * The native methods of zuphinka.Core, over the C library of the core. Each is one critical section, or two steps with nothing between them. The
- * caller holds the lock of the pool.
+ * The native methods of zuphinka.Core, over the C library of the core. The caller holds the lock of the pool, and makes one of them in each critical
+ * section.
  *
- * A reply is one number: the answer, the cause << 8, and a value << 16. The value is the token that the core returned, or else the answer's number.
- * A status other than "done" is its negative code.
+ * A reply is one number: the action, the end << 8, flags << 16, and the token of the call's object << 24. A status other than "done" is its negative
+ * code. What else a caller may need is in the `struct details` of the pool, until the next call.
  */
 #define _GNU_SOURCE
 #include <jni.h>
 #include <pthread.h>
 #include <stdbool.h>
+#include <stddef.h>
 #include <stdlib.h>
 
 #include "zuphinka.h"
@@ -24,29 +25,48 @@ enum { SHORT_PART = 65536 };
 /* The bytes of stack that a call of the pool needs: HotSpot keeps 96 KiB for itself, and no section takes a quarter of the other 24. */
 enum { NEEDED_STACK = 120 * 1024 };
 
+/* The flags of a reply. */
+enum { HAS_WAKE = 1, HAS_UNTIL = 2 };
+
+/* How a pool works: which methods of the factory the core asks for, and whether objects may be reclaimed. */
+enum { ACTIVATES = 1, VALIDATES = 2, PASSIVATES = 4, RECLAIMS = 8 };
+
 typedef uint32_t line_printer(struct zuphinka *, uint64_t, char *, size_t, uint64_t *);
 
-static struct zuphinka *pool_at(jlong handle) { return (struct zuphinka *)(intptr_t)handle; }
+/* What Java reads of the last reply, by the offsets in zuphinka.Core. */
+struct details {
+  uint64_t place, number; /* of the call in progress */
+  uint64_t object;        /* the id of the object that the action is for */
+  uint64_t ticket, until, wake;
+  uint64_t entries;   /* that the journal stores */
+  uint64_t reclaimed; /* how many objects were reclaimed so far; 0 if none can be */
+};
 
-static jlong step(jlong handle, const struct zuphinka_request *request, struct zuphinka_reply *reply) {
-  return -(jlong)zuphinka_step(pool_at(handle), request, reply);
-}
+struct pool {
+  struct zuphinka core;
+  struct details details;
+  bool reclaims;
+};
 
-static jlong packed(const struct zuphinka_reply *reply) {
-  uint64_t value = reply->has_object ? (uint64_t)(uintptr_t)reply->object : reply->number;
-  return (jlong)(value << 16 | (uint64_t)reply->cause << 8 | reply->answer);
-}
+static struct pool *pool_at(jlong handle) { return (struct pool *)(intptr_t)handle; }
 
-/* Opens a pool by the text of its settings. Returns its handle, or a negative status. */
-JNIEXPORT jlong JNICALL Java_zuphinka_Core_open(JNIEnv *env, jclass class, jbyteArray settings) {
+static struct zuphinka *core_at(jlong handle) { return &pool_at(handle)->core; }
+
+/* Opens a pool that works as the flags say, and whose waiters are overtaken at most so often. Returns its handle, or a negative status. */
+JNIEXPORT jlong JNICALL Java_zuphinka_Core_open(JNIEnv *env, jclass class, jbyteArray settings, jint flags, jlong overtakes) {
   (void)class;
+  struct zuphinka_options options = {.max_overtakes = (uint64_t)overtakes,
+                                     .activates = flags & ACTIVATES,
+                                     .validates = flags & VALIDATES,
+                                     .passivates = flags & PASSIVATES};
   jsize length = (*env)->GetArrayLength(env, settings);
-  struct zuphinka *pool = calloc(1, sizeof *pool);
+  struct pool *pool = calloc(1, sizeof *pool);
   char *text = malloc((size_t)length + 1);
   uint32_t status = ZUPHINKA_STATUS_OUT_OF_MEMORY;
   if (pool && text) {
     (*env)->GetByteArrayRegion(env, settings, 0, length, (jbyte *)text);
-    status = zuphinka_open(pool, text, (size_t)length);
+    pool->reclaims = flags & RECLAIMS;
+    status = zuphinka_open_with(&pool->core, text, (size_t)length, &options);
   }
   free(text);
   if (status == ZUPHINKA_STATUS_DONE) return (jlong)(intptr_t)pool;
@@ -57,8 +77,14 @@ JNIEXPORT jlong JNICALL Java_zuphinka_Core_open(JNIEnv *env, jclass class, jbyte
 /* Frees a pool. */
 JNIEXPORT void JNICALL Java_zuphinka_Core_drop(JNIEnv *env, jclass class, jlong handle) {
   (void)env, (void)class;
-  zuphinka_drop(pool_at(handle));
+  zuphinka_drop(core_at(handle));
   free(pool_at(handle));
+}
+
+/* Returns the details of a pool, which are valid until it is freed; null if there is no memory for the buffer. */
+JNIEXPORT jobject JNICALL Java_zuphinka_Core_details(JNIEnv *env, jclass class, jlong handle) {
+  (void)class;
+  return (*env)->NewDirectByteBuffer(env, &pool_at(handle)->details, sizeof(struct details));
 }
 
 /* Returns the lowest address of the thread's stack; null if the system does not know it. */
@@ -80,70 +106,132 @@ JNIEXPORT jboolean JNICALL Java_zuphinka_Core_hasStack(JNIEnv *env, jclass class
   return (char *)__builtin_frame_address(0) - lowest >= NEEDED_STACK;
 }
 
-/* Takes one step. */
-JNIEXPORT jlong JNICALL Java_zuphinka_Core_step(JNIEnv *env, jclass class, jlong handle, jlong at, jlong number, jlong token, jint caller,
-                                                jint input, jint outcome) {
+/* Stores the details of effects, and returns the reply. */
+static jlong reply(struct pool *pool, const struct zuphinka_effects *effects) {
+  struct details *details = &pool->details;
+  details->object = effects->number;
+  details->ticket = effects->ticket;
+  details->until = effects->until;
+  details->wake = effects->wake;
+  zuphinka_steps(&pool->core, &details->entries);
+  if (pool->reclaims) {
+    struct zuphinka_tally counts;
+    zuphinka_counts(&pool->core, &counts);
+    details->reclaimed = counts.reclaimed;
+  }
+  uint64_t flags = (effects->has_wake ? HAS_WAKE : 0) | (effects->has_until ? HAS_UNTIL : 0);
+  return (jlong)((uint64_t)(uintptr_t)effects->object << 24 | flags << 16 | (uint64_t)effects->end << 8 | effects->action);
+}
+
+/* Begins a call. */
+JNIEXPORT jlong JNICALL Java_zuphinka_Core_begin(JNIEnv *env, jclass class, jlong handle, jlong at, jlong id, jlong token, jint caller, jint kind) {
+  (void)env, (void)class;
+  struct pool *pool = pool_at(handle);
+  struct zuphinka_start start = {.at = (uint64_t)at,
+                                 .id = (uint64_t)id,
+                                 .object = (void *)(uintptr_t)token,
+                                 .caller = (uint32_t)caller,
+                                 .kind = (uint32_t)kind};
+  struct zuphinka_call call = {.place = 0};
+  struct zuphinka_effects effects;
+  uint32_t status = zuphinka_begin(&pool->core, &start, &call, &effects);
+  if (status != ZUPHINKA_STATUS_DONE) return -(jlong)status;
+  pool->details.place = call.place;
+  pool->details.number = call.number;
+  return reply(pool, &effects);
+}
+
+/* Goes on with a call in progress after a report. */
+JNIEXPORT jlong JNICALL Java_zuphinka_Core_advance(JNIEnv *env, jclass class, jlong handle, jlong place, jlong number, jlong at, jlong token,
+                                                   jint caller, jint report) {
+  (void)env, (void)class;
+  struct pool *pool = pool_at(handle);
+  struct zuphinka_call call = {.place = (uint64_t)place, .number = (uint64_t)number};
+  struct zuphinka_event event = {
+      .at = (uint64_t)at, .object = (void *)(uintptr_t)token, .caller = (uint32_t)caller, .report = (uint32_t)report};
+  struct zuphinka_effects effects;
+  uint32_t status = zuphinka_advance(&pool->core, &call, &event, &effects);
+  return status == ZUPHINKA_STATUS_DONE ? reply(pool, &effects) : -(jlong)status;
+}
+
+/* Lends an idle object at once, and returns its token; or a negative status, and the borrow is to be begun. */
+JNIEXPORT jlong JNICALL Java_zuphinka_Core_lend(JNIEnv *env, jclass class, jlong handle, jlong at, jint caller) {
+  (void)env, (void)class;
+  struct zuphinka_loan loan;
+  uint32_t status = zuphinka_lend(core_at(handle), (uint32_t)caller, (uint64_t)at, &loan);
+  return status == ZUPHINKA_STATUS_DONE ? (jlong)(uintptr_t)loan.object : -(jlong)status;
+}
+
+/* Takes an object back at once. Returns whether it did; otherwise the return is to be begun. */
+JNIEXPORT jboolean JNICALL Java_zuphinka_Core_takeBack(JNIEnv *env, jclass class, jlong handle, jlong at, jlong id, jlong token, jint caller) {
+  (void)env, (void)class;
+  struct zuphinka_loan loan = {.id = (uint64_t)id, .object = (void *)(uintptr_t)token};
+  return zuphinka_take_back(core_at(handle), (uint32_t)caller, (uint64_t)at, &loan) == ZUPHINKA_STATUS_DONE;
+}
+
+/* Returns the ticket of the next call to wake, or a negative status. */
+JNIEXPORT jlong JNICALL Java_zuphinka_Core_nextWake(JNIEnv *env, jclass class, jlong handle) {
+  (void)env, (void)class;
+  uint64_t ticket;
+  uint32_t status = zuphinka_next_wake(core_at(handle), &ticket);
+  return status == ZUPHINKA_STATUS_DONE ? (jlong)ticket : -(jlong)status;
+}
+
+/* Returns how many objects are lent and calls are in progress. */
+JNIEXPORT jlong JNICALL Java_zuphinka_Core_busy(JNIEnv *env, jclass class, jlong handle) {
+  (void)env, (void)class;
+  struct zuphinka_tally counts = {.lent = 0};
+  struct zuphinka_activity activity = {.running = 0};
+  zuphinka_counts(core_at(handle), &counts);
+  zuphinka_state(core_at(handle), &activity);
+  return (jlong)(counts.lent + activity.running);
+}
+
+/* Returns whether the object with this id is lent. */
+JNIEXPORT jboolean JNICALL Java_zuphinka_Core_isLent(JNIEnv *env, jclass class, jlong handle, jlong id) {
+  (void)env, (void)class;
+  bool is_lent = false;
+  zuphinka_is_lent(core_at(handle), (uint64_t)id, &is_lent);
+  return is_lent;
+}
+
+/* Sets how often a waiter is overtaken at most. Returns the bound, which is greater while one waits that was overtaken more often. */
+JNIEXPORT jlong JNICALL Java_zuphinka_Core_setOvertakes(JNIEnv *env, jclass class, jlong handle, jlong most) {
+  (void)env, (void)class;
+  uint64_t bound = (uint64_t)most;
+  zuphinka_set_overtakes(core_at(handle), (uint64_t)most, &bound);
+  return (jlong)bound;
+}
+
+/* Takes a step with an object. Returns its answer, or a negative status. */
+JNIEXPORT jint JNICALL Java_zuphinka_Core_step(JNIEnv *env, jclass class, jlong handle, jlong at, jlong id, jlong token, jint caller, jint input,
+                                               jint outcome) {
   (void)env, (void)class;
   struct zuphinka_request request = {.at = (uint64_t)at,
-                                     .number = (uint64_t)number,
+                                     .number = (uint64_t)id,
                                      .object = (void *)(uintptr_t)token,
                                      .caller = (uint32_t)caller,
                                      .input = (uint32_t)input,
                                      .outcome = (uint32_t)outcome};
   struct zuphinka_reply reply;
-  jlong status = step(handle, &request, &reply);
-  return status ? status : packed(&reply);
+  uint32_t status = zuphinka_step(core_at(handle), &request, &reply);
+  return status == ZUPHINKA_STATUS_DONE ? (jint)reply.answer : -(jint)status;
 }
 
-/* Lends an idle object by both steps of a borrow at once, if one that begins now would end so. Returns whether it did. */
-static bool lends_at_once(jlong handle, jlong at, jint caller, struct zuphinka_reply *reply) {
-  struct zuphinka_loan loan;
-  if (zuphinka_lend(pool_at(handle), (uint32_t)caller, (uint64_t)at, &loan) != ZUPHINKA_STATUS_DONE) return false;
-  *reply = (struct zuphinka_reply){.object = loan.object, .answer = ZUPHINKA_ANSWER_LENT, .has_object = true};
-  return true;
-}
-
-/* Borrows, and lends an idle object that needs no activation and no test at once: then the answer is Lent, with the token of the object. */
-JNIEXPORT jlong JNICALL Java_zuphinka_Core_borrow(JNIEnv *env, jclass class, jlong handle, jlong at, jlong began, jint caller) {
+/* Takes an idle object by the first step of a borrow that begins now, if more are idle than some that are tested, and no call waits. Returns its
+ * token; or a negative status, and the borrow is to be begun. */
+JNIEXPORT jlong JNICALL Java_zuphinka_Core_take(JNIEnv *env, jclass class, jlong handle, jlong at, jint caller, jint tested) {
   (void)env, (void)class;
-  struct zuphinka_request request = {
-      .at = (uint64_t)at, .number = (uint64_t)began, .caller = (uint32_t)caller, .input = ZUPHINKA_INPUT_BORROW};
-  struct zuphinka_reply reply, ready;
-  if (began == at && lends_at_once(handle, at, caller, &reply)) return packed(&reply);
-  jlong status = step(handle, &request, &reply);
-  if (status) return status;
-  if (reply.answer == ZUPHINKA_ANSWER_TAKE) {
-    request.input = ZUPHINKA_INPUT_READY;
-    request.number = reply.number;
-    request.outcome = ZUPHINKA_OUTCOME_GOOD;
-    status = step(handle, &request, &ready);
-    if (status) return status; /* never: journal room and memory are set aside for a completing step */
-    reply.answer = ready.answer;
-  }
-  return packed(&reply);
-}
-
-/* Takes an object back by both steps of a return at once, if that would end so. Returns whether it did. */
-static bool takes_back_at_once(jlong handle, jlong at, jlong id, jlong token, jint caller) {
-  struct zuphinka_loan loan = {.id = (uint64_t)id, .object = (void *)(uintptr_t)token};
-  return zuphinka_take_back(pool_at(handle), (uint32_t)caller, (uint64_t)at, &loan) == ZUPHINKA_STATUS_DONE;
-}
-
-/* Returns an object that needs no test and no passivation, and parks it. */
-JNIEXPORT jlong JNICALL Java_zuphinka_Core_giveBack(JNIEnv *env, jclass class, jlong handle, jlong at, jlong id, jlong token, jint caller) {
-  (void)env, (void)class;
-  struct zuphinka_request request = {
-      .at = (uint64_t)at, .number = (uint64_t)id, .caller = (uint32_t)caller, .input = ZUPHINKA_INPUT_RETURN};
+  struct zuphinka *core = core_at(handle);
+  struct zuphinka_activity activity = {.waiting = 1};
+  struct zuphinka_tally counts = {.idle = 0};
+  struct zuphinka_request request = {.at = (uint64_t)at, .number = (uint64_t)at, .caller = (uint32_t)caller, .input = ZUPHINKA_INPUT_BORROW};
   struct zuphinka_reply reply;
-  if (takes_back_at_once(handle, at, id, token, caller)) return ZUPHINKA_ANSWER_PARKED;
-  jlong status = step(handle, &request, &reply);
-  if (!status && reply.answer == ZUPHINKA_ANSWER_CHECK) {
-    request.input = ZUPHINKA_INPUT_PARK;
-    request.object = (void *)(uintptr_t)token;
-    request.outcome = ZUPHINKA_OUTCOME_GOOD;
-    status = step(handle, &request, &reply);
-  }
-  return status ? status : packed(&reply);
+  zuphinka_state(core, &activity);
+  zuphinka_counts(core, &counts);
+  if (activity.waiting > 0 || activity.is_closed || counts.idle <= (uint64_t)tested) return -(jlong)ZUPHINKA_STATUS_NOT_AT_ONCE;
+  uint32_t status = zuphinka_step(core, &request, &reply);
+  return status == ZUPHINKA_STATUS_DONE ? (jlong)(uintptr_t)reply.object : -(jlong)status;
 }
 
 /* Stores the counts in their order in `struct zuphinka_tally`, then the entries since the base, and the room of the journal. */
@@ -151,9 +239,9 @@ JNIEXPORT void JNICALL Java_zuphinka_Core_counts(JNIEnv *env, jclass class, jlon
   (void)class;
   struct zuphinka_tally counts;
   uint64_t steps = 0, room = 0;
-  zuphinka_counts(pool_at(handle), &counts);
-  zuphinka_steps(pool_at(handle), &steps);
-  zuphinka_room(pool_at(handle), &room);
+  zuphinka_counts(core_at(handle), &counts);
+  zuphinka_steps(core_at(handle), &steps);
+  zuphinka_room(core_at(handle), &room);
   jlong numbers[] = {(jlong)counts.steps,     (jlong)counts.idle,    (jlong)counts.lent,      (jlong)counts.reserved, (jlong)counts.created,
                      (jlong)counts.destroyed, (jlong)counts.evicted, (jlong)counts.reclaimed, (jlong)steps,           (jlong)room};
   (*env)->SetLongArrayRegion(env, to, 0, sizeof numbers / sizeof *numbers, numbers);
@@ -202,8 +290,8 @@ JNIEXPORT jbyteArray JNICALL Java_zuphinka_Core_part(JNIEnv *env, jclass class, 
   jbyteArray bytes = NULL;
   jlong next[2];
   (*env)->GetLongArrayRegion(env, numbers, 0, 2, next);
-  enum ending ending = append_lines(zuphinka_base, pool_at(handle), &next[0], &part);
-  if (ending == COMPLETE) ending = append_lines(zuphinka_line, pool_at(handle), &next[1], &part);
+  enum ending ending = append_lines(zuphinka_base, core_at(handle), &next[0], &part);
+  if (ending == COMPLETE) ending = append_lines(zuphinka_line, core_at(handle), &next[1], &part);
   if (ending != NO_MEMORY) {
     bytes = (*env)->NewByteArray(env, (jsize)part.length);
     if (bytes) {
@@ -218,5 +306,5 @@ JNIEXPORT jbyteArray JNICALL Java_zuphinka_Core_part(JNIEnv *env, jclass class, 
 /* Cuts the journal. Returns a status. */
 JNIEXPORT jint JNICALL Java_zuphinka_Core_cut(JNIEnv *env, jclass class, jlong handle) {
   (void)env, (void)class;
-  return -(jint)zuphinka_cut(pool_at(handle));
+  return -(jint)zuphinka_cut(core_at(handle));
 }

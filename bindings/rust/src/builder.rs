@@ -1,3 +1,5 @@
+//! The settings of a pool to be opened, one call for each, and its opening.
+
 use crate::clock::{Clock, GivenClock};
 use crate::contradictions::Chosen;
 use crate::error::{OpenError, SettingsError};
@@ -187,6 +189,12 @@ impl<M: Manager> Builder<M> {
     pub fn max_overtakes(mut self, times: u32) -> Builder<M> {
         self.max_overtakes = times;
         self
+    }
+
+    /// Sets whether those who wait are served in the order of arrival and nobody overtakes them (false), as `fairness` does in Commons Pool 2. It
+    /// sets the number of [`max_overtakes`](Builder::max_overtakes): 0 if the pool is fair, 64 otherwise.
+    pub fn fair(self, is_fair: bool) -> Builder<M> {
+        self.max_overtakes(if is_fair { 0 } else { DEFAULT_OVERTAKES })
     }
 
     /// Sets what becomes of the journal. The default is [`Journal::Off`].

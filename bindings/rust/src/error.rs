@@ -1,3 +1,5 @@
+//! Why a call of a pool failed, why a pool was not opened, and why settings were not read.
+
 use crate::escaped::Escaped;
 use crate::step::StepFault;
 use std::{error, fmt, io};

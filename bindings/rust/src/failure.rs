@@ -1,3 +1,5 @@
+//! The failures that no call returns.
+
 use crate::error::Error;
 use std::{error, fmt, io};
 

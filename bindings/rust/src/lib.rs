@@ -47,9 +47,9 @@
 //! A thread that waits, for an object or for the pool's lock, pauses for up to 25 µs before it sleeps, if a processor is left for it beside the
 //! threads that it waits for.
 //!
-//! A pool lends for ever: by default it drops the entries of its journal, a thousand or more at a time. [`Builder::journal`] keeps them in memory
-//! ([`Journal::Memory`]), or stores them in segments ([`Journal::Segments`]), which `pool check` checks as one journal. The call that finds
-//! a segment due stores it, also a borrow, a poll or a return; if the journal is full, calls wait for the thread that stores one.
+//! A pool never stops lending because its journal is full: by default it drops the entries, a thousand or more at a time. [`Builder::journal`] keeps
+//! them in memory ([`Journal::Memory`]), or stores them in segments ([`Journal::Segments`]), which `pool check` checks as one journal. The call that
+//! finds a segment due stores it, also a borrow, a poll or a return; if the journal is full, calls wait for the thread that stores one.
 //!
 //! **A forked child** that does not `exec` has copies of its parent's pools. It may drop their handles, and nothing else: a thread of the parent may
 //! have held a lock. Such a drop calls neither the manager nor the sink, and leaks the idle objects, which are the parent's. Forget guards there

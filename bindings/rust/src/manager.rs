@@ -1,3 +1,5 @@
+//! What a user implements: a manager makes, tests and destroys the objects of a pool.
+
 use std::future::Future;
 
 /// Makes, activates, validates, passivates and destroys the objects of a pool.

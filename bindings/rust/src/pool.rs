@@ -1,3 +1,5 @@
+//! The handles of a pool that threads share, with all calls of users, and its weak handles.
+
 use crate::builder::Builder;
 use crate::error::{Error, OpenError};
 use crate::get::Get;

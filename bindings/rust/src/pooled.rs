@@ -1,3 +1,5 @@
+//! The guard of a lent object, which returns it when it is dropped.
+
 use crate::error::Error;
 use crate::handle::Handle;
 use crate::lending::{Returned, Touched};

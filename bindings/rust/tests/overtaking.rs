@@ -152,7 +152,7 @@ fn a_waiter_that_is_gone_holds_nobody_up<const HOOKS: bool>() {
 }
 
 fn a_borrow_takes_what_is_left_beyond_the_waiters<const HOOKS: bool>() {
-    let pool = pool::<HOOKS>(2, |builder| builder.max_overtakes(0));
+    let pool = pool::<HOOKS>(2, |builder| builder.fair(true));
     let bell = Bell::new();
     let held = [(); 2].map(|()| pool.get().unwrap());
     let mut get = waiting(&pool, &bell);

@@ -259,6 +259,15 @@ fn a_pool_shows_each_setting() {
 }
 
 #[test]
+fn a_fair_pool_lets_nobody_overtake() {
+    for (is_fair, overtakes) in [(true, 0), (false, 64)] {
+        let builder = Pool::builder().max_overtakes(3).fair(is_fair);
+        let pool = builder.build(Numbers).unwrap();
+        assert_eq!(pool.max_overtakes(), overtakes);
+    }
+}
+
+#[test]
 fn a_pool_shows_the_defaults() {
     let pool = Pool::new(Numbers).unwrap();
     assert_eq!((pool.max_total(), pool.max_idle()), (Some(8), Some(8)));

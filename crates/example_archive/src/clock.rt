@@ -1,4 +1,5 @@
-// Times, by the system's clock.
+//! A clock that returns the milliseconds since its start, by the system's time.
+
 use pool_shared::Clock;
 use std::io;
 use std::time::Instant;

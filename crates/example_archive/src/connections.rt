@@ -1,4 +1,5 @@
-// The connections, and how they are made.
+//! The connections that the workers share, each of which lasts for a number of questions, and their factory.
+
 use pool_shared::Factory;
 use std::convert::Infallible;
 use std::thread;

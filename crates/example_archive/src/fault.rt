@@ -1,3 +1,5 @@
+//! The errors that end the work of the example early.
+
 use std::alloc::{AllocError, AllocFailed};
 use std::io;
 

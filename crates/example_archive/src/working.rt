@@ -1,4 +1,5 @@
-// The work of a worker.
+//! The work of a worker: requests over borrowed connections, and now and then a cut of the journal.
+
 use crate::Connections;
 use crate::archive::Archive;
 use crate::connections::Connection;

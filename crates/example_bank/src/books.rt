@@ -1,4 +1,5 @@
-// The bank's books: how a book is opened and closed, and the accounts in it, in SQL.
+//! The bank's books: how a book is opened and closed, and the accounts in it, in SQL.
+
 use sqlite::{Alter, Connection, Error, ErrorCode, File, FileStore, Transaction, params};
 
 /// The paths of the books. Each book has all accounts, and the balance of an account is the sum over the books.

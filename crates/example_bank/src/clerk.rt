@@ -1,4 +1,5 @@
-// The work of a clerk.
+//! The work of a clerk: orders, each over a borrowed connection, some of them with a mishap.
+
 use crate::Bank;
 use crate::books::Order;
 use crate::connections::Connected;

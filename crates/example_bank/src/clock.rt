@@ -1,4 +1,5 @@
-// Times, by the system's clock.
+//! A clock that returns the milliseconds since its start, by the system's time, and waits.
+
 use pool_shared::Clock;
 use std::time::{Duration, Instant};
 use std::{io, thread};

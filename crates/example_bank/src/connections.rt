@@ -1,4 +1,5 @@
-// The connections that the pool lends, and how they are opened, tested and closed.
+//! The connections that the pool lends, and how they are opened, tested and closed.
+
 use crate::books::{BOOKS, Book, Connect, Order};
 use pool_shared::Factory;
 use sqlite::{Alter, Connection, Error, ErrorCode};

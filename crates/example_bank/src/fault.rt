@@ -1,3 +1,5 @@
+//! The errors that end the day of the bank early.
+
 use sqlite::Error;
 use std::alloc::{AllocError, AllocFailed};
 use std::io;

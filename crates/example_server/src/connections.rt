@@ -1,4 +1,4 @@
-// The connections, and how they are made.
+//! The connections that the servers share, which a fatal request breaks, and their factory.
 ghost use Rattle.std.specs.Prelude.{◌≡◌, true, false};
 
 use pool_shared::Factory;

@@ -1,3 +1,5 @@
+//! The errors that end the day of the servers early, each with its cause.
+
 use crate::connections::Unreachable;
 use pool_engines::EngineFault;
 use pool_settings::SettingsFault;

@@ -1,4 +1,5 @@
-// The check of a journal, by the engine that the program `pool check` runs.
+//! The check of a journal, by the engine that the program `pool check` runs.
+
 use crate::fault::Fault;
 use pool_engines::check;
 use pool_journal::{Entry, print_entry};

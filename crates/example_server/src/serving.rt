@@ -1,4 +1,5 @@
-// The work of a server.
+//! The work of a server: requests, each over a connection that it borrows for that.
+
 use crate::Connections;
 use crate::connections::Request;
 use crate::fault::Fault;

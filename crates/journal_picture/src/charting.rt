@@ -1,3 +1,5 @@
+//! Draws the chart of the numbers of objects over time, a line for each number.
+
 use crate::canvas::{Canvas, Value};
 use crate::history::{History, Sample};
 use crate::layout::{CHART, Layout};

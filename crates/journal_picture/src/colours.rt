@@ -1,3 +1,5 @@
+//! The colours of bars: by the phase of the object, and by the caller that holds it.
+
 use pool_journal::Phase;
 use std::fmt;
 

@@ -1,3 +1,5 @@
+//! Draws a history with a lane for each object and each caller that waits.
+
 use crate::canvas::{Canvas, Value};
 use crate::charting::draw_chart;
 use crate::colours::fill_of;

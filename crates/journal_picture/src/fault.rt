@@ -1,3 +1,5 @@
+//! Why no picture was drawn: the exit statuses, and the lines of the errors.
+
 use crate::joint::Break;
 use pool_journal::LineFault;
 use pool_settings::Escaped;

@@ -1,3 +1,5 @@
+//! The parts of a journal to draw, object by object: bars, waits and counts.
+
 use crate::counts::Counts;
 use pool_journal::Phase;
 

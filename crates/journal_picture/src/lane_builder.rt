@@ -1,3 +1,5 @@
+//! Collects the bars, waits and counts of a picture with lanes, entry by entry.
+
 use crate::counts::Counts;
 use crate::history::{Bar, History, Sample, Waiting};
 use crate::moves::moved;

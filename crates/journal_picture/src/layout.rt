@@ -1,3 +1,5 @@
+//! The positions and sizes of the parts of a picture with lanes.
+
 use crate::history::History;
 
 /// The most waiting callers, and the most objects, that have a lane.

@@ -1,3 +1,5 @@
+//! Where the times of a journal are across the picture, and which of them the axis shows.
+
 use crate::history::History;
 
 /// The most ticks of the axis, except the last.

@@ -1,3 +1,4 @@
+//! Why the program printed no base: the exit statuses, and the lines of the errors.
 ghost use Rattle.std.specs.Prelude.{◌≡◌, Some};
 ghost use Rattle.std.specs.Fmt.{WritesOnOk};
 ghost use Rattle.judge.specs.Messages as Spec;

@@ -1,3 +1,4 @@
+//! The file of the segment, as the only file of a journal.
 ghost use Rattle.std.specs.Prelude.{◌∷◌, [], None};
 
 use pool_engines::Segments;

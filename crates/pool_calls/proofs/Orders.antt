@@ -10,10 +10,11 @@ use Rattle.std.proofs.lemmas.List.{map-append, length-map}
 use Rattle.std.proofs.lemmas.List.Elements.{filter-append}
 use Rattle.std.proofs.lemmas.List.Folds.{list_any-append}
 use Rattle.std.proofs.lemmas.Option.{slice_get_read, slice_get_past}
+use Rattle.pool_journal.specs.Queue.{first_of}
 use Rattle.pool_calls.specs.declared.place.Place.{Place}
 use Rattle.pool_calls.specs.Places.{Line, has_ticket, IsAbove, IsBelow, IsAscending, without as without_place}
 use Rattle.pool_calls.specs.Order.{waiter_of, AreFair, IsQueue}
-use Rattle.pool_calls.specs.Waiting.{Waiter, Queue, is_in, without, overtaken_once, can_pass, may_lend, takes_from_waiters, IsByArrival}
+use Rattle.pool_calls.specs.Waiting.{Waiter, Queue, is_in, without, most_overtaken, overtaken_once, can_pass, may_lend, takes_from_waiters, IsByArrival}
 use Rattle.pool_calls.proofs.Dropped.{ascending_push}
 
 -- ---- parts of a list
@@ -95,6 +96,18 @@ overtaken_all o m (p ∷ ps) fair =
 pub fair_waiters : (o m : ℕ) (ps : List Place) → AreFair o m ps → AllByRecursion (λ w. w.overtaken ≤ m) (map (waiter_of o) ps)
 fair_waiters o m [] fair = tt
 fair_waiters o m (p ∷ ps) fair = (omega (arith, fair.0, fair.1), fair_waiters o m ps fair.3)
+
+-- another bound that none of them exceeds, if it is none that the first exceeds
+rebound : (o m n b : ℕ) (ps : List Place) → o ≤ b + n → AllByRecursion (λ q. b ≤ q.before) ps → AreFair o m ps → AreFair o n ps
+rebound o m n b [] within later fair = tt
+rebound o m n b (p ∷ ps) within later fair =
+    (fair.0, omega (arith, within, later.0), fair.2, rebound o m n b ps within later.1 fair.3)
+
+pub limited : (o m n : ℕ) (ps : List Place) → most_overtaken (map (waiter_of o) ps) ≤ n → AreFair o m ps → AreFair o n ps
+limited o m n [] within fair = tt
+limited o m n (p ∷ ps) within fair =
+    let first : o ≤ p.before + n = omega (arith, within, fair.0) in
+    (fair.0, first, fair.2, rebound o m n p.before ps first fair.2 fair.3)
 
 -- ---- waiters
 arrival_above : (o t : ℕ) (ps : List Place) → IsAbove t ps → AllByRecursion (λ w. t < w.ticket) (map (waiter_of o) ps)
@@ -223,6 +236,31 @@ raised_queue d o m s a old may = record {
   signalled_fit = old.signalled_fit;
   asleep_fit = old.asleep_fit;
 }
+
+-- another bound, for lines that are the same
+pub limited_queue : (d o m n : ℕ) (s a s' a' : Line) → s' ≡ s → a' ≡ a → IsQueue s a d o m → most_overtaken (map (waiter_of o) (s.places ++ a.places)) ≤ n → IsQueue s' a' d o n
+limited_queue d o m n s a s' a' signalled asleep old within =
+    let S : Line → Type 0 = λ l. IsQueue l a' d o n in
+    let A : Line → Type 0 = λ l. IsQueue s l d o n in
+    subst S (sym signalled) (subst A (sym asleep) (record {
+      ascending = old.ascending;
+      drawn_before = old.drawn_before;
+      fair = limited o m n (s.places ++ a.places) within old.fair;
+      signalled_fit = old.signalled_fit;
+      asleep_fit = old.asleep_fit;
+    }))
+
+-- the oldest ticket was overtaken most often
+pub most_of_none : (o : ℕ) (ps : List Place) → first_of ps ≡ None → most_overtaken (map (waiter_of o) ps) ≡ 0
+most_of_none o [] none = refl
+most_of_none o (p ∷ ps) none = absurd (cc)
+
+pub most_of_first : (o : ℕ) (ps : List Place) (first : Place) → first_of ps ≡ Some first → most_overtaken (map (waiter_of o) ps) ≡ o - first.before
+most_of_first o [] first is = absurd (cc)
+most_of_first o (p ∷ ps) first is = ap (λ q. o - q.before) (some_same p first is)
+  where
+    some_same : (a b : Place) → Some a ≡ Some b → a ≡ b
+    some_same a b same = cc
 
 -- where no more are available than tickets wait, a newcomer may look only as it may overtake the first
 pub may_pass : (available : ℕ) (q : Queue) → may_lend available q ≡ true → available ≤ length q.waiting → can_pass q.overtakes q.most q.waiting ≡ true

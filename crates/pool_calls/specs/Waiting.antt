@@ -37,6 +37,11 @@ newest t = record { ticket = t; overtaken = 0 }
 abbrev pub overtaken_once : Waiter → Waiter
 overtaken_once w = record w { overtaken = w.overtaken + 1 }
 
+-- how often the oldest waiter was overtaken, as often as any: 0 if none waits
+abbrev pub most_overtaken : List Waiter → ℕ
+most_overtaken [] = 0
+most_overtaken (w ∷ ws) = w.overtaken
+
 -- the tickets are in the order in which they were drawn
 abbrev pub IsByArrival : List Waiter → Type 0
 IsByArrival [] = ⊤

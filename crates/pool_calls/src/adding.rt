@@ -1,3 +1,4 @@
+//! An addition of an idle object, as a state machine. A fill has the same states.
 ghost use Rattle.std.specs.Prelude.{◌≡◌, ◌≢◌, ◌<◌, ◌≤◌, ℕ, Bool, true, false, List, [], Some, IfSome};
 ghost use Rattle.std.specs.Option.{is_some};
 ghost use Rattle.pool_journal.specs.declared.input.Input.TheVariants as inputs;

@@ -1,3 +1,4 @@
+//! A borrow as a state machine, from its first step until it has an object or fails.
 ghost use Rattle.std.specs.Prelude.{◌≡◌, ◌<◌, ◌≤◌, ℕ, Bool, true, false, List, [], IfSome};
 ghost use Rattle.std.specs.Option.{is_some};
 ghost use Rattle.pool_calls.specs.declared.action.Event.TheVariants as events;

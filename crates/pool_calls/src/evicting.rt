@@ -1,3 +1,4 @@
+//! An eviction run as a state machine, with the numbers of objects that it examined and destroyed.
 ghost use Rattle.std.specs.Prelude.{◌≡◌, ◌<◌, ◌≤◌, ◌+◌, ◌*◌, ◌^◌, suc, Bool, true, false, [], IfSome, Some};
 ghost use Rattle.std.specs.Option.{is_some};
 ghost use Rattle.pool_journal.specs.declared.input.Input.TheVariants as inputs;

@@ -1,3 +1,4 @@
+//! The places of tickets in ascending order, found by a binary search, and marked if their ticket left.
 ghost use Rattle.std.specs.Prelude.{◌≡◌, ◌≤◌, ◌<◌, ◌^◌, ◌++◌, ◌∷◌, [], IfNone, OnOk, OnErr, length};
 ghost use Rattle.std.specs.Option.{option_to_list};
 ghost use Rattle.pool_journal.specs.Queue.{first_of};

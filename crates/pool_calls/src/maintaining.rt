@@ -1,3 +1,4 @@
+//! Maintenance as a state machine: an eviction run, a removal of abandoned objects, and a fill.
 ghost use Rattle.std.specs.Prelude.{◌≡◌, ◌≤◌, ℕ, true, false, [], Some, IfSome};
 ghost use Rattle.std.specs.Option.{is_some};
 ghost use Rattle.pool_journal.specs.declared.input.Input.TheVariants as inputs;

@@ -1,3 +1,4 @@
+//! A call of any kind: its next action, and what is reported to it.
 ghost use Rattle.std.specs.Prelude.{◌≡◌, List, true, false};
 ghost use Rattle.pool_calls.specs.Operations.{HasCome, ComesOn, Proceeds, IsRight, fits, step_at, lacks_room, is_making, is_waiting, comes_to_wait, began_of};
 ghost use Rattle.pool_calls.specs.Turns.{Turn, step_of, asks_make, asks_room, asks_wait, is_full};

@@ -1,3 +1,5 @@
+//! The place of a ticket in the order of arrival, with the overtakes before it.
+
 /// The place of a ticket in the order of arrival.
 #[derive(Clone, Copy)]
 pub(crate) struct Place {

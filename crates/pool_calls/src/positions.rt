@@ -1,3 +1,4 @@
+//! Finds the position of a ticket in a line, by a binary search.
 ghost use Rattle.std.specs.Prelude.{◌≡◌, false, IfSome, IfNone};
 ghost use Rattle.pool_calls.specs.Places.{has_ticket, IsAscending};
 ghost use Rattle.pool_calls.specs.Lines.{all_in, places_in, IsStoredAt, IsThereAt, IsNowhere};

@@ -1,3 +1,4 @@
+//! How a call for a lent object ends if the pool refuses it.
 ghost use Rattle.std.specs.Prelude.{◌≡◌};
 ghost use Rattle.pool_calls.specs.Refusals.{end_by_cause};
 

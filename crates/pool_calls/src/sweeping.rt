@@ -1,3 +1,4 @@
+//! Drops the marked places of a line: at its ends, or all of them.
 ghost use Rattle.std.specs.Prelude.{◌≡◌, ◌<◌, length, filter, false};
 ghost use Rattle.std.specs.VecDeque.{deque_len, deque_capacity};
 ghost use Rattle.pool_calls.specs.Lines.{places_in, is_there, starts_gone, ends_gone, Tidies};

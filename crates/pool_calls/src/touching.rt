@@ -1,3 +1,4 @@
+//! The note that a lent object is used, as a state machine of one step.
 ghost use Rattle.std.specs.Prelude.{◌≡◌, ◌<◌, Bool, true, false, List, [], IfSome};
 ghost use Rattle.std.specs.Option.{is_some};
 ghost use Rattle.pool_calls.specs.declared.action.Event.TheVariants as events;

@@ -1,9 +1,10 @@
-ghost use Rattle.std.specs.Prelude.{◌≡◌, ◌≤◌, ◌<◌, ◌+◌, ◌-◌, ◌^◌, ◌++◌, ◌∷◌, [], true, false, min, if◌then◌else◌, map, length, slice_get, IfOk, IfSome, IfNone, OnOk, OnErr, IsOk};
+//! The tickets of the borrows that wait, in the order of arrival: which are signalled, and whom a borrow may overtake.
+ghost use Rattle.std.specs.Prelude.{◌≡◌, ◌≤◌, ◌<◌, ◌+◌, ◌-◌, ◌^◌, ◌++◌, ◌∷◌, [], true, false, max, min, if◌then◌else◌, map, length, slice_get, IfOk, IfSome, IfNone, OnOk, OnErr, IsOk};
 ghost use Rattle.std.specs.Option.{option_map};
 ghost use Rattle.std.specs.List.{AllByRecursion};
 ghost use Rattle.pool_journal.specs.Queue.{first_of};
 ghost use Rattle.pool_calls.specs.Waiting as spec;
-ghost use Rattle.pool_calls.specs.Waiting.{is_in, without, signalled_of, newest, overtaken_once, takes_from_waiters, IsByArrival, IsFair, IsSettled, Signals};
+ghost use Rattle.pool_calls.specs.Waiting.{is_in, without, signalled_of, newest, most_overtaken, overtaken_once, takes_from_waiters, IsByArrival, IsFair, IsSettled, Signals};
 
 use crate::line::Line;
 use crate::place::Place;
@@ -245,5 +246,18 @@ impl Waiters {
         if count > 0 && count >= available {
             self.overtakes += 1;
         }
+    }
+    /// Lets each ticket be overtaken at most `max_overtakes` times from now on, or as often as the oldest one was, if that
+    /// is more. Returns this bound.
+    pub fn limit_overtakes(&mut self, max_overtakes: u64) -> u64
+        ensures bound { result ≡ max max_overtakes (most_overtaken self.old.waiting) }
+        ensures rest { self.new ≡ record self.old { most = result } }
+    {
+        let overtaken = match oldest(&mut self.signalled, &mut self.asleep) {
+            None => 0,
+            Some(place) => self.overtakes - place.before,
+        };
+        self.max_overtakes = max_overtakes.max(overtaken);
+        self.max_overtakes
     }
 }

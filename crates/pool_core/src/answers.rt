@@ -1,3 +1,4 @@
+//! The expected answers, with a function for each row of the table of answers.
 ghost use Rattle.std.specs.Prelude.{◌≡◌, ◌-◌};
 ghost use Rattle.pool_core.specs.Reply.{is_evictable, exhausted_reply, borrow_reply, readying_reply, ready_reply, lent_reply, returning_reply, park_reply, adding_reply, added_reply, testing_reply, tested_reply, destroyed_reply, add_reply, evict_next_reply};
 

@@ -1,3 +1,4 @@
+//! Applies an answer to the state of a pool: moves the object, and stores or returns its value.
 ghost use Rattle.std.specs.Prelude.{◌≡◌, ◌≤◌, Some, None, IsSome, if◌then◌else◌, true, false, is_some};
 ghost use Rattle.pool_journal.specs.Carrying.{carries};
 ghost use Rattle.pool_journal.specs.Entries.{id_of, is_borrow, is_make_answer};

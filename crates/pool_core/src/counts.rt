@@ -1,3 +1,4 @@
+//! The counts of a pool, computed from its state.
 ghost use Rattle.std.specs.Prelude.{◌≡◌, true};
 ghost use Rattle.std.specs.List.{AllByRecursion};
 ghost use Rattle.pool_stats.specs.Counts.{counts_at};

@@ -1,3 +1,4 @@
+//! Decides the answer to an input, from the state of a pool and its settings.
 ghost use Rattle.std.specs.Prelude.{◌≡◌, length};
 ghost use Rattle.std.specs.Option.{option_map};
 ghost use Rattle.pool_journal.specs.Queue.{record_in, queue_length, idle_queue, first_of};

@@ -1,3 +1,4 @@
+//! Compares numbers and times with the limits of the settings, and counts the tests of an eviction run.
 ghost use Rattle.std.specs.Prelude.{◌≡◌, ◌-◌, ◌^◌, int_le, int_lt, min, pos};
 ghost use Rattle.pool_core.specs.Reply.{is_below, has_reached, is_past, is_nearly_full, tests_per_run};
 

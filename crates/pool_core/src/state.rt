@@ -1,3 +1,5 @@
+//! The state of a pool apart from its journal, and the position and time of a step.
+
 use pool_places::Places;
 use pool_settings::Settings;
 use pool_stats::RemovalTotals;

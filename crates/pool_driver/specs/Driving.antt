@@ -18,7 +18,7 @@ use Rattle.pool_core.specs.declared.step_fault.StepFault.TheVariants as faults
 use Rattle.pool_core.specs.Fits.{limit_from, owed_from}
 use Rattle.pool_core.specs.Legal.{entry_of}
 use Rattle.pool_core.specs.Pool.{CoreModel}
-use Rattle.pool_core.specs.Reply.{has_reached, reply_from, takeable_from}
+use Rattle.pool_core.specs.Reply.{reply_from, takeable_from}
 use Rattle.pool_calls.specs.Operations.{HasCome, Follows, IsRight, Proceeds, began_of, fits, is_making, is_waiting, lacks_room, step_at}
 use Rattle.pool_calls.specs.Turns.{Turn, asks_room, step_of}
 use Rattle.pool_calls.specs.Waiting.{Queue, Waiter, is_in, may_lend, overtaken_once, signalled_of, takes_from_waiters}
@@ -242,13 +242,19 @@ available_in c =
 abbrev pub IsAvailable : DrivenModel → ℕ → Type 0
 IsAvailable d n = (length d.queue.waiting ≡ 0) ⊎ (n ≡ available_in d.core)
 
-abbrev pub later_by : ℤ → ℕ → Option ℕ
-later_by (pos most) began = Some (min (began + most) (2 ^ 64 - 1))
-later_by (negsuc n) began = None
+-- the end of a wait that began at this time, by a limit that is longer by so much
+abbrev pub later_by : ℤ → ℕ → ℕ → Option ℕ
+later_by (pos most) longer began = Some (min (began + (most + longer)) (2 ^ 64 - 1))
+later_by (negsuc n) longer began = None
 
--- the time at which the wait of a borrow is over, by the settings
-abbrev pub until_of : Settings → Operation → Option ℕ
-until_of s op = option_and_then (later_by s.max_wait_millis) (began_of op)
+-- the time at which the wait of a borrow is over, by the settings and by what it may wait longer
+abbrev pub until_of : Settings → Call → Option ℕ
+until_of s c = option_and_then (later_by s.max_wait_millis c.longer) (began_of c.operation)
+
+-- a wait of this time is over, by a limit that is longer by so much
+abbrev pub has_waited : ℤ → ℕ → ℕ → Bool
+has_waited (pos most) longer waited = nat_le (most + longer) waited
+has_waited (negsuc n) longer waited = false
 
 -- a borrow that comes later may ask: not for what those that wait can take, once one of them was woken and found nothing
 abbrev pub may_come_in : ℕ → DrivenModel → Bool
@@ -260,12 +266,17 @@ may_come_in available d =
 abbrev pub is_low_in : CoreModel ℕ → Bool
 is_low_in c = nat_lt (limit_from c.settings c.base - (length c.journal + owed_from c.base c.journal)) (c.settings.journal_limit / 4)
 
--- what a borrow that sleeps does when it wakes up
-abbrev pub waking_of : Bool → Bool → Answer → Waking
-waking_of signalled over answers.Wait = wakings.SleepsOn
-waking_of signalled over (answers.Take i) = if signalled then wakings.Asks else (if over then wakings.TimesOut else wakings.SleepsOn)
-waking_of signalled over (answers.Make i) = if signalled then wakings.Asks else (if over then wakings.TimesOut else wakings.SleepsOn)
-waking_of signalled over _ = wakings.Asks
+-- a borrow times out if its time is over, and sleeps on if it is not
+abbrev pub sleeps_until : Bool → Waking
+sleeps_until over = if over then wakings.TimesOut else wakings.SleepsOn
+
+-- what a borrow that sleeps does when it wakes up: it may wait longer than the settings say, or not
+abbrev pub waking_of : Bool → Bool → Bool → Answer → Waking
+waking_of signalled longer over answers.Wait = wakings.SleepsOn
+waking_of signalled longer over (answers.Take i) = if signalled then wakings.Asks else sleeps_until over
+waking_of signalled longer over (answers.Make i) = if signalled then wakings.Asks else sleeps_until over
+waking_of signalled longer over answers.TimedOut = if longer then sleeps_until over else wakings.Asks
+waking_of signalled longer over _ = wakings.Asks
 
 -- what is there is for the borrow with this ticket
 abbrev pub holds_signal : Queue → Option ℕ → Bool
@@ -273,9 +284,18 @@ holds_signal q None = true
 holds_signal q (Some ticket) = is_in ticket (signalled_of q)
 
 -- what a borrow does that began at this time and wakes up at another
-abbrev pub waking_at : DrivenModel → ℕ → Option ℕ → ℕ → Waking
-waking_at d at ticket began =
-    waking_of (holds_signal d.queue ticket) (has_reached d.core.settings.max_wait_millis (at - began)) (reply_from d.core.settings d.core.base d.core.journal at (inputs.Borrow began))
+abbrev pub waking_at : DrivenModel → ℕ → Option ℕ → ℕ → ℕ → Waking
+waking_at d at ticket longer began =
+    waking_of (holds_signal d.queue ticket) (nat_lt 0 longer) (has_waited d.core.settings.max_wait_millis longer (at - began)) (reply_from d.core.settings d.core.base d.core.journal at (inputs.Borrow began))
+
+abbrev pub is_timeout : Answer → Bool
+is_timeout answers.TimedOut = true
+is_timeout _ = false
+
+-- a borrow would be told that its time is over by the settings, and may wait longer
+abbrev pub waits_on : DrivenModel → ℕ → Call → ℕ → Bool
+waits_on d at c began =
+    nat_lt 0 c.longer && not (has_waited d.core.settings.max_wait_millis c.longer (at - began)) && is_timeout (reply_from d.core.settings d.core.base d.core.journal at (inputs.Borrow began))
 
 -- these waiters, each overtaken once more if so
 abbrev pub passed : Bool → List Waiter → List Waiter
@@ -322,17 +342,17 @@ WakesAs wakings.TimesOut before after = Proceeds events.TimeOver before after
 WakesAs wakings.SleepsOn before after = after ≡ before
 
 -- a borrow that sleeps was woken
-abbrev pub IsWoken : DrivenModel → ℕ → Option ℕ → Operation → Operation → Type 0
-IsWoken d at ticket before after = (began : ℕ) × (began_of before ≡ Some began) × WakesAs (waking_at d at ticket began) before after
+abbrev pub IsWoken : DrivenModel → ℕ → Option ℕ → ℕ → Operation → Operation → Type 0
+IsWoken d at ticket longer before after = (began : ℕ) × (began_of before ≡ Some began) × WakesAs (waking_at d at ticket longer began) before after
 
-abbrev pub LooksIf : Bool → DrivenModel → ℕ → Option ℕ → Operation → Operation → Type 0
-LooksIf true d at ticket before after = (queued : Operation) × Proceeds events.Queued before queued × IsWoken d at ticket queued after
-LooksIf false d at ticket before after = after ≡ before
+abbrev pub LooksIf : Bool → DrivenModel → ℕ → Option ℕ → ℕ → Operation → Operation → Type 0
+LooksIf true d at ticket longer before after = (queued : Operation) × Proceeds events.Queued before queued × IsWoken d at ticket longer queued after
+LooksIf false d at ticket longer before after = after ≡ before
 
 -- a call for which room was made is to take its step. A borrow that waited before looks as one that was woken
-abbrev pub HasRoom : DrivenModel → ℕ → Option ℕ → Operation → Operation → Type 0
-HasRoom d at ticket before after =
-    (ready : Operation) × Proceeds events.RoomMade before ready × LooksIf (is_some ticket && fits ready events.Queued) d at ticket ready after
+abbrev pub HasRoom : DrivenModel → ℕ → Call → Operation → Type 0
+HasRoom d at c after =
+    (ready : Operation) × Proceeds events.RoomMade c.operation ready × LooksIf (is_some c.ticket && fits ready events.Queued) d at c.ticket c.longer ready after
 
 -- a call has been told a report, at this time
 abbrev pub IsTold : Report → DrivenModel → ℕ → Call → Operation → Type 0
@@ -340,7 +360,7 @@ IsTold reports.GoOn d at c after = after ≡ c.operation
 IsTold (reports.Made t) d at c after = Proceeds events.Succeeded c.operation after
 IsTold reports.Succeeded d at c after = Proceeds events.Succeeded c.operation after
 IsTold reports.Failed d at c after = Proceeds events.Failed c.operation after
-IsTold reports.Woken d at c after = IsWoken d at c.ticket c.operation after
-IsTold reports.RoomMade d at c after = HasRoom d at c.ticket c.operation after
+IsTold reports.Woken d at c after = IsWoken d at c.ticket c.longer c.operation after
+IsTold reports.RoomMade d at c after = HasRoom d at c after
 IsTold reports.NoRoom d at c after = Proceeds events.NoRoom c.operation after
 IsTold reports.GivenUp d at c after = Proceeds events.Cancelled c.operation after

@@ -1,4 +1,4 @@
-// Calls that are over at once: an idle object is lent, or a returned one is idle again, and the host is asked nothing.
+//! Calls that are over at once: an idle object is lent, or a returned one is idle again, and the host is asked nothing.
 ghost use Rattle.std.specs.Prelude.{◌≡◌, max, true, false, IfNone, IfSome};
 ghost use Rattle.pool_core.specs.Reply.{has_room};
 ghost use Rattle.pool_journal.specs.Base.{closed_from, records_from};

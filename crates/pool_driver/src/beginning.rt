@@ -1,4 +1,4 @@
-// The calls of a pool, before their first step.
+//! Begins calls: a function for each kind of call, before its first step.
 ghost use Rattle.std.specs.Prelude.{◌≡◌, max, true, false, Some};
 ghost use Rattle.std.specs.Option.{is_some};
 ghost use Rattle.pool_journal.specs.declared.input.Input.TheVariants as inputs;

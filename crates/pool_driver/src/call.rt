@@ -1,3 +1,4 @@
+//! A call in progress, with the token of the object that it is for.
 ghost use Rattle.std.specs.Prelude.{◌≡◌, None, false};
 
 use pool_calls::Operation;
@@ -12,6 +13,8 @@ pub struct Call {
     pub(crate) ticket: Option<u64>,
     // Whether it found something before, so that it goes before those that wait.
     pub(crate) was_served: bool,
+    // By how many milliseconds the wait of a borrow may be longer than the settings say.
+    pub(crate) longer: u64,
 }
 
 impl Call {
@@ -21,13 +24,23 @@ impl Call {
         ensures token { result.token ≡ token }
         ensures ticket { result.ticket ≡ None }
         ensures turn { result.was_served ≡ false }
+        ensures longer { result.longer ≡ 0 }
     {
         Call {
             operation,
             token,
             ticket: None,
             was_served: false,
+            longer: 0,
         }
+    }
+
+    /// Returns the call, as a borrow that may wait by `longer` milliseconds longer than the settings say. It has no effect
+    /// on a call of another kind, nor where the settings set no limit.
+    pub fn with_longer_wait(self, longer: u64) -> Call
+        ensures { result ≡ record self { longer = longer } }
+    {
+        Call { longer, ..self }
     }
 
     /// Returns what kind of call it is, and what it has come to: its counts, after a call over several objects.

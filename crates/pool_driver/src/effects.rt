@@ -1,3 +1,5 @@
+//! What the host of a call does next: the action, the token of its object, and how a wait ends.
+
 use pool_calls::Action;
 
 /// What the host of a call does next.

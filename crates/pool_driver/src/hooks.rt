@@ -1,3 +1,4 @@
+//! Which calls the factory of a pool has, besides making and destroying.
 ghost use Rattle.std.specs.Prelude.{◌≡◌};
 ghost use Rattle.pool_driver.specs.Driving.{plan_of};
 

@@ -1,3 +1,5 @@
+//! How a pool works besides its settings: its hooks, the most overtakes, and whether it drops its journal.
+
 use crate::hooks::Hooks;
 
 /// How a pool works besides its settings.

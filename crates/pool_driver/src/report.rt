@@ -1,3 +1,5 @@
+//! What a host reports after an action of a call.
+
 /// What the host of a call reports.
 #[derive(Clone, Copy, Debug, PartialEq, Eq)]
 pub enum Report {

@@ -1,17 +1,16 @@
-// The waits of borrows.
-ghost use Rattle.std.specs.Prelude.{◌≡◌, ◌-◌, ◌&&◌, ◌||◌, IfSome, Some, None, true, false, length};
+//! The waits of borrows: which one may ask, which one sleeps on, and what each does when it wakes up.
+ghost use Rattle.std.specs.Prelude.{◌≡◌, ◌-◌, ◌&&◌, ◌||◌, IfSome, Some, None, true, false, max, length};
 ghost use Rattle.std.specs.Option.{is_some};
 ghost use Rattle.pool_calls.specs.Operations.{Proceeds, fits, is_waiting, lacks_room, step_at};
-ghost use Rattle.pool_calls.specs.Waiting.{may_lend, takes_from_waiters};
+ghost use Rattle.pool_calls.specs.Waiting.{may_lend, most_overtaken, takes_from_waiters};
 ghost use Rattle.pool_core.specs.Legal.{entry_of};
-ghost use Rattle.pool_core.specs.Reply.{has_reached};
 ghost use Rattle.pool_journal.specs.Base.{closed_from};
 ghost use Rattle.pool_journal.specs.declared.input.Input.TheVariants as inputs;
 ghost use Rattle.pool_calls.specs.declared.action.Event.TheVariants as events;
 ghost use Rattle.pool_driver.specs.declared.report.Report.TheVariants as reports;
 ghost use Rattle.pool_driver.specs.Queueing.{Queues};
 ghost use Rattle.pool_driver.specs.Overtaking.{CountsOvertakes, Hears, Rests, is_found, is_newcomer, others};
-ghost use Rattle.pool_driver.specs.Driving.{Accepts, EndsWith, HasRoom, IsAvailable, IsWoken, LacksRoomOnlyEmpty, LooksIf, Moves, TakesFirst, available_in, is_low_in, may_come_in, passed, until_of, is_done, waking_at, waking_of};
+ghost use Rattle.pool_driver.specs.Driving.{Accepts, EndsWith, HasRoom, IsAvailable, IsWoken, LacksRoomOnlyEmpty, LooksIf, Moves, TakesFirst, available_in, is_low_in, may_come_in, passed, until_of, is_done, has_waited, sleeps_until, waking_at, waking_of, waits_on};
 
 use crate::call::Call;
 use crate::pool::DrivenPool;
@@ -29,15 +28,26 @@ pub(crate) enum Waking {
     SleepsOn,
 }
 
+// A borrow times out if its time is over, and sleeps on if it is not.
+fn sleep_until(is_over: bool) -> Waking
+    ensures { result ≡ sleeps_until is_over }
+{
+    if is_over {
+        Waking::TimesOut
+    } else {
+        Waking::SleepsOn
+    }
+}
+
 // What a borrow does whose expected answer is this.
-fn decide(is_signalled: bool, is_over: bool, expected: Answer) -> Waking
-    ensures { result ≡ waking_of is_signalled is_over expected }
+fn decide(is_signalled: bool, waits_longer: bool, is_over: bool, expected: Answer) -> Waking
+    ensures { result ≡ waking_of is_signalled waits_longer is_over expected }
 {
     match expected {
         Answer::Wait => Waking::SleepsOn,
         Answer::Take(_) | Answer::Make(_) if is_signalled => Waking::Asks,
-        Answer::Take(_) | Answer::Make(_) if is_over => Waking::TimesOut,
-        Answer::Take(_) | Answer::Make(_) => Waking::SleepsOn,
+        Answer::Take(_) | Answer::Make(_) => sleep_until(is_over),
+        Answer::TimedOut if waits_longer => sleep_until(is_over),
         _ => Waking::Asks,
     }
 }
@@ -61,23 +71,27 @@ impl DrivenPool {
         }
     }
 
-    // Whether the time for a wait that began at `began` is over at `at`, by the settings.
-    fn is_over(&self, began: u64, at: u64) -> bool
-        ensures { result ≡ has_reached self.now.core.settings.max_wait_millis (at - began) }
+    // Whether the time for a wait that began at `began` is over at `at`, by the settings and by what it may last longer.
+    fn is_over(&self, began: u64, at: u64, longer: u64) -> bool
+        ensures { result ≡ has_waited self.now.core.settings.max_wait_millis longer (at - began) }
     {
         match u64::try_from(self.settings.max_wait_millis) {
-            Ok(most) => at.saturating_sub(began) >= most,
+            Ok(most) => match most.checked_add(longer) {
+                Some(longest) => at.saturating_sub(began) >= longest,
+                None => false,
+            },
             Err(_) => false,
         }
     }
 
-    /// Returns the time at which the wait of a borrow is over by the settings, in milliseconds.
+    /// Returns the time at which the wait of a borrow is over, in milliseconds: by the settings, and by what it may last
+    /// longer.
     pub(crate) fn until(&self, call: &Call) -> Option<u64>
-        ensures { result ≡ until_of self.now.core.settings call.now.operation }
+        ensures { result ≡ until_of self.now.core.settings call.now }
     {
         let began = call.operation.began()?;
         match u64::try_from(self.settings.max_wait_millis) {
-            Ok(most) => Some(began.saturating_add(most)),
+            Ok(most) => Some(began.saturating_add(most.saturating_add(call.longer))),
             Err(_) => None,
         }
     }
@@ -106,29 +120,31 @@ impl DrivenPool {
         }
     }
 
-    // What a borrow with this ticket does when it wakes up.
-    fn waking(&self, ticket: Option<u64>, began: u64, at: u64) -> Waking
-        ensures { result ≡ waking_at self.now at ticket began }
+    // What a borrow does when it wakes up.
+    fn waking(&self, call: &Call, began: u64, at: u64) -> Waking
+        ensures { result ≡ waking_at self.now at call.now.ticket call.now.longer began }
     {
-        let is_signalled = match ticket {
+        let is_signalled = match call.ticket {
             Some(ticket) => self.waiters.is_signalled(ticket),
             None => true,
         };
         let expected = self.core.due(at, Input::Borrow { began });
-        decide(is_signalled, self.is_over(began, at), expected)
+        let is_over = self.is_over(began, at, call.longer);
+        decide(is_signalled, call.longer > 0, is_over, expected)
     }
 
     /// Wakes a call up. Returns whether it sleeps; otherwise nothing changes. It sleeps on if it would only wait again,
     /// or if what is there is for others.
     pub(crate) fn wake_up(&mut self, call: &mut Call, at: u64) -> bool
         ensures fits { result ≡ is_waiting call.old.operation }
-        ensures told { result ≡ true → IsWoken self.old at call.old.ticket call.old.operation
-            call.new.operation }
+        ensures told { result ≡ true → IsWoken self.old at call.old.ticket call.old.longer
+            call.old.operation call.new.operation }
         ensures accepted { result ≡ true
             → Accepts reports.Woken self.old self.new call.old call.new }
         ensures hears { result ≡ true → Hears self.old self.new call.old call.new }
         ensures room { result ≡ true → lacks_room call.new.operation ≡ false }
         ensures unfit { result ≡ false → (self.new ≡ self.old) × (call.new ≡ call.old) }
+        ensures longer { call.new.longer ≡ call.old.longer }
     {
         let Some(began) = call.operation.began() else {
             return false;
@@ -136,7 +152,7 @@ impl DrivenPool {
         if !matches!(call.operation.action(), Action::Wait) {
             return false;
         }
-        match self.waking(call.ticket, began, at) {
+        match self.waking(call, began, at) {
             Waking::Asks => {
                 let _ = call.operation.tell(Event::Woken);
             }
@@ -153,13 +169,13 @@ impl DrivenPool {
     /// before looks as one that wakes up.
     pub(crate) fn room_made(&mut self, call: &mut Call, at: u64) -> bool
         ensures fits { result ≡ fits call.old.operation events.RoomMade }
-        ensures told { result ≡ true → HasRoom self.old at call.old.ticket call.old.operation
-            call.new.operation }
+        ensures told { result ≡ true → HasRoom self.old at call.old call.new.operation }
         ensures accepted { result ≡ true
             → Accepts reports.RoomMade self.old self.new call.old call.new }
         ensures hears { result ≡ true → Hears self.old self.new call.old call.new }
         ensures room { result ≡ true → lacks_room call.new.operation ≡ false }
         ensures unfit { result ≡ false → (self.new ≡ self.old) × (call.new ≡ call.old) }
+        ensures longer { call.new.longer ≡ call.old.longer }
     {
         if !call.operation.tell(Event::RoomMade) {
             return false;
@@ -172,10 +188,11 @@ impl DrivenPool {
     fn look_again(&mut self, call: &mut Call, at: u64)
         requires { lacks_room call.old.operation ≡ false }
         ensures told { LooksIf (is_some call.old.ticket && fits call.old.operation events.Queued)
-            self.old at call.old.ticket call.old.operation call.new.operation }
+            self.old at call.old.ticket call.old.longer call.old.operation call.new.operation }
         ensures accepts { Accepts reports.GoOn self.old self.new call.old call.new }
         ensures hears { Hears self.old self.new call.old call.new }
         ensures room { lacks_room call.new.operation ≡ false }
+        ensures longer { call.new.longer ≡ call.old.longer }
     {
         if call.ticket.is_some() && call.operation.tell(Event::Queued) {
             let _ = self.wake_up(call, at);
@@ -191,6 +208,7 @@ impl DrivenPool {
         ensures hears { result ≡ true → Hears self.old self.new call.old call.new }
         ensures room { result ≡ true → lacks_room call.new.operation ≡ false }
         ensures unfit { result ≡ false → (self.new ≡ self.old) × (call.new ≡ call.old) }
+        ensures longer { call.new.longer ≡ call.old.longer }
     {
         if !call.operation.tell(Event::Cancelled) {
             return false;
@@ -209,6 +227,7 @@ impl DrivenPool {
         } }
         ensures operation { call.new.operation ≡ call.old.operation }
         ensures ended { is_done action ≡ true → call.new.ticket ≡ None }
+        ensures longer { call.new.longer ≡ call.old.longer }
     {
         if matches!(action, Action::Done(_)) {
             self.leave(call);
@@ -232,6 +251,7 @@ impl DrivenPool {
         ensures rests { Rests self.old self.new call.old call.new }
         ensures room { lacks_room call.new.operation ≡ true
             → lacks_room call.old.operation ≡ true }
+        ensures longer { call.new.longer ≡ call.old.longer }
     {
         if call.ticket.is_some() {
             return;
@@ -271,6 +291,7 @@ impl DrivenPool {
             ≡ passed (is_newcomer call.old && takes_from_waiters available self.old.queue)
             (others call.old.ticket self.old.queue.waiting) }
         ensures operation { call.new.operation ≡ call.old.operation }
+        ensures longer { call.new.longer ≡ call.old.longer }
     {
         self.count_overtake(call, available);
         call.was_served = true;
@@ -290,6 +311,7 @@ impl DrivenPool {
             → is_waiting call.new.operation ≡ true }
         ensures room { lacks_room call.new.operation ≡ true
             → lacks_room call.old.operation ≡ true }
+        ensures longer { call.new.longer ≡ call.old.longer }
     {
         match answer {
             Answer::Wait => self.draw_ticket(call),
@@ -305,6 +327,7 @@ impl DrivenPool {
         ensures rests { Rests self.old self.new call.old call.new }
         ensures room { lacks_room call.new.operation ≡ true
             → lacks_room call.old.operation ≡ true }
+        ensures longer { call.new.longer ≡ call.old.longer }
     {
         if call.operation.tell(Event::Queued) {
             self.draw_ticket(call);
@@ -337,6 +360,17 @@ impl DrivenPool {
         self.waiters.may_lend(available)
     }
 
+    /// Lets each waiting call be overtaken at most `max_overtakes` times from now on, or as often as the oldest one was, if
+    /// that is more. Returns this bound.
+    pub fn limit_overtakes(&mut self, max_overtakes: u64) -> u64
+        ensures bound { result ≡ max max_overtakes (most_overtaken self.old.queue.waiting) }
+        ensures rest { self.new ≡ record self.old {
+          queue = record self.old.queue { most = result };
+        } }
+    {
+        self.waiters.limit_overtakes(max_overtakes)
+    }
+
     // Whether a borrow may ask: it waits, it found something before, or it may come before those that wait.
     fn may_ask(&mut self, call: &Call, available: u64) -> bool
         ensures value { result ≡ (is_some call.now.ticket || call.now.was_served
@@ -346,12 +380,22 @@ impl DrivenPool {
         call.ticket.is_some() || call.was_served || self.may_come(available)
     }
 
+    // Whether a borrow would be told that its time is over by the settings, and may wait longer.
+    fn waits_on(&self, call: &Call, began: u64, at: u64) -> bool
+        ensures { result ≡ waits_on self.now at call.now began }
+    {
+        call.longer > 0
+            && !self.is_over(began, at, call.longer)
+            && matches!(self.core.due(at, Input::Borrow { began }), Answer::TimedOut)
+    }
+
     // A borrow for which there is no memory ends.
     fn end_for_memory(&mut self, call: &mut Call)
         ensures accepts { Accepts reports.GoOn self.old self.new call.old call.new }
         ensures rests { Rests self.old self.new call.old call.new }
         ensures room { lacks_room call.new.operation ≡ true
             → lacks_room call.old.operation ≡ true }
+        ensures longer { call.new.longer ≡ call.old.longer }
     {
         let _ = call
             .operation
@@ -379,6 +423,7 @@ impl DrivenPool {
         ensures last { IfSome result (λ a. EndsWith (entry_of caller at (inputs.Borrow began) a)
             self.new.core.journal) }
         ensures room { LacksRoomOnlyEmpty self.old.drops self.new.core call.new.operation }
+        ensures longer { call.new.longer ≡ call.old.longer }
     {
         let answer = self.step_for(call, caller, at, Input::Borrow { began })?;
         self.note_answer(call, answer, available);
@@ -395,9 +440,14 @@ impl DrivenPool {
             call.new }
         ensures overtakes { CountsOvertakes caller at self.old self.new call.old call.new }
         ensures room { LacksRoomOnlyEmpty self.old.drops self.new.core call.new.operation }
+        ensures longer { call.new.longer ≡ call.old.longer }
     {
         if !self.reserve_ticket() {
             self.end_for_memory(call);
+            return false;
+        }
+        if self.waits_on(call, began, at) {
+            self.queue_up(call);
             return false;
         }
         let available = self.available_to_newcomer();

@@ -1,3 +1,5 @@
+//! Why a check in parallel stopped, with the number of the file.
+
 use crate::engine_fault::EngineFault;
 use thiserror::Error;
 

@@ -1,3 +1,5 @@
+//! Why an engine stopped before the end of its stream, with the number of the line.
+
 use pool_journal::LineFault;
 use thiserror::Error;
 

@@ -1,3 +1,5 @@
+//! Why no settings were read from a file, and the line of each such error.
+
 use pool_settings::SettingsFault;
 use std::fmt;
 use std::fmt::{Formatter, Write};

@@ -1,3 +1,5 @@
+//! Why a load of workers has no report.
+
 use thiserror::Error;
 
 /// Why a load has no report.

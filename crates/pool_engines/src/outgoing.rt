@@ -1,3 +1,4 @@
+//! Writes the buffered output, so that there is room for a line.
 ghost use Rattle.std.specs.Prelude.{◌≡◌, ℕ, ◌+◌, ◌<◌, ◌≤◌, List, [], ◌++◌, length, take, is_err, IsOk, IfOk, IfErr, OnOk, OnErr, vec_capacity};
 ghost use Rattle.std.specs.Io.KnownBytes.{Appends, Keeps};
 ghost use Rattle.pool_engines.specs.Handing.{AppendsFront, HasRoom, buffer_room};

@@ -1,3 +1,4 @@
+//! The lines of the report of a load.
 ghost use Rattle.std.specs.Prelude.{◌≡◌, ◌++◌, OnOk};
 ghost use Rattle.pool_journal.specs.Appending.{Extends};
 ghost use Rattle.pool_engines.specs.Faults.{IsReported, is_write_failure};

@@ -1,3 +1,5 @@
+//! Why the check of one segment alone found no legal segment.
+
 use crate::engine_fault::EngineFault;
 use pool_core::BaseFault;
 use thiserror::Error;

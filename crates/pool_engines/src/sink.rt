@@ -1,3 +1,4 @@
+//! The writers that engines write to, and writes that go on after a signal.
 ghost use Rattle.std.specs.Prelude.{◌≢◌, ◌<◌, true, length, IfOk, IfErr};
 ghost use Rattle.std.specs.Io.{WritesAtMost};
 ghost use Rattle.std.specs.Io.KnownBytes.{Keeps, WriteAppends};

@@ -1,3 +1,4 @@
+//! The readers that engines read from, and reads that go on after a signal.
 ghost use Rattle.std.specs.Prelude.{◌≢◌, true, false, IfErr};
 ghost use Rattle.std.specs.Io.{ReadsAtMost};
 ghost use Rattle.std.specs.Io.KnownBytes.{ReadConsumes};

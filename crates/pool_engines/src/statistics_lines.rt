@@ -1,3 +1,4 @@
+//! The lines of statistics, each a name and its number.
 ghost use Rattle.std.specs.Prelude.{◌≡◌, ◌++◌, OnOk, OnErr};
 ghost use Rattle.pool_journal.specs.Appending.{Extends};
 ghost use Rattle.pool_engines.specs.StatisticsLines.{number_line, statistics_text};

@@ -1,3 +1,4 @@
+//! Takes the step that a line asks for, on a pool in which the value of each object is its id.
 ghost use Rattle.std.specs.Prelude.{◌≡◌, ◌+◌, is_some, IfErr, OnErr, MatchResult};
 ghost use Rattle.pool_journal.specs.Text.{IsRequest};
 ghost use Rattle.pool_journal.specs.Carrying.{carries};

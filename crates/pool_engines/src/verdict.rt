@@ -1,3 +1,4 @@
+//! The verdict of a check on a journal, and its line.
 ghost use Rattle.std.specs.Prelude.{◌≡◌, [], ◌∷◌, ◌++◌, OnOk};
 ghost use Rattle.pool_journal.specs.Text.{line_feed};
 

@@ -1,5 +1,4 @@
-// The cell of the published counts, with its steps, each by its effect on the views of passes, which the outcome of the
-// step states.
+//! The cell of the published counts. Each step on it has its effect from the outcome that it is called with.
 ghost use Rattle.std.specs.Prelude.{◌≡◌, [], IfOk};
 ghost use Rattle.crossbeam_utils.specs.Register.{Forks, Merges, Turns};
 ghost use Rattle.crossbeam_utils.specs.Seq.{cell_view, IsSamePass};

@@ -10,7 +10,6 @@ use Rattle.pool_journal.specs.declared.record.Record.{Record}
 use Rattle.pool_journal.specs.declared.entry.Entry.{Entry}
 use Rattle.pool_journal.specs.declared.input.Input.{Input}
 use Rattle.pool_journal.specs.declared.input.Input.TheVariants as inputs
-use Rattle.pool_journal.specs.declared.input.When.TheVariants as times
 use Rattle.pool_journal.specs.declared.answer.Answer.{Answer}
 use Rattle.pool_journal.specs.declared.answer.Answer.TheVariants as answers
 use Rattle.pool_journal.proofs.Pushed.{closed_from-push}
@@ -24,11 +23,13 @@ use Rattle.pool_history.specs.CallerStates.{CallerState, newcomer_at}
 use Rattle.pool_history.specs.CellInvariant.{entries_with_number, AllBelow, IsPrefix}
 use Rattle.pool_shared.specs.declared.faults.PoolFault.{PoolFault}
 use Rattle.pool_shared.specs.declared.faults.PoolFault.TheVariants as pool_faults
-use Rattle.pool_shared.specs.Traces.{run_stages, AllExpected}
-use Rattle.pool_shared.specs.Borrows as borrows
-use Rattle.pool_shared.specs.Returns as returns
-use Rattle.pool_shared.specs.Reclaims as removals
-use Rattle.pool_shared.specs.Clears.{Stage, begins, sweeps, destroys, through, lost, next, after_beginning, after_sweeping, IsExpected, IsOver, CloseEnds}
+use Rattle.pool_shared.specs.Traces.{turn_of, run_stages, AllExpected}
+use Rattle.pool_calls.specs.BorrowRules as borrows
+use Rattle.pool_shared.specs.Plans.{plan_of}
+use Rattle.pool_calls.specs.ReturnRules as returns
+use Rattle.pool_calls.specs.ClearRules as clears
+use Rattle.pool_calls.specs.ClearRules.{Stage, begins, sweeps, destroys, through, next, after_beginning, after_sweeping, after_freeing, IsExpected}
+use Rattle.pool_shared.specs.Clears.{IsOver, CloseEnds}
 use Rattle.pool_engines.specs.declared.load_fault.LoadFault.{LoadFault}
 use Rattle.pool_engines.specs.declared.load_fault.LoadFault.TheVariants as stops
 use Rattle.pool_load.specs.Rounds.{Round, lends, refuses, IsWorked, RoundStopped, borrowing, returning, StopsInRounds}
@@ -45,52 +46,42 @@ rounds_joined : (xs ys : List Entry) → AllOfRounds xs → AllOfRounds ys → A
 rounds_joined [] ys first rest = rest
 rounds_joined (x ∷ xs) ys first rest = (first.0, rounds_joined xs ys first.1 rest)
 
-removal_input : (st : removals.Stage) (e : Entry) → removals.IsExpected times.Borrow st e → is_of_round e.input ≡ true
-removal_input removals.begins e due = ap is_of_round due
-removal_input (removals.reclaims left taken) e due = ap is_of_round due.1
-removal_input _ e due = absurd due
+borrow_input : (s : Settings) (began : ℕ) (st : borrows.Stage) (input : Input) → borrows.IsExpected (plan_of s) began st input → is_of_round input ≡ true
+borrow_input s began borrows.begins input due = ap is_of_round due
+borrow_input s began (borrows.removes n) input due = ap is_of_round due.1
+borrow_input s began borrows.asks input due = ap is_of_round due
+borrow_input s began (borrows.readies i new) (inputs.Ready j o) due = refl
+borrow_input s began (borrows.readies i new) _ due = absurd due
+borrow_input s began (borrows.destroys i new o) input due = ap is_of_round due
+borrow_input s began _ input due = absurd due
 
-borrow_input : (s : Settings) (began : ℕ) (st : borrows.Stage) (e : Entry) → borrows.IsExpected s began st e → is_of_round e.input ≡ true
-borrow_input s began (borrows.removes st) e due = removal_input st e due
-borrow_input s began borrows.asks e due = ap is_of_round due
-borrow_input s began (borrows.readies i new) e due = by_input e.input due
-  where
-    by_input : (input : Input) → borrows.IsReady s i new input → is_of_round input ≡ true
-    by_input (inputs.Ready j o) due = refl
-    by_input _ due = absurd due
-borrow_input s began (borrows.destroys i new o) e due = ap is_of_round due
-borrow_input s began _ e due = absurd due
-
-borrow_inputs : (s : Settings) (began : ℕ) (st : borrows.Stage) (es : List Entry) → AllExpected (borrows.IsExpected s began) borrows.next st es → AllOfRounds es
+borrow_inputs : (s : Settings) (began : ℕ) (st : borrows.Stage) (es : List Entry) → AllExpected (borrows.IsExpected (plan_of s) began) borrows.next st es → AllOfRounds es
 borrow_inputs s began st [] due = tt
-borrow_inputs s began st (e ∷ es) due = (borrow_input s began st e due.0, borrow_inputs s began (borrows.next st e) es due.1)
+borrow_inputs s began st (e ∷ es) due = (borrow_input s began st e.input due.0, borrow_inputs s began (borrows.next st (turn_of e)) es due.1)
 
-return_input : (s : Settings) (i : ℕ) (st : returns.Stage) (e : Entry) → returns.IsExpected s i st e → is_of_round e.input ≡ true
-return_input s i returns.gives e due = ap is_of_round due
-return_input s i returns.checks e due = by_input e.input due
-  where
-    by_input : (input : Input) → returns.IsCheck s i input → is_of_round input ≡ true
-    by_input (inputs.Park j o) due = refl
-    by_input _ due = absurd due
-return_input s i returns.destroys e due = ap is_of_round due
-return_input s i _ e due = absurd due
+return_input : (s : Settings) (i : ℕ) (st : returns.Stage) (input : Input) → returns.IsExpected (plan_of s) i st input → is_of_round input ≡ true
+return_input s i returns.gives input due = ap is_of_round due
+return_input s i returns.checks (inputs.Park j o) due = refl
+return_input s i returns.checks _ due = absurd due
+return_input s i returns.destroys input due = ap is_of_round due
+return_input s i _ input due = absurd due
 
-return_inputs : (s : Settings) (i : ℕ) (st : returns.Stage) (es : List Entry) → AllExpected (returns.IsExpected s i) returns.next st es → AllOfRounds es
+return_inputs : (s : Settings) (i : ℕ) (st : returns.Stage) (es : List Entry) → AllExpected (returns.IsExpected (plan_of s) i) returns.next st es → AllOfRounds es
 return_inputs s i st [] due = tt
-return_inputs s i st (e ∷ es) due = (return_input s i st e due.0, return_inputs s i (returns.next st e) es due.1)
+return_inputs s i st (e ∷ es) due = (return_input s i st e.input due.0, return_inputs s i (returns.next st (turn_of e)) es due.1)
 
 round_inputs : (s : Settings) (f : ℕ) (es : List Entry) → Round s f es → AllOfRounds es
 round_inputs s f es (lends i bs gs is none bought gave) =
-    subst AllOfRounds (sym is) (rounds_joined bs gs (borrow_inputs s bought.began (borrows.first_stage s) bs bought.due) (return_inputs s i returns.gives gs gave.due))
-round_inputs s f es (refuses one refused) = borrow_inputs s refused.began (borrows.first_stage s) es refused.due
+    subst AllOfRounds (sym is) (rounds_joined bs gs (borrow_inputs s bought.began (borrows.first_stage (plan_of s)) bs bought.due) (return_inputs s i returns.gives gs gave.due))
+round_inputs s f es (refuses one refused) = borrow_inputs s refused.began (borrows.first_stage (plan_of s)) es refused.due
 
 worked_inputs : (s : Settings) (r f : ℕ) (es : List Entry) → IsWorked s r f es → AllOfRounds es
 worked_inputs s zero f es w = subst AllOfRounds (sym w.1) tt
 worked_inputs s (suc r) f es w = subst AllOfRounds (sym w.4) (rounds_joined w.0 w.1 (round_inputs s w.2 w.0 w.6) (worked_inputs s r w.3 w.1 w.7))
 
 part_inputs : (s : Settings) (f : PoolFault) (es : List Entry) (me : CallerState) → RoundStopped s f es me → AllOfRounds es
-part_inputs s f es me (borrowing b) = borrow_inputs s b.began (borrows.first_stage s) es b.due
-part_inputs s f es me (returning i r) = borrow_inputs s r.borrowed.began (borrows.first_stage s) es r.borrowed.due
+part_inputs s f es me (borrowing b) = borrow_inputs s b.began (borrows.first_stage (plan_of s)) es b.due
+part_inputs s f es me (returning i r) = borrow_inputs s r.borrowed.began (borrows.first_stage (plan_of s)) es r.borrowed.due
 
 stopped_inputs : (s : Settings) (rounds n : ℕ) (f : PoolFault) (me : CallerState) → StopsInRounds s rounds f (newcomer_at n) me → AllOfRounds me.appended
 stopped_inputs s rounds n f me x =
@@ -187,10 +178,16 @@ takes s left taken J e due some asked shut idle = by_first (idle_queue (records 
         let fewer = idle_leaves s J e r.id due is in
         subst (λ (a : Answer). Sweeping (after_sweeping left taken a) (J ++ e ∷ [])) (sym is) (stays_closed J e shut, omega (arith, fewer, idle))
 
-own_step : (s : Settings) (st : Stage) (J : List Entry) (e : Entry) → IsDue s J e → IsExpected inputs.Close st e → Sweeping st J → Sweeping (next st e) (J ++ e ∷ [])
+-- a Destroyed
+frees : (left taken : ℕ) (a : Answer) (J : List Entry) → Sweeping (sweeps left taken) J → Sweeping (after_freeing left taken a) J
+frees left taken answers.Freed J so_far = so_far
+frees left taken _ J so_far = tt
+
+own_step : (s : Settings) (st : Stage) (J : List Entry) (e : Entry) → IsDue s J e → IsExpected inputs.Close st e.input → Sweeping st J → Sweeping (next st (turn_of e)) (J ++ e ∷ [])
 own_step s begins J e due asked so_far = closes s J e due asked so_far
 own_step s (sweeps left taken) J e due asked so_far = takes s left taken J e due asked.0 asked.1 so_far.0 so_far.1
-own_step s (destroys i left taken) J e due asked so_far = (stays_closed J e so_far.0, round_stays s J e due so_far.0 (ap is_of_round asked) ∙ so_far.1)
+own_step s (destroys i left taken) J e due asked so_far =
+    frees left taken e.answer (J ++ e ∷ []) (stays_closed J e so_far.0, round_stays s J e due so_far.0 (ap is_of_round asked) ∙ so_far.1)
 own_step s _ J e due asked so_far = absurd asked
 
 -- the entries of a close among those of rounds
@@ -206,7 +203,7 @@ along s n K (e ∷ J) st legal others asked so_far =
         → ((st : Stage) → AllExpected (IsExpected inputs.Close) next st (entries_with_number n J) → Sweeping st (K ++ e ∷ []) → Sweeping (run_stages next st (entries_with_number n J)) ((K ++ e ∷ []) ++ J))
         → Sweeping (run_stages next st (if t then e ∷ entries_with_number n J else entries_with_number n J)) (K ++ e ∷ J)
     by_test due true is asked again =
-        subst (Sweeping (run_stages next (next st e) (entries_with_number n J))) (append_assoc K (e ∷ []) J) (again (next st e) asked.1 (own_step s st K e due asked.0 so_far))
+        subst (Sweeping (run_stages next (next st (turn_of e)) (entries_with_number n J))) (append_assoc K (e ∷ []) J) (again (next st (turn_of e)) asked.1 (own_step s st K e due asked.0 so_far))
     by_test due false is asked again =
         subst (Sweeping (run_stages next st (entries_with_number n J))) (append_assoc K (e ∷ []) J) (again st asked (others_step s st K e due (others.0 is) so_far))
 
@@ -228,7 +225,7 @@ ends_whole s (sweeps zero taken) (Err f) me so_far ends = absurd ends
 ends_whole s (sweeps (suc left) taken) (Err f) me so_far ends = absurd ends
 ends_whole s (through taken) (Err f) me so_far ends = absurd ends
 ends_whole s (destroys i left taken) result me so_far ends = absurd ends
-ends_whole s lost result me so_far ends = absurd ends
+ends_whole s (clears.refused taken a) result me so_far ends = absurd ends
 
 -- a close by the caller n, in a history in which all other entries are those of rounds, is whole
 pub close_whole : (s : Settings) (n : ℕ) (H : List Entry) (result : Result ℕ PoolFault) (me : CallerState) → AllBelow (n + 1) H

@@ -1,26 +1,29 @@
 -- In each round an object is lent or the borrow is refused.
-use Rattle.std.proofs.Common.{◌≡◌, ℕ, zero, suc, ◌+◌, ◌*◌, ◌<◌, ◌≤◌, ◌==◌, Bool, true, false, cond, if◌then◌else◌, List, [], ◌∷◌, ◌++◌, length, Some, Result, Ok, Err, slice_get, take, add-one, refl, sym, ap, ◌∙◌, subst, arith}
+use Rattle.std.proofs.Common.{◌≡◌, ℕ, zero, suc, ◌+◌, ◌-◌, ◌*◌, ◌<◌, ◌≤◌, ◌==◌, Bool, true, false, cond, if◌then◌else◌, List, [], ◌∷◌, ◌++◌, length, Some, Result, Ok, Err, slice_get, take, add-one, refl, sym, ap, ◌∙◌, subst, arith}
 use Rattle.std.specs.Prelude.{IfOk, sum, slice_index}
 use Rattle.std.proofs.lemmas.Bool.Decides.{nat_tests}
 use Rattle.std.proofs.lemmas.List.Sums.{sum_by-cons}
 use Rattle.std.proofs.Math.Nat.{zero-mul, suc-mul}
+use Rattle.pool_journal.specs.Carrying.{is_good}
 use Rattle.pool_journal.specs.Entries.{is_lent_answer}
 use Rattle.pool_journal.specs.declared.entry.Entry.{Entry}
 use Rattle.pool_journal.specs.declared.input.Input.{Input}
 use Rattle.pool_journal.specs.declared.input.Input.TheVariants as inputs
 use Rattle.pool_journal.specs.declared.input.Outcome.{Outcome}
-use Rattle.pool_journal.specs.declared.input.When.TheVariants as times
+use Rattle.pool_journal.specs.declared.input.Outcome.TheVariants as outcomes
 use Rattle.pool_journal.specs.declared.answer.Answer.{Answer}
 use Rattle.pool_journal.specs.declared.answer.Answer.TheVariants as answers
+use Rattle.pool_journal.specs.declared.answer.Cause.{Cause}
+use Rattle.pool_journal.specs.declared.answer.Cause.TheVariants as causes
 use Rattle.pool_settings.specs.declared.settings.Settings.{Settings}
 use Rattle.pool_stats.specs.Answers.{count_answers}
 use Rattle.pool_core.specs.Legal.{IsLegal}
 use Rattle.pool_history.specs.CellInvariant.{entries_with_number, AllBelow}
-use Rattle.pool_shared.specs.Traces.{run_stages, AllExpected}
-use Rattle.pool_shared.specs.Borrows as borrows
-use Rattle.pool_shared.specs.Returns as returns
-use Rattle.pool_shared.specs.Reclaims as removals
-use Rattle.pool_shared.specs.Clears as clears
+use Rattle.pool_shared.specs.Traces.{turn_of, run_stages, AllExpected}
+use Rattle.pool_calls.specs.BorrowRules as borrows
+use Rattle.pool_shared.specs.Plans.{plan_of}
+use Rattle.pool_calls.specs.ReturnRules as returns
+use Rattle.pool_calls.specs.ClearRules as clears
 use Rattle.pool_engines.specs.declared.load_fault.LoadFault.{LoadFault}
 use Rattle.pool_load.specs.declared.loading.LoadReport.{LoadReport}
 use Rattle.pool_load.specs.Rounds.{IsRefusal, Round, lends, refuses, IsWorked}
@@ -79,54 +82,85 @@ abbrev lent_at : borrows.Stage → ℕ
 lent_at (borrows.lent i) = 1
 lent_at _ = 0
 
-removal_not_ready : (st : removals.Stage) (e : Entry) → removals.IsExpected times.Borrow st e → is_ready e.input ≡ false
-removal_not_ready removals.begins e due = ap is_ready due
-removal_not_ready (removals.reclaims left taken) e due = ap is_ready due.1
-removal_not_ready _ e due = absurd due
+more_not : (n : ℕ) → lent_at (borrows.remove_more n) ≡ 0
+more_not zero = refl
+more_not (suc n) = refl
 
-removing_not : (st : removals.Stage) → lent_at (borrows.removing st) ≡ 0
-removing_not (removals.reclaims zero taken) = refl
-removing_not (removals.reclaims (suc left) taken) = refl
-removing_not _ = refl
+beginning_not : (a : Answer) → lent_at (borrows.after_beginning a) ≡ 0
+beginning_not (answers.Count n) = more_not n
+beginning_not _ = refl
+
+removing_not : (n : ℕ) (a : Answer) → lent_at (borrows.after_removing n a) ≡ 0
+removing_not n (answers.Reclaimed i) = more_not (n - 1)
+removing_not n answers.Nothing = refl
+removing_not n _ = refl
+
+refused_not : (c : Cause) → lent_at (borrows.after_refusal c) ≡ 0
+refused_not causes.Closed = refl
+refused_not _ = refl
 
 asking_not : (a : Answer) → lent_at (borrows.after_asking a) ≡ 0
+asking_not (answers.Take i) = refl
+asking_not (answers.Make i) = refl
 asking_not answers.Wait = refl
+asking_not answers.Exhausted = refl
+asking_not answers.TimedOut = refl
+asking_not (answers.Refused c) = refused_not c
 asking_not _ = refl
 
-readied : (i : ℕ) (new : Bool) (j : ℕ) (o : Outcome) (a : Answer) → lent_at (borrows.after_readying i new (inputs.Ready j o) a) ≡ cond (is_lent_answer a) 1 0
-readied i new j o answers.Lent = refl
-readied i new j o answers.Freed = refl
-readied i new j o _ = refl
+good_lends : (i : ℕ) (new : Bool) (a : Answer) → lent_at (borrows.after_readying i new outcomes.Good a) ≡ cond (is_lent_answer a) 1 0
+good_lends i new answers.Lent = refl
+good_lends i new _ = refl
 
-destroyed_not : (new : Bool) (o : Outcome) → lent_at (borrows.after_destroying new o) ≡ 0
-destroyed_not true o = refl
-destroyed_not false o = refl
+unready_not : (i : ℕ) (new : Bool) (o : Outcome) (a : Answer) → is_good o ≡ false → lent_at (borrows.after_readying i new o a) ≡ 0
+unready_not i new outcomes.Good a other = absurd (cc other)
+unready_not i new outcomes.MakeFailed answers.Freed other = refl
+unready_not i new outcomes.MakeFailed _ other = refl
+unready_not i new _ answers.Destroy other = refl
+unready_not i new _ _ other = refl
+
+unready : (i : ℕ) (new : Bool) (j : ℕ) (o : Outcome) (e : Entry) → Ordered e → e.input ≡ inputs.Ready j o → is_good o ≡ false → lent_by e + 0 ≡ lent_at (borrows.after_readying i new o e.answer)
+unready i new j o e ordered is other = let none = not_lent e ordered (ap is_ready is ∙ other) in let a = unready_not i new o e.answer other in omega (arith, none, a)
+
+readied : (i : ℕ) (new : Bool) (j : ℕ) (o : Outcome) (e : Entry) → Ordered e → e.input ≡ inputs.Ready j o → lent_by e + 0 ≡ lent_at (borrows.after_readying i new o e.answer)
+readied i new j outcomes.Good e ordered is = let a = good_lends i new e.answer in omega (arith, a)
+readied i new j _ e ordered is = unready i new j _ e ordered is refl
+
+freeing_not : (new : Bool) (o : Outcome) → lent_at (borrows.after_freeing new o) ≡ 0
+freeing_not true o = refl
+freeing_not false o = refl
+
+destroying_not : (new : Bool) (o : Outcome) (a : Answer) → lent_at (borrows.after_destroying new o a) ≡ 0
+destroying_not new o answers.Freed = freeing_not new o
+destroying_not new o _ = refl
 
 -- an entry of a borrow lends exactly if it leads to that stage
-borrow_step : (s : Settings) (began : ℕ) (st : borrows.Stage) (e : Entry) → Ordered e → borrows.IsExpected s began st e → lent_by e + lent_at st ≡ lent_at (borrows.next st e)
-borrow_step s began (borrows.removes st) e ordered due =
-    let a = not_lent e ordered (removal_not_ready st e due) in let b = removing_not (removals.next st e) in omega (arith, a, b)
+borrow_step : (s : Settings) (began : ℕ) (st : borrows.Stage) (e : Entry) → Ordered e → borrows.IsExpected (plan_of s) began st e.input → lent_by e + lent_at st ≡ lent_at (borrows.next st (turn_of e))
+borrow_step s began borrows.begins e ordered due =
+    let a = not_lent e ordered (ap is_ready due) in let b = beginning_not e.answer in omega (arith, a, b)
+borrow_step s began (borrows.removes n) e ordered due =
+    let a = not_lent e ordered (ap is_ready due.1) in let b = removing_not n e.answer in omega (arith, a, b)
 borrow_step s began borrows.asks e ordered due =
     let a = not_lent e ordered (ap is_ready due) in let b = asking_not e.answer in omega (arith, a, b)
-borrow_step s began (borrows.readies i new) e ordered due = by_input e.input due
+borrow_step s began (borrows.readies i new) e ordered due = by_input e.input refl due
   where
-    by_input : (input : Input) → borrows.IsReady s i new input → lent_by e + 0 ≡ lent_at (borrows.after_readying i new input e.answer)
-    by_input (inputs.Ready j o) due = let a = readied i new j o e.answer in omega (arith, a)
-    by_input _ due = absurd due
+    by_input : (input : Input) → e.input ≡ input → borrows.IsReady (plan_of s) i new input → lent_by e + 0 ≡ lent_at (borrows.after_report i new input e.answer)
+    by_input (inputs.Ready j o) is due = readied i new j o e ordered is
+    by_input _ is due = absurd due
 borrow_step s began (borrows.destroys i new o) e ordered due =
-    let a = not_lent e ordered (ap is_ready due) in let b = destroyed_not new o in omega (arith, a, b)
+    let a = not_lent e ordered (ap is_ready due) in let b = destroying_not new o e.answer in omega (arith, a, b)
 borrow_step s began _ e ordered due = absurd due
 
-borrow_lends : (s : Settings) (began : ℕ) (st : borrows.Stage) (es : List Entry) → AllOrdered es → AllExpected (borrows.IsExpected s began) borrows.next st es
+borrow_lends : (s : Settings) (began : ℕ) (st : borrows.Stage) (es : List Entry) → AllOrdered es → AllExpected (borrows.IsExpected (plan_of s) began) borrows.next st es
     → lent_in es + lent_at st ≡ lent_at (run_stages borrows.next st es)
 borrow_lends s began st [] all due = omega arith
 borrow_lends s began st (e ∷ es) all due =
-    let here = borrow_step s began st e all.0 due.0 in let rest = borrow_lends s began (borrows.next st e) es all.1 due.1 in omega (arith, here, rest)
+    let here = borrow_step s began st e all.0 due.0 in let rest = borrow_lends s began (borrows.next st (turn_of e)) es all.1 due.1 in omega (arith, here, rest)
 
-starts_not : (s : Settings) → lent_at (borrows.first_stage s) ≡ 0
+starts_not : (s : Settings) → lent_at (borrows.first_stage (plan_of s)) ≡ 0
 starts_not s = by_flag s.remove_abandoned_on_borrow
   where
-    by_flag : (b : Bool) → lent_at (if b then borrows.removes removals.begins else borrows.asks) ≡ 0
+    by_flag : (b : Bool) → lent_at (if b then borrows.begins else borrows.asks) ≡ 0
     by_flag true = refl
     by_flag false = refl
 
@@ -143,43 +177,40 @@ none_lent : (es : List Entry) → AllOrdered es → NoneReady es → lent_in es 
 none_lent [] all none = refl
 none_lent (e ∷ es) all none = let here = not_lent e all.0 none.0 in let rest = none_lent es all.1 none.1 in omega (arith, here, rest)
 
-return_not_ready : (s : Settings) (i : ℕ) (st : returns.Stage) (e : Entry) → returns.IsExpected s i st e → is_ready e.input ≡ false
-return_not_ready s i returns.gives e due = ap is_ready due
-return_not_ready s i returns.checks e due = by_input e.input due
-  where
-    by_input : (input : Input) → returns.IsCheck s i input → is_ready input ≡ false
-    by_input (inputs.Park j o) due = refl
-    by_input _ due = absurd due
-return_not_ready s i returns.destroys e due = ap is_ready due
-return_not_ready s i _ e due = absurd due
+return_not_ready : (s : Settings) (i : ℕ) (st : returns.Stage) (input : Input) → returns.IsExpected (plan_of s) i st input → is_ready input ≡ false
+return_not_ready s i returns.gives input due = ap is_ready due
+return_not_ready s i returns.checks (inputs.Park j o) due = refl
+return_not_ready s i returns.checks _ due = absurd due
+return_not_ready s i returns.destroys input due = ap is_ready due
+return_not_ready s i _ input due = absurd due
 
-return_none : (s : Settings) (i : ℕ) (st : returns.Stage) (es : List Entry) → AllExpected (returns.IsExpected s i) returns.next st es → NoneReady es
+return_none : (s : Settings) (i : ℕ) (st : returns.Stage) (es : List Entry) → AllExpected (returns.IsExpected (plan_of s) i) returns.next st es → NoneReady es
 return_none s i st [] due = tt
-return_none s i st (e ∷ es) due = (return_not_ready s i st e due.0, return_none s i (returns.next st e) es due.1)
+return_none s i st (e ∷ es) due = (return_not_ready s i st e.input due.0, return_none s i (returns.next st (turn_of e)) es due.1)
 
-close_not_ready : (st : clears.Stage) (e : Entry) → clears.IsExpected inputs.Close st e → is_ready e.input ≡ false
-close_not_ready clears.begins e due = ap is_ready due
-close_not_ready (clears.sweeps left taken) e due = ap is_ready due.1
-close_not_ready (clears.destroys i left taken) e due = ap is_ready due
-close_not_ready _ e due = absurd due
+close_not_ready : (st : clears.Stage) (input : Input) → clears.IsExpected inputs.Close st input → is_ready input ≡ false
+close_not_ready clears.begins input due = ap is_ready due
+close_not_ready (clears.sweeps left taken) input due = ap is_ready due.1
+close_not_ready (clears.destroys i left taken) input due = ap is_ready due
+close_not_ready _ input due = absurd due
 
 close_none : (st : clears.Stage) (es : List Entry) → AllExpected (clears.IsExpected inputs.Close) clears.next st es → NoneReady es
 close_none st [] due = tt
-close_none st (e ∷ es) due = (close_not_ready st e due.0, close_none (clears.next st e) es due.1)
+close_none st (e ∷ es) due = (close_not_ready st e.input due.0, close_none (clears.next st (turn_of e)) es due.1)
 
 round_lends : (s : Settings) (f : ℕ) (es : List Entry) → AllOrdered es → Round s f es → lent_in es + f ≡ 1
 round_lends s f es all (lends i bs gs is none bought gave) =
     let parts = ordered_parts bs gs (subst AllOrdered is all) in
-    let out = borrow_lends s bought.began (borrows.first_stage s) bs parts.0 bought.due in
+    let out = borrow_lends s bought.began (borrows.first_stage (plan_of s)) bs parts.0 bought.due in
     let begins = starts_not s in
     let ends = ap lent_at bought.ends in
     let back = none_lent gs parts.1 (return_none s i returns.gives gs gave.due) in
     let both = ap lent_in is ∙ lent_parts bs gs in
     omega (arith, out, begins, ends, back, both, none)
 round_lends s f es all (refuses one refused) =
-    let out = borrow_lends s refused.began (borrows.first_stage s) es all refused.due in
+    let out = borrow_lends s refused.began (borrows.first_stage (plan_of s)) es all refused.due in
     let begins = starts_not s in
-    let ends = refusal_not (run_stages borrows.next (borrows.first_stage s) es) refused.ends in
+    let ends = refusal_not (run_stages borrows.next (borrows.first_stage (plan_of s)) es) refused.ends in
     omega (arith, out, begins, ends, one)
 
 worked_lends : (s : Settings) (r f : ℕ) (es : List Entry) → AllOrdered es → IsWorked s r f es → lent_in es + f ≡ r

@@ -2,6 +2,7 @@
 use Rattle.std.proofs.Common.{◌≡◌, ℕ, ◌||◌, Bool, true, false, if◌then◌else◌, List, length, Option, Some, None, refl}
 use Rattle.std.specs.Prelude.{not, ◌-◌}
 use Rattle.pool_journal.specs.Base.{empty_base, drawn_from, closed_from, records_from, cursor_from}
+use Rattle.pool_journal.specs.Carrying.{is_good}
 use Rattle.pool_journal.specs.Entries.{is_lent_answer}
 use Rattle.pool_journal.specs.Queue.{idle_queue, first_of, queue_length, record_in}
 use Rattle.pool_journal.specs.declared.record.Record.{Record}
@@ -16,10 +17,10 @@ use Rattle.pool_journal.specs.declared.answer.Answer.{Answer}
 use Rattle.pool_journal.specs.declared.answer.Answer.TheVariants as answers
 use Rattle.pool_journal.specs.declared.answer.Cause.TheVariants as causes
 use Rattle.pool_settings.specs.declared.settings.Settings.{Settings}
-use Rattle.pool_core.specs.Reply.{reply, borrow_reply, exhausted_reply, has_reached, borrow_candidate, is_below, lent_reply, park_reply, returning_reply, has_room, added_reply, adding_reply, tested_reply, testing_reply, destroyed_reply, add_reply, has_min_idle, is_evictable, evict_next_reply, examined, reclaim_next_reply, clear_next_reply, abandoned_objects, phase_of, reply_from_records}
+use Rattle.pool_core.specs.Reply.{reply, borrow_reply, exhausted_reply, has_reached, borrow_candidate, is_below, ready_reply, readying_reply, new_of, lent_reply, park_reply, returning_reply, has_room, added_reply, adding_reply, tested_reply, testing_reply, destroyed_reply, add_reply, has_min_idle, is_evictable, evict_next_reply, examined, reclaim_next_reply, clear_next_reply, abandoned_objects, phase_of, reply_from_records}
 
 abbrev pub is_ready : Input → Bool
-is_ready (Ready i o) = true
+is_ready (Ready i o) = is_good o
 is_ready _ = false
 
 -- lends nothing
@@ -34,6 +35,20 @@ borrow_idle : (o : Option ℕ) (room : Bool) (next : ℕ) (full : Answer) → Id
 borrow_idle (Some i) room next full it = refl
 borrow_idle None true next full it = refl
 borrow_idle None false next full it = it
+
+readying_idle : (new : Bool) (o : Outcome) → is_good o ≡ false → Idle (readying_reply new o)
+readying_idle new outcomes.Good other = absurd (cc other)
+readying_idle new outcomes.PassivateFailed other = refl
+readying_idle true outcomes.MakeFailed other = refl
+readying_idle false outcomes.MakeFailed other = refl
+readying_idle true outcomes.CreateTestFailed other = refl
+readying_idle false outcomes.CreateTestFailed other = refl
+readying_idle true _ other = refl
+readying_idle false _ other = refl
+
+ready_idle : (p : Phase) (new : Bool) (o : Outcome) → is_good o ≡ false → Idle (ready_reply p new o)
+ready_idle phases.Readying new o other = readying_idle new o other
+ready_idle _ new o other = refl
 
 lent_idle : (abandoned : Bool) (p : Phase) (a : Answer) → Idle a → Idle (lent_reply abandoned p a)
 lent_idle abandoned phases.Lent a it = it
@@ -94,7 +109,7 @@ table_lends s rs next shut cursor at (Borrow began) other =
     either shut (answers.Refused causes.Closed) (borrow_reply (borrow_candidate s.lifo rs) (is_below s.max_total (length rs)) next (exhausted_reply s (at - began))) refl
     (borrow_idle (borrow_candidate s.lifo rs) (is_below s.max_total (length rs)) next (exhausted_reply s (at - began))
     (either s.block_when_exhausted (if has_reached s.max_wait_millis (at - began) then answers.TimedOut else answers.Wait) answers.Exhausted (either (has_reached s.max_wait_millis (at - began)) answers.TimedOut answers.Wait refl refl) refl))
-table_lends s rs next shut cursor at (Ready i o) other = absurd (cc other)
+table_lends s rs next shut cursor at (Ready i o) other = ready_idle (phase_of (record_in rs i)) (new_of (record_in rs i)) o other
 table_lends s rs next shut cursor at (GiveBack i) other = lent_idle s.abandoned (phase_of (record_in rs i)) answers.Check refl
 table_lends s rs next shut cursor at (Park i o) other = park_idle (phase_of (record_in rs i)) o (has_room s shut rs)
 table_lends s rs next shut cursor at (Invalidate i) other = lent_idle s.abandoned (phase_of (record_in rs i)) answers.Destroy refl

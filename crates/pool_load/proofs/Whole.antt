@@ -14,7 +14,8 @@ use Rattle.pool_history.specs.CellInvariant.{entries_with_number, AllBelow, IsPr
 use Rattle.pool_history.specs.CallerStates.{CallerState, Advances, newcomer_at}
 use Rattle.pool_shared.specs.declared.faults.PoolFault.{PoolFault}
 use Rattle.pool_shared.specs.Traces.{run_stages}
-use Rattle.pool_shared.specs.Clears.{begins, next, IsOver, CloseSpec}
+use Rattle.pool_calls.specs.ClearRules.{begins, next}
+use Rattle.pool_shared.specs.Clears.{IsOver, CloseSpec}
 use Rattle.pool_engines.specs.declared.load_fault.LoadFault.{LoadFault}
 use Rattle.pool_engines.specs.declared.load_fault.LoadFault.TheVariants as stops
 use Rattle.pool_load.specs.Rounds.{IsWorked}

@@ -8,7 +8,8 @@ use Rattle.pool_core.specs.Legal.{IsLegal}
 use Rattle.pool_history.specs.CellInvariant.{entries_with_number, AllBelow, IsPrefix}
 use Rattle.pool_history.specs.CallerStates.{CallerState, Advances, newcomer_at}
 use Rattle.pool_shared.specs.Traces.{run_stages}
-use Rattle.pool_shared.specs.Clears.{begins, next, IsOver, CloseSpec}
+use Rattle.pool_calls.specs.ClearRules.{begins, next}
+use Rattle.pool_shared.specs.Clears.{IsOver, CloseSpec}
 use Rattle.pool_engines.specs.declared.load_fault.LoadFault.{LoadFault}
 use Rattle.pool_engines.specs.declared.load_fault.LoadFault.TheVariants.{WorkerCount, RoundCount, JournalFull, NoThread}
 use Rattle.pool_load.specs.Rounds.{IsWorked, Stops}

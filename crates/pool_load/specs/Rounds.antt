@@ -15,8 +15,10 @@ use Rattle.pool_shared.specs.declared.faults.PoolFault.{PoolFault}
 use Rattle.pool_shared.specs.declared.faults.PoolFault.TheVariants as pool_faults
 use Rattle.pool_shared.specs.TraceToResult.{IsRoomFault}
 use Rattle.pool_shared.specs.Traces.{run_stages, AllExpected}
-use Rattle.pool_shared.specs.Borrows as borrows
-use Rattle.pool_shared.specs.Returns as returns
+use Rattle.pool_calls.specs.BorrowRules as borrows
+use Rattle.pool_shared.specs.Borrows.{IsStopped}
+use Rattle.pool_shared.specs.Plans.{plan_of}
+use Rattle.pool_calls.specs.ReturnRules as returns
 use Rattle.pool_engines.specs.declared.load_fault.LoadFault.{LoadFault}
 use Rattle.pool_engines.specs.declared.load_fault.LoadFault.TheVariants.{JournalFull, OutOfMemory}
 
@@ -33,32 +35,29 @@ IsRefusal (borrows.refused a) = IsRefusing a
 IsRefusal (borrows.failed o) = Unit {0}
 IsRefusal _ = ⊥
 
--- the object was not lent any more
-abbrev pub IsNotLent : Answer → Type 0
-IsNotLent (answers.Refused causes.NotLent) = Unit {0}
-IsNotLent _ = ⊥
-
--- a return that is complete
+-- a return that is complete, or whose object was not lent any more
 abbrev pub IsThrough : returns.Stage → Type 0
-IsThrough (returns.done r) = Unit {0}
-IsThrough (returns.refused a) = IsNotLent a
+IsThrough returns.parked = Unit {0}
+IsThrough returns.destroyed = Unit {0}
+IsThrough returns.gone = Unit {0}
+IsThrough returns.not_lent = Unit {0}
 IsThrough _ = ⊥
 
 -- the entries of a whole borrow that lent this object
 pub record BorrowDone (s : Settings) (i : ℕ) (es : List Entry) : Type 0 where
   pub began : ℕ
-  pub due : AllExpected (borrows.IsExpected s began) borrows.next (borrows.first_stage s) es
-  pub ends : run_stages borrows.next (borrows.first_stage s) es ≡ borrows.lent i
+  pub due : AllExpected (borrows.IsExpected (plan_of s) began) borrows.next (borrows.first_stage (plan_of s)) es
+  pub ends : run_stages borrows.next (borrows.first_stage (plan_of s)) es ≡ borrows.lent i
 
 -- the entries of a whole borrow that lent nothing
 pub record BorrowRefused (s : Settings) (es : List Entry) : Type 0 where
   pub began : ℕ
-  pub due : AllExpected (borrows.IsExpected s began) borrows.next (borrows.first_stage s) es
-  pub ends : IsRefusal (run_stages borrows.next (borrows.first_stage s) es)
+  pub due : AllExpected (borrows.IsExpected (plan_of s) began) borrows.next (borrows.first_stage (plan_of s)) es
+  pub ends : IsRefusal (run_stages borrows.next (borrows.first_stage (plan_of s)) es)
 
 -- the entries of a whole return of this object
 pub record ReturnDone (s : Settings) (i : ℕ) (es : List Entry) : Type 0 where
-  pub due : AllExpected (returns.IsExpected s i) returns.next returns.gives es
+  pub due : AllExpected (returns.IsExpected (plan_of s) i) returns.next returns.gives es
   pub ends : IsThrough (run_stages returns.next returns.gives es)
 
 -- one round, and the number of refused borrows in it
@@ -92,8 +91,8 @@ StopsFor _ _ = ⊥
 -- the entries of a borrow whose next critical section failed with this error
 pub record BorrowStopped (s : Settings) (f : PoolFault) (es : List Entry) (me : CallerState) : Type 0 where
   pub began : ℕ
-  pub due : AllExpected (borrows.IsExpected s began) borrows.next (borrows.first_stage s) es
-  pub fails : borrows.IsStopped s began f (run_stages borrows.next (borrows.first_stage s) es) me
+  pub due : AllExpected (borrows.IsExpected (plan_of s) began) borrows.next (borrows.first_stage (plan_of s)) es
+  pub fails : IsStopped s began f (run_stages borrows.next (borrows.first_stage (plan_of s)) es) me
 
 -- the entries of a whole borrow of this object, whose return failed with this error before its first entry, since the object
 -- wasn't lent any more

@@ -1,3 +1,5 @@
+//! A gate that a worker passes in each round, while it holds an object.
+
 /// A gate, which a worker passes while it holds an object.
 pub trait Gate: Sync {
     /// Lets a worker pass. It is called in each round in which the worker borrowed an object, before the worker returns

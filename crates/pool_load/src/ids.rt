@@ -1,4 +1,5 @@
-// Objects whose values are their ids, and a clock that counts its readings.
+//! Objects whose values are their ids, and a clock that counts its readings.
+
 use pool_shared::{Clock, Factory, SharedPool};
 use std::convert::Infallible;
 use std::sync::atomic::{AtomicU64, Ordering};

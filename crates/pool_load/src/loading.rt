@@ -1,4 +1,4 @@
-// Many workers at once, and the statistics of their history.
+//! Runs many workers at once on one pool, closes it, and reports the statistics of its history.
 ghost use Rattle.std.specs.Prelude.{◌≡◌, ◌+◌, ◌*◌, ◌≤◌, ℕ, length, Result, IfOk, IfErr, OnOk};
 ghost use Rattle.pool_history.specs.CallerStates.{Advances};
 ghost use Rattle.pool_shared.specs.declared.faults.PoolFault.{PoolFault};

@@ -1,4 +1,4 @@
-// Rounds of one caller.
+//! The rounds of one caller: in each it borrows an object, passes the gate, and returns the object.
 ghost use Rattle.std.specs.Prelude.{◌≡◌, ◌≤◌, IfOk, IfErr};
 ghost use Rattle.pool_history.specs.CallerStates.{Advances};
 ghost use Rattle.pool_load.specs.Rounds.{MakesRound, MakesRounds, IsNonResourceError, StopsFor, StopsRound, Stops};

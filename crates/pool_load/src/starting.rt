@@ -1,4 +1,5 @@
-// Where the threads of workers wait for one another.
+//! Holds the workers back until each has a thread.
+
 use std::sync::{Condvar, Mutex, Wait};
 
 #[derive(Clone, Copy)]

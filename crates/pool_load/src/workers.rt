@@ -1,4 +1,4 @@
-// Workers in threads of their own.
+//! Starts a thread for each worker, waits for all of them, and collects their results.
 ghost use Rattle.std.specs.Prelude.{◌≡◌, ◌≤◌, ◌<◌, ℕ, List, length, map, slice_index_or, IfOk, IfErr};
 ghost use Rattle.pool_load.specs.Workers.{Works, AllWorked, IsWanting, added, total_of};
 

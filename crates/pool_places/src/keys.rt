@@ -1,3 +1,4 @@
+//! Finds the key of a present object in the index.
 ghost use Rattle.std.specs.Prelude.{◌≡◌, Some, IsSome};
 ghost use Rattle.sorted_index.specs.Pairs.{key_of};
 

@@ -1,3 +1,4 @@
+//! Searches the abandoned objects, and the earliest time at which a lent object was last used.
 ghost use Rattle.std.specs.Prelude.{◌≡◌, ◌≤◌, true, count_by, find};
 ghost use Rattle.std.specs.Option.{option_map};
 ghost use Rattle.pool_places.specs.Overdue.{is_overdue, is_lent, IsBound};

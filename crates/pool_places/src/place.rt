@@ -1,3 +1,5 @@
+//! A present object: its record, and its value if the pool stores it.
+
 use pool_journal::Record;
 
 /// An object: its record, and its value if the pool stores it.

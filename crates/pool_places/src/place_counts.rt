@@ -1,3 +1,4 @@
+//! The numbers of objects by their kind, which are updated with each change.
 ghost use Rattle.std.specs.Prelude.{[]};
 ghost use Rattle.pool_places.specs.Counts.{IsCounts, IsSmall, HasOne, HasOneMore};
 

@@ -1,3 +1,4 @@
+//! The present objects of a pool, by id and in the order of the idle queue, and the values of the idle ones.
 ghost use Rattle.std.specs.Prelude.{◌≡◌, ◌≢◌, ◌≤◌, ◌<◌, ◌+◌, ◌^◌, ◌++◌, ◌∷◌, [], ℕ, IfSome, IsSomeAnd, IsTrue, OnOk, OnErr, Some, None, true, false, is_some, length, filter, count_by, slice_get};
 ghost use Rattle.std.specs.List.{AllByRecursion};
 ghost use Rattle.std.specs.Option.{option_map};

@@ -1,3 +1,4 @@
+//! Searches the queue of idle objects, and puts objects into it or removes them.
 ghost use Rattle.std.specs.Prelude.{◌≡◌, ◌≢◌, ℕ, if◌then◌else◌, Some, IfSome, true, false, map, find, reverse};
 ghost use Rattle.std.specs.List.{AllByRecursion};
 ghost use Rattle.std.specs.Option.{option_map};

@@ -1,3 +1,4 @@
+//! A text on one line, with its control characters escaped as in TOML.
 ghost use Rattle.std.specs.Prelude.{◌≡◌, ◌<◌, true, Some};
 ghost use Rattle.std.specs.Fmt.{WritesOnOk, digit_glyph};
 ghost use Rattle.std.specs.List.{flat_map, list_any};

@@ -1,3 +1,5 @@
+//! Why a text has no settings, and the line of each such error.
+
 use crate::escaped::Escaped;
 use crate::key_name::KeyName;
 use std::fmt;

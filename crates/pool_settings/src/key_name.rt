@@ -1,3 +1,4 @@
+//! The name of a key as errors print it, with that of its table.
 ghost use Rattle.std.specs.Prelude.{◌≡◌, ℕ, List, ◌++◌, IfOk, string_bytes};
 
 use crate::escaped::Escaped;

@@ -1,3 +1,4 @@
+//! The settings of a pool: their defaults, their getters, and how they are read from a text.
 ghost use Rattle.std.specs.Prelude.{◌≡◌, [], Ok, IfOk};
 ghost use Rattle.pool_settings.specs.Answer.{IsAnswer};
 ghost use Rattle.pool_settings.specs.Defaults.{defaults};

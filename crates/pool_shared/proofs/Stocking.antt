@@ -5,6 +5,7 @@ use Rattle.std.proofs.lemmas.List.Filters.{length-filter_both}
 use Rattle.pool_journal.specs.declared.entry.Entry.{Entry}
 use Rattle.pool_journal.specs.declared.input.Input.{Input}
 use Rattle.pool_journal.specs.declared.input.Input.TheVariants.{Add, Fill, Added, Destroyed}
+use Rattle.pool_journal.specs.declared.input.Outcome.{Outcome}
 use Rattle.pool_journal.specs.declared.input.Outcome.TheVariants as outcomes
 use Rattle.pool_journal.specs.declared.record.Phase.TheVariants as phases
 use Rattle.pool_journal.specs.declared.answer.Answer.{Answer}
@@ -21,13 +22,17 @@ use Rattle.pool_shared.specs.declared.faults.AddFault.TheVariants as faults
 use Rattle.pool_shared.specs.declared.faults.PoolFault.{PoolFault}
 use Rattle.pool_shared.specs.declared.faults.PoolFault.TheVariants as pool_faults
 use Rattle.pool_lock.specs.Sections.{OwnsObject, AppendsAnswer}
-use Rattle.pool_shared.specs.Traces.{run_stages, Trace, EndsWithOwn}
+use Rattle.pool_calls.specs.Turns.{Turn}
+use Rattle.pool_shared.specs.Traces.{turn_of, run_stages, Trace, EndsWithOwn}
 use Rattle.pool_shared.specs.TraceToResult.{IsRoomFault}
 use Rattle.pool_shared.specs.Faults.{add_fault}
-use Rattle.pool_shared.specs.Adds as addition
-use Rattle.pool_shared.specs.Adds.{makes, ending, FinalState, AddEnds, AddSpec, IsAddFaultFrom, IsStocked}
+use Rattle.pool_calls.specs.AddRules as addition
+use Rattle.pool_calls.specs.AddRules.{makes, after_making}
+use Rattle.pool_calls.specs.FillRules.{Stage, asks, adds, adding, through, failed, contradicted, one_more, parked_of, after_asking, next, IsExpected}
+use Rattle.pool_shared.specs.Plans.{plan_of}
+use Rattle.pool_shared.specs.Adds.{ending, FinalState, AddEnds, AddSpec, IsAddFaultFrom, IsFailure, IsStocked}
 use Rattle.pool_shared.specs.Fills as fills
-use Rattle.pool_shared.specs.Fills.{Stage, asks, adds, adding, through, failed, lost, after_asking, next, IsExpected, FillEnds, FillsFrom, FillSpec, FillStep}
+use Rattle.pool_shared.specs.Fills.{FillEnds, FillsFrom, FillSpec, FillStep}
 use Rattle.pool_shared.proofs.Traces.{trace_by, trace_on, trace_destroyed}
 use Rattle.pool_shared.proofs.TracesToResults.{row_at, row_none, row_on, trace_along}
 
@@ -42,16 +47,16 @@ stocked_leaves s input (Err faults.OutOfMemory) me is ends = absurd is
 
 -- an addition that found a place
 pub added : {E : Type 0} (s : Settings) (i : ℕ) (x : Answer) (r : Result Addition (AddFault E)) (a b c : CallerState) → x ≡ answers.Make i → AppendsAnswer Add x a b
-    → IsStocked r → Trace (addition.IsExpected s) addition.next (makes i) b c (ending r) → EndsWithOwn c → AddSpec s r a c
+    → IsStocked r → Trace (addition.IsExpected (plan_of s)) addition.next (makes i) b c (ending r) → EndsWithOwn c → AddSpec s r a c
 added s i x r a b c is made stocked w ends =
-    row_at (addition.IsExpected s) addition.next (AddEnds s) addition.asks (ending r) r a c
-    (trace_on (addition.IsExpected s) addition.next addition.asks (makes i) (ending r) a b c (trace_by (addition.IsExpected s) addition.next addition.asks (makes i) Add x (answers.Make i) a b is made (λ n at. refl) (λ n at. refl)) w)
+    row_at (addition.IsExpected (plan_of s)) addition.next (AddEnds s) addition.asks (ending r) r a c
+    (trace_on (addition.IsExpected (plan_of s)) addition.next addition.asks (makes i) (ending r) a b c (trace_by (addition.IsExpected (plan_of s)) addition.next addition.asks (makes i) Add x (answers.Make i) a b is made refl refl) w)
     (refl, stocked_leaves s Add r c stocked ends)
 
 -- an addition whose first critical section failed
 pub add_refused : {E : Type 0} (s : Settings) (f : PoolFault) (before after : CallerState) → after.appended ≡ before.appended → IsRoomFault s Add f after → AddSpec {E = E} s (Err (add_fault f)) before after
-add_refused {E} s pool_faults.JournalFull before after same why = row_none (addition.IsExpected s) addition.next (AddEnds {E = E} s) addition.asks (Err faults.JournalFull) before after same (refl, why)
-add_refused {E} s pool_faults.OutOfMemory before after same why = row_none (addition.IsExpected s) addition.next (AddEnds {E = E} s) addition.asks (Err faults.OutOfMemory) before after same (refl, why)
+add_refused {E} s pool_faults.JournalFull before after same why = row_none (addition.IsExpected (plan_of s)) addition.next (AddEnds {E = E} s) addition.asks (Err faults.JournalFull) before after same (refl, why)
+add_refused {E} s pool_faults.OutOfMemory before after same why = row_none (addition.IsExpected (plan_of s)) addition.next (AddEnds {E = E} s) addition.asks (Err faults.OutOfMemory) before after same (refl, why)
 add_refused s pool_faults.Closed before after same why = absurd why.1
 
 -- it has no error of the factory
@@ -60,12 +65,29 @@ not_from_factory make passivate pool_faults.Closed = tt
 not_from_factory make passivate pool_faults.JournalFull = tt
 not_from_factory make passivate pool_faults.OutOfMemory = tt
 
+-- a new object that can't become idle is destroyed
+destroyed_by : (s : Settings) (i : ℕ) (o : Outcome) → IsFailure s o → after_making i o answers.Destroy ≡ addition.destroys i o
+destroyed_by s i outcomes.CreateTestFailed failure = refl
+destroyed_by s i outcomes.PassivateFailed failure = refl
+destroyed_by s i _ failure = absurd failure
+
+possible_failure : (s : Settings) (o : Outcome) → IsFailure s o → addition.IsPossibleOutcome (plan_of s) o
+possible_failure s outcomes.CreateTestFailed failure = failure
+possible_failure s outcomes.PassivateFailed failure = refl
+possible_failure s _ failure = absurd failure
+
+pub turned_out : (s : Settings) (i : ℕ) (o : Outcome) (a : Answer) (before mid after : CallerState) → IsFailure s o → a ≡ answers.Destroy → AppendsAnswer (Added i o) a before mid → AppendsAnswer (Destroyed i) answers.Freed mid after
+    → Trace (addition.IsExpected (plan_of s)) addition.next (makes i) before after (addition.gone o)
+turned_out s i o a before mid after failure is made freed =
+    trace_destroyed (addition.IsExpected (plan_of s)) addition.next (makes i) (addition.destroys i o) (addition.gone o) i (Added i o) a answers.Destroy before mid after is made freed
+    (refl, possible_failure s o failure) (destroyed_by s i o failure) refl refl
+
 -- the pool was closed before the new object could become idle
 pub shut_out : (s : Settings) (i : ℕ) (a : Answer) (before mid after : CallerState) → a ≡ answers.Destroy → AppendsAnswer (Added i outcomes.Good) a before mid → AppendsAnswer (Destroyed i) answers.Freed mid after
-    → Trace (addition.IsExpected s) addition.next (makes i) before after (addition.gone outcomes.Good)
+    → Trace (addition.IsExpected (plan_of s)) addition.next (makes i) before after (addition.gone outcomes.Good)
 shut_out s i a before mid after is made freed =
-    trace_destroyed (addition.IsExpected s) addition.next (makes i) (addition.destroys i outcomes.Good) (addition.gone outcomes.Good) i (Added i outcomes.Good) a answers.Destroy before mid after is made freed
-    (λ n at. (refl, tt)) (λ n at. refl) (λ n at. refl) (λ n at. refl)
+    trace_destroyed (addition.IsExpected (plan_of s)) addition.next (makes i) (addition.destroys i outcomes.Good) (addition.gone outcomes.Good) i (Added i outcomes.Good) a answers.Destroy before mid after is made freed
+    (refl, tt) refl refl refl
 
 -- the caller then owns it, and has to destroy it
 pub has_shut_out : (i : ℕ) (a : Answer) (before after : CallerState) → a ≡ answers.Destroy → AppendsAnswer (Added i outcomes.Good) a before after → (new : Bool) × OwnsObject after i phases.Destroying new
@@ -82,84 +104,77 @@ owns_new input i x before after is made moved =
 
 -- an addition within a fill
 module _ (s : Settings) (n : ℕ) where
-  due_within : (st : addition.Stage) (e : Entry) → addition.IsExpected s st e → IsExpected s (adding n st) e
-  due_within addition.asks e due = due
-  due_within (addition.makes i) e due = due
-  due_within (addition.destroys i o) e due = due
-  due_within _ e due = absurd due
+  due_within : (st : addition.Stage) (input : Input) → addition.IsExpected (plan_of s) st input → IsExpected (plan_of s) (adding n st) input
+  due_within addition.asks input due = due
+  due_within (addition.makes i) input due = due
+  due_within (addition.destroys i o) input due = due
+  due_within _ input due = absurd due
 
-  goes_within : (st : addition.Stage) (e : Entry) → addition.IsExpected s st e → next (adding n st) e ≡ adding n (addition.next st e)
-  goes_within addition.asks e due = refl
-  goes_within (addition.makes i) e due = refl
-  goes_within (addition.destroys i o) e due = refl
-  goes_within _ e due = absurd due
+  goes_within : (st : addition.Stage) (t : Turn) → addition.IsExpected (plan_of s) st t.input → next (adding n st) t ≡ adding n (addition.next st t)
+  goes_within addition.asks t due = refl
+  goes_within (addition.makes i) t due = refl
+  goes_within (addition.destroys i o) t due = refl
+  goes_within _ t due = absurd due
 
-  turn_made : {E : Type 0} (r : Result Addition (AddFault E)) (before after : CallerState) → IsStocked r → Trace (IsExpected s) next (asks n) before after (adding n (ending r)) → EndsWithOwn after → FillStep s n r before after
+  turn_made : {E : Type 0} (r : Result Addition (AddFault E)) (before after : CallerState) → IsStocked r → Trace (IsExpected (plan_of s)) next (asks n) before after (adding n (ending r)) → EndsWithOwn after → FillStep s n r before after
   turn_made (Ok additions.Idle) before after is w ends = (w, ends)
   turn_made (Ok additions.Destroyed) before after is w ends = (w, ends)
   turn_made (Ok additions.NoPlace) before after is w ends = absurd is
   turn_made (Err faults.Closed) before after is w ends = absurd is
-  turn_made (Err (faults.MakeFailed f)) before after is w ends = row_at (IsExpected s) next (FillEnds s) (asks n) (failed outcomes.MakeFailed) (Err (faults.MakeFailed f)) before after w (refl, ends)
-  turn_made {E} (Err faults.CreateTestFailed) before after is w ends = row_at (IsExpected s) next (FillEnds {E = E} s) (asks n) (failed outcomes.CreateTestFailed) (Err faults.CreateTestFailed) before after w (refl, ends)
-  turn_made (Err (faults.PassivateFailed f)) before after is w ends = row_at (IsExpected s) next (FillEnds s) (asks n) (failed outcomes.PassivateFailed) (Err (faults.PassivateFailed f)) before after w (refl, ends)
+  turn_made (Err (faults.MakeFailed f)) before after is w ends = row_at (IsExpected (plan_of s)) next (FillEnds s) (asks n) (failed n outcomes.MakeFailed) (Err (faults.MakeFailed f)) before after w ((n, refl), ends)
+  turn_made {E} (Err faults.CreateTestFailed) before after is w ends = row_at (IsExpected (plan_of s)) next (FillEnds {E = E} s) (asks n) (failed n outcomes.CreateTestFailed) (Err faults.CreateTestFailed) before after w ((n, refl), ends)
+  turn_made (Err (faults.PassivateFailed f)) before after is w ends = row_at (IsExpected (plan_of s)) next (FillEnds s) (asks n) (failed n outcomes.PassivateFailed) (Err (faults.PassivateFailed f)) before after w ((n, refl), ends)
   turn_made (Err faults.JournalFull) before after is w ends = absurd is
   turn_made (Err faults.OutOfMemory) before after is w ends = absurd is
 
   -- a turn of a fill that found a place
   pub turned : {E : Type 0} (i : ℕ) (a : Answer) (r : Result Addition (AddFault E)) (before mid after : CallerState) → a ≡ answers.Make i → AppendsAnswer Fill a before mid
-      → IsStocked r → Trace (addition.IsExpected s) addition.next (makes i) mid after (ending r) → EndsWithOwn after → FillStep s n r before after
+      → IsStocked r → Trace (addition.IsExpected (plan_of s)) addition.next (makes i) mid after (ending r) → EndsWithOwn after → FillStep s n r before after
   turned i a r before mid after is made stocked w ends =
       turn_made r before after stocked
-      (trace_on (IsExpected s) next (asks n) (adds n (makes i)) (adding n (ending r)) before mid after (trace_by (IsExpected s) next (asks n) (adds n (makes i)) Fill a (answers.Make i) before mid is made (λ m at. refl) (λ m at. refl))
-      (trace_along (addition.IsExpected s) addition.next (IsExpected s) next (adding n) due_within goes_within (makes i) (ending r) mid after w)) ends
+      (trace_on (IsExpected (plan_of s)) next (asks n) (adds n (makes i)) (adding n (ending r)) before mid after (trace_by (IsExpected (plan_of s)) next (asks n) (adds n (makes i)) Fill a (answers.Make i) before mid is made refl refl)
+      (trace_along (addition.IsExpected (plan_of s)) addition.next (IsExpected (plan_of s)) next (adding n) (λ st. Unit {0}) (λ st t is due. tt) (λ st input is due. due_within st input due)
+      (λ st t is due. goes_within st t due) (makes i) (ending r) mid after tt w)) ends
 
   -- a turn whose critical section failed
   pub refused_turn : {E : Type 0} (f : PoolFault) (before after : CallerState) → after.appended ≡ before.appended → IsRoomFault s Fill f after → FillStep {E = E} s n (Err (add_fault f)) before after
-  refused_turn {E} pool_faults.JournalFull before after same why = row_none (IsExpected s) next (FillEnds {E = E} s) (asks n) (Err faults.JournalFull) before after same ((n, refl), why)
-  refused_turn {E} pool_faults.OutOfMemory before after same why = row_none (IsExpected s) next (FillEnds {E = E} s) (asks n) (Err faults.OutOfMemory) before after same ((n, refl), why)
+  refused_turn {E} pool_faults.JournalFull before after same why = row_none (IsExpected (plan_of s)) next (FillEnds {E = E} s) (asks n) (Err faults.JournalFull) before after same ((n, refl), why)
+  refused_turn {E} pool_faults.OutOfMemory before after same why = row_none (IsExpected (plan_of s)) next (FillEnds {E = E} s) (asks n) (Err faults.OutOfMemory) before after same ((n, refl), why)
   refused_turn pool_faults.Closed before after same why = absurd why.1
 
--- the number of objects parked at a stage
-reached : Stage → ℕ
-reached (asks n) = n
-reached (adds n stage) = n
-reached (through n) = n
-reached (failed o) = 0
-reached lost = 0
+-- one more object, unless the number no longer fits
+one_more_at_most : (n : ℕ) → one_more n ≤ n + 1
+one_more_at_most n = omega arith
 
-reached_adding : (n : ℕ) (stage : addition.Stage) → reached (adding n stage) ≤ n + 1
-unfolding reached
-reached_adding n addition.parked = omega arith
-reached_adding n (addition.gone outcomes.Good) = omega arith
-reached_adding n (addition.gone _) = omega arith
-reached_adding n _ = omega arith
+parked_adding : (n : ℕ) (stage : addition.Stage) → parked_of (adding n stage) ≤ n + 1
+parked_adding n addition.parked = one_more_at_most n
+parked_adding n (addition.gone outcomes.Good) = omega arith
+parked_adding n (addition.gone _) = omega arith
+parked_adding n _ = omega arith
 
-reached_asking : (n : ℕ) (a : Answer) → reached (after_asking n a) ≤ n + 1
-unfolding reached
-reached_asking n (answers.Make i) = omega arith
-reached_asking n answers.Enough = omega arith
-reached_asking n answers.NoPlace = omega arith
-reached_asking n _ = omega arith
+parked_asking : (n : ℕ) (a : Answer) → parked_of (after_asking n a) ≤ n + 1
+parked_asking n (answers.Make i) = omega arith
+parked_asking n answers.Enough = omega arith
+parked_asking n answers.NoPlace = omega arith
+parked_asking n _ = omega arith
 
 -- each entry parks at most one object
-reached_next : (stage : Stage) (e : Entry) → reached (next stage e) ≤ reached stage + 1
-unfolding reached
-reached_next (asks n) e = reached_asking n e.answer
-reached_next (adds n stage) e = reached_adding n (addition.next stage e)
-reached_next (through n) e = omega arith
-reached_next (failed o) e = omega arith
-reached_next lost e = omega arith
+parked_next : (stage : Stage) (t : Turn) → parked_of (next stage t) ≤ parked_of stage + 1
+parked_next (asks n) t = parked_asking n t.answer
+parked_next (adds n stage) t = parked_adding n (addition.next stage t)
+parked_next (through n) t = omega arith
+parked_next (failed n o) t = omega arith
+parked_next (contradicted n a) t = omega arith
 
-reached_traced : (stage : Stage) (es : List Entry) → reached (run_stages next stage es) ≤ reached stage + length es
-reached_traced stage [] = omega arith
-reached_traced stage (e ∷ es) = omega (arith, reached_next stage e, reached_traced (next stage e) es)
+parked_traced : (stage : Stage) (es : List Entry) → parked_of (run_stages next stage es) ≤ parked_of stage + length es
+parked_traced stage [] = omega arith
+parked_traced stage (e ∷ es) = omega (arith, parked_next stage (turn_of e), parked_traced (next stage (turn_of e)) es)
 
 -- a fill has parked at most one object per entry that it appended
-pub bounded_parked : (s : Settings) (n : ℕ) (first now : CallerState) → Trace (IsExpected s) next (asks 0) first now (asks n) → n ≤ length now.appended
-unfolding reached
+pub bounded_parked : (s : Settings) (n : ℕ) (first now : CallerState) → Trace (IsExpected (plan_of s)) next (asks 0) first now (asks n) → n ≤ length now.appended
 bounded_parked s n first now w =
-    let parked : reached (run_stages next (asks 0) w.es) ≡ n = ap reached w.comes in
-    omega (arith, parked, reached_traced (asks 0) w.es, ap length w.made, length-append first.appended w.es)
+    let parked : parked_of (run_stages next (asks 0) w.es) ≡ n = ap parked_of w.comes in
+    omega (arith, parked, parked_traced (asks 0) w.es, ap length w.made, length-append first.appended w.es)
 
 own_within : (n : ℕ) (J : List Entry) → length (entries_with_number n J) ≤ length J
 own_within n J = omega (arith, length-filter_both (λ (e : Entry). e.caller == n) (λ e. not (e.caller == n)) (λ e. refl) J)
@@ -177,21 +192,23 @@ either_way (Err f) n bounded = tt
 
 -- the invariant of a fill that has parked this many: the number that it returns
 abbrev pub IsFilling : Settings → ℕ → CallerState → CallerState → Type 0
-IsFilling s reported first now = (n : ℕ) × (reported ≡ n) × Trace (IsExpected s) next (asks 0) first now (asks n)
+IsFilling s reported first now = (n : ℕ) × (reported ≡ n) × Trace (IsExpected (plan_of s)) next (asks 0) first now (asks n)
 
 -- a fill after one more turn
-module _ (s : Settings) (n reported : ℕ) (first now after : CallerState) (reporting : reported ≡ n) (w : Trace (IsExpected s) next (asks 0) first now (asks n)) where
-  turned_to : (a b : Addition) → a ≡ b → Trace (IsExpected s) next (asks n) now after (fills.turned n a) → Trace (IsExpected s) next (asks 0) first after (fills.turned n b)
-  turned_to a b is turn = trace_on (IsExpected s) next (asks 0) (asks n) (fills.turned n b) first now after w (subst (λ x. Trace (IsExpected s) next (asks n) now after (fills.turned n x)) is turn)
+module _ (s : Settings) (n reported : ℕ) (first now after : CallerState) (reporting : reported ≡ n) (w : Trace (IsExpected (plan_of s)) next (asks 0) first now (asks n)) where
+  turned_to : (a b : Addition) → a ≡ b → Trace (IsExpected (plan_of s)) next (asks n) now after (fills.turned n a) → Trace (IsExpected (plan_of s)) next (asks 0) first after (fills.turned n b)
+  turned_to a b is turn = trace_on (IsExpected (plan_of s)) next (asks 0) (asks n) (fills.turned n b) first now after w (subst (λ x. Trace (IsExpected (plan_of s)) next (asks n) now after (fills.turned n x)) is turn)
 
-  pub one_parked : (a : Addition) (more : ℕ) → a ≡ additions.Idle → more ≡ reported + 1 → Trace (IsExpected s) next (asks n) now after (fills.turned n a) → IsFilling s more first after
-  one_parked a more is counted turn = (n + 1, omega (arith, counted, reporting), turned_to a additions.Idle is turn)
+  pub one_parked : (a : Addition) (more : ℕ) → a ≡ additions.Idle → more ≡ reported + 1 → n + 1 < 2 ^ 64 → Trace (IsExpected (plan_of s)) next (asks n) now after (fills.turned n a) → IsFilling s more first after
+  one_parked a more is counted bounded turn =
+      let fits : one_more n ≡ n + 1 = omega (arith, bounded) in
+      (one_more n, omega (arith, counted, reporting, fits), turned_to a additions.Idle is turn)
 
-  pub one_lost : (a : Addition) → a ≡ additions.Destroyed → Trace (IsExpected s) next (asks n) now after (fills.turned n a) → IsFilling s reported first after
+  pub one_lost : (a : Addition) → a ≡ additions.Destroyed → Trace (IsExpected (plan_of s)) next (asks n) now after (fills.turned n a) → IsFilling s reported first after
   one_lost a is turn = (n, reporting, turned_to a additions.Destroyed is turn)
 
-  pub all_filled : {E : Type 0} (a : Addition) → a ≡ additions.NoPlace → Trace (IsExpected s) next (asks n) now after (fills.turned n a) → EndsWithOwn after → FillSpec {E = E} s (Ok reported) first after
-  all_filled {E} a is turn ends = row_at (IsExpected s) next (FillEnds {E = E} s) (asks 0) (through n) (Ok reported) first after (turned_to a additions.NoPlace is turn) (ap through (sym reporting), ends)
+  pub all_filled : {E : Type 0} (a : Addition) → a ≡ additions.NoPlace → Trace (IsExpected (plan_of s)) next (asks n) now after (fills.turned n a) → EndsWithOwn after → FillSpec {E = E} s (Ok reported) first after
+  all_filled {E} a is turn ends = row_at (IsExpected (plan_of s)) next (FillEnds {E = E} s) (asks 0) (through n) (Ok reported) first after (turned_to a additions.NoPlace is turn) (ap through (sym reporting), ends)
 
   pub filled_part : {E : Type 0} (f : AddFault E) → FillsFrom s (asks n) (Err f) now after → FillSpec s (Err f) first after
-  filled_part f turn = row_on (IsExpected s) next (FillEnds s) (asks 0) (asks n) (Err f) first now after w turn
+  filled_part f turn = row_on (IsExpected (plan_of s)) next (FillEnds s) (asks 0) (asks n) (Err f) first now after w turn

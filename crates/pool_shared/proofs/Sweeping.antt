@@ -19,7 +19,8 @@ use Rattle.pool_shared.specs.Faults.{room_fault}
 use Rattle.pool_lock.specs.Sections.{AppendsAnswer, Refuses}
 use Rattle.pool_shared.specs.Traces.{Trace, EndsWithOwn}
 use Rattle.pool_shared.specs.TraceToResult.{TraceToResult, IsRoomFault}
-use Rattle.pool_shared.specs.Clears.{Stage, begins, sweeps, destroys, through, next, IsExpected, NoneIdle, IsOver, Sweeps, ClearEnds, CloseEnds, ClearSpec, CloseSpec}
+use Rattle.pool_calls.specs.ClearRules.{Stage, begins, sweeps, destroys, through, next, IsExpected}
+use Rattle.pool_shared.specs.Clears.{NoneIdle, IsOver, Sweeps, ClearEnds, CloseEnds, ClearSpec, CloseSpec}
 use Rattle.pool_shared.proofs.Traces.{trace_none, trace_on, trace_by, trace_more, trace_destroyed}
 use Rattle.pool_shared.proofs.TracesToResults.{row_at, row_none, room_fault_for, unfinished_at}
 
@@ -45,11 +46,11 @@ pub took_one : (first : Input) (count left taken i : ℕ) (a b c d : CallerState
 took_one first count left taken i a b c d some w took freed =
     trace_on (IsExpected first) next (sweeps count 0) (sweeps left taken) (sweeps (left - 1) (taken + 1)) a b d w
     (trace_destroyed (IsExpected first) next (sweeps left taken) (destroys i (left - 1) (taken + 1)) (sweeps (left - 1) (taken + 1)) i ClearNext (answers.DestroyIdle i) (answers.DestroyIdle i) b c d refl took freed
-    (λ n at. (some, refl)) (λ n at. refl) (λ n at. refl) (λ n at. refl))
+    (some, refl) refl refl refl)
 
 pub took_none : (first : Input) (count left taken : ℕ) (a b c : CallerState) → 0 < left → Trace (IsExpected first) next (sweeps count 0) a b (sweeps left taken) → AppendsAnswer ClearNext answers.Nothing b c → Trace (IsExpected first) next (sweeps count 0) a c (through taken)
 took_none first count left taken a b c some w none =
-    trace_more (IsExpected first) next (sweeps count 0) (sweeps left taken) (through taken) ClearNext answers.Nothing answers.Nothing a b c w refl none (λ n at. (some, refl)) (λ n at. refl)
+    trace_more (IsExpected first) next (sweeps count 0) (sweeps left taken) (through taken) ClearNext answers.Nothing answers.Nothing a b c w refl none (some, refl) refl
 
 none_first : {X : Type 0} (xs : List X) → first_of xs ≡ None → xs ≡ []
 none_first [] is = refl
@@ -92,7 +93,7 @@ refused s first count left taken f a b c some w refuses =
     stopped s first count left taken (room_fault f) a b c some w refuses.same why (none_idle s why.0 c (unfinished_at s ClearNext (room_fault f) c why.0 why.1))
 
 begun : (first : Input) (n : ℕ) (a : Answer) (b c : CallerState) → a ≡ answers.Count n → AppendsAnswer first a b c → Trace (IsExpected first) next begins b c (sweeps n 0)
-begun first n a b c is made = trace_by (IsExpected first) next begins (sweeps n 0) first a (answers.Count n) b c is made (λ m at. refl) (λ m at. refl)
+begun first n a b c is made = trace_by (IsExpected first) next begins (sweeps n 0) first a (answers.Count n) b c is made refl refl
 
 -- a clear or a close whose sweep is complete, and one whose sweep stopped
 module _ {R : Type 0} (first : Input) (Ends : Stage → R → CallerState → Type 0) (n taken : ℕ) (a : Answer) (r : R) (b c d : CallerState) (is : a ≡ answers.Count n) (made : AppendsAnswer first a b c) where

@@ -11,16 +11,17 @@ use Rattle.pool_history.specs.CellInvariant.{IsPrefix}
 use Rattle.pool_history.specs.CallerStates.{CallerState, Advances}
 use Rattle.pool_history.proofs.Fragments.{prefix_trans}
 use Rattle.pool_lock.specs.Sections.{AppendsAnswer}
-use Rattle.pool_shared.specs.Traces.{run_stages, AllExpected, Trace, Ends}
+use Rattle.pool_calls.specs.Turns.{Turn}
+use Rattle.pool_shared.specs.Traces.{turn_of, run_stages, AllExpected, Trace, Ends}
 
-module _ {A : Type 0} (Expects : A → Entry → Type 0) (next : A → Entry → A) where
+module _ {A : Type 0} (Expects : A → Input → Type 0) (next : A → Turn → A) where
   due_append : (st : A) (xs ys : List Entry) → AllExpected Expects next st xs → AllExpected Expects next (run_stages next st xs) ys → AllExpected Expects next st (xs ++ ys)
   due_append st [] ys p q = q
-  due_append st (x ∷ xs) ys p q = (p.0, due_append (next st x) xs ys p.1 q)
+  due_append st (x ∷ xs) ys p q = (p.0, due_append (next st (turn_of x)) xs ys p.1 q)
 
   traced_append : (st : A) (xs ys : List Entry) → run_stages next st (xs ++ ys) ≡ run_stages next (run_stages next st xs) ys
   traced_append st [] ys = refl
-  traced_append st (x ∷ xs) ys = traced_append (next st x) xs ys
+  traced_append st (x ∷ xs) ys = traced_append (next st (turn_of x)) xs ys
 
   made_append : (a b c xs ys : List Entry) → b ≡ a ++ xs → c ≡ b ++ ys → c ≡ a ++ (xs ++ ys)
   made_append a b c xs ys p q = q ∙ ap (λ l. l ++ ys) p ∙ append_assoc a xs ys
@@ -38,24 +39,24 @@ module _ {A : Type 0} (Expects : A → Entry → Type 0) (next : A → Entry →
       }
 
   pub trace_one : (from to : A) (input : Input) (answer : Answer) (before after : CallerState) → AppendsAnswer input answer before after
-      → ((n at : ℕ) → Expects from (entry_of n at input answer)) → ((n at : ℕ) → next from (entry_of n at input answer) ≡ to) → Trace Expects next from before after to
+      → Expects from input → next from (record { input = input; answer = answer }) ≡ to → Trace Expects next from before after to
   trace_one from to input answer before after made due comes =
-      record { es = entry_of before.number made.0 input answer ∷ []; made = made.1.more; due = (due before.number made.0, tt); comes = comes before.number made.0 }
+      record { es = entry_of before.number made.0 input answer ∷ []; made = made.1.more; due = (due, tt); comes = comes }
 
   -- one entry, whose answer is known
   pub trace_by : (from to : A) (input : Input) (x answer : Answer) (before after : CallerState) → x ≡ answer → AppendsAnswer input x before after
-      → ((n at : ℕ) → Expects from (entry_of n at input answer)) → ((n at : ℕ) → next from (entry_of n at input answer) ≡ to) → Trace Expects next from before after to
+      → Expects from input → next from (record { input = input; answer = answer }) ≡ to → Trace Expects next from before after to
   trace_by from to input x answer before after is made due comes = trace_one from to input answer before after (subst (λ y. AppendsAnswer input y before after) is made) due comes
 
   -- a trace, and one entry more
   pub trace_more : (from mid to : A) (input : Input) (x answer : Answer) (a b c : CallerState) → Trace Expects next from a b mid → x ≡ answer → AppendsAnswer input x b c
-      → ((n at : ℕ) → Expects mid (entry_of n at input answer)) → ((n at : ℕ) → next mid (entry_of n at input answer) ≡ to) → Trace Expects next from a c to
+      → Expects mid input → next mid (record { input = input; answer = answer }) ≡ to → Trace Expects next from a c to
   trace_more from mid to input x answer a b c w is made due comes = trace_on from mid to a b c w (trace_by mid to input x answer b c is made due comes)
 
   -- an entry, and then the destruction of its object
   pub trace_destroyed : (from mid to : A) (i : ℕ) (input : Input) (x answer : Answer) (a b c : CallerState) → x ≡ answer → AppendsAnswer input x a b → AppendsAnswer (Destroyed i) answers.Freed b c
-      → ((n at : ℕ) → Expects from (entry_of n at input answer)) → ((n at : ℕ) → next from (entry_of n at input answer) ≡ mid)
-      → ((n at : ℕ) → Expects mid (entry_of n at (Destroyed i) answers.Freed)) → ((n at : ℕ) → next mid (entry_of n at (Destroyed i) answers.Freed) ≡ to) → Trace Expects next from a c to
+      → Expects from input → next from (record { input = input; answer = answer }) ≡ mid
+      → Expects mid (Destroyed i) → next mid (record { input = Destroyed i; answer = answers.Freed }) ≡ to → Trace Expects next from a c to
   trace_destroyed from mid to i input x answer a b c is made freed due comes due_then comes_then =
       trace_on from mid to a b c (trace_by from mid input x answer a b is made due comes) (trace_one mid to (Destroyed i) answers.Freed b c freed due_then comes_then)
 

@@ -12,11 +12,12 @@ use Rattle.pool_lock.specs.Sections.{Refuses}
 use Rattle.pool_shared.specs.declared.faults.PoolFault.{PoolFault}
 use Rattle.pool_shared.specs.declared.faults.PoolFault.TheVariants as faults
 use Rattle.pool_shared.specs.Faults.{room_fault}
-use Rattle.pool_shared.specs.Traces.{run_stages, AllExpected, Trace}
+use Rattle.pool_calls.specs.Turns.{Turn}
+use Rattle.pool_shared.specs.Traces.{turn_of, run_stages, AllExpected, Trace}
 use Rattle.pool_shared.specs.TraceToResult.{TraceToResult, IsRoomFault, IsRoomFaultAt}
 use Rattle.pool_shared.proofs.Traces.{trace_on, trace_none}
 
-module _ {A R : Type 0} (Expects : A → Entry → Type 0) (next : A → Entry → A) (Ends : A → R → CallerState → Type 0) where
+module _ {A R : Type 0} (Expects : A → Input → Type 0) (next : A → Turn → A) (Ends : A → R → CallerState → Type 0) where
   -- an operation that ends at its stage
   pub row_at : (from to : A) (r : R) (a b : CallerState) → Trace Expects next from a b to → Ends to r b → TraceToResult Expects next Ends from r a b
   row_at from to r a b w ends = record { es = w.es; made = w.made; due = w.due; ends = subst (λ st. Ends st r b) (sym w.comes) ends }
@@ -39,20 +40,28 @@ module _ {A R : Type 0} (Expects : A → Entry → Type 0) (next : A → Entry �
   pub row_stopped : (from at : A) (r : R) (a b c : CallerState) → Trace Expects next from a b at → c.appended ≡ b.appended → Ends at r c → TraceToResult Expects next Ends from r a c
   row_stopped from at r a b c w same ends = row_at from at r a c (trace_on Expects next from at at a b c w (trace_none Expects next at b c same)) ends
 
--- an operation whose stages another embeds: an entry that leads from stage to stage in the first does so in the second
-module _ {A B : Type 0} (Expects : A → Entry → Type 0) (next : A → Entry → A) (Due' : B → Entry → Type 0) (next' : B → Entry → B) (f : A → B)
-    (due : (st : A) (e : Entry) → Expects st e → Due' (f st) e) (goes : (st : A) (e : Entry) → Expects st e → next' (f st) e ≡ f (next st e)) where
-  due_along : (st : A) (es : List Entry) → AllExpected Expects next st es → AllExpected Due' next' (f st) es
-  due_along st [] d = tt
-  due_along st (e ∷ es) d = (due st e d.0, subst (λ t. AllExpected Due' next' t es) (sym (goes st e d.0)) (due_along (next st e) es d.1))
+-- an operation whose stages another embeds, from some of them on: an entry that leads from such a stage to another one in the first
+-- does so in the second
+module _ {A B : Type 0} (Expects : A → Input → Type 0) (next : A → Turn → A) (Due' : B → Input → Type 0) (next' : B → Turn → B) (f : A → B) (Embeds : A → Type 0)
+    (stays : (st : A) (t : Turn) → Embeds st → Expects st t.input → Embeds (next st t)) (due : (st : A) (input : Input) → Embeds st → Expects st input → Due' (f st) input)
+    (goes : (st : A) (t : Turn) → Embeds st → Expects st t.input → next' (f st) t ≡ f (next st t)) where
+  pub embeds_along : (st : A) (es : List Entry) → Embeds st → AllExpected Expects next st es → Embeds (run_stages next st es)
+  embeds_along st [] is d = is
+  embeds_along st (e ∷ es) is d = embeds_along (next st (turn_of e)) es (stays st (turn_of e) is d.0) d.1
 
-  traced_along : (st : A) (es : List Entry) → AllExpected Expects next st es → run_stages next' (f st) es ≡ f (run_stages next st es)
-  traced_along st [] d = refl
-  traced_along st (e ∷ es) d = ap (λ t. run_stages next' t es) (goes st e d.0) ∙ traced_along (next st e) es d.1
+  due_along : (st : A) (es : List Entry) → Embeds st → AllExpected Expects next st es → AllExpected Due' next' (f st) es
+  due_along st [] is d = tt
+  due_along st (e ∷ es) is d =
+      let more = due_along (next st (turn_of e)) es (stays st (turn_of e) is d.0) d.1 in
+      (due st e.input is d.0, subst (λ to. AllExpected Due' next' to es) (sym (goes st (turn_of e) is d.0)) more)
 
-  pub trace_along : (from to : A) (a b : CallerState) → Trace Expects next from a b to → Trace Due' next' (f from) a b (f to)
-  trace_along from to a b w =
-      record { es = w.es; made = w.made; due = due_along from w.es w.due; comes = traced_along from w.es w.due ∙ ap f w.comes }
+  traced_along : (st : A) (es : List Entry) → Embeds st → AllExpected Expects next st es → run_stages next' (f st) es ≡ f (run_stages next st es)
+  traced_along st [] is d = refl
+  traced_along st (e ∷ es) is d = ap (λ to. run_stages next' to es) (goes st (turn_of e) is d.0) ∙ traced_along (next st (turn_of e)) es (stays st (turn_of e) is d.0) d.1
+
+  pub trace_along : (from to : A) (a b : CallerState) → Embeds from → Trace Expects next from a b to → Trace Due' next' (f from) a b (f to)
+  trace_along from to a b is w =
+      record { es = w.es; made = w.made; due = due_along from w.es is w.due; comes = traced_along from w.es is w.due ∙ ap f w.comes }
 
 -- the error of a critical section that failed
 pub room_fault_for : {T : Type 0} (s : Settings) (input : Input) (f : StepFault T) (b c : CallerState) → Refuses s input None f b c → IsRoomFault s input (room_fault f) c

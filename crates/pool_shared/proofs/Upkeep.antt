@@ -1,6 +1,5 @@
 -- The trace of maintenance, from its three parts.
 use Rattle.std.proofs.Common.{◌≡◌, ℕ, Result, Ok, Err, IsErrAnd, sym, subst}
-use Rattle.pool_journal.specs.declared.input.When.TheVariants as times
 use Rattle.pool_settings.specs.declared.settings.Settings.{Settings}
 use Rattle.pool_history.specs.CallerStates.{CallerState, Advances}
 use Rattle.pool_shared.specs.declared.evicting.EvictRun.{EvictRun}
@@ -19,12 +18,12 @@ module _ {U E : Type 0} (s : Settings) where
   evict_stops (Err f) g a b is row = in_evicting g is row
 
   -- the removal failed
-  pub reclaim_stops : (r : Result U (AddFault E)) (run : EvictRun) (g : PoolFault) (a b c : CallerState) → IsErrAnd r (λ f. f ≡ add_fault g) → Advances s a b → EvictSpec s (Ok run) a b → ReclaimSpec s times.Maintain (Err g) b c → MaintainSpec s r a c
+  pub reclaim_stops : (r : Result U (AddFault E)) (run : EvictRun) (g : PoolFault) (a b c : CallerState) → IsErrAnd r (λ f. f ≡ add_fault g) → Advances s a b → EvictSpec s (Ok run) a b → ReclaimSpec s (Err g) b c → MaintainSpec s r a c
   reclaim_stops (Ok u) run g a b c is goes evicts row = absurd is
   reclaim_stops (Err f) run g a b c is goes evicts row = in_reclaiming g b is record { run = run; goes = goes; row = evicts } row
 
   -- the fill failed
-  pub fill_stops : (r : Result U (AddFault E)) (run : EvictRun) (n : ℕ) (g : AddFault E) (a b c d : CallerState) → IsErrAnd r (λ f. f ≡ g) → Advances s a b → EvictSpec s (Ok run) a b → Advances s b c → ReclaimSpec s times.Maintain (Ok n) b c
+  pub fill_stops : (r : Result U (AddFault E)) (run : EvictRun) (n : ℕ) (g : AddFault E) (a b c d : CallerState) → IsErrAnd r (λ f. f ≡ g) → Advances s a b → EvictSpec s (Ok run) a b → Advances s b c → ReclaimSpec s (Ok n) b c
       → FillSpec s (Err g) c d → MaintainSpec s r a d
   fill_stops (Ok u) run n g a b c d is there evicts then_there removes row = absurd is
   fill_stops (Err f) run n g a b c d is there evicts then_there removes row =

@@ -1,14 +1,13 @@
--- The critical sections of an addition.
-use Rattle.std.specs.Prelude.{◌≡◌, ℕ, true, Result, Ok, Err}
-use Rattle.pool_journal.specs.declared.entry.Entry.{Entry}
+-- The trace of an addition, by the rules of additions, and its result.
+use Rattle.std.specs.Prelude.{◌≡◌, true, Result, Ok, Err}
 use Rattle.pool_journal.specs.declared.input.Input.{Input}
-use Rattle.pool_journal.specs.declared.input.Input.TheVariants.{Add, Added, Destroyed}
+use Rattle.pool_journal.specs.declared.input.Input.TheVariants.{Add}
 use Rattle.pool_journal.specs.declared.input.Outcome.{Outcome}
 use Rattle.pool_journal.specs.declared.input.Outcome.TheVariants as outcomes
-use Rattle.pool_journal.specs.declared.answer.Answer.{Answer}
 use Rattle.pool_journal.specs.declared.answer.Answer.TheVariants as answers
 use Rattle.pool_journal.specs.declared.answer.Cause.TheVariants as causes
 use Rattle.pool_settings.specs.declared.settings.Settings.{Settings}
+use Rattle.pool_calls.specs.AddRules.{Stage, asks, parked, gone, refused, next, IsExpected}
 use Rattle.pool_history.specs.CallerStates.{CallerState}
 use Rattle.pool_lock.specs.Sections.{IsFullFor, IsShortFor}
 use Rattle.pool_shared.specs.declared.faults.Addition.{Addition}
@@ -17,53 +16,9 @@ use Rattle.pool_shared.specs.declared.faults.AddFault.{AddFault}
 use Rattle.pool_shared.specs.declared.faults.AddFault.TheVariants as faults
 use Rattle.pool_shared.specs.declared.adding.PrepareError.{PrepareError}
 use Rattle.pool_shared.specs.declared.adding.PrepareError.TheVariants as unfit
+use Rattle.pool_shared.specs.Plans.{plan_of}
 use Rattle.pool_shared.specs.Traces.{EndsWithOwn}
 use Rattle.pool_shared.specs.TraceToResult.{TraceToResult}
-
--- the stage of an addition: it asks for a place; it makes an object; it destroys one, with this outcome; it has parked one; the
--- object is gone again, with this outcome; it ended with this answer
-pub data Stage : Type 0 where
-  asks : Stage
-  makes : ℕ → Stage
-  destroys : ℕ → Outcome → Stage
-  parked : Stage
-  gone : Outcome → Stage
-  refused : Answer → Stage
-
-abbrev pub after_asking : Answer → Stage
-after_asking (answers.Make i) = makes i
-after_asking a = refused a
-
-abbrev pub after_making : ℕ → Input → Answer → Stage
-after_making i (Added j o) answers.Parked = parked
-after_making i (Added j o) answers.Freed = gone o
-after_making i (Added j o) a = destroys i o
-after_making i input a = refused a
-
-abbrev pub next : Stage → Entry → Stage
-next asks e = after_asking e.answer
-next (makes i) e = after_making i e.input e.answer
-next (destroys i o) e = gone o
-next stage e = stage
-
--- the possible outcomes of making: the first test fails only if it is set
-abbrev pub IsPossibleOutcome : Settings → Outcome → Type 0
-IsPossibleOutcome s outcomes.Good = Unit {0}
-IsPossibleOutcome s outcomes.MakeFailed = Unit {0}
-IsPossibleOutcome s outcomes.CreateTestFailed = s.test_on_create ≡ true
-IsPossibleOutcome s outcomes.PassivateFailed = Unit {0}
-IsPossibleOutcome s o = ⊥
-
-abbrev pub IsAddedInput : Settings → ℕ → Input → Type 0
-IsAddedInput s i (Added j o) = (j ≡ i) × IsPossibleOutcome s o
-IsAddedInput s i _ = ⊥
-
--- the next input
-abbrev pub IsExpected : Settings → Stage → Entry → Type 0
-IsExpected s asks e = e.input ≡ Add
-IsExpected s (makes i) e = IsAddedInput s i e.input
-IsExpected s (destroys i o) e = e.input ≡ Destroyed i
-IsExpected s _ e = ⊥
 
 -- the stage of an addition in which nothing failed
 abbrev pub shelved : Addition → Stage
@@ -94,7 +49,7 @@ AddEnds s stage result me = (stage ≡ ending result) × FinalState s Add result
 
 -- the trace of an addition
 abbrev pub AddSpec : {E : Type 0} → Settings → Result Addition (AddFault E) → CallerState → CallerState → Type 0
-AddSpec s result before after = TraceToResult (IsExpected s) next (AddEnds s) asks result before after
+AddSpec s result before after = TraceToResult (IsExpected (plan_of s)) next (AddEnds s) asks result before after
 
 -- an error of the factory is from the call that failed, `make` or `passivate`
 abbrev pub IsAddFaultFrom : {E : Type 0} → (E → Type 0) → (E → Type 0) → AddFault E → Type 0

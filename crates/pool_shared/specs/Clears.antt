@@ -1,48 +1,15 @@
--- The critical sections of a clear and of a close.
-use Rattle.std.specs.Prelude.{◌≡◌, ℕ, zero, suc, ◌+◌, ◌-◌, ◌<◌, true, [], Result, Ok, Err}
-use Rattle.pool_journal.specs.declared.entry.Entry.{Entry}
+-- The traces of a clear and of a close, by their rules, and their results.
+use Rattle.std.specs.Prelude.{◌≡◌, ℕ, zero, suc, true, [], Result, Ok, Err}
 use Rattle.pool_journal.specs.declared.input.Input.{Input}
-use Rattle.pool_journal.specs.declared.input.Input.TheVariants.{Clear, ClearNext, Close, Destroyed}
-use Rattle.pool_journal.specs.declared.answer.Answer.{Answer}
-use Rattle.pool_journal.specs.declared.answer.Answer.TheVariants as answers
+use Rattle.pool_journal.specs.declared.input.Input.TheVariants.{Clear, ClearNext, Close}
 use Rattle.pool_journal.specs.Journal.{closed, records}
 use Rattle.pool_journal.specs.Queue.{idle_queue}
 use Rattle.pool_settings.specs.declared.settings.Settings.{Settings}
+use Rattle.pool_calls.specs.ClearRules.{Stage, begins, sweeps, through, next, IsExpected}
 use Rattle.pool_history.specs.CallerStates.{CallerState}
 use Rattle.pool_shared.specs.declared.faults.PoolFault.{PoolFault}
 use Rattle.pool_shared.specs.Traces.{Trace, EndsWithOwn}
 use Rattle.pool_shared.specs.TraceToResult.{TraceToResult, IsRoomFault}
-
--- the stage of a clear: it begins; it destroys up to this many more objects, after this many; it destroys one; it is complete
-pub data Stage : Type 0 where
-  begins : Stage
-  sweeps : ℕ → ℕ → Stage
-  destroys : ℕ → ℕ → ℕ → Stage
-  through : ℕ → Stage
-  lost : Stage
-
-abbrev pub after_beginning : Answer → Stage
-after_beginning (answers.Count n) = sweeps n 0
-after_beginning answers.Nothing = through 0
-after_beginning a = lost
-
-abbrev pub after_sweeping : ℕ → ℕ → Answer → Stage
-after_sweeping left taken (answers.DestroyIdle i) = destroys i (left - 1) (taken + 1)
-after_sweeping left taken answers.Nothing = through taken
-after_sweeping left taken a = lost
-
-abbrev pub next : Stage → Entry → Stage
-next begins e = after_beginning e.answer
-next (sweeps left taken) e = after_sweeping left taken e.answer
-next (destroys i left taken) e = sweeps left taken
-next stage e = stage
-
--- the next input, if it began with this one
-abbrev pub IsExpected : Input → Stage → Entry → Type 0
-IsExpected first begins e = e.input ≡ first
-IsExpected first (sweeps left taken) e = (0 < left) × (e.input ≡ ClearNext)
-IsExpected first (destroys i left taken) e = e.input ≡ Destroyed i
-IsExpected first _ e = ⊥
 
 -- no object is idle
 abbrev pub NoneIdle : CallerState → Type 0

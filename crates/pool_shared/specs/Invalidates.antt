@@ -1,15 +1,14 @@
--- The critical sections of an invalidation.
+-- The trace of an invalidation, by the rules of invalidations, and its result.
 use Rattle.std.specs.Prelude.{◌≡◌, ◌≢◌, ℕ, Result, Ok, Err}
 use Rattle.pool_journal.specs.Journal.{phase}
-use Rattle.pool_journal.specs.declared.entry.Entry.{Entry}
-use Rattle.pool_journal.specs.declared.input.Input.TheVariants.{Invalidate, Destroyed}
-use Rattle.pool_journal.specs.declared.answer.Answer.{Answer}
+use Rattle.pool_journal.specs.declared.input.Input.TheVariants.{Invalidate}
 use Rattle.pool_journal.specs.declared.answer.Answer.TheVariants as answers
 use Rattle.pool_journal.specs.declared.answer.Cause.TheVariants as causes
 use Rattle.pool_journal.specs.declared.record.Phase.TheVariants as phases
 use Rattle.pool_settings.specs.declared.settings.Settings.{Settings}
 use Rattle.pool_history.specs.CallerStates.{CallerState}
 use Rattle.pool_lock.specs.Sections.{IsFullFor, IsShortFor}
+use Rattle.pool_calls.specs.InvalidateRules.{Stage, begins, destroyed, gone, refused, next, IsExpected}
 use Rattle.pool_shared.specs.declared.faults.ReturnFault.{ReturnFault}
 use Rattle.pool_shared.specs.declared.faults.ReturnFault.TheVariants as faults
 use Rattle.pool_shared.specs.declared.faults.Returned.{Returned}
@@ -18,33 +17,12 @@ use Rattle.pool_shared.specs.declared.lent.Lent.{Lent}
 use Rattle.pool_shared.specs.Traces.{EndsWithOwn}
 use Rattle.pool_shared.specs.TraceToResult.{TraceToResult}
 
--- the stage of an invalidation: it begins; it destroys the object; it is complete; it ended with this answer
-pub data Stage : Type 0 where
-  begins : Stage
-  destroys : Stage
-  done : Returned → Stage
-  refused : Answer → Stage
-
-abbrev pub after_beginning : Answer → Stage
-after_beginning answers.Destroy = destroys
-after_beginning answers.Gone = done returned.Gone
-after_beginning a = refused a
-
-abbrev pub next : Stage → Entry → Stage
-next begins e = after_beginning e.answer
-next destroys e = done returned.Destroyed
-next stage e = stage
-
--- the next input
-abbrev pub IsExpected : ℕ → Stage → Entry → Type 0
-IsExpected i begins e = e.input ≡ Invalidate i
-IsExpected i destroys e = e.input ≡ Destroyed i
-IsExpected i _ e = ⊥
-
 -- the result of an invalidation at this stage, with the state of its caller; its first critical section fails only if the
 -- object isn't lent in the journal found
 abbrev pub InvalidateEnds : {T : Type 0} → Settings → ℕ → Stage → Result Returned (ReturnFault × Lent T) → CallerState → Type 0
-InvalidateEnds s i stage (Ok r) me = (stage ≡ done r) × EndsWithOwn me
+InvalidateEnds s i stage (Ok returned.Parked) me = ⊥
+InvalidateEnds s i stage (Ok returned.Destroyed) me = (stage ≡ destroyed) × EndsWithOwn me
+InvalidateEnds s i stage (Ok returned.Gone) me = (stage ≡ gone) × EndsWithOwn me
 InvalidateEnds s i stage (Err (faults.NotLent, l)) me = (stage ≡ refused (answers.Refused causes.NotLent)) × EndsWithOwn me
 InvalidateEnds s i stage (Err (faults.JournalFull, l)) me = (stage ≡ begins) × IsFullFor s (Invalidate i) me × (phase i me.observed ≢ phases.Lent)
 InvalidateEnds s i stage (Err (faults.OutOfMemory, l)) me = (stage ≡ begins) × IsShortFor s (Invalidate i) me × (phase i me.observed ≢ phases.Lent)

@@ -1,5 +1,6 @@
 pub mod Pools
 pub mod Faults
+pub mod Plans
 pub mod Traces
 pub mod Touches
 pub mod Borrows

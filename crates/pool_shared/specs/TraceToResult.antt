@@ -3,6 +3,7 @@ use Rattle.std.specs.Prelude.{◌≡◌, ℕ, List, ◌++◌}
 use Rattle.pool_journal.specs.declared.entry.Entry.{Entry}
 use Rattle.pool_journal.specs.declared.input.Input.{Input}
 use Rattle.pool_settings.specs.declared.settings.Settings.{Settings}
+use Rattle.pool_calls.specs.Turns.{Turn}
 use Rattle.pool_history.specs.CallerStates.{CallerState}
 use Rattle.pool_lock.specs.Sections.{LacksRoom, LacksMemory}
 use Rattle.pool_shared.specs.declared.faults.PoolFault.{PoolFault}
@@ -10,7 +11,7 @@ use Rattle.pool_shared.specs.declared.faults.PoolFault.TheVariants as faults
 use Rattle.pool_shared.specs.Traces.{run_stages, AllExpected}
 
 -- from one stage on, the caller appended entries, each expected at its stage, and the last stage allows the result
-pub record TraceToResult {A R : Type 0} (Expects : A → Entry → Type 0) (next : A → Entry → A) (Ends : A → R → CallerState → Type 0) (from : A) (result : R) (before after : CallerState) : Type 0 where
+pub record TraceToResult {Stage R : Type 0} (Expects : Stage → Input → Type 0) (next : Stage → Turn → Stage) (Ends : Stage → R → CallerState → Type 0) (from : Stage) (result : R) (before after : CallerState) : Type 0 where
   pub es : List Entry
   pub made : after.appended ≡ before.appended ++ es
   pub due : AllExpected Expects next from es

@@ -1,23 +1,28 @@
--- The trace of an operation of several critical sections: each entry is the next one after those before it.
-use Rattle.std.specs.Prelude.{◌≡◌, ℕ, List, [], ◌∷◌, ◌++◌}
+-- The trace of an operation of several critical sections: each entry is the next one after those before it, by the rules of its
+-- call.
+use Rattle.std.specs.Prelude.{◌≡◌, ℕ, List, [], ◌∷◌, ◌++◌, map}
 use Rattle.pool_journal.specs.declared.entry.Entry.{Entry}
 use Rattle.pool_journal.specs.declared.input.Input.{Input}
 use Rattle.pool_journal.specs.declared.answer.Answer.{Answer}
 use Rattle.pool_core.specs.Legal.{entry_of}
 use Rattle.pool_history.specs.CallerStates.{CallerState}
+use Rattle.pool_calls.specs.Turns as turns
+use Rattle.pool_calls.specs.Turns.{Turn}
+
+-- the input of an entry, and the answer to it
+abbrev pub turn_of : Entry → Turn
+turn_of e = record { input = e.input; answer = e.answer }
 
 -- the stage of an operation after its entries
-abbrev pub run_stages : {A : Type 0} → (A → Entry → A) → A → List Entry → A
-run_stages next stage [] = stage
-run_stages next stage (e ∷ es) = run_stages next (next stage e) es
+abbrev pub run_stages : {Stage : Type 0} → (Stage → Turn → Stage) → Stage → List Entry → Stage
+run_stages next stage es = turns.run_stages next stage (map turn_of es)
 
 -- each entry is expected at the stage before it
-abbrev pub AllExpected : {A : Type 0} → (A → Entry → Type 0) → (A → Entry → A) → A → List Entry → Type 0
-AllExpected Expects next stage [] = Unit {0}
-AllExpected Expects next stage (e ∷ es) = Expects stage e × AllExpected Expects next (next stage e) es
+abbrev pub AllExpected : {Stage : Type 0} → (Stage → Input → Type 0) → (Stage → Turn → Stage) → Stage → List Entry → Type 0
+AllExpected Expects next stage es = turns.AllExpected Expects next stage (map turn_of es)
 
 -- the caller appended entries that lead from one stage to another, and no others
-pub record Trace {A : Type 0} (Expects : A → Entry → Type 0) (next : A → Entry → A) (from : A) (before after : CallerState) (to : A) : Type 0 where
+pub record Trace {Stage : Type 0} (Expects : Stage → Input → Type 0) (next : Stage → Turn → Stage) (from : Stage) (before after : CallerState) (to : Stage) : Type 0 where
   pub es : List Entry
   pub made : after.appended ≡ before.appended ++ es
   pub due : AllExpected Expects next from es

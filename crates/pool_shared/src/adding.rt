@@ -1,11 +1,13 @@
-// An addition to the idle queue, in critical sections.
+//! An addition to the idle queue, in critical sections.
 ghost use Rattle.std.specs.Prelude.{◌≡◌, true, OnOk, IfErr};
 ghost use Rattle.pool_journal.specs.declared.input.Outcome.TheVariants as outcomes;
 ghost use Rattle.pool_journal.specs.declared.record.Phase.TheVariants as phases;
 ghost use Rattle.pool_history.specs.CallerStates.{Advances};
 ghost use Rattle.pool_lock.specs.Sections.{OwnsObject};
 ghost use Rattle.pool_shared.specs.Traces.{Trace, EndsWithOwn};
-ghost use Rattle.pool_shared.specs.Adds.{makes, gone, next, IsExpected, shelved, ending, AddSpec, IsAddFaultFrom, IsWhyUnfit, IsFailure, IsPlaced, IsStocked};
+ghost use Rattle.pool_calls.specs.AddRules.{makes, gone, next, IsExpected};
+ghost use Rattle.pool_shared.specs.Plans.{plan_of};
+ghost use Rattle.pool_shared.specs.Adds.{shelved, ending, AddSpec, IsAddFaultFrom, IsWhyUnfit, IsFailure, IsPlaced, IsStocked};
 
 use crate::faults::{AddFault, Addition};
 use crate::pool::SharedPool;
@@ -48,7 +50,7 @@ impl<T: Drop, E: Drop, F: Factory<T, E> + Drop, C: Clock + Drop, B: Room> Shared
         requires owns { (new : _) × OwnsObject me.old id phases.Adding new }
         requires outcome { IsFailure B.settings outcome }
         ensures advances { Advances B.settings me.old me.new }
-        ensures trace { Trace (IsExpected B.settings) next (makes id) me.old me.new (gone outcome) }
+        ensures trace { Trace (IsExpected (plan_of B.settings)) next (makes id) me.old me.new (gone outcome) }
         ensures ends { EndsWithOwn me.new }
     {
         match self.complete(rt, me, Input::Added { id, outcome }) {
@@ -65,7 +67,7 @@ impl<T: Drop, E: Drop, F: Factory<T, E> + Drop, C: Clock + Drop, B: Room> Shared
         requires passive { F.passive value }
         ensures advances { Advances B.settings me.old me.new }
         ensures placed { IsPlaced result }
-        ensures trace { Trace (IsExpected B.settings) next (makes id) me.old me.new
+        ensures trace { Trace (IsExpected (plan_of B.settings)) next (makes id) me.old me.new
             (shelved result) }
         ensures ends { EndsWithOwn me.new }
     {
@@ -95,7 +97,7 @@ impl<T: Drop, E: Drop, F: Factory<T, E> + Drop, C: Clock + Drop, B: Room> Shared
         requires owns { (new : _) × OwnsObject me.old id phases.Adding new }
         ensures advances { Advances B.settings me.old me.new }
         ensures appended { IsStocked result }
-        ensures trace { Trace (IsExpected B.settings) next (makes id) me.old me.new
+        ensures trace { Trace (IsExpected (plan_of B.settings)) next (makes id) me.old me.new
             (ending result) }
         ensures ends { EndsWithOwn me.new }
         ensures fault { IfErr result (IsAddFaultFrom F.from_make F.from_passivate) }
@@ -124,7 +126,7 @@ impl<T: Drop, E: Drop, F: Factory<T, E> + Drop, C: Clock + Drop, B: Room> Shared
         requires owns { (new : _) × OwnsObject me.old id phases.Adding new }
         ensures advances { Advances B.settings me.old me.new }
         ensures appended { IsStocked result }
-        ensures trace { Trace (IsExpected B.settings) next (makes id) me.old me.new
+        ensures trace { Trace (IsExpected (plan_of B.settings)) next (makes id) me.old me.new
             (ending result) }
         ensures ends { EndsWithOwn me.new }
         ensures fault { IfErr result (IsAddFaultFrom F.from_make F.from_passivate) }

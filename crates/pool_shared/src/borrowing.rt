@@ -1,4 +1,4 @@
-// A borrow, in critical sections.
+//! A borrow, in critical sections.
 ghost use Rattle.std.specs.Prelude.{◌≡◌, ℕ, Bool, true, false, None, Err, IfOk, OnOk, IfErr, IfSome, IfNone};
 ghost use Rattle.pool_journal.specs.Carrying.{carries};
 ghost use Rattle.pool_journal.specs.declared.record.Phase.TheVariants as phases;
@@ -12,7 +12,9 @@ ghost use Rattle.pool_lock.specs.Sections.{OwnsObject, IsPermitted, AppendsAnswe
 ghost use Rattle.pool_shared.specs.Promises.{IsAlone};
 ghost use Rattle.pool_shared.specs.Traces.{Trace, Ends};
 ghost use Rattle.pool_shared.specs.TraceToResult.{IsRoomFault};
-ghost use Rattle.pool_shared.specs.Borrows.{asks, readies, lent, after_asking, after_destroying, next, IsExpected, BorrowsFrom, BorrowSpec, IsLentWell, IsFaultFrom, IsWhyUnready, IsFound, taken_to, IsFailure};
+ghost use Rattle.pool_calls.specs.BorrowRules.{asks, readies, lent, after_asking, after_freeing, next, IsExpected, IsFailure};
+ghost use Rattle.pool_shared.specs.Plans.{plan_of};
+ghost use Rattle.pool_shared.specs.Borrows.{BorrowsFrom, BorrowSpec, IsLentWell, IsFaultFrom, IsWhyUnready, IsFound, taken_to};
 
 use crate::faults::{BorrowFault, PoolFault};
 use crate::lent::Lent;
@@ -88,12 +90,12 @@ impl<T: Drop, E: Drop, F: Factory<T, E> + Drop, C: Clock + Drop, B: Room> Shared
         ensures advances { Advances B.settings me.old me.new }
         ensures found { IfOk result (λ r. IsFound r.0) }
         ensures trace { IfOk result (λ r. Trace
-            (IsExpected B.settings began) next asks me.old me.new
+            (IsExpected (plan_of B.settings) began) next asks me.old me.new
             (after_asking r.0)) }
         ensures ends { IfOk result (λ r. Ends (inputs.Borrow began) r.0 me.new) }
         ensures returned { IfOk result (λ r. ReturnsValue F.passive r.0 None r.1) }
         ensures none { IfErr result (λ f. Trace
-            (IsExpected B.settings began) next asks me.old me.new asks) }
+            (IsExpected (plan_of B.settings) began) next asks me.old me.new asks) }
         ensures refused { IfErr result (λ f.
             IsRoomFault B.settings (inputs.Borrow began) f me.new) }
     {
@@ -160,11 +162,11 @@ impl<T: Drop, E: Drop, F: Factory<T, E> + Drop, C: Clock + Drop, B: Room> Shared
         value: T,
     )
         requires { (new : Bool) × OwnsObject me.old id phases.Readying new
-            × IsFailure B.settings new outcome }
+            × IsFailure (plan_of B.settings) new outcome }
         ensures advances { Advances B.settings me.old me.new }
-        ensures trace { (began : ℕ) (new : Bool) → IsFailure B.settings new outcome
-            → Trace (IsExpected B.settings began) next (readies id new) me.old me.new
-            (after_destroying new outcome) }
+        ensures trace { (began : ℕ) (new : Bool) → IsFailure (plan_of B.settings) new outcome
+            → Trace (IsExpected (plan_of B.settings) began) next (readies id new) me.old me.new
+            (after_freeing new outcome) }
         ensures ends { Ends (inputs.Destroyed id) answers.Freed me.new }
     {
         match self.complete(rt, me, Input::Ready { id, outcome }) {
@@ -180,7 +182,7 @@ impl<T: Drop, E: Drop, F: Factory<T, E> + Drop, C: Clock + Drop, B: Room> Shared
         requires owns { (new : Bool) × OwnsObject me.old id phases.Readying new }
         ensures advances { Advances B.settings me.old me.new }
         ensures trace { (began : ℕ) (new : Bool)
-            → Trace (IsExpected B.settings began) next (readies id new) me.old me.new (lent id) }
+            → Trace (IsExpected (plan_of B.settings) began) next (readies id new) me.old me.new (lent id) }
         ensures ends { Ends (inputs.Ready id outcomes.Good) answers.Lent me.new }
         ensures lent { result ≡ record { pool = self.now.number; id = id; value = value } }
     {
@@ -199,7 +201,7 @@ impl<T: Drop, E: Drop, F: Factory<T, E> + Drop, C: Clock + Drop, B: Room> Shared
     fn lend_taken<R: Wait>(&self, rt: &R, me: &mut Caller<B>, id: u64, value: T) -> Option<Lent<T>>
         requires owns { OwnsObject me.old id phases.Readying false }
         ensures advances { Advances B.settings me.old me.new }
-        ensures trace { (began : ℕ) → Trace (IsExpected B.settings began) next
+        ensures trace { (began : ℕ) → Trace (IsExpected (plan_of B.settings) began) next
             (readies id false) me.old me.new (taken_to id result) }
         ensures lent { IfSome result (λ l. (l.pool ≡ self.now.number) × (l.id ≡ id)
             × IsLentWell B.settings F.active F.valid l.value) }
@@ -294,7 +296,7 @@ impl<T: Drop, E: Drop, F: Factory<T, E> + Drop, C: Clock + Drop, B: Room> Shared
             me.old
             me.new) }
         ensures again { IfNone result (Trace
-            (IsExpected B.settings began) next asks me.old me.new asks) }
+            (IsExpected (plan_of B.settings) began) next asks me.old me.new asks) }
         ensures lent { IfSome result (λ r. IfOk r
             (λ l. IsLentWell B.settings F.active F.valid l.value)) }
         ensures fault { IfSome result (λ r. IfErr r (IsFaultFrom F.from_make F.from_activate)) }

@@ -1,4 +1,4 @@
-// A clear and a close, in critical sections.
+//! A clear and a close, in critical sections.
 ghost use Rattle.std.specs.Prelude.{◌≡◌, ℕ, IfOk};
 ghost use Rattle.pool_journal.specs.declared.input.Input.TheVariants as inputs;
 ghost use Rattle.pool_history.specs.CallerStates.{Advances, IsConsistent};

@@ -1,12 +1,14 @@
-// An eviction run, in critical sections.
-ghost use Rattle.std.specs.Prelude.{◌≡◌, ◌<◌, ℕ, IfOk, OnOk, IfErr, OnErr};
+//! An eviction run, in critical sections.
+ghost use Rattle.std.specs.Prelude.{◌≡◌, ◌<◌, ℕ, suc, IfOk, OnOk, IfErr, OnErr};
 ghost use Rattle.pool_journal.specs.declared.record.Phase.TheVariants as phases;
 ghost use Rattle.pool_history.specs.CallerStates.{Advances, IsConsistent};
 ghost use Rattle.pool_lock.specs.Sections.{OwnsObject};
 ghost use Rattle.pool_shared.specs.Traces.{Trace, EndsWithOwn};
-ghost use Rattle.pool_shared.specs.declared.evicting.EvictRun.{EvictRun};
+ghost use Rattle.pool_calls.specs.declared.evicting.EvictRun as counts;
+ghost use Rattle.pool_calls.specs.EvictRules.{examines, tests, none_yet, one_more, next, IsExpected};
+ghost use Rattle.pool_shared.specs.Plans.{plan_of};
 ghost use Rattle.pool_shared.specs.declared.evicting.Disposition.TheVariants as fates;
-ghost use Rattle.pool_shared.specs.Evicts.{examines, tests, none_yet, one_more, next, IsExpected, fared, after_test, after_one, IsStopped, EvictsFrom, EvictSpec, IsFailedTest, IsUnfit};
+ghost use Rattle.pool_shared.specs.Evicts.{counts_of, fared, after_test, after_one, IsStopped, EvictsFrom, EvictSpec, IsFailedTest, IsUnfit};
 
 use crate::faults::PoolFault;
 use crate::pool::SharedPool;
@@ -34,7 +36,7 @@ impl EvictRun {
     fn count_in(self, fate: Disposition) -> EvictRun
         requires examined { self.examined < u64.MAX }
         requires destroyed { self.destroyed < u64.MAX }
-        ensures { result ≡ fared (one_more self) fate }
+        ensures { counts_of result ≡ fared (one_more (counts_of self)) fate }
     {
         let destroyed = match fate {
             Disposition::Kept => self.destroyed,
@@ -88,8 +90,8 @@ impl<T: Drop, E: Drop, F: Factory<T, E> + Drop, C: Clock + Drop, B: Room> Shared
         requires owns { (new : _) × OwnsObject me.old id phases.Testing new }
         requires outcome { IsFailedTest outcome }
         ensures advances { Advances B.settings me.old me.new }
-        ensures trace { (left : ℕ) (run : EvictRun)
-            → Trace IsExpected next (tests id left run) me.old me.new
+        ensures trace { (left : ℕ) (run : counts.EvictRun)
+            → Trace (IsExpected (plan_of B.settings)) next (tests id left run) me.old me.new
             (after_test left run fates.Destroyed) }
         ensures ends { EndsWithOwn me.new }
     {
@@ -106,8 +108,9 @@ impl<T: Drop, E: Drop, F: Factory<T, E> + Drop, C: Clock + Drop, B: Room> Shared
         requires owns { (new : _) × OwnsObject me.old id phases.Testing new }
         requires passive { F.passive value }
         ensures advances { Advances B.settings me.old me.new }
-        ensures trace { (left : ℕ) (run : EvictRun)
-            → Trace IsExpected next (tests id left run) me.old me.new (after_test left run result) }
+        ensures trace { (left : ℕ) (run : counts.EvictRun)
+            → Trace (IsExpected (plan_of B.settings)) next (tests id left run) me.old me.new
+            (after_test left run result) }
         ensures ends { EndsWithOwn me.new }
     {
         let outcome = Outcome::Good;
@@ -129,8 +132,9 @@ impl<T: Drop, E: Drop, F: Factory<T, E> + Drop, C: Clock + Drop, B: Room> Shared
     fn test<R: Wait>(&self, rt: &R, me: &mut Caller<B>, id: u64, value: T) -> Disposition
         requires owns { (new : _) × OwnsObject me.old id phases.Testing new }
         ensures advances { Advances B.settings me.old me.new }
-        ensures trace { (left : ℕ) (run : EvictRun)
-            → Trace IsExpected next (tests id left run) me.old me.new (after_test left run result) }
+        ensures trace { (left : ℕ) (run : counts.EvictRun)
+            → Trace (IsExpected (plan_of B.settings)) next (tests id left run) me.old me.new
+            (after_test left run result) }
         ensures ends { EndsWithOwn me.new }
     {
         let mut value = value;
@@ -150,8 +154,9 @@ impl<T: Drop, E: Drop, F: Factory<T, E> + Drop, C: Clock + Drop, B: Room> Shared
         me: &mut Caller<B>,
     ) -> Result<Option<Disposition>, PoolFault>
         ensures advances { Advances B.settings me.old me.new }
-        ensures trace { IfOk result (λ fate. (left : ℕ) (run : EvictRun) → 0 < left
-            → Trace IsExpected next (examines left run) me.old me.new (after_one left run fate)) }
+        ensures trace { IfOk result (λ fate. (left : ℕ) (run : counts.EvictRun)
+            → Trace (IsExpected (plan_of B.settings)) next (examines (suc left) run) me.old me.new
+            (after_one left run fate)) }
         ensures ends { OnOk result (EndsWithOwn me.new) }
         ensures same { OnErr result (me.new.appended ≡ me.old.appended) }
         ensures refused { IfErr result (λ f. IsStopped B.settings f me.new) }

@@ -1,4 +1,4 @@
-// An invalidation, in critical sections.
+//! An invalidation, in critical sections.
 ghost use Rattle.std.specs.Prelude.{◌≡◌, IfErr};
 ghost use Rattle.pool_history.specs.CallerStates.{Advances};
 ghost use Rattle.pool_shared.specs.Invalidates.{InvalidateSpec};

@@ -1,4 +1,4 @@
-// Maintenance: an eviction run, a removal and a fill.
+//! Maintenance: an eviction run, a removal and a fill.
 ghost use Rattle.std.specs.Prelude.{IfErr};
 ghost use Rattle.pool_history.specs.CallerStates.{Advances};
 ghost use Rattle.pool_shared.specs.Adds.{IsAddFaultFrom};

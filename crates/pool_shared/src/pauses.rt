@@ -1,4 +1,5 @@
-// The pauses of a thread before it sleeps, in turns of a loop: no clock is at hand while a thread waits.
+//! The pauses of a thread before it sleeps, in turns of a loop: no clock is at hand while a thread waits.
+
 use std::hint::spin_loop;
 
 /// The turns of the first pause. A turn takes some 40 ns on processors of today, and a tenth of that on old ones. Each

@@ -1,10 +1,9 @@
-// A removal of abandoned objects, in critical sections.
+//! A removal of abandoned objects, in critical sections.
 ghost use Rattle.std.specs.Prelude.{◌≡◌};
-ghost use Rattle.pool_journal.specs.declared.input.When.{When};
-ghost use Rattle.pool_journal.specs.declared.input.When.TheVariants as times;
 ghost use Rattle.pool_history.specs.CallerStates.{Advances, IsConsistent};
 ghost use Rattle.pool_shared.specs.Traces.{EndsWithOwn};
-ghost use Rattle.pool_shared.specs.Reclaims.{reclaims, ReclaimsFrom, ReclaimSpec};
+ghost use Rattle.pool_calls.specs.ReclaimRules.{reclaims};
+ghost use Rattle.pool_shared.specs.Reclaims.{ReclaimsFrom, ReclaimSpec, Removes};
 
 use crate::faults::PoolFault;
 use crate::pool::SharedPool;
@@ -30,8 +29,7 @@ impl<T: Drop, E: Drop, F: Factory<T, E> + Drop, C: Clock + Drop, B: Room> Shared
         requires knows { IsConsistent B.settings me.old }
         requires ended { EndsWithOwn me.old }
         ensures advances { Advances B.settings me.old me.new }
-        ensures spec { (time : When) → ReclaimsFrom B.settings time
-            (reclaims count 0) result me.old me.new }
+        ensures spec { ReclaimsFrom B.settings (reclaims count 0) result me.old me.new }
     {
         for taken in 0..count {
             match self.run_section_without_value(rt, me, Input::ReclaimNext)? {
@@ -51,7 +49,7 @@ impl<T: Drop, E: Drop, F: Factory<T, E> + Drop, C: Clock + Drop, B: Room> Shared
         on: When,
     ) -> Result<u64, PoolFault>
         ensures advances { Advances B.settings me.old me.new }
-        ensures spec { ReclaimSpec B.settings on result me.old me.new }
+        ensures spec { Removes B.settings on result me.old me.new }
     {
         match self.run_section_without_value(rt, me, Input::Reclaim { on })? {
             Answer::Count(count) => self.reclaim_some(rt, me, count),
@@ -66,7 +64,7 @@ impl<T: Drop, E: Drop, F: Factory<T, E> + Drop, C: Clock + Drop, B: Room> Shared
     /// `JournalFull` and `OutOfMemory`, also in the middle: the work done before remains.
     pub fn reclaim<R: Wait>(&self, rt: &R, me: &mut Caller<B>) -> Result<u64, PoolFault>
         ensures advances { Advances B.settings me.old me.new }
-        ensures spec { ReclaimSpec B.settings times.Maintain result me.old me.new }
+        ensures spec { ReclaimSpec B.settings result me.old me.new }
     {
         self.reclaim_on(rt, me, When::Maintain)
     }

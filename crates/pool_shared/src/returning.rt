@@ -1,4 +1,4 @@
-// A return, in critical sections.
+//! A return, in critical sections.
 ghost use Rattle.std.specs.Prelude.{◌≡◌, ◌≢◌, true, Ok, IfErr};
 ghost use Rattle.pool_journal.specs.declared.answer.Answer.TheVariants as answers;
 ghost use Rattle.pool_journal.specs.declared.input.Input.TheVariants as inputs;
@@ -7,7 +7,9 @@ ghost use Rattle.pool_journal.specs.declared.record.Phase.TheVariants as phases;
 ghost use Rattle.pool_history.specs.CallerStates.{Advances};
 ghost use Rattle.pool_lock.specs.Sections.{OwnsObject};
 ghost use Rattle.pool_shared.specs.Traces.{Trace, EndsWithOwn};
-ghost use Rattle.pool_shared.specs.Returns.{checks, done, next, IsPossibleOutcome, IsExpected, ReturnSpec};
+ghost use Rattle.pool_calls.specs.ReturnRules.{checks, next, IsPossibleOutcome, IsExpected};
+ghost use Rattle.pool_shared.specs.Plans.{plan_of};
+ghost use Rattle.pool_shared.specs.Returns.{done, ReturnSpec};
 ghost use Rattle.pool_shared.specs.declared.faults.Returned.TheVariants as returned;
 
 use crate::faults::{ReturnFault, Returned};
@@ -35,9 +37,9 @@ impl<T: Drop, E: Drop, F: Factory<T, E> + Drop, C: Clock + Drop, B: Room> Shared
         value: T,
     )
         requires owns { (new : _) × OwnsObject me.old id phases.Returning new }
-        requires outcome { (outcome ≢ outcomes.Good) × IsPossibleOutcome B.settings outcome }
+        requires outcome { (outcome ≢ outcomes.Good) × IsPossibleOutcome (plan_of B.settings) outcome }
         ensures advances { Advances B.settings me.old me.new }
-        ensures trace { Trace (IsExpected B.settings id) next checks me.old me.new
+        ensures trace { Trace (IsExpected (plan_of B.settings) id) next checks me.old me.new
             (done returned.Destroyed) }
         ensures ends { EndsWithOwn me.new }
     {
@@ -54,7 +56,7 @@ impl<T: Drop, E: Drop, F: Factory<T, E> + Drop, C: Clock + Drop, B: Room> Shared
         requires owns { (new : _) × OwnsObject me.old id phases.Returning new }
         requires passive { F.passive value }
         ensures advances { Advances B.settings me.old me.new }
-        ensures trace { Trace (IsExpected B.settings id) next checks me.old me.new (done result) }
+        ensures trace { Trace (IsExpected (plan_of B.settings) id) next checks me.old me.new (done result) }
         ensures ends { EndsWithOwn me.new }
     {
         let outcome = Outcome::Good;
@@ -76,7 +78,7 @@ impl<T: Drop, E: Drop, F: Factory<T, E> + Drop, C: Clock + Drop, B: Room> Shared
     fn check<R: Wait>(&self, rt: &R, me: &mut Caller<B>, id: u64, value: T) -> Returned
         requires owns { (new : _) × OwnsObject me.old id phases.Returning new }
         ensures advances { Advances B.settings me.old me.new }
-        ensures trace { Trace (IsExpected B.settings id) next checks me.old me.new (done result) }
+        ensures trace { Trace (IsExpected (plan_of B.settings) id) next checks me.old me.new (done result) }
         ensures ends { EndsWithOwn me.new }
     {
         let mut value = value;

@@ -1,4 +1,5 @@
-// How a thread pauses for a while before it sleeps. No contract states this, and no proof depends on it.
+//! How a thread pauses for a while before it sleeps. No contract states this, and no proof depends on it.
+
 use crate::pauses::{CALLS, Pauses};
 use crossbeam_utils::CachePadded;
 use std::sync::atomic::{AtomicBool, Ordering};

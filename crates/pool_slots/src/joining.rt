@@ -1,3 +1,4 @@
+//! Makes two keys neighbours in the queue.
 ghost use Rattle.std.specs.Prelude.{◌≡◌, ℕ, Option, IfSome};
 ghost use Rattle.slab.specs.Slab.{ContainsKey};
 ghost use Rattle.pool_slots.specs.Links.{after_of, before_of, items_of, Leads};

@@ -1,3 +1,4 @@
+//! The links of an object to its neighbours in the queue, in little memory.
 ghost use Rattle.std.specs.Prelude.{◌≡◌, None};
 
 use std::marker::Model;

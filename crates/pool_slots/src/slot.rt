@@ -1,3 +1,5 @@
+//! An object under its key, with its links.
+
 use crate::linking::Links;
 use pool_journal::Record;
 

@@ -1,3 +1,4 @@
+//! Objects under keys, with their records and values, and one queue through some of them.
 ghost use Rattle.std.specs.Prelude.{◌≡◌, ◌≤◌, ◌<◌, ◌+◌, ◌++◌, ◌∷◌, [], IfSome, IsSome, IsSomeAnd, Some, None, true, false, OnOk, OnErr};
 ghost use Rattle.std.specs.Option.{option_map};
 ghost use Rattle.pool_journal.specs.Queue.{first_of, last_of};

@@ -1,3 +1,4 @@
+//! Which entries count as loans, returns, makes, removals and failed tests.
 ghost use Rattle.std.specs.Prelude.{◌≡◌};
 ghost use Rattle.pool_journal.specs.Entries.{is_lent_answer, is_make_answer};
 ghost use Rattle.pool_stats.specs.Answers.{is_check, is_failing};

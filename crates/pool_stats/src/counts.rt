@@ -1,3 +1,5 @@
+//! The counts of a journal, also as eight words.
+
 /// The counts of a journal.
 #[derive(Clone, Copy, Debug, PartialEq, Eq)]
 pub struct Counts {

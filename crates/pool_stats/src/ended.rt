@@ -1,3 +1,5 @@
+//! The totals of objects that were destroyed, evicted and reclaimed, which each step updates.
+
 use crate::counting::{is_evicting, is_freeing, is_reclaiming};
 use pool_journal::{Answer, Input};
 

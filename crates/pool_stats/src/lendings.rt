@@ -1,3 +1,4 @@
+//! The duration of a loan, by the times at which loans began.
 ghost use Rattle.std.specs.Prelude.{◌≡◌, ℕ, if◌then◌else◌, unwrap_or, Some, OnErr, OnOk};
 ghost use Rattle.std.specs.BTreeMap.{get};
 ghost use Rattle.std.specs.Option.{option_map};

@@ -1,3 +1,5 @@
+//! The numbers of entries of each counted kind.
+
 use crate::counting::{is_checking, is_failing, is_lending, is_making};
 use crate::ended::RemovalTotals;
 use pool_journal::{Answer, Input};

@@ -1,3 +1,4 @@
+//! Why the program did not do its task: the exit statuses, and the lines of the errors.
 ghost use Rattle.std.specs.Prelude.{◌≡◌, ◌∷◌, ◌++◌, IfSome, OnOk};
 ghost use Rattle.std.specs.Io.KnownBytes.{Appends};
 ghost use Rattle.pool_settings.specs.Escaped.{IsOnOneLine};

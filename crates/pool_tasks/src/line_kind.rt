@@ -1,3 +1,4 @@
+//! The kind of a line that is invalid at its position, for a hint.
 ghost use Rattle.std.specs.Prelude.{◌≡◌};
 ghost use Rattle.pool_tasks.specs.Hints as Spec;
 

@@ -1,3 +1,4 @@
+//! Finds the position of an id: at once if no id between it and the first is missing, otherwise by a search.
 ghost use Rattle.std.specs.Prelude.{◌≡◌, IfSome, IfNone, None};
 ghost use Rattle.sorted_index.specs.Pairs.{key_of, IsAscending};
 ghost use Rattle.sorted_index.specs.Marks.{all_in, pairs_in, IsStoredAt, IsThereAt, IsNowhere};

@@ -1,3 +1,4 @@
+//! Reads the pair at a position, with the marked ones or without them.
 ghost use Rattle.std.specs.Prelude.{◌≡◌, slice_get};
 ghost use Rattle.sorted_index.specs.Marks.{all_in, pairs_in};
 

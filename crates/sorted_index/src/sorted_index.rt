@@ -1,3 +1,4 @@
+//! An index of keys in ascending order of id: how keys are added, found and removed.
 ghost use Rattle.std.specs.Prelude.{◌≡◌, ◌≢◌, ◌≤◌, ◌<◌, ◌+◌, ◌++◌, ◌∷◌, ◌==◌, ℕ, [], Some, None, OnOk, OnErr, IsSome, length, slice_get};
 ghost use Rattle.sorted_index.specs.Pairs.{key_of, without, IdsBelow, IsAscending};
 

@@ -1,3 +1,5 @@
+//! A pair as it is stored, with the mark of a removed one.
+
 use crate::pair::Pair;
 
 /// A pair as it is stored. A removed pair is marked, and dropped later.

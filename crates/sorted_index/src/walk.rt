@@ -1,3 +1,4 @@
+//! An iterator over the present pairs of an index.
 ghost use Rattle.std.specs.Prelude.{◌≡◌};
 ghost use Rattle.std.specs.Iterator.{YieldsFirst, item_count};
 ghost use Rattle.sorted_index.specs.Marks.{pairs_in};

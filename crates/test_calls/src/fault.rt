@@ -1,3 +1,5 @@
+//! Why a script was not played to its end: the exit statuses, and the errors of lines.
+
 use pool_settings::SettingsFault;
 use std::alloc::AllocError;
 use std::io;

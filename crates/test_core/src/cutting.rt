@@ -1,5 +1,6 @@
-// Journals that are cut, and pools that are opened from the state after them. `tests/play.c` and
-// `crates/test_counts` cut the cases too.
+//! Journals that are cut, and pools that are opened from the state after them.
+//! `tests/play.c` and `crates/test_counts` cut the cases too.
+
 use crate::playing::{
     base_of, come_to, counted, cut, entries, from_base, given, length, opened, play, refuses,
     settings_of,

@@ -1,4 +1,5 @@
-// A pool whose calls a host drives: whole calls, waits, and a journal without room or dropped.
+//! A pool whose calls a host drives: whole calls, waits, and a journal without room or dropped.
+
 use crate::playing::entries;
 use pool_calls::{Action, End, Operation, StepFailure};
 use pool_driver::{Call, DrivenPool, Effects, Hooks, Options, Report};

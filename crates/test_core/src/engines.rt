@@ -1,5 +1,5 @@
-// The engines as the tests call them, with readers and writers that pass few bytes at a time, fail, are interrupted, or
-// count their calls.
+//! The engines as the tests call them, over readers and writers that are slow, fail, are interrupted, or count.
+
 mod calls;
 mod counted;
 mod failing;

@@ -1,4 +1,5 @@
-// Journals without room for a borrow, which still have room for other entries.
+//! Journals without room for a borrow, which still have room for other entries.
+
 use crate::playing::{opened, play, refuses};
 use pool_journal::Input;
 use std::alloc::Global;

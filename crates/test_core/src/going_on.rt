@@ -1,4 +1,4 @@
-// A pool that is cut, or opened again from the base of a cut, answers as one that is not.
+//! A pool that is cut, or opened again from the base of a cut, answers as one that is not.
 
 use crate::lives::{Dice, next_input, some_settings};
 use crate::playing::{counted, cut, from_base, given, open, step};

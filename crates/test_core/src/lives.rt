@@ -1,4 +1,4 @@
-// Fills many small journals with pseudo-random steps, and then completes all work that was begun.
+//! Fills many small journals with pseudo-random steps, and then completes all work that was begun.
 
 use crate::playing::{due_out, length, named, open, refuses, room, step, value_of};
 use pool_core::{Core, StepFault};

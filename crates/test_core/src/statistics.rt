@@ -1,4 +1,5 @@
-// The statistics of journals after each entry. tests/cases/stats has those of whole journals.
+//! The statistics of journals after each entry. tests/cases/stats has those of whole journals.
+
 use crate::playing::{entries, given};
 use pool_journal::{Answer, Entry, Input, Outcome};
 use pool_stats::{RemovalTotals, RunningTally, Statistics};

@@ -1,4 +1,5 @@
-// Steppers: cores that store no entries.
+//! Steppers: cores that store no entries.
+
 use crate::cutting::is_base;
 use crate::playing::{
     PLAIN_LIFE, TWO_OBJECTS, base_of, come_to, entries, given, settings_of, value_of,

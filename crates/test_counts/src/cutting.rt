@@ -1,3 +1,5 @@
+//! The counts of a pool that is cut, and opened again from its base, after each entry.
+
 use crate::{Fault, value_of};
 use pool_core::Core;
 use pool_journal::{Base, Entry, Head, Phase, Record, Segment};

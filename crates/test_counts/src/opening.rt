@@ -1,3 +1,5 @@
+//! Cuts a pool once and opens one from the base of a segment, up to the call that is asked for.
+
 use crate::cutting::{take_step, values_of};
 use crate::{Fault, entries_of};
 use pool_core::Core;

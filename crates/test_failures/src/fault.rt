@@ -1,3 +1,5 @@
+//! Why a life failed its test.
+
 use std::fmt;
 use std::fmt::Display;
 

@@ -1,5 +1,6 @@
-// The calls of one caller on a pool. A call that fails for lack of memory is made again, after the state that it left
-// was checked.
+//! The calls of one caller on a pool.
+//! A call that fails for lack of memory is made again, after the state that it left was checked.
+
 use crate::TRIES;
 use crate::fault::Fault;
 use crate::parts::{Notes, Part};

@@ -1,4 +1,5 @@
-// The calls that can fail for lack of memory.
+//! The calls that can fail for lack of memory.
+
 use std::fmt;
 use std::fmt::Display;
 

@@ -1,4 +1,4 @@
-// The objects, a factory that never fails, and a clock that is set by hand.
+//! The objects, a factory that never fails, and a clock that is set by hand.
 ghost use Rattle.std.specs.Prelude.{◌≡◌, true, false};
 
 use pool_shared::{Clock, Factory};

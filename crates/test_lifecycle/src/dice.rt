@@ -1,3 +1,4 @@
+//! Pseudo-random inputs, the same in each run.
 ghost use Rattle.std.specs.Prelude.{◌<◌};
 
 use pool_journal::{Input, Outcome, When};

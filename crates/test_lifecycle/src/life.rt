@@ -1,3 +1,4 @@
+//! A life of a pool: random steps, in their middle a pool opened from the base, and the completion of all work.
 ghost use Rattle.std.specs.Prelude.{◌≡◌, is_some};
 ghost use Rattle.pool_journal.specs.Carrying.{carries};
 

@@ -1,3 +1,5 @@
+//! Cuts a pool and opens it again from its base, which is printed as text and read from it.
+
 use pool_core::Core;
 use pool_journal::{Base, LineFault, Phase, Segment, print_base, read_base};
 use pool_settings::Settings;

@@ -1,4 +1,5 @@
-// Additions and fills, action by action.
+//! Additions and fills, action by action.
+
 use crate::checks::expect_equal;
 use pool_calls::{Action, AddCall, End, Event, FillCall, Plan, StepFailure};
 use pool_journal::{Answer, Cause, Input, Outcome};

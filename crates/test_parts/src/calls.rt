@@ -1,4 +1,5 @@
-// Borrows and returns, action by action.
+//! Borrows and returns, action by action.
+
 use crate::checks::expect_equal;
 use pool_calls::{Action, BorrowCall, End, Event, Plan, ReturnCall, StepFailure};
 use pool_journal::{Answer, Cause, Input, Outcome, When};

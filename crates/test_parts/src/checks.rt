@@ -1,3 +1,5 @@
+//! Checks that end a test unless two values are equal.
+
 use pool_journal::LineFault;
 use std::fmt::Debug;
 use std::process::Abort;

@@ -1,4 +1,5 @@
-// Invalidations, clears and notes of a use, action by action.
+//! Invalidations, clears and notes of a use, action by action.
+
 use crate::checks::expect_equal;
 use pool_calls::{Action, ClearCall, End, Event, InvalidateCall, StepFailure, TouchCall};
 use pool_journal::{Answer, Cause, Input};

@@ -1,4 +1,5 @@
-// Eviction runs and removals of abandoned objects, action by action.
+//! Eviction runs and removals of abandoned objects, action by action.
+
 use crate::checks::expect_equal;
 use pool_calls::{Action, End, Event, EvictCall, Plan, ReclaimCall, StepFailure};
 use pool_journal::{Answer, Cause, Input, Outcome, When};

@@ -1,3 +1,4 @@
-// Lines of journals and of bases, which are read and printed.
+//! Lines of journals and of bases, which are read and printed.
+
 mod bases;
 mod lines;

@@ -1,4 +1,5 @@
-// Maintenance, action by action.
+//! Maintenance, action by action.
+
 use crate::checks::expect_equal;
 use pool_calls::{Action, End, Event, MaintainCall, Plan, StepFailure};
 use pool_journal::{Answer, Cause, Input, Outcome, When};

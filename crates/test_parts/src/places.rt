@@ -1,4 +1,5 @@
-// Places, and their parts: slots under keys, and the index of keys in ascending order of id.
+//! Places, and their parts: slots under keys, and the index of keys in ascending order of id.
+
 mod calls;
 mod index;
 mod lives;

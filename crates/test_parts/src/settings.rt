@@ -1,4 +1,5 @@
-// The settings of texts. tests/cases/settings has texts with errors, and the message of each.
+//! The settings of texts. tests/cases/settings has texts with errors, and the message of each.
+
 use crate::checks::expect_equal;
 use pool_settings::Settings;
 use std::process::Abort;

@@ -1,4 +1,5 @@
-// The tickets of the borrows that wait: each call once, and random calls beside a plain list.
+//! The tickets of the borrows that wait: each call once, and random calls beside a plain list.
+
 use crate::checks::expect_equal;
 use crate::places::numbers::next_number;
 use pool_calls::Waiters;

@@ -1,4 +1,5 @@
-// A caller that makes random calls, and marks them.
+//! A caller that makes random calls, and marks them.
+
 use crate::TRIES;
 use crate::dice::Dice;
 use crate::fault::Fault;

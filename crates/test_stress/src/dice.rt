@@ -1,3 +1,4 @@
+//! Pseudo-random numbers, the same for a seed in each run.
 ghost use Rattle.std.specs.Prelude.{◌<◌};
 
 /// Numbers that look random, and are the same in each run.

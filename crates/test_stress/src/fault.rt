@@ -1,3 +1,5 @@
+//! Why a seed has no verdict.
+
 use pool_shared::OpenFault;
 use std::alloc::{AllocError, AllocFailed};
 

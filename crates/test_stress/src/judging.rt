@@ -1,4 +1,5 @@
-// The check of a pool once all callers are back. A call that fails for lack of memory is tried again.
+//! The check of a pool once all callers are back. A call that fails for lack of memory is tried again.
+
 use crate::TRIES;
 use crate::again::continues;
 use crate::fault::Fault;

@@ -1,4 +1,5 @@
-// The calls of a caller, as it marks them and as a journal has them.
+//! The calls of a caller, as it marks them and as a journal has them.
+
 use pool_journal::{Answer, Entry, Input, Outcome, Segment, When};
 use std::slice::Iter;
 

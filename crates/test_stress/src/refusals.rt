@@ -1,4 +1,4 @@
-// The numbers of calls that failed for lack of memory.
+//! The numbers of calls that failed for lack of memory.
 ghost use Rattle.std.specs.Prelude.{◌<◌};
 
 use std::fmt;

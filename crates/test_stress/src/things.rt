@@ -1,4 +1,4 @@
-// The objects, and a factory that fails now and then.
+//! The objects, and a factory that fails now and then.
 ghost use Rattle.std.specs.Prelude.{◌≡◌, true, false};
 
 use crate::dice::Dice;

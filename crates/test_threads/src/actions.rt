@@ -1,4 +1,5 @@
-// The actions of a caller in a test, and their results, as a word and a number.
+//! The actions of a caller in a test, and their results, as a word and a number.
+
 use crate::items::Item;
 use crate::openings::Pool;
 use crate::turns::Flag;

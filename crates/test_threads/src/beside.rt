@@ -1,4 +1,4 @@
-// Three callers in parallel, each in its own thread, or fewer if some do nothing.
+//! Three callers in parallel, each in its own thread, or fewer if some do nothing.
 ghost use Rattle.std.specs.Prelude.{◌≡◌};
 
 use crate::actions::{Action, Expectation, Reply, borrows, counts, cut, does, expects, gives_back};

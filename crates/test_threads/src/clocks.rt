@@ -1,4 +1,5 @@
-// The clock of the tests.
+//! The clock of the tests, which stands still, returns the time that is set, or waits at the gate.
+
 use crate::turns::{Flag, Flags};
 use pool_shared::Clock;
 

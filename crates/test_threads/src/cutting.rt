@@ -1,4 +1,4 @@
-// Journals that are cut: by the only caller, and in parallel with two callers that borrow and return.
+//! Journals that are cut: by the only caller, and in parallel with two callers that borrow and return.
 ghost use Rattle.std.specs.Prelude.{◌≡◌};
 
 use crate::actions::{Action, Expectation, copied, cut, expect_equal, goes_through};

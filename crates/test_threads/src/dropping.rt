@@ -1,4 +1,4 @@
-// A pool, its callers and a lent object are dropped in each order, and no object stays.
+//! A pool, its callers and a lent object are dropped in each order, and no object stays.
 ghost use Rattle.std.specs.Prelude.{◌≡◌};
 
 use crate::actions::expect_equal;

@@ -1,4 +1,4 @@
-// A factory whose calls fail in turn: no call leaves an object half-processed, and each object is destroyed once.
+//! A factory whose calls fail in turn: no call leaves an object half-processed, and each object is destroyed once.
 ghost use Rattle.std.specs.Prelude.{◌≡◌};
 
 use crate::actions::{

@@ -1,4 +1,4 @@
-// The errors of each call, by one caller of a new pool.
+//! The errors of each call, by one caller of a new pool.
 ghost use Rattle.std.specs.Prelude.{◌≡◌};
 
 use crate::actions::Action;

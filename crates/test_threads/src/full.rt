@@ -1,5 +1,6 @@
-// Journals with little room: which calls fail, and which are still completed. The journal's length is tested
-// throughout.
+//! Journals with little room: which calls fail, and which are still completed.
+//! The journal's length is tested throughout.
+
 use crate::actions::{Action, Expectation};
 use crate::items::Failing;
 use crate::solo::tries;

@@ -1,5 +1,6 @@
-// Which work runs in parallel. Each test waits for a flag that only another thread sets, and gives up after a number of
-// turns.
+//! Which work runs in parallel.
+//! Each test waits for a flag that only another thread sets, and gives up after a number of turns.
+
 use crate::actions::{Action, Expectation};
 use crate::beside::{Gated, Parts, tries};
 use crate::items::Failing;

@@ -1,4 +1,4 @@
-// The objects of the tests, the factory that makes them, and the record of its work.
+//! The objects of the tests, the factory that makes them, and the record of its work.
 ghost use Rattle.std.specs.Prelude.{◌≡◌, true, false};
 
 use crate::turns::Flags;

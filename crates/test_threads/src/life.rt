@@ -1,4 +1,4 @@
-// One life of a pool, with two callers in one thread. The journal's length is tested after each call.
+//! One life of a pool, with two callers in one thread. The journal's length is tested after each call.
 ghost use Rattle.std.specs.Prelude.{◌≡◌};
 
 use crate::actions::{Action, Expectation, copied, expect_equal, goes_through};

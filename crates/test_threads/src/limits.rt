@@ -1,4 +1,5 @@
-// A borrow whose wait has a limit. At each wake it looks at the clock, which the test sets.
+//! A borrow whose wait has a limit. At each wake it looks at the clock, which the test sets.
+
 use crate::actions::{Action, Expectation};
 use crate::beside::{Gated, Parts, tries};
 use crate::items::Failing;

@@ -1,3 +1,5 @@
+//! Loads of workers: their reports and errors, and gates that count or hold the workers.
+
 use crate::actions::expect_equal;
 use crate::openings::settings_of;
 use crate::turns::TURNS;

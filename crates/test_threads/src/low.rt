@@ -1,5 +1,6 @@
-// Journals that are cut if little room is left. The room is the limit less the stored and the outstanding entries: one
-// to close the pool, four for a lent object, two for an idle one.
+//! Journals that are cut if little room is left.
+//! The room is the limit less the stored and the outstanding entries: one to close the pool, four for a lent object,
+//! two for an idle one.
 ghost use Rattle.std.specs.Prelude.{◌≡◌};
 
 use crate::actions::{Action, Expectation, Reply, cuts_below, does, expect_equal, expects};

@@ -1,4 +1,4 @@
-// Pools as the tests open them.
+//! Opens the pools of the tests, and ends them.
 ghost use Rattle.std.specs.Prelude.{◌≡◌};
 
 use crate::clocks::TestClock;

@@ -1,4 +1,4 @@
-// The only caller of a new pool.
+//! Runs the actions of a test with the only caller of a new pool.
 ghost use Rattle.std.specs.Prelude.{◌≡◌};
 
 use crate::actions::{Expectation, goes_through};

@@ -1,4 +1,5 @@
-// Objects that are made for the idle queue: added one by one, and up to the number to keep.
+//! Objects that are made for the idle queue: added one by one, and up to the number to keep.
+
 use crate::actions::Action;
 use crate::items::{Call, Failing, NOT_MADE, NOT_PASSIVATED};
 use crate::solo::tries;

@@ -1,4 +1,5 @@
-// Waits that give up.
+//! Flags that one thread sets and another waits for, and waits that give up.
+
 use std::sync::atomic::{AtomicBool, AtomicU64, Ordering};
 use std::thread;
 

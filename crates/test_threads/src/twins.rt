@@ -1,4 +1,4 @@
-// Two pools of one kind: an object can be returned only to its own pool.
+//! Two pools of one kind: an object can be returned only to its own pool.
 ghost use Rattle.std.specs.Prelude.{◌≡◌};
 
 use crate::actions::{Action, goes_through};

@@ -1,4 +1,5 @@
-// Eviction runs, reclaims and maintenance.
+//! Eviction runs, reclaims and maintenance.
+
 use crate::actions::Action;
 use crate::items::{Call, Failing};
 use crate::solo::tries;

@@ -1,5 +1,5 @@
-// A borrow that waits is woken: by an object that is returned, by a place that is free again, and by the close of the
-// pool.
+//! A borrow that waits is woken: by a returned object, by a place that is free again, and by the close of the pool.
+
 use crate::actions::{Action, Expectation};
 use crate::beside::{Gated, tries};
 use crate::items::Failing;

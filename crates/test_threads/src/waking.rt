@@ -1,5 +1,6 @@
-// A borrow that waits is woken after another caller's work in the factory: an object is made or tested for the queue,
-// or a place is free again after a failed make.
+//! A borrow that waits is woken after another caller's work in the factory.
+//! An object is made or tested for the queue, or a place is free again after a failed make.
+
 use crate::actions::{Action, Expectation};
 use crate::beside::{Gated, tries};
 use crate::items::{Failing, NOT_MADE};

@@ -1,4 +1,5 @@
-// A third caller reads the counts, while two borrow and return.
+//! A third caller reads the counts, while two borrow and return.
+
 use crate::actions::{Action, Expectation, expect_equal};
 use crate::beside::{Gated, Parts, tries};
 use crate::items::Failing;

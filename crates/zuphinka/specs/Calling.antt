@@ -15,7 +15,7 @@ use Rattle.pool_calls.specs.MaintainRules as maintains
 use Rattle.pool_calls.specs.ReclaimRules as reclaims
 use Rattle.pool_calls.specs.Operations.{HasCome, IsRight, began_of, step_at}
 use Rattle.pool_calls.specs.Turns.{Turn, asks_room}
-use Rattle.pool_calls.specs.Waiting.{IsSettled, Signals}
+use Rattle.pool_calls.specs.Waiting.{IsSettled, Signals, most_overtaken}
 use Rattle.pool_calls.specs.declared.operation.Operation.{Operation}
 use Rattle.pool_calls.specs.declared.operation.Operation.TheVariants as operations
 use Rattle.pool_driver.specs.Driving.{DrivenModel, Begins, GoesFrom, IsTold, LendsAtOnce, Moves, TakesBackAtOnce, available_in, detaches, fits_report, is_done, is_low_in, is_maintenance, told, until_of}
@@ -104,7 +104,8 @@ pub record GoesOn (caller at : ℕ) (report : Report) (old new : DrivenModel) (b
   pub ended : is_done effects.action ≡ true → after.ticket ≡ None
   pub token : effects.token ≡ after.token
   pub ticket : effects.ticket ≡ after.ticket
-  pub until : effects.until ≡ until_of between.core.settings after.operation
+  pub until : effects.until ≡ until_of between.core.settings after
+  pub longer : after.longer ≡ before.longer
   pub room : asks_room effects.action ≡ true → old.drops ≡ true → between.core.journal ≡ []
   pub low : effects.is_low ≡ is_low_in between.core
   pub wakes : Wakes between new wake
@@ -136,7 +137,7 @@ Asks c input token = (step_at c.operation ≡ Some input) × (c.token ≡ token)
 
 -- the call is what its start says
 abbrev pub IsKind : CallStart → ℕ → Kind → Call → Type 0
-IsKind s last kinds.Borrow c = began_of c.operation ≡ Some (max s.at last)
+IsKind s last kinds.Borrow c = (began_of c.operation ≡ Some (max s.at last)) × (c.longer ≡ s.id)
 IsKind s last kinds.Return c = Asks c (inputs.GiveBack s.id) s.object
 IsKind s last kinds.Invalidate c = Asks c (inputs.Invalidate s.id) s.object × (detaches c.operation ≡ false)
 IsKind s last kinds.Detach c = Asks c (inputs.Invalidate s.id) s.object × (detaches c.operation ≡ true)
@@ -213,6 +214,15 @@ pub record ReportsState (p : OpenModel) (reported : PoolState) : Type 0 where
   pub running : reported.running ≡ count_by is_some p.calls.slots
   pub closed : reported.is_closed ≡ closed_from p.driven.core.base p.driven.core.journal
 
+-- each waiting call is overtaken at most so often from now on, or as often as the oldest one was
+pub record LimitsOvertakes (most : ℕ) (old new : OpenModel) (bound : ℕ) : Type 0 where
+  pub is : bound ≡ max most (most_overtaken old.driven.queue.waiting)
+  pub rest : new ≡ record old { driven = record old.driven { queue = record old.driven.queue { most = bound } } }
+
+-- the object with this id is lent
+abbrev pub is_lent_in : OpenModel → ℕ → Bool
+is_lent_in p id = ends_loan (reply_from p.driven.core.settings p.driven.core.base p.driven.core.journal 0 (inputs.GiveBack id))
+
 -- ---- calls that are over at once
 -- the result of a borrow that is not begun as a call. A place is set aside for the return of what is lent
 abbrev pub LendsTo : ℕ → ℕ → OpenModel → OpenModel → Loan → Loan → Status → Type 0
@@ -259,3 +269,13 @@ WakesIn (Some old) new ticket ticket' s = IsSomeAnd new (λ p. WakesTo old p tic
 abbrev pub ReadsState : Option OpenModel → Option OpenModel → PoolState → PoolState → ℕ → Type 0
 ReadsState None new before after code = (code ≡ status_code NotOpen) × (new ≡ None) × (after ≡ before)
 ReadsState (Some old) new before after code = (code ≡ status_code Done) × (new ≡ Some old) × ReportsState old after
+
+-- the result of a bound on overtakes for the pool in a handle
+abbrev pub LimitsIn : ℕ → Option OpenModel → Option OpenModel → ℕ → ℕ → ℕ → Type 0
+LimitsIn most None new before after code = (code ≡ status_code NotOpen) × (new ≡ None) × (after ≡ before)
+LimitsIn most (Some old) new before after code = (code ≡ status_code Done) × IsSomeAnd new (λ p. LimitsOvertakes most old p after)
+
+-- the result of asking the pool in a handle whether an object is lent
+abbrev pub TellsLent : ℕ → Option OpenModel → Option OpenModel → Bool → Bool → ℕ → Type 0
+TellsLent id None new before after code = (code ≡ status_code NotOpen) × (new ≡ None) × (after ≡ before)
+TellsLent id (Some old) new before after code = (code ≡ status_code Done) × (new ≡ Some old) × (after ≡ is_lent_in old id)

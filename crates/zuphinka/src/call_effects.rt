@@ -1,3 +1,4 @@
+//! What the host of a call does next, as the codes and numbers that C reads.
 ghost use Rattle.std.specs.Prelude.{◌≡◌};
 ghost use Rattle.zuphinka.specs.CallCodes.{action_code, action_end, action_number, end_code};
 ghost use Rattle.zuphinka.specs.Calling.{IsCount, IsDestroyed, IsFilled, IsReadAs, IsReclaimed};

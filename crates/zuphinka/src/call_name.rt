@@ -1,3 +1,5 @@
+//! The name by which C refers to a call in progress: its place and its number.
+
 /// The name by which C refers to a call in progress.
 #[repr(C)]
 #[derive(Clone, Copy)]

@@ -1,3 +1,4 @@
+//! What a host reports of the last action of a call, as C passes it.
 ghost use Rattle.std.specs.Prelude.{◌≡◌};
 ghost use Rattle.zuphinka.specs.CallCodes.{plain_report, report_of};
 

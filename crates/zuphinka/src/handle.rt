@@ -1,3 +1,4 @@
+//! The handle of a pool for C: a pointer that owns the pool's box, or null.
 ghost use Rattle.std.specs.Prelude.{◌≡◌, Option, Some, None};
 ghost use Rattle.std.specs.Option.{option_map, MatchOption};
 ghost use Rattle.zuphinka.specs.Opening.{OpenModel};

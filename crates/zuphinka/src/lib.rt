@@ -2,7 +2,7 @@
 #![tactic(auto)]
 
 ghost use Rattle.std.specs.Prelude.{◌≡◌, None, IsSomeAnd};
-ghost use Rattle.zuphinka.specs.Calling.{AdvancesIn, BeginsIn, LendsIn, ReadsState, TakesBackIn, WakesIn};
+ghost use Rattle.zuphinka.specs.Calling.{AdvancesIn, BeginsIn, LendsIn, LimitsIn, ReadsState, TakesBackIn, TellsLent, WakesIn};
 ghost use Rattle.zuphinka.specs.Calls.{Came, Opens, OpensWith, Steps, IsCompleting, Reads, TellsSteps, TellsRoom, Lines, BaseLines, Cuts};
 ghost use Rattle.zuphinka.specs.Counting.{ReportsCounts};
 ghost use Rattle.zuphinka.specs.Opening.{KeepsCalls, core_in, no_options};
@@ -336,6 +336,43 @@ pub extern "C" fn zuphinka_state(alloc: Global, pool: &mut Handle, state: &mut P
         return Status::NotOpen.code();
     };
     *state = held.state();
+    pool.put(held);
+    Status::Done.code()
+}
+
+/// Lets each waiting call be overtaken at most `most` times from now on, or as often as the oldest one was, if that is more.
+/// Stores this bound in `bound`.
+#[unsafe(no_mangle)]
+pub extern "C" fn zuphinka_set_overtakes(
+    alloc: Global,
+    pool: &mut Handle,
+    most: u64,
+    bound: &mut u64,
+) -> u32
+    ensures { LimitsIn most pool.old.held pool.new.held bound.old bound.new result }
+{
+    let Some(mut held) = pool.take(alloc) else {
+        return Status::NotOpen.code();
+    };
+    *bound = held.limit_overtakes(most);
+    pool.put(held);
+    Status::Done.code()
+}
+
+/// Stores in `is_lent` whether the object with this id is lent.
+#[unsafe(no_mangle)]
+pub extern "C" fn zuphinka_is_lent(
+    alloc: Global,
+    pool: &mut Handle,
+    id: u64,
+    is_lent: &mut bool,
+) -> u32
+    ensures { TellsLent id pool.old.held pool.new.held is_lent.old is_lent.new result }
+{
+    let Some(held) = pool.take(alloc) else {
+        return Status::NotOpen.code();
+    };
+    *is_lent = held.is_lent(id);
     pool.put(held);
     Status::Done.code()
 }

@@ -1,3 +1,5 @@
+//! A loan of an object, as C reads it.
+
 /// A loan of an object to C.
 #[repr(C)]
 #[derive(Clone, Copy)]

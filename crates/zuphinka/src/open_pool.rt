@@ -1,7 +1,8 @@
+//! A pool with its calls in progress: what each export of the library works on.
 ghost use Rattle.std.specs.Prelude.{◌≡◌, true, IfNone, IfOk, IfSome};
 ghost use Rattle.std.specs.Option.{is_some};
 ghost use Rattle.pool_driver.specs.Driving.{Opened, fits_report, is_done};
-ghost use Rattle.zuphinka.specs.Calling.{AdvancesTo, BeginsTo, GoesOn, LendsTo, ReportsState, TakesBackTo, WakesTo, ends_loan, is_set_aside};
+ghost use Rattle.zuphinka.specs.Calling.{AdvancesTo, BeginsTo, GoesOn, LendsTo, LimitsOvertakes, ReportsState, TakesBackTo, WakesTo, ends_loan, is_lent_in, is_set_aside};
 ghost use Rattle.zuphinka.specs.Opening.{call_at, options_of};
 ghost use Rattle.zuphinka.specs.Tables.{HasSpare, IsEmpty};
 
@@ -259,6 +260,21 @@ impl OpenPool {
             }
             None => Status::NoWake,
         }
+    }
+
+    /// Lets each waiting call be overtaken at most `most` times from now on, or as often as the oldest one was, if that is
+    /// more. Returns this bound.
+    pub(crate) fn limit_overtakes(&mut self, most: u64) -> u64
+        ensures { LimitsOvertakes most self.old self.new result }
+    {
+        self.driven.limit_overtakes(most)
+    }
+
+    /// Returns whether the object with this id is lent.
+    pub(crate) fn is_lent(&self, id: u64) -> bool
+        ensures { result ≡ is_lent_in self.now id }
+    {
+        ends_loan(self.driven.core().due(0, Input::GiveBack { id }))
     }
 
     /// Returns what is true of the pool besides its counts.

@@ -1,3 +1,4 @@
+//! A box as its parts: the address of its value, and the right to free it.
 ghost use Rattle.std.specs.Prelude.{◌≡◌};
 ghost use Rattle.std.specs.Box.Ownership.{box_owns};
 

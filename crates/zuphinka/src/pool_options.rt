@@ -1,3 +1,4 @@
+//! The options of a pool besides its settings, as C passes them.
 ghost use Rattle.std.specs.Prelude.{◌≡◌};
 ghost use Rattle.zuphinka.specs.Opening.{no_options, options_of};
 

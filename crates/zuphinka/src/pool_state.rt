@@ -1,3 +1,5 @@
+//! What is true of a pool besides its counts, as C reads it.
+
 /// What is true of a pool besides its counts, as C reads it.
 #[repr(C)]
 #[derive(Clone, Copy)]

@@ -1,3 +1,4 @@
+//! The reply to a step, as the codes and numbers that C reads.
 ghost use Rattle.std.specs.Prelude.{◌≡◌};
 ghost use Rattle.zuphinka.specs.Codes.{answer_code, answer_number, answer_cause, reply_of};
 

@@ -1,3 +1,4 @@
+//! A request for a step, as C passes it, and the input that its codes name.
 ghost use Rattle.std.specs.Prelude.{◌≡◌};
 ghost use Rattle.zuphinka.specs.Codes.{outcome_at, plain_at, numbered_at, reported_at, input_of};
 

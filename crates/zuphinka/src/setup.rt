@@ -1,3 +1,4 @@
+//! The settings as C reads them, and the key that an error in settings names.
 ghost use Rattle.std.specs.Prelude.{◌≡◌};
 ghost use Rattle.zuphinka.specs.Setting.{setup_of, key_of, KeyTold, NameTold};
 

@@ -1,3 +1,4 @@
+//! What begins a call, as C passes it, and the call of each kind.
 ghost use Rattle.std.specs.Prelude.{◌≡◌, true};
 ghost use Rattle.std.specs.Option.{is_some};
 ghost use Rattle.pool_calls.specs.Operations.{step_at};
@@ -30,7 +31,7 @@ pub enum Kind {
 pub struct CallStart {
     /// The time, in milliseconds.
     pub at: u64,
-    /// The object's id.
+    /// The object's id; for a borrow the number of milliseconds by which it may wait longer than the settings say.
     pub id: u64,
     /// The object's token.
     pub object: u64,
@@ -76,7 +77,7 @@ impl CallStart {
         ensures steps { is_some (step_at result.operation) ≡ true }
     {
         match kind {
-            Kind::Borrow => pool.borrow(self.at),
+            Kind::Borrow => pool.borrow(self.at).with_longer_wait(self.id),
             Kind::Return => pool.give_back(self.id, self.object),
             Kind::Invalidate => pool.invalidate(self.id, self.object),
             Kind::Detach => pool.detach(self.id, self.object),

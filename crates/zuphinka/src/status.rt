@@ -1,3 +1,4 @@
+//! The status of each call of the library, and the code that C gets for it.
 ghost use Rattle.std.specs.Prelude.{◌≡◌};
 ghost use Rattle.zuphinka.specs.Status.{status_code, fault_status};
 

@@ -1,3 +1,5 @@
+//! A call in progress with its number, as the table stores it.
+
 use pool_driver::Call;
 
 /// A call in progress, with its number.

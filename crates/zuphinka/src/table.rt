@@ -1,3 +1,4 @@
+//! The calls in progress of a pool, each at a place and with a number of its own.
 ghost use Rattle.std.specs.Prelude.{◌≡◌, ◌≤◌, ◌+◌, true, None, count_by, IfOk, IsSome};
 ghost use Rattle.std.specs.Option.{is_some};
 ghost use Rattle.zuphinka.specs.Tables.{HasSpare, IsEmpty, Sets, call_in, slot_at, slot_of};

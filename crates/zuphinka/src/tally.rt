@@ -1,3 +1,4 @@
+//! The counts of a pool, as C reads them.
 ghost use Rattle.std.specs.Prelude.{◌≡◌};
 ghost use Rattle.zuphinka.specs.Counting.{tally_of};
 

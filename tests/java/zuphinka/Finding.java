@@ -5,7 +5,7 @@ import java.util.List;
 import java.util.Objects;
 import java.util.Random;
 
-/** Looks at the objects that have a place: each is found by its slot and its id, also among many. */
+/** Looks at the objects that have a place: each is found by its slot, also among many. */
 public final class Finding {
     /** So many objects, if each search looks at all others, take minutes. */
     private static final int MANY = 1_000_000;
@@ -47,10 +47,10 @@ public final class Finding {
     }
 
     private void add() {
-        members.reserve();
         Member<Object> member = members.add(next++);
         present.add(member);
-        expect("a new object", member, members.withId(member.id));
+        expect("a new object", member, members.at(member.slot));
+        expect("its id", next - 1, member.id);
     }
 
     private void removeAt(int position) {
@@ -58,11 +58,10 @@ public final class Finding {
             return;
         }
         Member<Object> member = present.remove(position);
-        expect("by its id", member, members.withId(member.id));
         expect("by its slot", member, members.at(member.slot));
         members.remove(member);
-        expect("once it is removed", null, members.withId(member.id));
-        expect("an id of none", null, members.withId(next));
+        expect("once it is removed", null, members.at(member.slot));
         expect("their number", present.size(), members.size());
+        expect("slots for all of them", true, members.size() <= members.slots());
     }
 }

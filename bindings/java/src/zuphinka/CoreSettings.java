@@ -9,7 +9,9 @@ import org.apache.commons.pool2.impl.GenericObjectPoolConfig;
 /** The settings of a pool: a copy of its configurations, and their text for the core. */
 final class CoreSettings {
     /** The longest time that the core takes, in milliseconds: some 285,000 years. */
-    private static final long MOST_MILLIS = 1L << 53;
+    static final long MOST_MILLIS = 1L << 53;
+    /** How often a waiter is overtaken at most, unless the pool is told otherwise. */
+    static final int DEFAULT_OVERTAKES = 64;
     /** The most entries that a journal stores. */
     static final long MOST_ENTRIES = 1L << 32;
 
@@ -26,6 +28,8 @@ final class CoreSettings {
     private final long maxWaitMillis;
     /** How long a borrow waits at most, in nanoseconds; {@link Long#MAX_VALUE} without a limit. */
     final long maxWaitNanos;
+    /** After how many nanoseconds without a use a lent object is abandoned, if {@link #isAbandonedRemoved}. */
+    final long abandonedNanos;
     private final String text;
 
     /**
@@ -50,6 +54,7 @@ final class CoreSettings {
         maxTotal = config.getMaxTotal();
         maxWaitMillis = millis(config.getMaxWaitDuration(), -1);
         maxWaitNanos = maxWaitMillis < 0 ? Long.MAX_VALUE : TimeUnit.MILLISECONDS.toNanos(maxWaitMillis);
+        abandonedNanos = isAbandonedRemoved ? TimeUnit.MILLISECONDS.toNanos(millis(abandoned.getRemoveAbandonedTimeoutDuration(), 0)) : 0;
         text = textOf(config, journalLimit) + (isAbandonedRemoved ? textOf(abandoned) : "");
     }
 

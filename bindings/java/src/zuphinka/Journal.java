@@ -29,7 +29,7 @@ public final class Journal {
 
     /**
      * Returns a journal whose entries are dropped each time that there are 5,000, or eight for each object if that is more; with a {@link #limit}, at
-     * half of it at the latest. The pool lends for ever, and its memory stays small.
+     * half of it at the latest. The pool never stops lending because its journal is full, and its memory stays small.
      *
      * @return a journal for any number of pools
      */

@@ -1,15 +1,17 @@
 package zuphinka;
 
+import java.nio.ByteBuffer;
+import java.nio.ByteOrder;
 import java.nio.charset.StandardCharsets;
 
 /** How many objects a journal has room for, by a core that lends one. */
 final class JournalRoom {
     private JournalRoom() {}
 
-    /** Opens a core by a text, and returns its handle. */
-    static long open(String settings) {
-        long opened = Core.open(settings.getBytes(StandardCharsets.UTF_8));
-        if (opened == Core.OUT_OF_MEMORY) {
+    /** Opens a core by a text and the flags of {@link Core#open}, and returns its handle. */
+    static long open(String settings, int flags, long overtakes) {
+        long opened = Core.open(settings.getBytes(StandardCharsets.UTF_8), flags, overtakes);
+        if (opened == Core.STATUS_OUT_OF_MEMORY) {
             throw new OutOfMemoryError("zuphinka: no memory for a pool");
         }
         if (opened <= 0) {
@@ -34,10 +36,10 @@ final class JournalRoom {
 
     /** Returns how many objects of any number can be lent. The entries of each loan may be cut off before the next. */
     private static long mostLent(CoreSettings settings, boolean isCut) {
-        long core = open(settings.text());
+        long core = open(settings.text(), 0, 0);
         try {
             long room = roomOf(core);
-            if (!lendsOne(core, settings.reclaimsOnBorrow)) {
+            if (!lendsOne(core)) {
                 return 0;
             }
             long used = room - roomOf(core);
@@ -51,16 +53,30 @@ final class JournalRoom {
         }
     }
 
-    /** Lends an object as a borrow does that makes one, and returns whether there was room. */
-    private static boolean lendsOne(long core, boolean reclaims) {
-        return (!reclaims || hasDone(Core.step(core, 0, 0, 0, 0, Core.RECLAIM_ON_BORROW, 0)))
-                && hasDone(Core.step(core, 0, 0, 0, 0, Core.BORROW, 0))
-                && hasDone(Core.step(core, 0, 0, 0, 0, Core.READY, Core.GOOD));
+    /** Returns the details of the last reply of a core. */
+    static ByteBuffer detailsOf(long core) {
+        ByteBuffer details = Core.details(core);
+        if (details == null) {
+            throw new OutOfMemoryError("zuphinka: no memory for a pool");
+        }
+        return details.order(ByteOrder.nativeOrder());
     }
 
-    /** Returns whether a reply is none of a journal without room. */
+    /** Lends an object as a borrow does that makes one, and returns whether there was room. */
+    private static boolean lendsOne(long core) {
+        ByteBuffer details = detailsOf(core);
+        long begun = Core.begin(core, 0, 0, 0, 0, Core.KIND_BORROW);
+        if (hasDone(begun) && Core.action(begun) == Core.ACTION_MAKE) {
+            long number = details.getLong(Core.NUMBER);
+            return hasDone(Core.advance(core, details.getLong(Core.PLACE), number, 0, 0, 0, Core.REPORT_MADE));
+        }
+        return false;
+    }
+
+    /** Returns whether a reply is none of a lack of memory. */
     private static boolean hasDone(long reply) {
-        if (reply == Core.OUT_OF_MEMORY) {
+        boolean lacks = reply == Core.STATUS_OUT_OF_MEMORY || (reply > 0 && Core.end(reply) == Core.END_OUT_OF_MEMORY);
+        if (lacks) {
             throw new OutOfMemoryError("zuphinka: no memory for a pool");
         }
         return reply >= 0;

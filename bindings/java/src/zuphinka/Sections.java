@@ -3,39 +3,52 @@ package zuphinka;
 import java.io.IOException;
 import java.lang.ref.Cleaner;
 import java.lang.ref.Reference;
-import java.util.NoSuchElementException;
+import java.nio.ByteBuffer;
 import java.util.concurrent.TimeUnit;
+import java.util.concurrent.atomic.AtomicReference;
+import java.util.concurrent.locks.LockSupport;
 import java.util.concurrent.locks.ReentrantLock;
+import java.util.function.BooleanSupplier;
+import java.util.function.Supplier;
+import org.apache.commons.pool2.DestroyMode;
 
 /**
- * The critical sections of a pool: its core, its objects and the threads that wait for one, under one lock. Each method is one section. Its
- * caller acts on the answer without the lock: it makes, tests and destroys objects.
+ * The calls of a pool: its core, its objects and the threads that wait for one, under one lock. The core says what a call does next. The call does
+ * that without the lock, and reports it in a further section, until it is over.
  */
 final class Sections<T> {
     private static final Cleaner CLEANER = Cleaner.create();
-    /** A wait that may take longer, in nanoseconds, has no limit. */
-    static final long ENDLESS = TimeUnit.DAYS.toNanos(10_000);
-    /** How long a thread pauses before it looks again: at first, at most, and in all before it sleeps, in nanoseconds. */
-    private static final long FIRST_PAUSE = 250;
-    private static final long LONGEST_PAUSE = 10_000;
-    private static final long ALL_PAUSES = 50_000;
-    private static final int PROCESSORS = Runtime.getRuntime().availableProcessors();
+    private static final long NANOS_OF_MILLI = 1_000_000;
 
     private final CoreSettings settings;
+    private final Work<T> work;
     private final long start = System.nanoTime();
     private final ReentrantLock lock = new ReentrantLock();
+    private final BooleanSupplier isTaken = () -> lock.isLocked() || !lock.tryLock();
+    /** A call that is over, for the next one. */
+    private final AtomicReference<Call<T>> spare = new AtomicReference<>();
+
+    /** Set before a close stores the rest of the journal. */
+    private volatile boolean isEnding;
 
     // The lock protects what follows.
     private final long core;
+    private final ByteBuffer details;
     private final StoredJournal journal;
     private final Members<T> members = new Members<>();
-    private final Waiters waiters;
-    private int idle;
+    private final Waiters waiters = new Waiters();
+    /** The thread that is to be unparked once the lock is free; null if there is none. */
+    private Thread woken;
     private boolean isClosed;
     /** The time of the last step, in milliseconds since the start. */
     private long latest;
-    /** When the core was last asked for a borrower, by {@link System#nanoTime}. */
-    private long asked;
+    /** How many eviction runs there are, each of which tests an idle object at most. */
+    private int evictions;
+    /** How often a waiter is to be overtaken at most, and the bound that the core has until the waiters who were overtaken more often have left. */
+    private int maxOvertakes;
+    private long overtakes;
+    /** How many objects were reclaimed, of those that are no longer among the members. */
+    private long reclaimed;
     private long borrowed;
     private long returned;
     private long failedOnBorrow;
@@ -46,166 +59,20 @@ final class Sections<T> {
     /** How long the loans were that ended, except those of objects that were taken from their holders. */
     private final Histogram loans = new Histogram();
 
-    Sections(CoreSettings settings, Journal journal) {
+    Sections(CoreSettings settings, Journal journal, Work<T> work) {
         this.settings = settings;
+        this.work = work;
         JournalRoom.require(settings, journal);
-        long opened = JournalRoom.open(settings.text());
+        maxOvertakes = settings.isFair ? 0 : CoreSettings.DEFAULT_OVERTAKES;
+        overtakes = maxOvertakes;
+        long opened = JournalRoom.open(settings.text(), work.flags() | (settings.isAbandonedRemoved ? Core.RECLAIMS : 0), maxOvertakes);
         core = opened;
-        this.journal = new StoredJournal(core, journal, settings.text());
-        waiters = new Waiters(lock, settings.isFair ? 0 : Waiters.DEFAULT_OVERTAKES);
         CLEANER.register(this, () -> Core.drop(opened));
+        details = JournalRoom.detailsOf(opened);
+        this.journal = new StoredJournal(core, journal, settings.text());
     }
 
-    /** What a section found for an eviction run or a clear: the answer, and the object that it is about. */
-    static final class Found<T> {
-        int answer;
-        Member<T> member;
-    }
-
-    // One step.
-
-    /** Returns a reading of {@link System#nanoTime} as a time of the core. */
-    private long millis(long nanoTime) {
-        return (nanoTime - start) / 1_000_000;
-    }
-
-    /**
-     * Returns a reading of {@link System#nanoTime} as the time of the next step. The clock is read without the lock, so another step may be later.
-     */
-    private long timeOf(long nanoTime) {
-        latest = Math.max(latest, millis(nanoTime));
-        return latest;
-    }
-
-    private long step(int input, long number, long token, int outcome) {
-        return step(System.nanoTime(), input, number, token, outcome);
-    }
-
-    private long step(long nanoTime, int input, long number, long token, int outcome) {
-        long reply = Core.step(core, timeOf(nanoTime), number, token, Callers.number(), input, outcome);
-        while (reply < 0) {
-            makeRoom(reply, input);
-            reply = Core.step(core, timeOf(nanoTime), number, token, Callers.number(), input, outcome);
-        }
-        note(reply);
-        return reply;
-    }
-
-    /** Takes a step of a borrow that concerns no object, and waits for room in the journal no longer than the borrow waits for an object. */
-    private long stepWithin(long first, long longestNanos, int input) throws InterruptedException {
-        long now = System.nanoTime();
-        long reply = Core.step(core, timeOf(now), 0, 0, Callers.number(), input, 0);
-        while (reply < 0) {
-            makeRoomWithin(reply, input, left(first, longestNanos));
-            reply = Core.step(core, timeOf(now), 0, 0, Callers.number(), input, 0);
-        }
-        note(reply);
-        return reply;
-    }
-
-    /** Makes room in a full journal for an input, as {@link #makeRoomWithin}, as long as that takes. */
-    private void makeRoom(long status, int input) {
-        boolean isInterrupted = false;
-        try {
-            for (;;) {
-                try {
-                    makeRoomWithin(status, input, Long.MAX_VALUE);
-                    return;
-                } catch (InterruptedException e) {
-                    isInterrupted = true;
-                }
-            }
-        } finally {
-            if (isInterrupted) {
-                Thread.currentThread().interrupt();
-            }
-        }
-    }
-
-    /**
-     * Makes room in a full journal for an input, so that it can be tried again; without the lock while a segment is stored. It waits for another
-     * thread that stores one for some nanoseconds.
-     *
-     * @throws IllegalStateException if there is no room, or the pool is closed
-     */
-    private void makeRoomWithin(long status, int input, long nanos) throws InterruptedException {
-        if (isClosed && needsOpenPool(input)) {
-            throw closed();
-        }
-        checked(journal.isKept() || status != Core.JOURNAL_FULL ? status : 0);
-        long before = journal.cuts();
-        if (journal.isPending()) {
-            lock.unlock();
-            try {
-                storeWithin(nanos);
-            } finally {
-                acquire();
-            }
-            members.reserve(); // other threads may have made objects
-        }
-        if (journal.cuts() == before) {
-            journal.cutFull();
-        }
-    }
-
-    private void storeWithin(long nanos) throws InterruptedException {
-        boolean hasTurn;
-        try {
-            hasTurn = journal.storePending(nanos);
-        } catch (IOException | RuntimeException e) {
-            throw new IllegalStateException("Journal full", e);
-        }
-        if (!hasTurn) {
-            throw new IllegalStateException("Journal full");
-        }
-    }
-
-    /** Returns whether a closed pool refuses an input, whatever its journal has room for. */
-    private static boolean needsOpenPool(int input) {
-        return input == Core.BORROW || input == Core.ADD || input == Core.EVICT || input == Core.RECLAIM_ON_BORROW;
-    }
-
-    private static IllegalStateException closed() {
-        return new IllegalStateException("Pool not open");
-    }
-
-    private static long checked(long reply) {
-        if (reply == Core.OUT_OF_MEMORY) {
-            throw new OutOfMemoryError("zuphinka: no memory for a step");
-        }
-        if (reply == Core.JOURNAL_FULL) {
-            throw new IllegalStateException("Journal full");
-        }
-        if (reply < 0) {
-            throw new AssertionError("zuphinka: status " + -reply);
-        }
-        return reply;
-    }
-
-    /** Notes what an answer changes, and wakes a thread that it may serve. */
-    private void note(long reply) {
-        journal.count();
-        switch (Core.answer(reply)) {
-            case Core.PARKED:
-            case Core.KEPT:
-                idle++;
-                wakeOne();
-                break;
-            case Core.TAKE:
-            case Core.TEST:
-            case Core.DESTROY_IDLE:
-                idle--;
-                break;
-            default:
-                break;
-        }
-    }
-
-    /** Frees the place of an object, and wakes a thread that may have it. */
-    private void free(Member<T> member) {
-        members.remove(member);
-        wakeOne();
-    }
+    // The lock.
 
     /**
      * Takes the lock for a section that begins a call. The other sections of the call complete work on an object, and take it by {@link #acquire}.
@@ -224,265 +91,422 @@ final class Sections<T> {
         if (lock.tryLock()) {
             return;
         }
-        long now = System.nanoTime();
-        long end = now + (PROCESSORS > 1 ? ALL_PAUSES : 0);
-        for (long pause = FIRST_PAUSE; now - end < 0; pause = Math.min(2 * pause, LONGEST_PAUSE)) {
-            now = pauseUntil(now + pause);
-            if (!lock.isLocked() && lock.tryLock()) {
-                return;
-            }
-        }
-        lock.lock();
-    }
-
-    /** Pauses until this time of {@link System#nanoTime} is over, and returns what it is then. */
-    private static long pauseUntil(long until) {
-        for (;;) {
-            Thread.onSpinWait();
-            long now = System.nanoTime();
-            if (now - until >= 0) {
-                return now;
-            }
+        Pauses.pauseWhile(isTaken, Long.MAX_VALUE);
+        if (!lock.isHeldByCurrentThread()) {
+            lock.lock();
         }
     }
 
+    /** Lets the lock go, and then the thread that was woken run, which finds the lock free. */
     private void release() {
+        Thread next = woken;
+        woken = null;
         try {
             journal.cutIfLow(members.size());
         } finally {
             lock.unlock();
+            LockSupport.unpark(next);
             Reference.reachabilityFence(this);
         }
     }
 
-    // Waits.
-
-    /** Returns how many objects are idle or may be made. */
-    private long available() {
-        long places = settings.maxTotal < 0 ? Integer.MAX_VALUE : Math.max(0, settings.maxTotal - members.size());
-        return idle + places;
-    }
-
-    /** Wakes a thread that waits, if there is something to find that no other thread is on its way to. */
-    private void wakeOne() {
-        if (!waiters.isEmpty()) {
-            waiters.wakeOne(available());
-        }
-    }
-
-    /** Returns whether a borrow has to leave what there is to older waiters. It does not wait yet if its waiter is null. */
-    private boolean isBehind(Waiters.Waiter waiter) {
-        if (waiters.isEmpty() || isClosed) {
-            return false;
-        }
-        long available = available();
-        return available > 0 && waiters.areServedBefore(waiter, available);
-    }
-
-    /**
-     * Sleeps until there may be something to find, or the time is over. A thread that is woken for nothing sleeps on, and makes no entry.
-     *
-     * @throws NoSuchElementException if the borrow has a limit of its own, which is over
-     */
-    private void sleep(Waiters.Waiter waiter, long first, long longestNanos) throws InterruptedException {
-        for (;;) {
-            long left = left(first, longestNanos);
-            if (left <= 0 && longestNanos >= 0) {
-                throw timedOut();
-            }
-            waiters.sleepOn(waiter);
-            if (isBehind(waiter)) {
-                wakeOne(); // what this thread was woken for is there for an older one
-            }
-            if (left > 0) {
-                sleepOnce(waiter, left);
-            }
-            boolean isOver = longestNanos < 0 && left(first, longestNanos) <= 0;
-            if (isClosed || isOver || (available() > 0 && !isBehind(waiter))) {
-                return;
-            }
-        }
-    }
-
-    /** Sleeps until a waiter is woken or the time is over, or for some other reason. Before that it pauses: a short loan ends meanwhile. */
-    private void sleepOnce(Waiters.Waiter waiter, long nanos) throws InterruptedException {
-        long left = hasProcessorFor(waiter) ? nanos - pauseUntilWoken(waiter, Math.min(nanos, ALL_PAUSES)) : nanos;
-        if (!waiter.isWoken() && left > 0) {
-            waiter.sleep(left);
-        }
-    }
-
-    /**
-     * Returns whether a processor is left for a waiter that pauses. Those that have an object and those that wait before it need one each: a pause
-     * would keep one of them from running.
-     */
-    private boolean hasProcessorFor(Waiters.Waiter waiter) {
-        long left = (long) PROCESSORS - (members.size() - idle);
-        return left > 0 && waiters.older(waiter, left) < left;
-    }
-
-    /** Pauses without the lock until a waiter is woken, its thread is interrupted, or some nanoseconds are over. Returns for how long. */
-    private long pauseUntilWoken(Waiters.Waiter waiter, long longestNanos) {
-        long begun = System.nanoTime();
-        long passed = 0;
-        lock.unlock();
-        try {
-            for (long pause = FIRST_PAUSE; passed < longestNanos && hasToWait(waiter); pause = Math.min(2 * pause, LONGEST_PAUSE)) {
-                passed = pauseUntil(begun + Math.min(passed + pause, longestNanos)) - begun;
-            }
-        } finally {
-            acquire();
-        }
-        return passed;
-    }
-
-    /** Returns whether a waiter was neither woken nor interrupted. */
-    private static boolean hasToWait(Waiters.Waiter waiter) {
-        return !waiter.isWoken() && !Thread.currentThread().isInterrupted();
-    }
-
-    /** A waiter waits no longer. If it was woken and has nothing, another one may have what it was woken for. */
-    private void leave(Waiters.Waiter waiter, boolean hasObject) {
-        if (hasObject) {
-            waiters.noteTaken(waiter, available());
-        }
-        waiters.leave(waiter);
-        if (waiter.isWoken() && !hasObject) {
-            wakeOne();
-        }
-    }
-
-    /** Returns for how many nanoseconds a borrow may wait yet, by its own limit or the settings. */
-    private long left(long first, long longestNanos) {
-        long longest = longestNanos >= 0 ? longestNanos : settings.maxWaitNanos;
-        return Math.max(0, longest - (System.nanoTime() - first));
-    }
-
-    // Borrows.
-
-    /**
-     * Returns an object for a borrower, and waits while there is none. It is to be made if it has no wrapper. Else it was idle: it is lent if
-     * {@code isBare}, and to be activated and tested if not.
-     *
-     * @param first when the borrow began, by {@link System#nanoTime}
-     * @param longestNanos for how long the caller waits at most, in place of the time that the settings allow; negative: that time
-     * @param isBare whether an idle object needs no activation and no test, and so is lent at once
-     * @throws NoSuchElementException if there is none, or the time is over
-     * @throws IllegalStateException if the pool is closed, or its journal is full
-     */
-    Member<T> borrow(long first, long longestNanos, boolean isBare) throws InterruptedException {
+    /** Returns the result of a section. */
+    private <R> R locked(Supplier<R> section) {
         begin();
         try {
-            asked = first;
-            long reply = isBehind(null) ? Core.WAIT : ask(first, longestNanos, isBare);
-            if (waits(reply, longestNanos)) {
-                return find(first, longestNanos, isBare);
-            }
-            Member<T> found = found(reply, first);
-            if (!waiters.isEmpty()) {
-                waiters.noteTaken(null, available());
-            }
-            return found;
+            return section.get();
         } finally {
             release();
         }
     }
 
-    /** Returns whether a borrow waits after an answer. One with a limit of its own waits on if the time of the settings is over. */
-    private static boolean waits(long reply, long longestNanos) {
-        int answer = Core.answer(reply);
-        return answer == Core.WAIT || (answer == Core.TIMED_OUT && longestNanos >= 0);
+    /** Returns a reading of {@link System#nanoTime} as a time of the core. */
+    private long millis(long nanoTime) {
+        return (nanoTime - start) / NANOS_OF_MILLI;
     }
 
-    /** Waits until there is an object or a place for a borrow, behind those that wait. */
-    private Member<T> find(long first, long longestNanos, boolean isBare) throws InterruptedException {
-        Waiters.Waiter waiter = waiters.join();
-        Member<T> found = null;
-        try {
-            long reply;
-            do {
-                sleep(waiter, first, longestNanos);
-                asked = System.nanoTime();
-                reply = isBehind(waiter) ? Core.TIMED_OUT : ask(first, longestNanos, isBare);
-            } while (waits(reply, longestNanos));
-            found = found(reply, first);
-            return found;
-        } finally {
-            leave(waiter, found != null);
+    /** Returns the same as the time of the next step. The clock is read without the lock, so another step may be later. */
+    private long timeOf(long nanoTime) {
+        latest = Math.max(latest, millis(nanoTime));
+        return latest;
+    }
+
+    // Calls that are over at once.
+
+    /** Lends an idle object at once to a borrow that begins now, which need not do anything else; null if the borrow is to be begun. */
+    private Member<T> lendAtOnce(long now) {
+        long token = Core.lend(core, timeOf(now), Callers.number());
+        if (token < 0) {
+            return null;
         }
+        journal.add(2);
+        wakeMore();
+        return lent(members.at((int) token), now, 0);
     }
 
-    private Member<T> found(long reply, long first) throws InterruptedException {
-        switch (Core.answer(reply)) {
-            case Core.LENT:
-                journal.count();
-                idle--;
-                return lent(members.at(Core.value(reply)), asked, asked - first);
-            case Core.TAKE:
-                return members.at(Core.value(reply));
-            case Core.MAKE:
-                return members.add(Core.value(reply));
-            case Core.TIMED_OUT:
-                throw timedOut();
-            default:
-                throw refusal(reply);
+    /** Takes an object back at once. Returns whether it did; otherwise the return is to be begun. */
+    private boolean takeBackAtOnce(Member<T> member, long now) {
+        if (!Core.takeBack(core, timeOf(now), member.id, member.slot, Callers.number())) {
+            return false;
         }
+        journal.add(2);
+        wakeMore();
+        noteReturn(member, now);
+        return true;
     }
 
-    /** Returns the exception for a borrow whose time is over. If its thread is interrupted it ends by that, also if it may not wait. */
-    private RuntimeException timedOut() throws InterruptedException {
-        if (Thread.interrupted()) {
-            throw new InterruptedException();
+    // Calls of two steps, on an object that the factory activates or passivates.
+
+    /** Takes an idle object for a borrow that begins now by its first step; null if the borrow is to be begun. */
+    private Member<T> takeIdle(long now) {
+        long token = settings.reclaimsOnBorrow ? -1 : Core.take(core, timeOf(now), Callers.number(), evictions);
+        if (token < 0) {
+            return null;
         }
-        timeouts++;
-        return refusal(Core.TIMED_OUT);
+        journal.add(1);
+        return members.at((int) token);
     }
 
-    /** Asks the core for an object, and makes room for that in a full journal. */
-    private long ask(long first, long longestNanos, boolean isBare) throws InterruptedException {
-        long began = millis(first);
-        members.reserve(); // each time, since other threads may make objects while this one waits
-        long reply = askOnce(timeOf(asked), began, isBare);
-        while (reply < 0) {
-            makeRoomWithin(reply, Core.BORROW, left(first, longestNanos));
-            asked = System.nanoTime();
-            reply = askOnce(timeOf(asked), began, isBare);
-        }
-        note(reply);
-        return reply;
-    }
-
-    private long askOnce(long at, long began, boolean isBare) {
-        return isBare ? Core.borrow(core, at, began, Callers.number()) : Core.step(core, at, began, 0, Callers.number(), Core.BORROW, 0);
-    }
-
-    /** Returns the exception for an answer that gives nothing. */
-    static RuntimeException refusal(long reply) {
-        switch (Core.answer(reply)) {
-            case Core.EXHAUSTED:
-                return new NoSuchElementException("Pool exhausted");
-            case Core.TIMED_OUT:
-            case Core.WAIT:
-                return new NoSuchElementException("Timeout waiting for idle object");
-            case Core.REFUSED:
-                if (Core.cause(reply) == Core.CLOSED) {
-                    return closed();
-                }
-                return new IllegalStateException("Object is not lent");
-            default:
-                throw new AssertionError("zuphinka: answer " + Core.answer(reply));
-        }
-    }
-
-    /** Lends an object that was made, or activated and tested, by a borrow that began at this time of {@link System#nanoTime}. */
-    void lend(Member<T> member, long first) {
+    /** Makes an object ready that was taken, and lends it to a borrow that began at this time. If that fails, it is destroyed, and this returns false. */
+    private boolean isReadied(Member<T> member, long first) {
+        int outcome = work.makeReady(member);
         long now = System.nanoTime();
         acquire();
         try {
-            step(now, Core.READY, member.id, 0, Core.GOOD);
-            lent(member, now, now - first);
+            complete(Core.INPUT_READY, member, outcome, now);
+            failedOnBorrow += outcome == Core.OUTCOME_TEST_FAILED ? 1 : 0;
+            if (outcome == Core.OUTCOME_GOOD) {
+                lent(member, now, now - first);
+                return true;
+            }
         } finally {
             release();
+        }
+        end(member, false);
+        return false;
+    }
+
+    /** Takes a lent object back by the first step of its return, if it is lent. Returns whether it did; otherwise the return is to be begun. */
+    private boolean isTaken(Member<T> member, long now) {
+        if (!member.isLent() || Core.step(core, timeOf(now), member.id, 0, Callers.number(), Core.INPUT_RETURN, 0) != Core.ANSWER_CHECK) {
+            return false;
+        }
+        journal.add(1);
+        noteReturn(member, now);
+        return true;
+    }
+
+    /** Tests and passivates an object that was taken back. It is idle then, or destroyed. */
+    private void putAway(Member<T> member) {
+        int outcome = work.putAway(member);
+        acquire();
+        try {
+            if (complete(Core.INPUT_PARK, member, outcome, System.nanoTime()) == Core.ANSWER_PARKED) {
+                wakeMore();
+                return;
+            }
+        } finally {
+            release();
+        }
+        end(member, true);
+    }
+
+    /** Takes a step that completes work on an object. Returns the answer. */
+    private int complete(int input, Member<T> member, int outcome, long now) {
+        int answer = Core.step(core, timeOf(now), member.id, member.slot, Callers.number(), input, outcome);
+        if (answer < 0) {
+            throw new AssertionError("zuphinka: status " + -answer);
+        }
+        journal.add(1);
+        return answer;
+    }
+
+    /** Destroys an object that failed, or is not kept, and frees its place. What failed is thrown if it is an error, or told if it is of a return. */
+    private void end(Member<T> member, boolean isReturned) {
+        Throwable fault = work.destroyed(member);
+        acquire();
+        try {
+            complete(Core.INPUT_DESTROYED, member, 0, System.nanoTime());
+            members.remove(member);
+            wakeMore();
+        } finally {
+            release();
+        }
+        if (isEnding) {
+            storeLast();
+        }
+        Ends.throwError(member.fault);
+        Ends.throwError(fault);
+        work.swallow(fault);
+        work.swallow(isReturned ? member.fault : null);
+    }
+
+    // Calls of several sections.
+
+    /** Returns a call of this thread that begins now. It is to be {@link #leave left}. */
+    private Call<T> call(int kind, long now, Member<T> member) {
+        Call<T> call = spare.getAndSet(null);
+        return (call == null ? new Call<T>() : call).begin(kind, now, member);
+    }
+
+    /** Leaves a call that is over to the next one. */
+    private void leave(Call<T> call) {
+        call.clear();
+        spare.set(call);
+    }
+
+    /** Begins a call in a section that has the lock. */
+    private void beginCall(Call<T> call) {
+        Member<T> member = call.member;
+        evictions += call.kind == Core.KIND_EVICT ? 1 : 0;
+        long id = member == null ? call.moreMillis : member.id;
+        long reply = Core.begin(core, timeOf(call.first), id, member == null ? 0 : member.slot, call.caller, call.kind);
+        if (reply == Core.STATUS_OUT_OF_MEMORY) {
+            call.action = Core.ACTION_DONE;
+            call.end = Core.END_OUT_OF_MEMORY;
+            noteEnd(call, call.first);
+            return;
+        }
+        call.place = details.getLong(Core.PLACE);
+        call.number = details.getLong(Core.NUMBER);
+        takeUp(call, reply, call.first);
+    }
+
+    /** Follows a call to its end. */
+    private void follow(Call<T> call) {
+        work.settle(call);
+        while (!call.isDone()) {
+            int report = call.isToGiveUp() ? call.giveUp() : act(call);
+            advance(call, report);
+            work.settle(call);
+        }
+        if (call.hasFreed && isEnding) {
+            storeLast();
+        }
+    }
+
+    /** Does what a call does next. Returns the report. */
+    private int act(Call<T> call) {
+        switch (call.action) {
+            case Core.ACTION_GO_ON:
+                return Core.REPORT_GO_ON;
+            case Core.ACTION_MAKE_ROOM:
+                return makeRoom(call);
+            case Core.ACTION_SLEEP:
+                return sleep(call);
+            default:
+                return work.act(call);
+        }
+    }
+
+    /** Sleeps until a call is to look again, or to be given up. Returns the report. */
+    private int sleep(Call<T> call) {
+        if (call.left(call.limitNanos) == 0) {
+            return call.giveUp();
+        }
+        Waiters.sleep(call, Math.min(call.limitNanos, call.untilNanos));
+        if (call.isWoken) {
+            return Core.REPORT_WOKEN;
+        }
+        if (Thread.interrupted()) {
+            call.obstacle = new InterruptedException();
+            return call.giveUp();
+        }
+        return call.left(call.limitNanos) == 0 ? call.giveUp() : Core.REPORT_WOKEN;
+    }
+
+    /** Reports what came of the last action, and takes up what the call does next. */
+    private void advance(Call<T> call, int report) {
+        long now = System.nanoTime();
+        acquire();
+        try {
+            if (report == Core.REPORT_WOKEN && isEarly(call, now)) {
+                call.isWoken = false; // it looks when its time is over, less than a millisecond later
+                return;
+            }
+            noteReport(call, report);
+            takeUp(call, advanced(call, report, now), now);
+        } finally {
+            release();
+        }
+    }
+
+    /** Returns whether the time of a call that sleeps is over by the milliseconds of the core, and not yet by the clock. */
+    private boolean isEarly(Call<T> call, long now) {
+        return timeOf(now) >= call.untilMillis && call.left(call.untilNanos) > 0;
+    }
+
+    private long advanced(Call<T> call, int report, long now) {
+        long token = call.member == null ? 0 : call.member.slot;
+        return Core.advance(core, call.place, call.number, timeOf(now), token, call.caller, report);
+    }
+
+    /** Notes what a report changes. */
+    private void noteReport(Call<T> call, int report) {
+        switch (call.action) {
+            case Core.ACTION_MAKE:
+                if (report != Core.REPORT_MADE) {
+                    free(call);
+                }
+                break;
+            case Core.ACTION_VALIDATE:
+                boolean isOfBorrow = call.kind == Core.KIND_BORROW && call.isActivated;
+                failedOnBorrow += isOfBorrow && report != Core.REPORT_SUCCEEDED ? 1 : 0;
+                break;
+            case Core.ACTION_DESTROY:
+                if (report != Core.REPORT_GIVEN_UP) {
+                    free(call);
+                }
+                break;
+            case Core.ACTION_SLEEP:
+                unpark(waiters.remove(call));
+                break;
+            default:
+        }
+    }
+
+    /** Asks for the bound on overtakes again that was greater than it is to be, since a waiter may have left. */
+    private void limitOvertakes() {
+        if (overtakes != maxOvertakes) {
+            overtakes = Core.setOvertakes(core, maxOvertakes);
+        }
+    }
+
+    /** The place of a call's object is free, unless it was reclaimed before. */
+    private void free(Call<T> call) {
+        if (members.at(call.member.slot) == call.member) {
+            members.remove(call.member);
+        }
+        call.hasFreed = true;
+    }
+
+    /** Takes up what a call does next. Where there is no memory for that, the call is given up. */
+    private void takeUp(Call<T> call, long reply, long now) {
+        try {
+            takeUpOnce(call, reply, now);
+        } catch (OutOfMemoryError e) {
+            call.keepsError(e);
+            call.giveUp();
+            takeUpOnce(call, advanced(call, Core.REPORT_GIVEN_UP, now), now);
+        }
+    }
+
+    private void takeUpOnce(Call<T> call, long reply, long now) {
+        if (reply < 0) {
+            throw new AssertionError("zuphinka: status " + -reply);
+        }
+        call.action = Core.action(reply);
+        call.end = Core.end(reply);
+        journal.noteEntries(details.getLong(Core.ENTRIES));
+        if (settings.isAbandonedRemoved && details.getLong(Core.RECLAIMED) > reclaimed) {
+            takeReclaimed(call);
+        }
+        prepare(call, reply);
+        if (call.kind == Core.KIND_RETURN || call.kind == Core.KIND_INVALIDATE) {
+            noteEndOfLoan(call);
+        }
+        if (call.isDone()) {
+            noteEnd(call, now);
+        }
+        limitOvertakes();
+        if (Core.hasWake(reply)) {
+            wake(details.getLong(Core.WAKE));
+            wakeMore();
+        }
+    }
+
+    /** Has what the next action needs. */
+    private void prepare(Call<T> call, long reply) {
+        switch (call.action) {
+            case Core.ACTION_MAKE_ROOM:
+                call.cuts = journal.cuts();
+                call.isRefused = isClosed && needsOpenPool(call.kind);
+                break;
+            case Core.ACTION_MAKE:
+                call.member = members.add(details.getLong(Core.OBJECT));
+                call.isActivated = false;
+                break;
+            case Core.ACTION_SLEEP:
+                call.ticket = details.getLong(Core.TICKET);
+                call.untilMillis = Core.hasUntil(reply) ? details.getLong(Core.UNTIL) : Long.MAX_VALUE;
+                call.untilNanos = Core.hasUntil(reply) ? nanosUntil(call.untilMillis, call) : Long.MAX_VALUE;
+                call.mayPause = Core.busy(core) <= Pauses.PROCESSORS;
+                waiters.add(call);
+                break;
+            case Core.ACTION_ACTIVATE:
+            case Core.ACTION_VALIDATE:
+            case Core.ACTION_PASSIVATE:
+            case Core.ACTION_DESTROY:
+                takeObject(call, Core.token(reply));
+                break;
+            default:
+                if (call.end == Core.END_LENT) {
+                    takeObject(call, Core.token(reply));
+                }
+        }
+    }
+
+    /** Returns how many nanoseconds after the beginning of a call a time of the core is. */
+    private long nanosUntil(long millis, Call<T> call) {
+        return TimeUnit.MILLISECONDS.toNanos(millis - millis(call.first));
+    }
+
+    /** Has the object that the next action is for, or that is lent. The one of a return or an invalidation is given. */
+    private void takeObject(Call<T> call, int token) {
+        if (call.kind != Core.KIND_RETURN && call.kind != Core.KIND_INVALIDATE) {
+            Member<T> member = members.at(token);
+            call.isActivated &= member == call.member;
+            call.member = member;
+        }
+    }
+
+    /** Takes the objects that were reclaimed from their holders. They are to be destroyed by the call, in the order of their ids. */
+    private void takeReclaimed(Call<T> call) {
+        for (int slot = members.slots() - 1; slot >= 0; slot--) {
+            Member<T> member = members.at(slot);
+            if (member != null && member.isLent() && !Core.isLent(core, member.id)) {
+                member.isGone = true;
+                member.end();
+                members.remove(member);
+                call.reclaim(member);
+            }
+        }
+        reclaimed = details.getLong(Core.RECLAIMED);
+    }
+
+    /** Notes the end of a loan, if the core took the object back. */
+    private void noteEndOfLoan(Call<T> call) {
+        boolean isWork = call.action >= Core.ACTION_ACTIVATE && call.action <= Core.ACTION_DESTROY;
+        if (!call.member.isLent() || !(isWork || call.end == Core.END_PARKED)) {
+            return;
+        }
+        if (call.kind == Core.KIND_RETURN) {
+            noteReturn(call.member, call.first);
+        } else {
+            loans.count(call.member.loanNanos(call.first));
+            call.member.end();
+        }
+    }
+
+    private void noteReturn(Member<T> member, long now) {
+        returned++;
+        loans.count(member.loanNanos(now));
+        member.giveBack(now);
+    }
+
+    /** Notes the end of a call. A closed pool is closed, whatever a call lacks. */
+    private void noteEnd(Call<T> call, long now) {
+        boolean lacks = call.end == Core.END_JOURNAL_FULL || call.end == Core.END_OUT_OF_MEMORY;
+        if (lacks && isClosed && needsOpenPool(call.kind)) {
+            call.end = Core.END_CLOSED;
+        }
+        evictions -= call.kind == Core.KIND_EVICT ? 1 : 0;
+        if (call.end == Core.END_LENT) {
+            lent(call.member, now, now - call.first);
+        }
+        if (call.kind == Core.KIND_BORROW && (call.end == Core.END_TIMED_OUT || call.end == Core.END_CANCELLED)) {
+            boolean isOther = call.error != null || call.obstacle != null || Thread.currentThread().isInterrupted();
+            timeouts += isOther ? 0 : 1;
         }
     }
 
@@ -495,203 +519,249 @@ final class Sections<T> {
         return member;
     }
 
-    /** Notes that an object failed its test for a borrow. */
-    void noteFailedOnBorrow() {
+    /** Returns whether a closed pool refuses a call, whatever its journal has room for. */
+    private static boolean needsOpenPool(int kind) {
+        return kind == Core.KIND_BORROW || kind == Core.KIND_ADD || kind == Core.KIND_FILL || kind == Core.KIND_EVICT;
+    }
+
+    // Wakes.
+
+    /** Wakes a call, in a fair pool once those that were to be woken before it have gone on: so each has the object that came free for it. */
+    private void wake(long ticket) {
+        if (!settings.isFair || waiters.queue(ticket)) {
+            unpark(waiters.wake(ticket));
+        }
+    }
+
+    private void unpark(Thread next) {
+        if (next != null) {
+            LockSupport.unpark(woken);
+            woken = next;
+        }
+    }
+
+    /** Wakes the calls that may find something now. */
+    private void wakeMore() {
+        if (waiters.isEmpty()) {
+            return;
+        }
+        for (long ticket = Core.nextWake(core); ticket >= 0; ticket = Core.nextWake(core)) {
+            wake(ticket);
+        }
+    }
+
+    // Room in the journal.
+
+    /** Makes room in a full journal. Returns the report; if there is no room, the call has the exception for that. */
+    private int makeRoom(Call<T> call) {
+        try {
+            if (call.isRefused || journal.isKept()) {
+                throw new IllegalStateException("Journal full");
+            }
+            if (journal.isPending()) {
+                storePending(call);
+            }
+            cutFull(call.cuts);
+            return Core.REPORT_ROOM_MADE;
+        } catch (InterruptedException e) {
+            call.obstacle = e;
+            return call.giveUp();
+        } catch (IllegalStateException | OutOfMemoryError e) {
+            call.obstacle = e;
+            return Core.REPORT_NO_ROOM;
+        }
+    }
+
+    /** Cuts a full journal, unless it was cut since it had been cut so often. */
+    private void cutFull(long cuts) {
         acquire();
         try {
-            failedOnBorrow++;
-        } finally {
-            release();
-        }
-    }
-
-    // Returns.
-
-    /** Returns an object that needs no test and no passivation, and parks it. Returns the answer. */
-    long giveBackBare(Member<T> member) {
-        long now = System.nanoTime();
-        begin();
-        try {
-            long reply = Core.giveBack(core, timeOf(now), member.id, member.slot, Callers.number());
-            while (reply < 0) {
-                makeRoom(reply, Core.RETURN);
-                reply = Core.giveBack(core, timeOf(now), member.id, member.slot, Callers.number());
-            }
-            note(reply);
-            journal.count();
-            return noteReturn(reply, member, now);
-        } finally {
-            release();
-        }
-    }
-
-    /** Returns an object to be tested or passivated. Returns the answer. */
-    long giveBack(Member<T> member) {
-        long now = System.nanoTime();
-        begin();
-        try {
-            return noteReturn(step(now, Core.RETURN, member.id, 0, 0), member, now);
-        } finally {
-            release();
-        }
-    }
-
-    private long noteReturn(long reply, Member<T> member, long now) {
-        int answer = Core.answer(reply);
-        if (answer != Core.REFUSED && answer != Core.GONE) {
-            returned++;
-            loans.count(member.loanNanos(now));
-            member.giveBack(now);
-        }
-        return reply;
-    }
-
-    /** Invalidates an object, or notes a use of it. Returns the answer. */
-    long ask(int input, Member<T> member) {
-        long now = System.nanoTime();
-        begin();
-        try {
-            return noteInvalidation(input, step(now, input, member.id, 0, 0), member, now);
-        } finally {
-            release();
-        }
-    }
-
-    /** Notes the end of a loan, if an answer is that to its invalidation. */
-    private long noteInvalidation(int input, long reply, Member<T> member, long now) {
-        if (input == Core.INVALIDATE && Core.answer(reply) == Core.DESTROY) {
-            loans.count(member.loanNanos(now));
-        }
-        return reply;
-    }
-
-    /** Reports on an object that stays present, or is invalidated. Returns the answer. */
-    long report(int input, Member<T> member, int outcome) {
-        long now = System.nanoTime();
-        acquire();
-        try {
-            return noteInvalidation(input, step(now, input, member.id, member.slot, outcome), member, now);
-        } finally {
-            release();
-        }
-    }
-
-    /** Reports that an object was destroyed, or could not be made: its place is free. */
-    void end(int input, Member<T> member, int outcome) {
-        acquire();
-        try {
-            step(input, member.id, 0, outcome);
-            free(member);
-        } finally {
-            release();
-        }
-    }
-
-    /** Notes that the holder of an object last used it so many nanoseconds ago, for a call that waits for room in the journal for some. */
-    void noteUse(Member<T> member, long nanosAgo, long first, long longestNanos) throws InterruptedException {
-        long now = System.nanoTime();
-        long used = millis(now - Math.min(nanosAgo, now - start));
-        begin();
-        try {
-            long reply = Core.step(core, used, member.id, 0, Callers.number(), Core.USE, 0);
-            while (reply < 0) {
-                makeRoomWithin(reply, Core.USE, left(first, longestNanos));
-                reply = Core.step(core, used, member.id, 0, Callers.number(), Core.USE, 0);
-            }
-            note(reply);
-        } finally {
-            release();
-        }
-    }
-
-    // Upkeep.
-
-    /** Asks for something that concerns no object. Returns the answer. */
-    long ask(int input) {
-        begin();
-        try {
-            return step(input, 0, 0, 0);
-        } finally {
-            release();
-        }
-    }
-
-    /** Asks how many objects a reclaim is for that belongs to a call. The call waits for room in the journal for some nanoseconds. */
-    long askReclaim(int input, long first, long longestNanos) throws InterruptedException {
-        begin();
-        try {
-            return Core.value(stepWithin(first, longestNanos, input));
-        } finally {
-            release();
-        }
-    }
-
-    /** Asks for a place for a new object. Returns the object; null if there is none or there are enough. A fill of a closed pool does nothing. */
-    Member<T> place(int input) {
-        begin();
-        try {
-            if (isClosed && input == Core.FILL) {
-                return null;
-            }
-            members.reserve();
-            long reply = step(input, 0, 0, 0);
-            switch (Core.answer(reply)) {
-                case Core.MAKE:
-                    return members.add(Core.value(reply));
-                case Core.NO_PLACE:
-                case Core.ENOUGH:
-                    return null;
-                default:
-                    throw refusal(reply);
+            if (journal.cuts() == cuts) {
+                journal.cutFull();
             }
         } finally {
             release();
         }
     }
 
-    /** Examines the next idle object, or takes it for a clear. */
-    Found<T> next(int input) {
-        Found<T> found = new Found<>(); // here, since an object whose answer is lost would lose its place
-        begin();
+    /** Stores the segment that waits. It waits for another thread that stores one: a borrow as long as for an object, other calls without an end. */
+    private void storePending(Call<T> call) throws InterruptedException {
+        if (call.kind == Core.KIND_BORROW) {
+            storeWithin(call.leftForRoom(settings));
+            return;
+        }
+        boolean isInterrupted = false;
         try {
-            long reply = step(input, 0, 0, 0);
-            found.answer = Core.answer(reply);
-            if (found.answer == Core.TEST || found.answer == Core.DESTROY_IDLE) {
-                found.member = members.at(Core.value(reply));
+            for (;;) {
+                try {
+                    storeWithin(Long.MAX_VALUE);
+                    return;
+                } catch (InterruptedException e) {
+                    isInterrupted = true;
+                }
             }
-            return found;
         } finally {
-            release();
+            if (isInterrupted) {
+                Thread.currentThread().interrupt();
+            }
         }
     }
 
-    /** Takes the next abandoned object from its holder: its place is free. Returns it, or null if none is left. */
-    Member<T> reclaimNext(long first, long longestNanos) throws InterruptedException {
-        acquire();
+    private void storeWithin(long nanos) throws InterruptedException {
+        boolean hasTurn;
         try {
-            long reply = stepWithin(first, longestNanos, Core.RECLAIM_NEXT);
-            if (Core.answer(reply) != Core.RECLAIMED) {
-                return null;
+            hasTurn = journal.storePending(nanos);
+        } catch (IOException | RuntimeException e) {
+            throw new IllegalStateException("Journal full", e);
+        }
+        if (!hasTurn) {
+            throw new IllegalStateException("Journal full");
+        }
+    }
+
+    // Loans.
+
+    /**
+     * Lends an object to a borrow that began at this time of {@link System#nanoTime}. It waits no longer than some nanoseconds, if they are not negative.
+     */
+    Member<T> borrow(long first, long longestNanos) throws Exception {
+        Member<T> member;
+        Call<T> call = null;
+        begin();
+        try {
+            member = work.isBorrowedBare ? lendAtOnce(first) : takeIdle(first);
+            if (member == null) {
+                call = begun(first, longestNanos);
             }
-            Member<T> member = members.withId(Core.value(reply));
-            free(member);
+        } finally {
+            release();
+        }
+        if (call == null && (work.isBorrowedBare || isReadied(member, first))) {
             return member;
+        }
+        return lentBy(call == null ? begunLater(first, longestNanos) : call);
+    }
+
+    /** Begins a borrow in a section that has the lock. */
+    private Call<T> begun(long first, long longestNanos) {
+        Call<T> call = call(Core.KIND_BORROW, first, null);
+        call.limitTo(longestNanos, settings);
+        beginCall(call);
+        return call;
+    }
+
+    /** Begins a borrow that has failed to make an object ready. */
+    private Call<T> begunLater(long first, long longestNanos) {
+        acquire();
+        try {
+            return begun(first, longestNanos < 0 ? settings.maxWaitNanos : longestNanos);
         } finally {
             release();
         }
     }
 
-    /** Closes the pool and wakes all threads that wait. Returns how many idle objects are to be destroyed, 0 if it was closed before. */
-    long close() {
+    /** Follows a borrow to its end. Returns its object. */
+    private Member<T> lentBy(Call<T> call) throws Exception {
+        follow(call);
+        Member<T> member = call.member;
+        if (call.end == Core.END_LENT && call.error != null) {
+            giveBack(member);
+        }
+        Ends.check(call);
+        leave(call);
+        return member;
+    }
+
+    /** Returns an object. */
+    void giveBack(Member<T> member) {
+        long now = System.nanoTime();
+        Call<T> call = null;
         begin();
         try {
-            if (isClosed) {
-                return 0;
+            boolean isBegun = work.isReturnedBare ? takeBackAtOnce(member, now) : isTaken(member, now);
+            if (!isBegun) {
+                call = call(Core.KIND_RETURN, now, member);
+                beginCall(call);
             }
-            long reply = step(Core.CLOSE, 0, 0, 0);
-            isClosed = true;
-            waiters.wakeAll();
-            return Core.answer(reply) == Core.COUNT ? Core.value(reply) : 0;
+        } finally {
+            release();
+        }
+        if (call != null) {
+            follow(call);
+            Ends.checkUnchecked(call);
+            leave(call);
+        } else if (!work.isReturnedBare) {
+            putAway(member);
+        }
+    }
+
+    /** Makes another call, which is for no object if that is null, and destroys objects in a mode. A second close has no effect. */
+    void make(int kind, Member<T> member, DestroyMode mode) throws Exception {
+        Call<T> call = made(kind, member, mode);
+        Ends.check(call);
+        leave(call);
+    }
+
+    /** Makes such a call that throws no exception that is checked. */
+    void make(int kind, Member<T> member) {
+        Call<T> call = made(kind, member, DestroyMode.NORMAL);
+        Ends.checkUnchecked(call);
+        leave(call);
+    }
+
+    private Call<T> made(int kind, Member<T> member, DestroyMode mode) {
+        Call<T> call = call(kind, System.nanoTime(), member);
+        call.mode = mode;
+        begin();
+        try {
+            if (isClosed && kind == Core.KIND_CLOSE) {
+                call.action = Core.ACTION_DONE;
+                return call;
+            }
+            isClosed |= kind == Core.KIND_CLOSE;
+            beginCall(call);
+        } finally {
+            release();
+        }
+        follow(call);
+        return call;
+    }
+
+    /** Returns whether a lent object is abandoned by now, or soon, as far as the core knows. It takes no lock. */
+    boolean isAbandoned(Member<T> member) {
+        return member.unusedNanos(System.nanoTime()) >= settings.abandonedNanos - 2 * NANOS_OF_MILLI;
+    }
+
+    /** Notes that the holder of an object last used it so many nanoseconds ago, for a borrow with a limit or another call. */
+    void noteUse(Member<T> member, long nanosAgo, int kind, long first, long longestNanos) throws Exception {
+        Call<T> call = call(kind, first, null);
+        call.limitTo(longestNanos, settings);
+        long used = System.nanoTime() - nanosAgo;
+        while (!hasNoted(member, Math.max(used, start), call)) {
+            if (makeRoom(call) != Core.REPORT_ROOM_MADE) {
+                call.end = call.isGivenUp ? Core.END_CANCELLED : Core.END_JOURNAL_FULL;
+                Ends.check(call);
+            }
+        }
+        leave(call);
+    }
+
+    /** Notes a use at a time of {@link System#nanoTime}, and returns whether the journal had room for that. */
+    private boolean hasNoted(Member<T> member, long used, Call<T> call) {
+        begin();
+        try {
+            int status = Core.step(core, millis(used), member.id, 0, call.caller, Core.INPUT_USE, 0);
+            if (status == Core.STATUS_JOURNAL_FULL) {
+                call.cuts = journal.cuts();
+                call.isRefused = isClosed;
+                return false;
+            }
+            if (status < 0) {
+                throw new OutOfMemoryError("zuphinka: no memory for a step");
+            }
+            journal.add(1);
+            member.use(used);
+            return true;
         } finally {
             release();
         }
@@ -699,128 +769,114 @@ final class Sections<T> {
 
     // The journal.
 
-    /** Stores the segment that waits, without the lock, if it is due. */
-    void storeDue() throws IOException {
-        journal.storeDue();
+    /** What is freed from now on is to be stored by the call that frees it: the pool is closed. */
+    void endJournal() {
+        isEnding = true;
+        flush();
     }
 
-    /** Stores the segment that waits, without the lock. */
-    void storePending() throws IOException {
-        journal.storePending();
+    /** Stores the rest of the journal of a closed pool, once it has as many entries as objects are left: a segment has a line for each of these. */
+    private void storeLast() {
+        Counts counts = counts();
+        if (counts.entries() < counts.lent() + counts.reserved()) {
+            return;
+        }
+        try {
+            flush();
+        } catch (OutOfMemoryError e) {
+            work.swallow(new IllegalStateException(e));
+        }
+    }
+
+    /** Stores all entries of a journal that is stored. */
+    void flush() {
+        try {
+            storeRest();
+        } catch (IOException | RuntimeException e) {
+            work.swallow(e);
+        }
     }
 
     /** Cuts and stores the rest of a journal that is stored. It has no effect in a sink. */
-    void storeRest() throws IOException {
+    private void storeRest() throws IOException {
         if (journal.isInSink()) {
             return;
         }
         do {
             journal.storePending();
-        } while (!isRestCut());
+        } while (!locked(journal::isRestCut));
         journal.storePending();
     }
 
-    private boolean isRestCut() {
-        begin();
+    /** Stores the segment that waits, without the lock, if it is due. */
+    void storeDue() {
         try {
-            return journal.isRestCut();
-        } finally {
-            release();
+            journal.storeDue();
+        } catch (Throwable e) {
+            work.swallow(e);
+        }
+    }
+
+    /** Stores the segment that waits, without the lock, also if that failed before. */
+    void storePending() {
+        try {
+            journal.storePending();
+        } catch (Throwable e) {
+            work.swallow(e);
         }
     }
 
     /** Returns the journal since it was last cut. */
     Segment segment() {
-        begin();
-        try {
-            Segment segment = journal.segment();
-            if (segment == null) {
-                throw new OutOfMemoryError("zuphinka: no memory for the journal's text");
-            }
-            return segment;
-        } finally {
-            release();
+        Segment segment = locked(journal::segment);
+        if (segment == null) {
+            throw new OutOfMemoryError("zuphinka: no memory for the journal's text");
         }
+        return segment;
     }
 
     /** Cuts the journal, and returns what was cut. */
     Segment cut() {
-        begin();
-        try {
-            return journal.cutNow();
-        } finally {
-            release();
-        }
+        return locked(journal::cutNow);
     }
 
     // Numbers.
 
     /** Returns the counts of the core. */
     Counts counts() {
-        begin();
-        try {
-            return journal.counts();
-        } finally {
-            release();
-        }
+        return locked(journal::counts);
     }
 
     /** Returns the loans of an object. */
     Loans loansOf(Member<?> member) {
-        begin();
-        try {
-            return member.loans();
-        } finally {
-            release();
-        }
+        return locked(member::loans);
     }
 
     /** Returns what the pool counts besides. */
     Usage usage() {
-        begin();
-        try {
-            return new Usage(borrowed, returned, failedOnBorrow, waits.sum(), longestWaitNanos, waiters.size());
-        } finally {
-            release();
-        }
+        return locked(() -> new Usage(borrowed, returned, failedOnBorrow, waits.sum(), longestWaitNanos, waiters.size()));
     }
 
     /** Returns the metrics of the pool, with this label. */
     Metrics metrics(String label) {
-        begin();
-        try {
-            return new Metrics(new Metrics.Snapshot(label, journal.counts(), waiters.size(), timeouts, waits.copy(), loans.copy()));
-        } finally {
-            release();
-        }
+        return new Metrics(locked(() -> new Metrics.Snapshot(label, journal.counts(), waiters.size(), timeouts, waits.copy(), loans.copy())));
     }
 
     /** Returns how often a thread that waits may be overtaken. */
     int maxOvertakes() {
-        begin();
-        try {
-            return waiters.maxOvertakes();
-        } finally {
-            release();
-        }
+        return locked(() -> maxOvertakes);
     }
 
     void setMaxOvertakes(int times) {
-        begin();
-        try {
-            waiters.setMaxOvertakes(times);
-        } finally {
-            release();
-        }
+        locked(() -> {
+            maxOvertakes = times;
+            overtakes = Core.setOvertakes(core, times);
+            return null;
+        });
     }
 
     /** Returns whether the pool was closed. */
     boolean isClosed() {
-        begin();
-        try {
-            return isClosed;
-        } finally {
-            release();
-        }
+        return locked(() -> isClosed);
     }
 }

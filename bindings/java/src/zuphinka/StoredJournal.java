@@ -16,7 +16,7 @@ final class StoredJournal {
     private final long core;
     private final Journal journal;
     private final String settings;
-    /** How many entries were stored since the last cut, or more: a return that is refused may count as two. */
+    /** How many entries are stored. */
     private long entries;
     /** How often it was cut. */
     private long cuts;
@@ -42,9 +42,14 @@ final class StoredJournal {
         return journal.isDropped ? Math.min(half, Math.max(DROPPED_ENTRIES, ENTRIES_PER_OBJECT * present)) : half;
     }
 
-    /** Counts one more entry. */
-    void count() {
-        entries++;
+    /** Counts more entries. */
+    void add(long more) {
+        entries += more;
+    }
+
+    /** Notes how many entries there are. */
+    void noteEntries(long number) {
+        entries = number;
     }
 
     /** Returns whether the journal is kept: nothing but a call of the user's cuts it. */

@@ -1,157 +1,67 @@
 package zuphinka;
 
-import java.util.LinkedHashSet;
-import java.util.concurrent.locks.Condition;
-import java.util.concurrent.locks.Lock;
+import java.util.ArrayDeque;
+import java.util.HashMap;
+import java.util.Map;
+import java.util.concurrent.locks.LockSupport;
 
-/**
- * The threads that wait for an object, by arrival, and how often the oldest may still be overtaken. One that was woken waits until it has an object
- * or leaves. The caller holds the lock of the pool.
- */
+/** The calls that sleep, by their tickets. Where nothing else is said, the caller holds the lock of the pool. */
 final class Waiters {
-    /** How often a waiter is overtaken at most, unless the pool is told otherwise. */
-    static final int DEFAULT_OVERTAKES = 16;
-
-    private final Lock lock;
-    /** All that wait, the oldest first. One that finds nothing keeps its place. */
-    private final LinkedHashSet<Waiter> waiters = new LinkedHashSet<>();
-    /** How many of them were woken, and have no object yet. */
-    private int woken;
-    private int maxOvertakes;
-    /** How often the oldest waiter may still be overtaken. */
-    private int overtakesLeft;
-
-    /** A thread that waits. */
-    static final class Waiter {
-        private final Condition changed;
-        /** The thread that waits looks at it without the lock, too. */
-        private volatile boolean isWoken;
-
-        private Waiter(Condition changed) {
-            this.changed = changed;
-        }
-
-        boolean isWoken() {
-            return isWoken;
-        }
-
-        /** Sleeps until it is woken or the time is over, or for some other reason. */
-        void sleep(long nanos) throws InterruptedException {
-            if (nanos > Sections.ENDLESS) {
-                changed.await();
-            } else {
-                changed.awaitNanos(nanos);
-            }
-        }
-    }
-
-    Waiters(Lock lock, int maxOvertakes) {
-        this.lock = lock;
-        this.maxOvertakes = maxOvertakes;
-        overtakesLeft = maxOvertakes;
-    }
-
-    int maxOvertakes() {
-        return maxOvertakes;
-    }
-
-    void setMaxOvertakes(int times) {
-        maxOvertakes = times;
-        overtakesLeft = waiters.isEmpty() ? times : Math.min(overtakesLeft, times);
-    }
+    private final Map<Long, Call<?>> asleep = new HashMap<>();
+    /** The tickets that are woken in turns: the first one is woken, and each of the others once those before it sleep no more. */
+    private final ArrayDeque<Long> turns = new ArrayDeque<>();
 
     int size() {
-        return waiters.size();
+        return asleep.size();
     }
 
     boolean isEmpty() {
-        return waiters.isEmpty();
+        return asleep.isEmpty();
     }
 
-    /** Adds a thread that waits, behind all others. */
-    Waiter join() {
-        Waiter waiter = new Waiter(lock.newCondition());
-        waiters.add(waiter);
-        return waiter;
+    /** A call of this thread sleeps from now on, or sleeps on. */
+    void add(Call<?> call) {
+        call.isWoken = false;
+        call.thread = Thread.currentThread();
+        asleep.put(call.ticket, call);
     }
 
-    /** Returns the number of waiters that came before one, or of all before a borrow that does not wait; no more than a number. */
-    long older(Waiter waiter, long most) {
-        long older = 0;
-        for (Waiter other : waiters) {
-            if (other == waiter || older == most) {
-                return older;
-            }
-            older++;
+    /** A call sleeps no more. Returns the thread whose turn has come, which is to be unparked; null if there is none. */
+    Thread remove(Call<?> call) {
+        asleep.remove(call.ticket);
+        boolean wasFirst = !turns.isEmpty() && turns.peek() == call.ticket;
+        turns.remove(call.ticket);
+        return wasFirst && !turns.isEmpty() ? wake(turns.peek()) : null;
+    }
+
+    /** A call is to be woken in its turn. Returns whether that has come. */
+    boolean queue(long ticket) {
+        if (asleep.containsKey(ticket) && !turns.contains(ticket)) {
+            turns.add(ticket);
         }
-        return older;
+        return !turns.isEmpty() && turns.peek() == ticket;
     }
 
-    private boolean isOldest(Waiter waiter) {
-        return older(waiter, 1) == 0;
-    }
-
-    /**
-     * Returns whether a borrow has to leave the available objects and places to older waiters: there is none beyond theirs, and the oldest of them
-     * may not be overtaken again. The borrow does not wait yet if its waiter is null.
-     */
-    boolean areServedBefore(Waiter waiter, long available) {
-        return overtakesLeft == 0 && !waiters.isEmpty() && available <= older(waiter, available);
-    }
-
-    /** A borrow took an object or a place, and so many are left. It overtook the oldest waiter if they are too few for those before it. */
-    void noteTaken(Waiter waiter, long left) {
-        if (overtakesLeft > 0 && left < older(waiter, left + 1)) {
-            overtakesLeft--;
+    /** Wakes a call, and returns its thread, which is to be unparked; null if it does not sleep. */
+    Thread wake(long ticket) {
+        Call<?> call = asleep.get(ticket);
+        if (call == null) {
+            return null;
         }
+        call.isWoken = true;
+        return call.thread;
     }
 
-    /** A waiter sleeps on. If it was woken as the oldest one, for an object that others took, it is not overtaken again. */
-    void sleepOn(Waiter waiter) {
-        if (!waiter.isWoken) {
-            return;
+    /** Sleeps without the lock until a call is woken, its thread is interrupted, or it is this old in nanoseconds. Before that it may pause. */
+    static void sleep(Call<?> call, long nanos) {
+        if (call.mayPause) {
+            Pauses.pauseWhile(() -> !call.isWoken && !Thread.currentThread().isInterrupted(), call.left(nanos));
         }
-        waiter.isWoken = false;
-        woken--;
-        if (isOldest(waiter)) {
-            overtakesLeft = 0;
-        }
-    }
-
-    /** A waiter waits no longer: it has its object, or gives up. If it was the oldest, the next one counts its own overtakes. */
-    void leave(Waiter waiter) {
-        if (isOldest(waiter)) {
-            overtakesLeft = maxOvertakes;
-        }
-        waiters.remove(waiter);
-        woken -= waiter.isWoken ? 1 : 0;
-    }
-
-    /** Wakes the oldest waiter that sleeps, if one of the available objects and places is there for it that none is on its way to. */
-    void wakeOne(long available) {
-        if (woken == waiters.size() || woken >= available) {
-            return;
-        }
-        for (Waiter waiter : waiters) {
-            if (!waiter.isWoken) {
-                wake(waiter);
+        for (long left = call.left(nanos); !call.isWoken && left > 0; left = call.left(nanos)) {
+            if (Thread.currentThread().isInterrupted()) {
                 return;
             }
+            LockSupport.parkNanos(call, left);
         }
-    }
-
-    /** Wakes all waiters, since the pool is closed. */
-    void wakeAll() {
-        for (Waiter waiter : waiters) {
-            if (!waiter.isWoken) {
-                wake(waiter);
-            }
-        }
-    }
-
-    private void wake(Waiter waiter) {
-        waiter.isWoken = true;
-        woken++;
-        waiter.changed.signal();
     }
 }

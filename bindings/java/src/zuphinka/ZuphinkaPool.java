@@ -3,24 +3,19 @@ package zuphinka;
 import java.io.IOException;
 import java.time.Duration;
 import java.time.Instant;
-import java.util.ArrayList;
-import java.util.List;
 import java.util.NoSuchElementException;
 import java.util.Set;
 import java.util.concurrent.ConcurrentHashMap;
 import java.util.concurrent.TimeUnit;
 import java.util.stream.Collectors;
 import javax.management.ObjectName;
-import org.apache.commons.pool2.BasePooledObjectFactory;
 import org.apache.commons.pool2.DestroyMode;
 import org.apache.commons.pool2.ObjectPool;
-import org.apache.commons.pool2.PooledObject;
 import org.apache.commons.pool2.PooledObjectFactory;
 import org.apache.commons.pool2.PooledObjectState;
 import org.apache.commons.pool2.TrackedUse;
 import org.apache.commons.pool2.UsageTracking;
 import org.apache.commons.pool2.impl.AbandonedConfig;
-import org.apache.commons.pool2.impl.DefaultPooledObject;
 import org.apache.commons.pool2.impl.DefaultPooledObjectInfo;
 import org.apache.commons.pool2.impl.GenericObjectPoolConfig;
 
@@ -28,8 +23,9 @@ import org.apache.commons.pool2.impl.GenericObjectPoolConfig;
  * A pool with the interface and the behaviour of Commons Pool's {@code GenericObjectPool}, whose decisions are those of a proved core: which object
  * is lent, kept, tested or destroyed, and when one is made.
  *
- * <p>Proved is each step of the core, and the one line of the journal that records it. Tested, not proved, is this class: its lock, its waits, and
- * what it does between two steps. The factory's methods run without the lock.
+ * <p>Proved is each step of the core, and the one line of the journal that records it; what a call does after each step; and which thread that waits
+ * is woken. Tested, not proved, is this class: its lock, the sleep of its threads, and what a call with activation, passivation or tests does between
+ * its two steps. The factory's methods run without the lock.
  *
  * <p>The configurations are copied, and later changes to them have no effect. Any number of threads may use a pool.
  *
@@ -50,34 +46,16 @@ import org.apache.commons.pool2.impl.GenericObjectPoolConfig;
  * @param <T> the type of the objects
  */
 public class ZuphinkaPool<T> implements ObjectPool<T>, UsageTracking<T> {
-    /** Stands for a test that found an object invalid without throwing anything. */
-    private static final Exception INVALID = new InvalidObject();
-
-    private final PooledObjectFactory<T> factory;
     private final CoreSettings settings;
-    private final AbandonedConfig abandoned;
-    private final Sections<T> sections;
     private final Objects<T> objects = new Objects<>();
-    private final boolean isBorrowedBare;
-    private final boolean isReturnedBare;
-    /** Whether no method of the factory sees a wrapper after the object's first loan. */
-    private final boolean isWrapperUnseen;
+    private final Work<T> work;
+    private final Sections<T> sections;
     private final Duration evictorShutdown;
     private final Construction construction = new Construction(this, ZuphinkaPool.class);
     /** The threads that are in {@link #swallowed}. */
     private final Set<Thread> reporting = ConcurrentHashMap.newKeySet();
     private final Maintenance maintenance;
     private final ObjectName beanName;
-    /** Set before a close stores the rest of the journal: what is freed later is to be stored by whoever frees it. */
-    private volatile boolean isEnding;
-
-    private static final class InvalidObject extends Exception {
-        private static final long serialVersionUID = 1;
-
-        InvalidObject() {
-            super("The object is not valid", null, false, false);
-        }
-    }
 
     /**
      * Makes a pool with the default configuration, whose journal is dropped.
@@ -130,38 +108,23 @@ public class ZuphinkaPool<T> implements ObjectPool<T>, UsageTracking<T> {
         if (factory == null) {
             throw new IllegalArgumentException("Factory may not be null");
         }
-        this.factory = factory;
-        this.abandoned = AbandonedConfig.copy(abandoned);
-        settings = new CoreSettings(config, this.abandoned, journal.limit);
-        isBorrowedBare = !settings.testOnBorrow && inherits("activateObject", PooledObject.class);
-        isReturnedBare = !settings.testOnReturn && inherits("passivateObject", PooledObject.class);
-        isWrapperUnseen = isBorrowedBare && isReturnedBare && abandoned == null
-                && (!settings.testWhileIdle || inherits("validateObject", PooledObject.class))
-                && inherits("destroyObject", PooledObject.class) && inherits("destroyObject", PooledObject.class, DestroyMode.class);
-        sections = open(settings, journal);
+        AbandonedConfig copied = AbandonedConfig.copy(abandoned);
+        settings = new CoreSettings(config, copied, journal.limit);
+        work = new Work<>(factory, settings, copied, objects, this::swallow);
+        sections = open(settings, journal, work);
         evictorShutdown = config.getEvictorShutdownTimeoutDuration();
         Duration pause = config.getDurationBetweenEvictionRuns();
-        beanName = config.getJmxEnabled() ? PoolBean.register(this, config.clone(), this.abandoned, factory.getClass().getName()) : null;
+        beanName = config.getJmxEnabled() ? PoolBean.register(this, config.clone(), copied, factory.getClass().getName()) : null;
         maintenance = pause.isNegative() || pause.isZero() ? null : Maintenance.start(this, pause);
     }
 
-    private static <T> Sections<T> open(CoreSettings settings, Journal journal) {
+    private static <T> Sections<T> open(CoreSettings settings, Journal journal, Work<T> work) {
         journal.take();
         try {
-            return new Sections<>(settings, journal);
+            return new Sections<>(settings, journal, work);
         } catch (Throwable e) {
             journal.leave();
             throw e;
-        }
-    }
-
-    /** Returns whether a method of the factory is the one of {@link BasePooledObjectFactory}, which does nothing. */
-    private boolean inherits(String method, Class<?>... parameters) {
-        try {
-            Class<?> declaring = factory.getClass().getMethod(method, parameters).getDeclaringClass();
-            return factory instanceof BasePooledObjectFactory && declaring.isAssignableFrom(BasePooledObjectFactory.class);
-        } catch (NoSuchMethodException e) {
-            return false;
         }
     }
 
@@ -210,7 +173,7 @@ public class ZuphinkaPool<T> implements ObjectPool<T>, UsageTracking<T> {
     }
 
     /**
-     * Sets how often a waiting borrow is overtaken at most: 16 by default, and 0 if the configuration has {@code fairness}. With 0 the pool is
+     * Sets how often a waiting borrow is overtaken at most: 64 by default, and 0 if the configuration has {@code fairness}. With 0 the pool is
      * fair. {@code GenericObjectPool} has no limit unless {@code fairness} is set.
      *
      * <p>A later borrow overtakes the oldest waiter if it takes an object or a place, and leaves too few for those who wait. Once the oldest was
@@ -250,142 +213,27 @@ public class ZuphinkaPool<T> implements ObjectPool<T>, UsageTracking<T> {
     private T borrow(long longestNanos) throws Exception {
         long first = System.nanoTime();
         if (settings.reclaimsOnBorrow) {
-            reclaim(Core.RECLAIM_ON_BORROW, first, longestNanos);
+            noteTrackedUses(Core.KIND_BORROW, first, longestNanos);
         }
         for (;;) {
-            Member<T> member = sections.borrow(first, longestNanos, isBorrowedBare);
-            storeSegment();
-            if (member.pooled == null) {
-                make(member, Core.READY);
-                testNew(member);
-                makeReady(member, true, first);
-                return member.pooled.getObject();
-            }
-            if (isBorrowedBare ? isTold(member) : makeReady(member, false, first)) {
+            Member<T> member = sections.borrow(first, longestNanos);
+            sections.storeDue();
+            if (!work.isBorrowedBare || isTold(member)) {
                 return member.pooled.getObject();
             }
         }
     }
 
     /** Tells the wrapper of an object that it is lent. If that fails the object is destroyed, and this returns false. */
-    private boolean isTold(Member<T> member) {
+    private boolean isTold(Member<T> member) throws Exception {
         try {
-            tellLoan(member);
+            work.tellLoan(member);
             return true;
         } catch (Throwable e) {
-            destroyLent(member);
+            invalidateQuietly(member);
             rethrow(e);
             return false;
         }
-    }
-
-    /** Makes the object of a member. If that fails, its place is freed. */
-    private void make(Member<T> member, int report) throws Exception {
-        try {
-            member.pooled = factory.makeObject();
-            if (member.pooled == null) {
-                throw new NullPointerException("makeObject() returned null");
-            }
-            if (!hasAdded(member)) {
-                throw new IllegalStateException("makeObject() returned an object that the pool has");
-            }
-        } catch (Throwable e) {
-            end(report, member, Core.MAKE_FAILED);
-            throw e;
-        }
-    }
-
-    /** Adds a new object to those of the pool, and returns whether it was not there. If that fails it is destroyed. */
-    private boolean hasAdded(Member<T> member) {
-        try {
-            if (abandoned != null && abandoned.getLogAbandoned()) {
-                member.pooled.setLogAbandoned(true);
-                member.pooled.setRequireFullStackTrace(abandoned.getRequireFullStackTrace());
-            }
-            member.isWrapperTold = !isWrapperUnseen || member.pooled.getClass() != DefaultPooledObject.class;
-            return objects.add(member);
-        } catch (Throwable e) {
-            discardQuietly(member);
-            throw e;
-        }
-    }
-
-    /** Destroys an object that has no place, whatever the factory throws. */
-    private void discardQuietly(Member<T> member) {
-        try {
-            discard(member, DestroyMode.NORMAL);
-        } catch (Throwable e) {
-            swallow(e);
-        }
-    }
-
-    private void testNew(Member<T> member) {
-        Throwable fault = settings.testOnCreate ? test(member) : null;
-        if (fault != null) {
-            destroyFailed(member, Core.READY, Core.CREATE_TEST_FAILED, fault);
-            throw none("Unable to validate object", fault);
-        }
-    }
-
-    /** Returns what is wrong with an object, or null. */
-    private Throwable test(Member<T> member) {
-        try {
-            return factory.validateObject(member.pooled) ? null : INVALID;
-        } catch (Throwable e) {
-            return e;
-        }
-    }
-
-    /** Activates and tests an object, and lends it. If that fails it is destroyed: returns false, or throws for a new one. */
-    private boolean makeReady(Member<T> member, boolean isNew, long first) {
-        try {
-            tellLoan(member);
-            factory.activateObject(member.pooled);
-        } catch (Throwable e) {
-            destroyFailed(member, Core.READY, Core.ACTIVATE_FAILED, e);
-            if (isNew) {
-                throw none("Unable to activate object", e);
-            }
-            return false;
-        }
-        Throwable fault = settings.testOnBorrow ? test(member) : null;
-        if (fault != null) {
-            sections.noteFailedOnBorrow();
-            destroyFailed(member, Core.READY, Core.TEST_FAILED, fault);
-            if (isNew) {
-                throw none("Unable to validate object", fault);
-            }
-            return false;
-        }
-        sections.lend(member, first);
-        return true;
-    }
-
-    private static void tellLoan(Member<?> member) {
-        if (member.isWrapperTold) {
-            member.pooled.allocate();
-        }
-    }
-
-    private static void tellReturn(Member<?> member) {
-        if (member.isWrapperTold) {
-            member.pooled.deallocate();
-        }
-    }
-
-    private static NoSuchElementException none(String message, Throwable fault) {
-        NoSuchElementException none = new NoSuchElementException(message);
-        none.initCause(fault == INVALID ? null : fault);
-        return none;
-    }
-
-    // Destructions.
-
-    /** Reports what failed, destroys the object and frees its place. Throws the failure if it is an error of the machine. */
-    private void destroyFailed(Member<T> member, int report, int outcome, Throwable fault) {
-        sections.report(report, member, outcome);
-        destroyQuietly(member);
-        rethrow(fault);
     }
 
     private static void rethrow(Throwable fault) {
@@ -394,59 +242,12 @@ public class ZuphinkaPool<T> implements ObjectPool<T>, UsageTracking<T> {
         }
     }
 
-    /** Destroys a lent object whose wrapper failed, and returns the answer: it may not be lent. */
-    private int destroyLent(Member<T> member) {
-        int answer = Core.answer(sections.report(Core.INVALIDATE, member, 0));
-        if (answer == Core.DESTROY) {
-            destroyQuietly(member);
-        }
-        return answer;
-    }
-
-    private void destroyQuietly(Member<T> member) {
+    /** Destroys a lent object whose wrapper failed, whatever the factory throws but an error. */
+    private void invalidateQuietly(Member<T> member) {
         try {
-            destroy(member, DestroyMode.NORMAL);
+            sections.make(Core.KIND_INVALIDATE, member, DestroyMode.NORMAL);
         } catch (Exception e) {
             swallow(e);
-        }
-    }
-
-    /** Destroys an object and frees its place, also if the factory throws. */
-    private void destroy(Member<T> member, DestroyMode mode) throws Exception {
-        try {
-            discard(member, mode);
-        } finally {
-            end(Core.DESTROYED, member, 0);
-        }
-    }
-
-    /** Reports that an object was destroyed, or could not be made: its place is free. Once the pool is closed, the entries of that are stored. */
-    private void end(int report, Member<T> member, int outcome) {
-        sections.end(report, member, outcome);
-        if (isEnding) {
-            storeLast();
-        }
-    }
-
-    /** Stores the rest of the journal of a closed pool, once it has as many entries as objects are left: a segment has a line for each of these. */
-    private void storeLast() {
-        Counts counts = sections.counts();
-        if (counts.entries() < counts.lent() + counts.reserved()) {
-            return;
-        }
-        try {
-            flushJournal();
-        } catch (OutOfMemoryError e) {
-            swallow(new IllegalStateException(e));
-        }
-    }
-
-    private void discard(Member<T> member, DestroyMode mode) throws Exception {
-        try {
-            objects.remove(member);
-            member.pooled.invalidate();
-        } finally {
-            factory.destroyObject(member.pooled, mode);
         }
     }
 
@@ -467,61 +268,28 @@ public class ZuphinkaPool<T> implements ObjectPool<T>, UsageTracking<T> {
             missing("Returned object not currently part of this pool");
             return;
         }
-        long reply = isReturnedBare ? giveBackBare(member) : sections.giveBack(member);
-        switch (Core.answer(reply)) {
-            case Core.PARKED:
-            case Core.GONE:
-                break;
-            case Core.CHECK:
-                park(member);
-                break;
-            case Core.DESTROY:
-                destroyQuietly(member);
-                break;
-            default:
-                throw new IllegalStateException("Object has already been returned to this pool or is invalid");
+        if (!work.isReturnedBare || isToldOfReturn(member)) {
+            sections.giveBack(member);
         }
-        storeSegment();
+        sections.storeDue();
     }
 
-    /** Returns an object that needs no test and no passivation. Returns the answer: Gone, too, if its wrapper failed and it is destroyed. */
-    private long giveBackBare(Member<T> member) {
+    /** Tells the wrapper of an object that it is returned, before another thread may have it. If that fails it is destroyed, and this returns false. */
+    private boolean isToldOfReturn(Member<T> member) {
         try {
-            tellReturn(member); // before another thread may have it
+            work.tellReturn(member);
+            return true;
         } catch (Throwable e) {
-            int answer = destroyLent(member);
+            invalidateQuietly(member);
             rethrow(e);
             swallow(e);
-            return answer == Core.DESTROY ? Core.GONE : answer;
+            return false;
         }
-        return sections.giveBackBare(member);
     }
 
     private void missing(String message) {
-        if (abandoned == null) {
+        if (!settings.isAbandonedRemoved) {
             throw new IllegalStateException(message);
-        }
-    }
-
-    private void park(Member<T> member) {
-        Throwable fault = settings.testOnReturn ? test(member) : null;
-        if (fault != null) {
-            destroyFailed(member, Core.PARK, Core.TEST_FAILED, fault);
-            if (fault != INVALID) {
-                swallow(fault);
-            }
-            return;
-        }
-        try {
-            factory.passivateObject(member.pooled);
-            tellReturn(member);
-        } catch (Throwable e) {
-            destroyFailed(member, Core.PARK, Core.PASSIVATE_FAILED, e);
-            swallow(e);
-            return;
-        }
-        if (Core.answer(sections.report(Core.PARK, member, Core.GOOD)) == Core.DESTROY) {
-            destroyQuietly(member);
         }
     }
 
@@ -545,17 +313,8 @@ public class ZuphinkaPool<T> implements ObjectPool<T>, UsageTracking<T> {
             missing("Invalidated object not currently part of this pool");
             return;
         }
-        long reply = sections.ask(Core.INVALIDATE, member);
-        switch (Core.answer(reply)) {
-            case Core.DESTROY:
-                destroy(member, mode);
-                break;
-            case Core.GONE:
-                break;
-            default:
-                throw Sections.refusal(reply);
-        }
-        storeSegment();
+        sections.make(Core.KIND_INVALIDATE, member, mode);
+        sections.storeDue();
     }
 
     /**
@@ -572,9 +331,9 @@ public class ZuphinkaPool<T> implements ObjectPool<T>, UsageTracking<T> {
         }
         Instant now = Instant.now();
         member.pooled.use();
-        sections.ask(Core.USE, member);
+        sections.make(Core.KIND_TOUCH, member);
         member.used = now;
-        storeSegment();
+        sections.storeDue();
     }
 
     // Upkeep.
@@ -587,35 +346,8 @@ public class ZuphinkaPool<T> implements ObjectPool<T>, UsageTracking<T> {
      */
     @Override
     public void addObject() throws Exception {
-        Member<T> member = sections.place(Core.ADD);
-        if (member != null) {
-            stock(member);
-        }
-        storeSegment();
-    }
-
-    /** Makes an idle object, and returns false if it was destroyed, since it is invalid or the pool was closed meanwhile. */
-    private boolean stock(Member<T> member) throws Exception {
-        make(member, Core.ADDED);
-        Throwable fault = settings.testOnCreate ? test(member) : null;
-        if (fault != null) {
-            destroyFailed(member, Core.ADDED, Core.CREATE_TEST_FAILED, fault);
-            if (fault != INVALID) {
-                throw (Exception) fault;
-            }
-            return false;
-        }
-        try {
-            factory.passivateObject(member.pooled);
-        } catch (Throwable e) {
-            destroyFailed(member, Core.ADDED, Core.PASSIVATE_FAILED, e);
-            throw e;
-        }
-        if (Core.answer(sections.report(Core.ADDED, member, Core.GOOD)) == Core.DESTROY) {
-            destroyQuietly(member);
-            return false;
-        }
-        return true;
+        sections.make(Core.KIND_ADD, null, DestroyMode.NORMAL);
+        sections.storeDue();
     }
 
     /**
@@ -625,12 +357,8 @@ public class ZuphinkaPool<T> implements ObjectPool<T>, UsageTracking<T> {
      * @throws Exception if the factory fails to make or to passivate one; the same exception. Those made before stay idle
      */
     public void preparePool() throws Exception {
-        boolean isStocked = true;
-        while (isStocked) {
-            Member<T> member = sections.place(Core.FILL);
-            isStocked = member != null && stock(member);
-        }
-        storeSegment();
+        sections.make(Core.KIND_FILL, null, DestroyMode.NORMAL);
+        sections.storeDue();
     }
 
     /**
@@ -643,7 +371,7 @@ public class ZuphinkaPool<T> implements ObjectPool<T>, UsageTracking<T> {
     public void maintain() throws Exception {
         evict();
         preparePool();
-        storeSegmentAgain();
+        sections.storePending();
     }
 
     /**
@@ -655,149 +383,38 @@ public class ZuphinkaPool<T> implements ObjectPool<T>, UsageTracking<T> {
      * @throws Exception if an override does; this method throws none that is checked
      */
     public void evict() throws Exception {
-        long reply = sections.ask(Core.EVICT);
-        if (Core.answer(reply) != Core.COUNT) {
-            throw Sections.refusal(reply);
-        }
-        long left = Core.value(reply);
-        while (left > 0 && examineNext()) {
-            left--;
-        }
+        sections.make(Core.KIND_EVICT, null);
         if (settings.reclaimsOnMaintenance) {
-            reclaim(Core.RECLAIM_FOR_MAINTENANCE, System.nanoTime(), Long.MAX_VALUE);
+            noteTrackedUses(Core.KIND_RECLAIM, System.nanoTime(), -1);
+            sections.make(Core.KIND_RECLAIM, null);
         }
-        storeSegment();
+        sections.storeDue();
     }
 
-    private boolean examineNext() {
-        Sections.Found<T> found = sections.next(Core.EVICT_NEXT);
-        switch (found.answer) {
-            case Core.KEPT_IDLE:
-                return true;
-            case Core.DESTROY_IDLE:
-                destroyQuietly(found.member);
-                return true;
-            case Core.TEST:
-                testIdle(found.member);
-                return true;
-            default:
-                return false;
+    /** Notes when lent objects were last used that know it themselves, and that are abandoned otherwise. */
+    private void noteTrackedUses(int kind, long first, long longestNanos) throws Exception {
+        if (!work.hasTracked()) {
+            return;
         }
-    }
-
-    private void testIdle(Member<T> member) {
-        Throwable fault = null;
-        int outcome = Core.ACTIVATE_FAILED;
-        try {
-            factory.activateObject(member.pooled);
-            outcome = Core.TEST_FAILED;
-            if (factory.validateObject(member.pooled)) {
-                outcome = Core.PASSIVATE_FAILED;
-                factory.passivateObject(member.pooled);
-                outcome = Core.GOOD;
-            }
-        } catch (Throwable e) {
-            fault = e;
-        }
-        if (Core.answer(sections.report(Core.TESTED, member, outcome)) == Core.DESTROY) {
-            destroyQuietly(member);
-        }
-        rethrow(fault);
-        if (fault != null) {
-            swallow(fault);
-        }
-    }
-
-    /** Takes abandoned objects from their holders, and destroys them. It waits for room in the journal as the call does that it belongs to. */
-    private void reclaim(int input, long first, long longestNanos) throws InterruptedException {
-        long left = sections.askReclaim(input, first, longestNanos);
-        if (left > 0 && noteTrackedUses(first, longestNanos)) {
-            left = sections.askReclaim(input, first, longestNanos);
-        }
-        List<Member<T>> reclaimed = new ArrayList<>((int) left); // before one is reclaimed, so that it is destroyed too
-        try {
-            for (; left > 0; left--) {
-                Member<T> member = sections.reclaimNext(first, longestNanos);
-                if (member == null) {
-                    return;
-                }
-                reclaimed.add(member);
-            }
-        } finally {
-            discardAbandoned(reclaimed);
-        }
-    }
-
-    private void discardAbandoned(List<Member<T>> members) {
-        Error first = null;
-        for (Member<T> member : members) {
-            try {
-                discardAbandoned(member);
-            } catch (Throwable e) {
-                first = firstError(first, e);
-            }
-        }
-        rethrow(first);
-    }
-
-    private void discardAbandoned(Member<T> member) throws Exception {
-        try {
-            if (abandoned.getLogAbandoned()) {
-                member.pooled.printStackTrace(abandoned.getLogWriter());
-            }
-        } finally {
-            discard(member, DestroyMode.ABANDONED);
-        }
-    }
-
-    /** Returns the first error of several calls, all of which are made. Another failure is swallowed. */
-    private Error firstError(Error first, Throwable fault) {
-        if (first == null && fault instanceof Error) {
-            return (Error) fault;
-        }
-        swallow(fault);
-        return first;
-    }
-
-    /** Notes when lent objects were last used that know it themselves, and returns whether there was a use of which the core did not know. */
-    private boolean noteTrackedUses(long first, long longestNanos) throws InterruptedException {
-        boolean isNoted = false;
         for (Member<T> member : objects.all()) {
-            if (member.pooled.getObject() instanceof TrackedUse && member.pooled.getState() == PooledObjectState.ALLOCATED) {
+            boolean isTracked = member.pooled.getObject() instanceof TrackedUse && member.pooled.getState() == PooledObjectState.ALLOCATED;
+            if (isTracked && sections.isAbandoned(member)) {
                 Instant used = ((TrackedUse) member.pooled.getObject()).getLastUsedInstant();
                 if (used.isAfter(member.pooled.getLastBorrowInstant()) && (member.used == null || used.isAfter(member.used))) {
                     Instant now = Instant.now();
                     long ago = used.isBefore(now) ? Duration.between(used, now).toNanos() : 0;
-                    sections.noteUse(member, ago, first, longestNanos);
+                    sections.noteUse(member, ago, kind, first, longestNanos);
                     member.used = used;
-                    isNoted = true;
                 }
             }
         }
-        return isNoted;
     }
 
     /** Destroys all idle objects, except those under an idle test. What the factory throws is passed to {@link #swallowed}. */
     @Override
     public void clear() {
-        destroyIdle(Core.value(sections.ask(Core.CLEAR)));
-        storeSegment();
-    }
-
-    private void destroyIdle(long count) {
-        Error first = null;
-        for (long left = count; left > 0; left--) {
-            Sections.Found<T> found = sections.next(Core.CLEAR_NEXT);
-            if (found.answer != Core.DESTROY_IDLE) {
-                break;
-            }
-            try {
-                destroy(found.member, DestroyMode.NORMAL);
-            } catch (Throwable e) {
-                first = firstError(first, e);
-            }
-        }
-        rethrow(first);
+        sections.make(Core.KIND_CLEAR, null);
+        sections.storeDue();
     }
 
     /**
@@ -813,7 +430,7 @@ public class ZuphinkaPool<T> implements ObjectPool<T>, UsageTracking<T> {
     @Override
     public void close() {
         try {
-            destroyIdle(sections.close());
+            sections.make(Core.KIND_CLOSE, null);
         } finally {
             end();
         }
@@ -827,8 +444,7 @@ public class ZuphinkaPool<T> implements ObjectPool<T>, UsageTracking<T> {
         if (beanName != null) {
             PoolBean.unregister(beanName);
         }
-        isEnding = true;
-        flushJournal();
+        sections.endJournal();
     }
 
     // Numbers.
@@ -1037,29 +653,7 @@ public class ZuphinkaPool<T> implements ObjectPool<T>, UsageTracking<T> {
      * @throws OutOfMemoryError if there is no memory; then nothing is cut
      */
     public void flushJournal() {
-        try {
-            sections.storeRest();
-        } catch (IOException | RuntimeException e) {
-            swallow(e);
-        }
-    }
-
-    /** Stores a segment that is due, unless another thread does. */
-    private void storeSegment() {
-        try {
-            sections.storeDue();
-        } catch (Throwable e) {
-            swallow(e);
-        }
-    }
-
-    /** Stores a segment that waits, also if that failed before. */
-    private void storeSegmentAgain() {
-        try {
-            sections.storePending();
-        } catch (Throwable e) {
-            swallow(e);
-        }
+        sections.flush();
     }
 
     /**

@@ -1,4 +1,5 @@
-// How often a reader and a writer are called, and with how many bytes.
+//! How often a reader and a writer are called, and with how many bytes.
+
 use crate::engines::counted::{Asked, CountedReader, CountedWriter, Handed};
 use crate::engines::outcomes::{is, is_at};
 use crate::engines::scripts::{FAILED_ACTIVATION, PLAIN_LIFE, script_of, with_limit};

@@ -1,4 +1,4 @@
-// A reader and a writer that count their calls, and are interrupted.
+//! A reader and a writer that count their calls, and are interrupted.
 ghost use Rattle.std.specs.Prelude.{true};
 
 use pool_engines::{Sink, Source, flush_past_signals, read_past_signals, write_past_signals};

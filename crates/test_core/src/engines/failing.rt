@@ -1,4 +1,5 @@
-// Readers and writers that fail at each byte.
+//! Readers and writers that fail at each byte.
+
 use crate::engines::outcomes::is;
 use crate::engines::run;
 use crate::engines::scripts::{PLAIN_LIFE, add_line, script_of};

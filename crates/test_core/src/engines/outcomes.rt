@@ -1,4 +1,5 @@
-// Checks that end a test unless an engine returned or wrote the expected result.
+//! Checks that end a test unless an engine returned or wrote the expected result.
+
 use crate::engines::stats_of_at_most;
 use pool_engines::EngineFault;
 use std::alloc::Global;

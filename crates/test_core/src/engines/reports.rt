@@ -1,3 +1,5 @@
+//! The lines of a load's report, also after a writer that failed.
+
 use crate::engines::outcomes::{is, wrote};
 use crate::engines::streams::{Failing, Stingy};
 use crate::engines::write_report;

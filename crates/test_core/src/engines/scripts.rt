@@ -1,5 +1,6 @@
-// Scripts that come in pieces, and streams that fail. tests/cases has scripts and journals that are played on the
-// program.
+//! Scripts that come in pieces, and streams that fail.
+//! tests/cases has scripts and journals that are played on the program.
+
 use crate::engines::outcomes::{is, wrote};
 use crate::engines::streams::{Failing, Pieces, Stingy};
 use crate::engines::{check, run};

@@ -1,4 +1,5 @@
-// Settings files that are read, too long, or not text. tests/cases/settings has texts with errors.
+//! Settings files that are read, too long, or not text. tests/cases/settings has texts with errors.
+
 use crate::engines::outcomes::is;
 use crate::engines::read_settings;
 use crate::engines::streams::{Failing, Pieces};

@@ -1,4 +1,5 @@
-// Statistics up to a limit, and over streams that come in pieces or fail. tests/cases has the statistics of journals.
+//! Statistics up to a limit, and over streams that come in pieces or fail. tests/cases has the statistics of journals.
+
 use crate::engines::outcomes::{is, sums_up, wrote};
 use crate::engines::scripts::PLAIN_LIFE;
 use crate::engines::stats;

@@ -1,4 +1,4 @@
-// Readers and writers that pass few bytes at a time, fail, or never end.
+//! Readers and writers that pass few bytes at a time, fail, or never end.
 ghost use Rattle.std.specs.Prelude.{◌≡◌, true, ◌≤◌, length, IfSome};
 
 use pool_engines::{Sink, Source, flush_past_signals, read_past_signals, write_past_signals};

@@ -1,3 +1,4 @@
+//! Random calls of the places, compared with those of a plain list.
 ghost use Rattle.std.specs.Prelude.{◌≡◌, ◌+◌, ◌<◌, ◌≤◌, Some, IsTrue};
 ghost use Rattle.pool_journal.specs.Queue.{record_in};
 ghost use Rattle.pool_places.specs.Changes.{opens_as};

@@ -1,3 +1,4 @@
+//! The index of keys: each call once, and random calls beside a plain list.
 ghost use Rattle.std.specs.Prelude.{◌+◌, ◌≤◌, ℕ};
 ghost use Rattle.sorted_index.specs.Pairs.{IdsBelow};
 

@@ -1,3 +1,4 @@
+//! Objects in the places, from their opening until they are freed, and restored ones.
 ghost use Rattle.std.specs.Prelude.{◌≡◌, ◌+◌, ◌≤◌, ◌++◌, ◌∷◌, [], IsTrue, IsSomeAnd, true, false, is_some};
 ghost use Rattle.pool_journal.specs.Entries.{is_present};
 ghost use Rattle.pool_journal.specs.Queue.{is_idle, is_queued, record_in};

@@ -1,3 +1,5 @@
+//! Pseudo-random numbers, the same in each run.
+
 /// Returns the next pseudo-random number, the same in each run.
 pub fn next_number(state: &mut u64) -> u64 {
     *state = state

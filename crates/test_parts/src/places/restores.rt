@@ -1,3 +1,4 @@
+//! Restores pseudo-random objects, and compares the places with a plain list after each.
 ghost use Rattle.std.specs.Prelude.{◌≡◌, ◌+◌, ◌≤◌, IsTrue, is_some};
 ghost use Rattle.pool_journal.specs.Entries.{is_present};
 ghost use Rattle.pool_journal.specs.Queue.{is_idle};

@@ -1,3 +1,4 @@
+//! The slots under keys: each call once, and objects that leave the queue.
 ghost use Rattle.std.specs.Prelude.{◌≡◌, ◌++◌, ◌∷◌, []};
 
 use crate::checks::expect_equal;

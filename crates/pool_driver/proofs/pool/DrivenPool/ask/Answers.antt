@@ -17,11 +17,16 @@ returns-then-not-reserve_ticket-clause-moves c =
     let first = c.reserve_ticket.new.self in
     takes_reserved (inputs.Borrow c.args.began) c.args.caller c.args.at false c.args.self.now first c.end_for_memory.new.self c.args.call.now c.end_for_memory.new.call c.reserve_ticket.ensures.rest c.reserve_ticket.ensures.waiting c.reserve_ticket.ensures.most (takes_accepted (inputs.Borrow c.args.began) c.args.caller c.args.at first c.end_for_memory.new.self c.args.call.now c.end_for_memory.new.call c.end_for_memory.ensures.accepts)
 
+pub returns-then-waits_on-clause-moves : goal.returns-then-waits_on-clause-moves
+returns-then-waits_on-clause-moves c =
+    let first = c.reserve_ticket.new.self in
+    takes_reserved (inputs.Borrow c.args.began) c.args.caller c.args.at false c.args.self.now first c.queue_up.new.self c.args.call.now c.queue_up.new.call c.reserve_ticket.ensures.rest c.reserve_ticket.ensures.waiting c.reserve_ticket.ensures.most (takes_accepted (inputs.Borrow c.args.began) c.args.caller c.args.at first c.queue_up.new.self c.args.call.now c.queue_up.new.call c.queue_up.ensures.accepts)
+
 pub returns-then-not-may_ask-clause-moves : goal.returns-then-not-may_ask-clause-moves
 returns-then-not-may_ask-clause-moves c =
-    let P : DrivenModel → Type 0 = λ d. Accepts reports.GoOn d c.queue_up.new.self c.args.call.now c.queue_up.new.call in
+    let P : DrivenModel → Type 0 = λ d. Accepts reports.GoOn d c.queue_up-then-not-may_ask.new.self c.args.call.now c.queue_up-then-not-may_ask.new.call in
     let first = c.reserve_ticket.new.self in
-    takes_reserved (inputs.Borrow c.args.began) c.args.caller c.args.at false c.args.self.now first c.queue_up.new.self c.args.call.now c.queue_up.new.call c.reserve_ticket.ensures.rest c.reserve_ticket.ensures.waiting c.reserve_ticket.ensures.most (takes_accepted (inputs.Borrow c.args.began) c.args.caller c.args.at first c.queue_up.new.self c.args.call.now c.queue_up.new.call (subst P c.may_ask.ensures.kept c.queue_up.ensures.accepts))
+    takes_reserved (inputs.Borrow c.args.began) c.args.caller c.args.at false c.args.self.now first c.queue_up-then-not-may_ask.new.self c.args.call.now c.queue_up-then-not-may_ask.new.call c.reserve_ticket.ensures.rest c.reserve_ticket.ensures.waiting c.reserve_ticket.ensures.most (takes_accepted (inputs.Borrow c.args.began) c.args.caller c.args.at first c.queue_up-then-not-may_ask.new.self c.args.call.now c.queue_up-then-not-may_ask.new.call (subst P c.may_ask.ensures.kept c.queue_up-then-not-may_ask.ensures.accepts))
 
 pub look-requires : goal.look-requires
 look-requires c =
@@ -74,12 +79,18 @@ returns-then-not-reserve_ticket-clause-overtakes c =
     let last = c.end_for_memory.new in
     counts_reserved c.args.caller c.args.at c.args.self.now first last.self c.args.call.now last.call c.reserve_ticket.ensures.rest c.reserve_ticket.ensures.waiting (counts_rest c.args.caller c.args.at first last.self c.args.call.now last.call c.end_for_memory.ensures.rests)
 
+pub returns-then-waits_on-clause-overtakes : goal.returns-then-waits_on-clause-overtakes
+returns-then-waits_on-clause-overtakes c =
+    let first = c.reserve_ticket.new.self in
+    let last = c.queue_up.new in
+    counts_reserved c.args.caller c.args.at c.args.self.now first last.self c.args.call.now last.call c.reserve_ticket.ensures.rest c.reserve_ticket.ensures.waiting (counts_rest c.args.caller c.args.at first last.self c.args.call.now last.call c.queue_up.ensures.rests)
+
 pub returns-then-not-may_ask-clause-overtakes : goal.returns-then-not-may_ask-clause-overtakes
 returns-then-not-may_ask-clause-overtakes c =
     let first = c.reserve_ticket.new.self in
-    let last = c.queue_up.new in
+    let last = c.queue_up-then-not-may_ask.new in
     let P : DrivenModel → Type 0 = λ d. CountsOvertakes c.args.caller c.args.at d last.self c.args.call.now last.call in
-    counts_reserved c.args.caller c.args.at c.args.self.now first last.self c.args.call.now last.call c.reserve_ticket.ensures.rest c.reserve_ticket.ensures.waiting (subst P c.may_ask.ensures.kept (counts_rest c.args.caller c.args.at c.may_ask.new.self last.self c.args.call.now last.call c.queue_up.ensures.rests))
+    counts_reserved c.args.caller c.args.at c.args.self.now first last.self c.args.call.now last.call c.reserve_ticket.ensures.rest c.reserve_ticket.ensures.waiting (subst P c.may_ask.ensures.kept (counts_rest c.args.caller c.args.at c.may_ask.new.self last.self c.args.call.now last.call c.queue_up-then-not-may_ask.ensures.rests))
 
 pub returns-in-Some-Take-clause-overtakes : goal.returns-in-Some-Take-clause-overtakes
 returns-in-Some-Take-clause-overtakes c =

@@ -9,6 +9,7 @@ loop-preserved c =
       moves_on c.args.caller c.args.at c.args.self.now c.loop.self c.take_step.new.self c.args.call.now c.loop.call c.take_step.new.call so_far c.take_step.ensures.moves.moves,
       counts_on c.args.caller c.args.at c.args.self.now c.loop.self c.take_step.new.self c.args.call.now c.loop.call c.take_step.new.call c.loop.invariant.1 c.take_step.ensures.overtakes,
       λ before lacks drops. c.take_step.ensures.room lacks (so_far.rest.drops ∙ drops),
+      c.take_step.ensures.longer ∙ c.loop.invariant.3,
     )
 
 pub returns-then-not-take_step-clause-moves : goal.returns-then-not-take_step-clause-moves

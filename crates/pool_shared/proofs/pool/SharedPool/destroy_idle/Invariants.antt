@@ -1,7 +1,7 @@
 use Rattle.std.proofs.Common.{◌≡◌, ℕ, ◌+◌}
 use Rattle.pool_journal.specs.declared.input.Input.{Input}
 use Rattle.pool_history.specs.CallerStates.{Advances}
-use Rattle.pool_shared.specs.Clears.{sweeps, next, IsExpected}
+use Rattle.pool_calls.specs.ClearRules.{sweeps, next, IsExpected}
 use Rattle.pool_shared.specs.Traces.{Trace, EndsWithOwn}
 use Rattle.pool_shared.proofs.pool.SharedPool.destroy_idle.Given as goal
 

@@ -1,7 +1,8 @@
 use Rattle.std.proofs.Common.{◌<◌, ◌+◌, ◌-◌, refl, ap, ◌∙◌, arith}
-use Rattle.pool_shared.specs.declared.evicting.EvictRun.{EvictRun}
-use Rattle.pool_shared.specs.Evicts as evicts
-use Rattle.pool_shared.specs.Evicts.{examines, none_yet, one_more, fared}
+use Rattle.pool_calls.specs.declared.evicting.EvictRun as counts
+use Rattle.pool_calls.specs.EvictRules.{examines, none_yet, one_more, next, IsExpected}
+use Rattle.pool_shared.specs.Plans.{plan_of}
+use Rattle.pool_shared.specs.Evicts.{counts_of}
 use Rattle.pool_shared.proofs.Traces.{trace_none}
 use Rattle.pool_shared.proofs.Sweeping.{goes_self, goes_then}
 use Rattle.pool_shared.proofs.Examining.{stopped, all_examined, out_of_objects, one_examined, fared_examined, fared_destroyed}
@@ -15,17 +16,17 @@ loop-taken-init g c = record {
   destroyed = omega arith;
   left = c.args.count;
   all = omega arith;
-  trace = trace_none evicts.IsExpected evicts.next (examines c.args.count none_yet) _ _ refl;
+  trace = trace_none (IsExpected (plan_of g.B.Room.settings)) next (examines c.args.count none_yet) _ _ refl;
 }
 
 pub loop-taken-preserved : goal.loop-taken-preserved
 loop-taken-preserved g c =
     let i = c.loop-taken.invariant in
     let fate = c.in-Ok-Some.fate in
-    let before = c.loop-taken.run in
+    let before = counts_of c.loop-taken.run in
     let some : 0 < i.left = omega (arith, i.all, c.loop-taken-test.true) in
-    let examined = ap (λ (r : EvictRun). r.examined) c.count_in-run.ensures ∙ fared_examined (one_more before) fate in
-    let destroyed = ap (λ (r : EvictRun). r.destroyed) c.count_in-run.ensures in
+    let examined = ap (λ (r : counts.EvictRun). r.examined) c.count_in-run.ensures ∙ fared_examined (one_more before) fate in
+    let destroyed = ap (λ (r : counts.EvictRun). r.destroyed) c.count_in-run.ensures in
     let most = fared_destroyed (one_more before) fate in
     record {
       goes = goes_then g.B.Room.settings c.args.me.now c.loop-taken.me c.examine_next.new.me i.goes c.in-Ok-Some.ensures.advances;
@@ -34,7 +35,7 @@ loop-taken-preserved g c =
       destroyed = omega (arith, destroyed, most, i.destroyed);
       left = i.left - 1;
       all = omega (arith, i.all, some);
-      trace = one_examined c.args.count i.left before _ fate _ _ _ _ c.in-Ok-Some.field-0-is c.count_in-run.ensures i.trace (c.in-Ok-Some.ensures.trace i.left before some);
+      trace = one_examined g.B.Room.settings c.args.count i.left before some _ _ i.trace _ fate _ _ c.in-Ok-Some.field-0-is c.count_in-run.ensures (c.in-Ok-Some.ensures.trace (i.left - 1) before);
     }
 
 pub returns-in-Ok-None-clause-advances : goal.returns-in-Ok-None-clause-advances
@@ -44,7 +45,7 @@ pub returns-in-Ok-None-clause-spec : goal.returns-in-Ok-None-clause-spec
 returns-in-Ok-None-clause-spec g c =
     let i = c.loop-taken.invariant in
     let some : 0 < i.left = omega (arith, i.all, c.loop-taken-test.true) in
-    out_of_objects g.B.Room.settings c.args.count i.left c.loop-taken.run _ _ _ _ c.in-Ok-None.field-0-is i.trace (c.in-Ok-None.ensures.trace i.left c.loop-taken.run some) c.in-Ok-None.ensures.ends
+    out_of_objects g.B.Room.settings c.args.count i.left (counts_of c.loop-taken.run) some _ _ i.trace c.loop-taken.run _ _ refl c.in-Ok-None.field-0-is (c.in-Ok-None.ensures.trace (i.left - 1) (counts_of c.loop-taken.run)) c.in-Ok-None.ensures.ends
 
 pub returns-in-Err-clause-advances : goal.returns-in-Err-clause-advances
 returns-in-Err-clause-advances g c = goes_then g.B.Room.settings c.args.me.now c.loop-taken.me c.examine_next.new.me c.loop-taken.invariant.goes c.in-Err.ensures.advances
@@ -53,7 +54,7 @@ pub returns-in-Err-clause-spec : goal.returns-in-Err-clause-spec
 returns-in-Err-clause-spec g c =
     let i = c.loop-taken.invariant in
     let some : 0 < i.left = omega (arith, i.all, c.loop-taken-test.true) in
-    stopped g.B.Room.settings c.args.count i.left c.loop-taken.run _ _ _ _ some i.trace c.in-Err.ensures.same c.in-Err.ensures.refused
+    stopped g.B.Room.settings c.args.count i.left (counts_of c.loop-taken.run) some _ _ i.trace _ _ c.in-Err.ensures.same c.in-Err.ensures.refused
 
 pub returns-clause-advances : goal.returns-clause-advances
 returns-clause-advances g c = c.loop-taken.invariant.goes

@@ -1,6 +1,8 @@
 use Rattle.std.proofs.Common.{◌≡◌, ℕ, ◌+◌, ◌≤◌}
 use Rattle.pool_history.specs.CallerStates.{Advances}
-use Rattle.pool_shared.specs.Evicts.{examines, none_yet, next, IsExpected}
+use Rattle.pool_calls.specs.EvictRules.{examines, none_yet, next, IsExpected}
+use Rattle.pool_shared.specs.Plans.{plan_of}
+use Rattle.pool_shared.specs.Evicts.{counts_of}
 use Rattle.pool_shared.specs.Traces.{Trace, EndsWithOwn}
 use Rattle.pool_shared.proofs.pool.SharedPool.examine.Given as goal
 
@@ -12,5 +14,5 @@ invariant-loop-taken g l = record {
   destroyed : l.run.destroyed ≤ l._taken;
   left : ℕ;
   all : left + l._taken ≡ l.count;
-  trace : Trace IsExpected next (examines l.count none_yet) l.initial.me l.me (examines left l.run);
+  trace : Trace (IsExpected (plan_of g.B.Room.settings)) next (examines l.count none_yet) l.initial.me l.me (examines left (counts_of l.run));
 }

@@ -8,7 +8,7 @@ loop-preserved-in-Ok-Idle g c =
     let i = c.loop.invariant in
     let e = c.in-Ok-Idle.ensures in (
       comes_on g.B.Room.settings _ _ _ i.0 e.advances,
-      one_parked g.B.Room.settings i.1.0 c.loop.parked _ _ _ i.1.1 i.1.2 c.in-Ok-Idle.field-0 _ c.in-Ok-Idle.field-0-is refl (e.turn i.1.0).0,
+      one_parked g.B.Room.settings i.1.0 c.loop.parked _ _ _ i.1.1 i.1.2 c.in-Ok-Idle.field-0 _ c.in-Ok-Idle.field-0-is refl (omega (arith, e.bounded, bounded_parked g.B.Room.settings i.1.0 _ _ i.1.2)) (e.turn i.1.0).0,
     )
 
 pub loop-preserved : goal.loop-preserved

@@ -1,0 +1,150 @@
+"""What the comparisons of pools share: what must be there for a program, how programs are built, tables, and the last line."""
+
+import argparse
+import os
+import pathlib
+import shutil
+import subprocess
+import sys
+
+TOP = pathlib.Path(__file__).resolve().parent.parent
+sys.path += [str(TOP / "tools"), str(TOP / "tests")]
+
+import java
+from install import INCLUDE, POOL, heap_of_kit
+
+LIBRARY, JAR = java.LIBRARY, java.DEBIAN_JAR
+REGISTRY = pathlib.Path("/usr/share/cargo/registry")
+COMPILER = os.environ.get("CC", "cc")
+# A run that takes longer hangs, in seconds.
+LONGEST = 600
+
+
+class Miscounted(Exception):
+    """A run failed, or reported other counts than its work has."""
+
+
+def build(*command, **options):
+    subprocess.run([str(word) for word in command], check=True, **options)
+
+
+def built_pool():
+    build(TOP / "pool", stdin=subprocess.DEVNULL)
+    return TOP / "crates/pool/out/pool"
+
+
+def built_by_cargo(package, *words, registry=None):
+    """Builds a package, with the sources of crates that a registry of Debian has. Returns the folder of its programs."""
+    source = ["--config", 'source.crates-io.replace-with="debian"', "--config", f'source.debian.directory="{registry.resolve()}"'] if registry else []
+    build("cargo", "build", "--offline", "--release", "--quiet", *source, *words, cwd=package)
+    return pathlib.Path(os.environ.get("CARGO_TARGET_DIR", package / "target")) / "release"
+
+
+def built_c(program, *words):
+    """Compiles a program over the C pool, of sources and with flags, whose folders of headers come first. Returns its path."""
+    build(COMPILER, "-std=c11", "-O2", "-pthread", "-o", program, *words, "-I", INCLUDE)
+    return program
+
+
+def version_of(*command):
+    """The first line that a program prints of its version. It is empty if the program does not run."""
+    try:
+        done = subprocess.run(command, capture_output=True, text=True)
+    except OSError:
+        return ""
+    return (done.stdout + done.stderr).partition("\n")[0] if done.returncode == 0 else ""
+
+
+def runs_cargo():
+    return bool(version_of("cargo", "--version"))
+
+
+def version_of_jdk():
+    """The version of the command java. It is empty if it or javac does not run."""
+    return version_of("javac", "-version") and version_of("java", "-version")
+
+
+class Contest:
+    """What is built in a folder for the columns that are wanted: the versions of what is used, and why columns are left out, as lines."""
+
+    def __init__(self, folder, asked, columns):
+        self.folder, self.library, self.registry = pathlib.Path(folder), asked.library, asked.registry
+        self.wanted = getattr(asked, "only", None) or columns
+        self.versions, self.left_out = [], []
+
+    def wants(self, *columns):
+        """Those of some columns that are wanted."""
+        return [column for column in columns if column in self.wanted]
+
+    def has(self, columns, *needs):
+        """Whether all is there that some columns need. Each need is what was found, if anything was, and its name."""
+        missing = [name for found, name in needs if not found]
+        self.left_out += [f"left out: {column}: no {name}" for column in columns for name in missing]
+        return not missing
+
+    def of_ours(self):
+        """What a pool in C or Java of ours needs."""
+        return (self.library.exists(), f"libzuphinka.a ({self.library})"), (shutil.which(COMPILER), "C compiler")
+
+    def of_crates(self, packages):
+        """What a program in Rust needs that uses these crates, by the Debian packages that have them."""
+        return (runs_cargo(), "cargo"), *((self.sources_of(name), f"{package} ({self.registry})") for name, package in packages.items())
+
+    def sources_of(self, crate):
+        return sorted(self.registry.glob(f"{crate}-[0-9]*"))
+
+    def note(self, *versions):
+        self.versions += [version for version in versions if version not in self.versions]
+
+    def note_jars(self, *jars):
+        """Notes the versions of jars, which longer names of them have."""
+        self.note(*(path.stem for jar in jars for path in sorted(jar.parent.glob(f"{jar.stem}-[0-9]*.jar"))[-1:]))
+
+    def sources_of_c_pool(self):
+        return POOL, self.library, heap_of_kit()
+
+    def built_java(self, folder, names, jars, has_ours):
+        """Compiles classes of a folder over jars, and the pool for Java if they need it. Returns the command that runs the first class."""
+        native, files = self.folder / "libzuphinka_jni.so", [folder / f"{name}.java" for name in names]
+        if has_ours:
+            java.compile_native(self.library, heap_of_kit(), native)
+            files += (java.JAVA / "src").rglob("*.java")
+        java.compile_classes(files, self.folder, *jars)
+        path = os.pathsep.join(map(str, [*jars, self.folder]))
+        return ["java", "-XX:-UsePerfData", f"-Dzuphinka.library={native}", "-cp", path, names[0]]
+
+
+def parser_of(description):
+    """A parser of the options that all comparisons have."""
+    parser = argparse.ArgumentParser(description=description, formatter_class=argparse.RawDescriptionHelpFormatter)
+    parser.add_argument("--rounds", type=int, default=5)
+    parser.add_argument("--library", type=pathlib.Path, default=LIBRARY)
+    parser.add_argument("--registry", type=pathlib.Path, default=REGISTRY)
+    return parser
+
+
+def print_row(*cells):
+    print("| " + " | ".join(cells) + " |", flush=True)
+
+
+def print_head(*cells):
+    print_row(*cells)
+    print("|---" * len(cells) + "|")
+
+
+def print_missed(rows, word):
+    """Prints the targets that are missed, and the last line. Each row has a line for each target that it misses, and an empty one for each that it
+    reaches. Returns whether one is missed."""
+    for line in filter(None, sum(rows, [])):
+        print(line)
+    missed = sum(any(lines) for lines in rows)
+    print(f"{sum(map(bool, rows))} rows, {missed} {word}")
+    return missed > 0
+
+
+def end_with(main):
+    """Ends this process with what `main` returns, or with the run that failed."""
+    try:
+        sys.exit(main())
+    except Miscounted as error:
+        sys.exit(f"a run failed: {error}")
