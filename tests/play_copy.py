@@ -72,7 +72,7 @@ def checks(room, lines, name):
     yield "what is not built of its sources as they are", [], sorted(stale)
     if not stale:
         done = subprocess.run(["bash", "-ec", lines[-1]], cwd=room, capture_output=True, text=True, env=os.environ | ONE_JOB)
-        yield "the copy is proved", (0, True), (done.returncode or done.stderr, (room / "crates" / name / "out" / name).is_file())
+        yield "the copy is proved", (0, True), (done.returncode and done.stderr, (room / "crates" / name / "out" / name).is_file())
         yield "no more is built", True, done.stderr.startswith(f"{name}: 0 of 1 crates, ") or done.stderr
 
 

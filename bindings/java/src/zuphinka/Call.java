@@ -46,13 +46,9 @@ final class Call<T> {
     long cuts;
     boolean isRefused;
 
-    /**
-     * Its wait: the ticket, for how many nanoseconds since its beginning the settings allow it, when that is over by the core, and whether there is a
-     * processor to pause on.
-     */
+    /** Its wait: the ticket, for how many nanoseconds since its beginning the core allows it, and whether there is a processor to pause on. */
     long ticket;
     long untilNanos;
-    long untilMillis;
     boolean mayPause;
     Thread thread;
     volatile boolean isWoken;
@@ -102,6 +98,15 @@ final class Call<T> {
         }
         long longest = nanos == Long.MAX_VALUE ? CoreSettings.MOST_MILLIS : TimeUnit.NANOSECONDS.toMillis(nanos - 1) + 1;
         moreMillis = longest - TimeUnit.NANOSECONDS.toMillis(settings.maxWaitNanos);
+    }
+
+    /**
+     * Returns by how many milliseconds the core is to let a borrow wait longer than the settings say: by one more where it may wait at all, since the
+     * times of the core are whole milliseconds, and no wait ends before its time. 0 for another call.
+     */
+    long longerMillis(CoreSettings settings) {
+        boolean mayWait = kind == Core.KIND_BORROW && (settings.maxWaitNanos > 0 || moreMillis > 0);
+        return mayWait ? moreMillis + 1 : 0;
     }
 
     /** Returns for how many nanoseconds it may wait yet for room in the journal. */

@@ -259,7 +259,7 @@ final class Sections<T> {
     private void beginCall(Call<T> call) {
         Member<T> member = call.member;
         evictions += call.kind == Core.KIND_EVICT ? 1 : 0;
-        long id = member == null ? call.moreMillis : member.id;
+        long id = member == null ? call.longerMillis(settings) : member.id;
         long reply = Core.begin(core, timeOf(call.first), id, member == null ? 0 : member.slot, call.caller, call.kind);
         if (reply == Core.STATUS_OUT_OF_MEMORY) {
             call.action = Core.ACTION_DONE;
@@ -320,20 +320,11 @@ final class Sections<T> {
         long now = System.nanoTime();
         acquire();
         try {
-            if (report == Core.REPORT_WOKEN && isEarly(call, now)) {
-                call.isWoken = false; // it looks when its time is over, less than a millisecond later
-                return;
-            }
             noteReport(call, report);
             takeUp(call, advanced(call, report, now), now);
         } finally {
             release();
         }
-    }
-
-    /** Returns whether the time of a call that sleeps is over by the milliseconds of the core, and not yet by the clock. */
-    private boolean isEarly(Call<T> call, long now) {
-        return timeOf(now) >= call.untilMillis && call.left(call.untilNanos) > 0;
     }
 
     private long advanced(Call<T> call, int report, long now) {
@@ -428,8 +419,7 @@ final class Sections<T> {
                 break;
             case Core.ACTION_SLEEP:
                 call.ticket = details.getLong(Core.TICKET);
-                call.untilMillis = Core.hasUntil(reply) ? details.getLong(Core.UNTIL) : Long.MAX_VALUE;
-                call.untilNanos = Core.hasUntil(reply) ? nanosUntil(call.untilMillis, call) : Long.MAX_VALUE;
+                call.untilNanos = Core.hasUntil(reply) ? nanosUntil(details.getLong(Core.UNTIL), call) : Long.MAX_VALUE;
                 call.mayPause = Core.busy(core) <= Pauses.PROCESSORS;
                 waiters.add(call);
                 break;
