@@ -34,7 +34,7 @@ INSTALLED = {
     "include/zuphinka.h": INCLUDE / "zuphinka.h",
     "include/zuphinka_pool.h": INCLUDE / "zuphinka_pool.h",
     "share/zuphinka/zuphinka_pool.c": SOURCES / "zuphinka_pool.c",
-    "share/zuphinka/zuphinka_pool_metrics.h": SOURCES / "zuphinka_pool_metrics.h",
+    **{f"share/zuphinka/zuphinka_pool_{name}.h": SOURCES / f"zuphinka_pool_{name}.h" for name in ("errors", "metrics", "segments", "sleep")},
 }
 # The libraries of the system that a program may need.
 SYSTEM = {"libc.so.6", "libpthread.so.0", "ld-linux-x86-64.so.2"}

@@ -13,7 +13,7 @@ and AR, or ar, makes the archive. Installed are
     lib/libzuphinka.so.MAJOR      a link to it, by the name that programs load
     lib/libzuphinka.so            a link to that, by the name that `-lzuphinka` finds
     lib/pkgconfig/zuphinka.pc, lib/pkgconfig/zuphinka-static.pc
-    share/zuphinka/zuphinka_pool.c, share/zuphinka/zuphinka_pool_metrics.h
+    share/zuphinka/               the source of that pool: zuphinka_pool.c, and the headers that it alone includes
 
 so that a program is built with the archive by the first command, and with the shared library by the second:
 
@@ -40,8 +40,8 @@ TOP = pathlib.Path(__file__).resolve().parent.parent
 INCLUDE, SOURCES = TOP / "bindings/c/include", TOP / "bindings/c/src"
 HEADERS = [INCLUDE / "zuphinka.h", INCLUDE / "zuphinka_pool.h"]
 POOL = SOURCES / "zuphinka_pool.c"
-# The source of the pool, and the header that it alone includes.
-POOL_SOURCES = [POOL, SOURCES / "zuphinka_pool_metrics.h"]
+# The source of the pool, and the headers that it alone includes.
+POOL_SOURCES = [POOL, *sorted(SOURCES.glob("zuphinka_pool_*.h"))]
 # What pkg-config prints for the linker, by the name of its file.
 LINKED = {"zuphinka": "-L${libdir} -lzuphinka", "zuphinka-static": "${libdir}/libzuphinka.a"}
 PKG_CONFIG = """prefix={prefix}

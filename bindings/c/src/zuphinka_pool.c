@@ -1,8 +1,8 @@
 /* A pool of objects for threads over the proved calls. zuphinka_pool.h explains its calls; docs/guide/concepts.md has the life of an object.
  *
  * The library decides what a call does next, which calls wait, which one is woken, and when a journal is dropped (zuphinka_begin, zuphinka_advance);
- * docs/proof/proved.md says what of that is proved. This file has the lock and the sleep of the threads, the callbacks, the loans, and the segments
- * of the journal. */
+ * docs/proof/proved.md says what of that is proved. This file has the lock and the waits of the threads, the callbacks, the loans, and the cuts of the
+ * journal. */
 #ifndef _GNU_SOURCE
 #define _GNU_SOURCE
 #endif
@@ -14,10 +14,12 @@
 #include <stdatomic.h>
 #include <stdio.h>
 #include <stdlib.h>
-#include <time.h>
 #include <unistd.h>
 
+#include "zuphinka_pool_errors.h"
 #include "zuphinka_pool_metrics.h"
+#include "zuphinka_pool_segments.h"
+#include "zuphinka_pool_sleep.h"
 
 enum {
   CUT = 256, /* the condition of threads that wait for a cut; those before it are for threads that wait for an object */
@@ -26,27 +28,6 @@ enum {
   MOST_OVERTAKES = 64, /* of a borrow that waits, if the host doesn't say */
   MOST_LINES = 256,    /* that are copied in one critical section */
   TRIES = 16,          /* allocations that fail one after the other before a copy gives up */
-};
-
-/* How long a thread pauses before it looks again, at first and at most, and in all before it sleeps; in nanoseconds. */
-enum { FIRST_PAUSE = 250, LONGEST_PAUSE = 5000, ALL_PAUSES = 25000 };
-
-/* In nanoseconds, as all times by CLOCK_MONOTONIC. A wait without a limit ends NEVER, and that of a thread that doesn't wait AT_ONCE. */
-static const int64_t MILLISECOND = 1000000, SECOND = 1000000000, NEVER = INT64_MAX, AT_ONCE = 0;
-static const uint64_t LONGEST_WAIT = UINT64_C(1) << 42; /* of all limits, in milliseconds: 139 years */
-
-/* A segment of the journal: its text is copied line by line, then the journal is cut, and the segment is to be stored. */
-struct segment {
-  char *text; /* null: none */
-  size_t size;
-  uint64_t first;         /* the position of its first entry in the history */
-  uint64_t base, entries; /* lines of the base and of the journal that were copied */
-};
-
-/* What threads sleep on. */
-struct condition {
-  pthread_cond_t changed;
-  atomic_uint_least64_t wakes; /* how often it was signalled; a thread that pauses reads it without the lock */
 };
 
 /* A place of a loan: its number, or 0 while a call begins or ends it, and when its object was lent, in nanoseconds; or the next free place. */
@@ -87,55 +68,7 @@ struct run {
   int64_t limit;                /* when it waits no longer, besides what the settings say */
 };
 
-/* The text of each error, and the end of a call or the status of an opening that it stands for, if there is one. */
-static const struct {
-  const char *text;
-  uint32_t end, status;
-} errors[] = {
-    [ZUPHINKA_POOL_ERROR_NONE] = {.text = "the call is done"},
-    [ZUPHINKA_POOL_ERROR_CLOSED] = {.text = "the pool is closed", .end = ZUPHINKA_END_CLOSED},
-    [ZUPHINKA_POOL_ERROR_EXHAUSTED] = {.text = "all objects of the pool are lent", .end = ZUPHINKA_END_EXHAUSTED},
-    [ZUPHINKA_POOL_ERROR_TIMED_OUT] = {.text = "timed out waiting for an object of the pool", .end = ZUPHINKA_END_TIMED_OUT},
-    [ZUPHINKA_POOL_ERROR_MAKE_FAILED] = {.text = "an object could not be made", .end = ZUPHINKA_END_MAKE_FAILED},
-    [ZUPHINKA_POOL_ERROR_CREATE_TEST_FAILED] = {.text = "a new object did not pass its test", .end = ZUPHINKA_END_CREATE_TEST_FAILED},
-    [ZUPHINKA_POOL_ERROR_ACTIVATE_FAILED] = {.text = "a new object could not be activated", .end = ZUPHINKA_END_ACTIVATE_FAILED},
-    [ZUPHINKA_POOL_ERROR_BORROW_TEST_FAILED] = {.text = "a new object did not pass its test before it was lent",
-                                                .end = ZUPHINKA_END_BORROW_TEST_FAILED},
-    [ZUPHINKA_POOL_ERROR_PASSIVATE_FAILED] = {.text = "a new object could not be passivated", .end = ZUPHINKA_END_PASSIVATE_FAILED},
-    [ZUPHINKA_POOL_ERROR_NO_PLACE] = {.text = "the pool has no place for one more object", .end = ZUPHINKA_END_NO_PLACE},
-    [ZUPHINKA_POOL_ERROR_GONE] = {.text = "the object was reclaimed from its holder", .end = ZUPHINKA_END_GONE},
-    [ZUPHINKA_POOL_ERROR_NOT_LENT] = {.text = "the object is not lent", .end = ZUPHINKA_END_NOT_LENT},
-    [ZUPHINKA_POOL_ERROR_IN_USE] = {.text = "objects of the pool are lent"},
-    [ZUPHINKA_POOL_ERROR_JOURNAL_FULL] = {.text = "the journal of the pool is full", .end = ZUPHINKA_END_JOURNAL_FULL},
-    [ZUPHINKA_POOL_ERROR_STORE_FAILED] = {.text = "a segment of the journal could not be stored"},
-    [ZUPHINKA_POOL_ERROR_OUT_OF_MEMORY] = {.text = "out of memory", .end = ZUPHINKA_END_OUT_OF_MEMORY, .status = ZUPHINKA_STATUS_OUT_OF_MEMORY},
-    [ZUPHINKA_POOL_ERROR_NO_LOCK] = {.text = "the system has no mutex or condition variable"},
-    [ZUPHINKA_POOL_ERROR_MISSING_CALLBACK] = {.text = "a callback is missing"},
-    [ZUPHINKA_POOL_ERROR_NOT_TEXT] = {.text = "the settings are not UTF-8", .status = ZUPHINKA_STATUS_NOT_TEXT},
-    [ZUPHINKA_POOL_ERROR_NOT_TOML] = {.text = "the settings are not a TOML document", .status = ZUPHINKA_STATUS_NOT_TOML},
-    [ZUPHINKA_POOL_ERROR_UNKNOWN_KEY] = {.text = "the settings have an unknown key", .status = ZUPHINKA_STATUS_UNKNOWN_KEY},
-    [ZUPHINKA_POOL_ERROR_WRONG_TYPE] = {.text = "a value in the settings has the wrong type", .status = ZUPHINKA_STATUS_WRONG_TYPE},
-    [ZUPHINKA_POOL_ERROR_OUT_OF_RANGE] = {.text = "a number in the settings is out of range", .status = ZUPHINKA_STATUS_OUT_OF_RANGE},
-    [ZUPHINKA_POOL_ERROR_NULL_POINTER] = {.text = "a pointer is null"},
-    [ZUPHINKA_POOL_ERROR_UNKNOWN_JOURNAL] = {.text = "the journal has no such use"},
-    [ZUPHINKA_POOL_ERROR_FOREIGN] = {.text = "the object is not one of the pool's"},
-    [ZUPHINKA_POOL_ERROR_BUFFER_TOO_SMALL] = {.text = "the text does not fit into the buffer"},
-};
-
 /* ---- time and numbers of threads */
-
-static int64_t least(int64_t one, int64_t other) { return one < other ? one : other; }
-
-static int64_t monotonic(void) {
-  struct timespec now;
-  clock_gettime(CLOCK_MONOTONIC, &now);
-  return now.tv_sec * SECOND + now.tv_nsec;
-}
-
-/* Returns the time some milliseconds from now. */
-static int64_t after(uint64_t milliseconds) {
-  return monotonic() + (int64_t)(milliseconds < LONGEST_WAIT ? milliseconds : LONGEST_WAIT) * MILLISECOND;
-}
 
 /* Returns the time by the pool's clock, without the lock. */
 static struct moment time_of(const struct zuphinka_pool *pool) {
@@ -154,43 +87,12 @@ uint32_t zuphinka_pool_caller(void) {
 
 /* ---- the lock, and sleep */
 
-/* Pauses for FIRST_PAUSE longer than since `began`, for LONGEST_PAUSE and until `end` at most. Returns false, without a pause, at `end`. */
-static bool pause_once(int64_t began, int64_t end) {
-  int64_t now = monotonic(), until = least(now + least(now - began + FIRST_PAUSE, LONGEST_PAUSE), end);
-  if (now >= end) return false;
-  while (monotonic() < until) {
-#ifdef __x86_64__
-    __builtin_ia32_pause();
-#endif
-  }
-  return true;
-}
-
-/* Takes the lock once it is free. It is held for less than a microsecond, and to wake a thread takes some: so a thread pauses before it sleeps. */
-static void lock(struct zuphinka_pool *pool) {
-  if (pthread_mutex_trylock(&pool->lock) == 0) return;
-  int64_t began = monotonic(), end = began + (pool->processors > 1 ? ALL_PAUSES : 0);
-  while (pause_once(began, end)) {
-    if (pthread_mutex_trylock(&pool->lock) == 0) return;
-  }
-  pthread_mutex_lock(&pool->lock);
-}
+/* The lock is held for less than a microsecond. */
+static void lock(struct zuphinka_pool *pool) { take(&pool->lock, pool->processors > 1); }
 
 static void unlock(struct zuphinka_pool *pool) { pthread_mutex_unlock(&pool->lock); }
 
 static struct condition *condition_of(struct zuphinka_pool *pool, uint64_t ticket) { return &pool->conditions[ticket % CUT]; }
-
-/* Wakes all threads that sleep on a condition, with the lock held. */
-static void wake(struct condition *condition) {
-  condition->wakes++;
-  pthread_cond_broadcast(&condition->changed);
-}
-
-/* Sleeps until a condition is signalled or a time is reached, with the lock held before and after. Returns whether it is not reached. */
-static bool sleep_on(struct zuphinka_pool *pool, struct condition *condition, int64_t end) {
-  struct timespec time = {.tv_sec = end / SECOND, .tv_nsec = end % SECOND};
-  return pthread_cond_clockwait(&condition->changed, &pool->lock, CLOCK_MONOTONIC, &time) == 0;
-}
 
 /* Returns when the wait of a call ends, by the settings or by its caller. */
 static int64_t end_of_wait(const struct run *run) {
@@ -218,7 +120,7 @@ static uint32_t wait_for_wake(struct zuphinka_pool *pool, const struct run *run)
     while (condition->wakes == run->wakes && pause_once(now, end_of_pause)) continue;
     lock(pool);
   }
-  while (condition->wakes == run->wakes && sleep_on(pool, condition, end)) continue;
+  while (condition->wakes == run->wakes && sleep_on(condition, &pool->lock, end)) continue;
   return ZUPHINKA_REPORT_WOKEN;
 }
 
@@ -255,18 +157,6 @@ static enum zuphinka_pool_error error_of_loan(const struct zuphinka_pool *pool, 
 
 /* ---- segments */
 
-/* Copies the next line of the base or of the journal, with the lock held. Returns its status: after the last one ZUPHINKA_STATUS_NO_ENTRY. */
-static uint32_t copy_line(struct zuphinka_pool *pool, struct segment *segment, size_t capacity) {
-  char *end = segment->text + segment->size;
-  uint64_t left = capacity - segment->size, size = 0, *lines = &segment->base;
-  uint32_t status = zuphinka_base(&pool->core, *lines, end, left, &size);
-  if (status == ZUPHINKA_STATUS_NO_ENTRY) status = zuphinka_line(&pool->core, *(lines = &segment->entries), end, left, &size);
-  if (status != ZUPHINKA_STATUS_DONE) return status;
-  segment->size += size;
-  ++*lines;
-  return status;
-}
-
 /* Copies the base and the stored entries, and cuts them off: they are the unstored segment then. A critical section is for MOST_LINES lines at most.
  * A pool that drops entries would drop some between two sections, so all of its lines are copied in one. Each line allocates, and other threads may
  * free memory until the next try. */
@@ -276,12 +166,11 @@ static enum zuphinka_pool_error copy_segment(struct zuphinka_pool *pool) {
   for (int failures = 0; failures < TRIES && !is_cut; failures++) {
     size_t before = segment.size, capacity = 2 * (before + MOST_LINES * ZUPHINKA_LONGEST_LINE);
     char *text = realloc(segment.text, capacity);
-    uint32_t status = ZUPHINKA_STATUS_DONE;
     if (!text) continue;
     segment.text = text;
     lock(pool);
     if (is_whole) segment = (struct segment){.text = text};
-    for (int lines = 0; status == ZUPHINKA_STATUS_DONE && (is_whole || lines < MOST_LINES); lines++) status = copy_line(pool, &segment, capacity);
+    uint32_t status = copy_lines(&pool->core, &segment, capacity, is_whole ? UINT64_MAX : MOST_LINES);
     is_cut = status == ZUPHINKA_STATUS_NO_ENTRY && zuphinka_cut(&pool->core) == ZUPHINKA_STATUS_DONE;
     pool->cuts += is_cut;
     segment.first = look(pool).counts.steps - segment.entries;
@@ -334,7 +223,7 @@ static void keep_room(struct zuphinka_pool *pool, uint32_t kind) {
 /* Sleeps while another thread cuts the journal, until `end` at most, with the lock held before and after. Returns whether none cuts any more. */
 static bool wait_for_cut(struct zuphinka_pool *pool, int64_t end) {
   bool may_wait = pool->cutter != UINT64_C(1) + zuphinka_pool_caller();
-  while (pool->cutter && may_wait) may_wait = sleep_on(pool, &pool->conditions[CUT], end);
+  while (pool->cutter && may_wait) may_wait = sleep_on(&pool->conditions[CUT], &pool->lock, end);
   return !pool->cutter;
 }
 
@@ -354,13 +243,6 @@ static void begin_run(const struct zuphinka_pool *pool, struct run *run) {
   run->first = run->at = time_of(pool);
   run->start.at = run->event.at = run->at.milliseconds;
   run->start.caller = run->event.caller = zuphinka_pool_caller();
-}
-
-/* Returns the error of an end or of a status, the other of which is 0; or none. */
-static enum zuphinka_pool_error find_error(uint32_t end, uint32_t status) {
-  enum zuphinka_pool_error error = ZUPHINKA_POOL_ERROR_BUFFER_TOO_SMALL;
-  while (error > ZUPHINKA_POOL_ERROR_NONE && !(end && errors[error].end == end) && !(status && errors[error].status == status)) error--;
-  return error;
 }
 
 /* Returns the error of a call that is over, with the lock held. A closed pool is closed, whatever a call lacks. Ends the program if the library
@@ -661,8 +543,4 @@ enum zuphinka_pool_error zuphinka_pool_end(struct zuphinka_pool *pool) {
   }
   free_pool(pool);
   return error;
-}
-
-const char *zuphinka_pool_error_text(enum zuphinka_pool_error error) {
-  return (unsigned)error <= ZUPHINKA_POOL_ERROR_BUFFER_TOO_SMALL ? errors[error].text : "the code is no error";
 }
