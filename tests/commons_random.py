@@ -4,10 +4,10 @@
     commons_random.py [--seed N] [--runs N] LIBRARY
 
 LIBRARY is libzuphinka.a. The runs have the seeds from N on, from 0 if none is given. Settings, calls and the failures of the factory are random. Each
-call must have the same outcome in both pools, or the one that the rule for a row of docs/guide/differences.md says: its result or exception, the calls
-of the factory in their order, the exceptions that are swallowed, and the numbers of the pool. The pools read a clock that the test sets: the pool for
-Java is compiled from sources that read zuphinka.TestClock in place of System.nanoTime. Then runs over pools with a mistake must notice it. If there
-is no JDK or no Commons Pool 2, all of it is skipped.
+call must have the same outcome in both pools, or the one that the rule for a row of docs/guide/differences.md says: its result or exception, the
+calls of the factory in their order, the exceptions that are swallowed, and the numbers of the pool. The pools read a clock that the test sets: the
+pool for Java is compiled from sources that read io.github.zuphinka.TestClock in place of System.nanoTime. Then runs over pools with a mistake must
+notice it. If there is no JDK or no Commons Pool 2, all of it is skipped.
 
 Prints the first calls that differ, each with the seed of its run and few calls before it, how often each of the named differences was met, and in the
 end the line 'N passed, M failed'.
@@ -87,7 +87,7 @@ class Pools:
         """The folder with the classes of a file that has a mistake."""
         to = self.folder / mistake.name.replace(" ", "-")
         to.mkdir()
-        text = (self.folder / f"src/zuphinka/{mistake.file}.java").read_text()
+        text = (self.folder / f"src/io/github/zuphinka/{mistake.file}.java").read_text()
         if text.count(mistake.right) != 1:
             sys.exit(f"{mistake.file}.java: {mistake.right}: wanted once, got {text.count(mistake.right)} times\n0 passed, 1 failed")
         (to / f"{mistake.file}.java").write_text(text.replace(mistake.right, mistake.wrong))

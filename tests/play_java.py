@@ -8,11 +8,11 @@ tests/java/Errors.java lets everything that a pool calls end in an error, and ca
 and counts who overtakes. tests/java/Measures.java reads metrics, whose texts must be in the format. tests/java/Stress.java makes random calls in
 eight threads over a factory that fails at random. tests/java/Refusals.java refuses the native library each of its allocations in turn.
 tests/java/Folders.java has pools that want one folder, and folders that are removed; tests/java/Loaders.java has pools in two class loaders, where
-temporary folders are unfit. The journals that they write must be legal. A stored file must be synced before it has its name, and its folder
-afterwards. The jar must have the version of all products and load nothing but the C library, and the codes of zuphinka.Core must be those of
-bindings/c/include/zuphinka.h. Each public and protected item must have documentation in which javac finds nothing wrong. The examples are run by the
-commands of bindings/java/README.md; the journal of that over DBCP2 must be drawn. What needs a JDK or a jar that is missing is skipped, with the
-reason.
+temporary folders are unfit. A pool runs in a module too. The journals that they write must be legal. A stored file must be synced before it has its
+name, and its folder afterwards. The jar must have the version of all products and load nothing but the C library, and the codes of
+io.github.zuphinka.Core must be those of bindings/c/include/zuphinka.h. Each public and protected item must have documentation in which javac finds
+nothing wrong. The examples are run by the commands of bindings/java/README.md; the journal of that over DBCP2 must be drawn. What needs a JDK or a
+jar that is missing is skipped, with the reason.
 
 Prints what fails, and in the end the line 'N passed, M failed'.
 """
@@ -83,7 +83,7 @@ def program(name, done):
 def codes():
     """What is wanted of the codes that Java has, and what they are. It has all reports, actions and ends, and some kinds and statuses."""
     header = re.sub(r"/\*.*?\*/", "", (TOP / "bindings/c/include/zuphinka.h").read_text(), flags=re.DOTALL)
-    source = (java.JAVA / "src/zuphinka/Core.java").read_text()
+    source = (java.JAVA / "src/io/github/zuphinka/Core.java").read_text()
     found = dict(re.findall(r"^    static final int ((?:KIND|REPORT|ACTION|END|STATUS)_\w+) = (-?\d+);$", source, flags=re.MULTILINE))
     for name, kind, code in re.findall(r"ZUPHINKA_((KIND|REPORT|ACTION|END|STATUS)_\w+) = (\d+)", header):
         if kind not in ("KIND", "STATUS") or name in found:
@@ -131,6 +131,12 @@ def found(jar, classes, folder):
     yield "copies that are left", [], [*good.iterdir(), *other.iterdir()]
 
 
+def module(jar, classes, folder):
+    """What is wanted of a run whose jar is a module, and not on the class path; and what came of it."""
+    options = ["-p", f"{jar}:{java.commons_pool()}", "--add-modules", java.MODULE]
+    yield from program("a module", run(classes, classes, "Stress", 1, 50, folder / "module", options=options))
+
+
 def measures(jar, classes, folder):
     """What is wanted of the metrics, and what came of it."""
     place = folder / "measures"
@@ -145,7 +151,7 @@ def measures(jar, classes, folder):
 
 
 def refusing(library, folder):
-    """The native library with short parts of texts, and with the native methods of zuphinka.Refusal."""
+    """The native library with short parts of texts, and with the native methods of io.github.zuphinka.Refusal."""
     native = folder / "refusing.so"
     flags = [*(f"-Wl,--wrap={name}" for name in ALLOCATORS), f"-DZUPHINKA_JNI_LONGEST_PART={SHORT_PART}"]
     java.compile_native(library, heap_of_kit(), native, *flags, TOP / "tests/refuse_java.c")
@@ -275,6 +281,7 @@ def checks(library, pool, picture):
         yield from refusals(jar, classes, native, pool, folder)
         yield from folders(jar, classes, native, pool, folder)
         yield from found(jar, classes, folder)
+        yield from module(jar, classes, folder)
         yield from documentation(folder / "documented")
         yield from examples(pool, picture, folder)
         for seed in SEEDS:

@@ -1,4 +1,4 @@
-/* The native methods of zuphinka.Refusal, and the allocators of a native library of zuphinka.Core that is linked with
+/* The native methods of io.github.zuphinka.Refusal, and the allocators of a native library of io.github.zuphinka.Core that is linked with
  *
  *     -Wl,--wrap=malloc,--wrap=calloc,--wrap=realloc
  *
@@ -23,17 +23,17 @@ void *__wrap_calloc(size_t count, size_t size) { return refuses() ? NULL : __rea
 
 void *__wrap_realloc(void *block, size_t size) { return refuses() ? NULL : __real_realloc(block, size); }
 
-JNIEXPORT void JNICALL Java_zuphinka_Refusal_refuse(JNIEnv *env, jclass class, jlong number) {
+JNIEXPORT void JNICALL Java_io_github_zuphinka_Refusal_refuse(JNIEnv *env, jclass class, jlong number) {
   (void)env, (void)class;
   left = number;
 }
 
-JNIEXPORT jboolean JNICALL Java_zuphinka_Refusal_isPending(JNIEnv *env, jclass class) {
+JNIEXPORT jboolean JNICALL Java_io_github_zuphinka_Refusal_isPending(JNIEnv *env, jclass class) {
   (void)env, (void)class;
   return left > 0;
 }
 
-JNIEXPORT jboolean JNICALL Java_zuphinka_Refusal_enter(JNIEnv *env, jclass class, jbyteArray folder) {
+JNIEXPORT jboolean JNICALL Java_io_github_zuphinka_Refusal_enter(JNIEnv *env, jclass class, jbyteArray folder) {
   (void)class;
   jbyte *path = (*env)->GetByteArrayElements(env, folder, NULL);
   if (!path) return JNI_FALSE;

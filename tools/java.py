@@ -8,7 +8,7 @@ library allocates, else that of the command `rt`. JAVA_HOME names the JDK, else 
 Pool 2, else it is Debian's; CC the C compiler, else it is cc. Made are, in bindings/java/out,
 
     libzuphinka_jni.so    the native library
-    zuphinka.jar          the classes and the native library; its manifest names commons-pool2.jar as its class path, and the version
+    zuphinka.jar          the classes and the native library; its manifest names commons-pool2.jar as its class path, the module and the version
 
 The same sources, library and compilers give the same bytes. The status is 1 if something cannot be compiled, and 3 if a tool or Commons Pool 2 is missing: then its package is named.
 """
@@ -39,6 +39,8 @@ DEBIAN_JAR = pathlib.Path("/usr/share/java/commons-pool2.jar")
 MISSING = 3
 # By its name in the list of SPDX.
 LICENCE = "Apache-2.0"
+# The name of the jar as a module, which is that of the package.
+MODULE = "io.github.zuphinka"
 
 
 class Missing(Exception):
@@ -89,7 +91,8 @@ def compile_classes(sources, to, *jars):
 def pack(classes, native, jar):
     """Makes a jar of the classes and the native library. Each file has the earliest time that a jar can tell."""
     lines = ["Manifest-Version: 1.0", "Implementation-Title: zuphinka", f"Implementation-Version: {version()}", f"Bundle-License: {LICENCE}"]
-    manifest = "".join(f"{line}\n" for line in [*lines, f"Class-Path: {DEBIAN_JAR.name}"])
+    lines += [f"Automatic-Module-Name: {MODULE}", f"Class-Path: {DEBIAN_JAR.name}"]
+    manifest = "".join(f"{line}\n" for line in lines)
     files = {"META-INF/MANIFEST.MF": manifest.encode()}
     files |= {path.relative_to(classes).as_posix(): path.read_bytes() for path in sorted(classes.rglob("*.class"))}
     files[native.name] = native.read_bytes()

@@ -1,3 +1,4 @@
+import io.github.zuphinka.ZuphinkaPool;
 import java.time.Duration;
 import javax.sql.DataSource;
 import org.apache.commons.dbcp2.DriverManagerConnectionFactory;
@@ -5,7 +6,6 @@ import org.apache.commons.dbcp2.PoolableConnection;
 import org.apache.commons.dbcp2.PoolableConnectionFactory;
 import org.apache.commons.dbcp2.PoolingDataSource;
 import org.apache.commons.pool2.impl.GenericObjectPoolConfig;
-import zuphinka.ZuphinkaPool;
 
 /** DBCP2's {@code PoolingDataSource} over a {@code ZuphinkaPool}. */
 final class Zuphinka implements Opener {

@@ -1,3 +1,4 @@
+import io.github.zuphinka.ZuphinkaPool;
 import java.util.Arrays;
 import java.util.concurrent.locks.LockSupport;
 import org.apache.commons.pool2.BasePooledObjectFactory;
@@ -6,7 +7,6 @@ import org.apache.commons.pool2.PooledObject;
 import org.apache.commons.pool2.impl.DefaultPooledObject;
 import org.apache.commons.pool2.impl.GenericObjectPool;
 import org.apache.commons.pool2.impl.GenericObjectPoolConfig;
-import zuphinka.ZuphinkaPool;
 
 /**
  * How long a thread waits for the only object of a pool, which another thread borrows again as soon as it has returned it, for

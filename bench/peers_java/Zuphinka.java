@@ -1,4 +1,4 @@
-import zuphinka.ZuphinkaPool;
+import io.github.zuphinka.ZuphinkaPool;
 
 /** A ZuphinkaPool. */
 final class Zuphinka implements Contestant {

@@ -1,3 +1,5 @@
+import io.github.zuphinka.TestClock;
+import io.github.zuphinka.ZuphinkaPool;
 import java.time.Duration;
 import java.util.ArrayList;
 import java.util.EnumMap;
@@ -7,8 +9,6 @@ import java.util.stream.Collectors;
 import java.util.stream.IntStream;
 import org.apache.commons.pool2.impl.DefaultPooledObject;
 import org.apache.commons.pool2.impl.PlacedPool;
-import zuphinka.TestClock;
-import zuphinka.ZuphinkaPool;
 
 /** One run: the same calls of Commons Pool and of {@code ZuphinkaPool}, compared one by one, until they differ or the pools have different objects. */
 final class Comparison {

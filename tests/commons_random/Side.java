@@ -1,3 +1,4 @@
+import io.github.zuphinka.ZuphinkaPool;
 import java.time.Duration;
 import java.util.ArrayList;
 import java.util.LinkedHashMap;
@@ -12,7 +13,6 @@ import org.apache.commons.pool2.ObjectPool;
 import org.apache.commons.pool2.UsageTracking;
 import org.apache.commons.pool2.impl.DefaultPooledObjectInfo;
 import org.apache.commons.pool2.impl.PlacedPool;
-import zuphinka.ZuphinkaPool;
 
 /** One of the two pools, with a factory of its own. */
 final class Side {

@@ -1,7 +1,7 @@
+import io.github.zuphinka.TestClock;
 import java.time.Duration;
 import java.time.Instant;
 import org.apache.commons.pool2.impl.DefaultPooledObject;
-import zuphinka.TestClock;
 
 /** A wrapper that tells Commons Pool for how long an object was idle or lent, by the clock of the test. */
 final class TimedItem extends DefaultPooledObject<Item> {

@@ -1,3 +1,7 @@
+import io.github.zuphinka.Finding;
+import io.github.zuphinka.Journal;
+import io.github.zuphinka.Segment;
+import io.github.zuphinka.ZuphinkaPool;
 import java.io.IOException;
 import java.io.PrintWriter;
 import java.io.StringWriter;
@@ -34,10 +38,6 @@ import org.apache.commons.pool2.impl.DefaultPooledObjectInfo;
 import org.apache.commons.pool2.impl.GenericObjectPool;
 import org.apache.commons.pool2.impl.GenericObjectPoolConfig;
 import org.apache.commons.pool2.impl.GenericObjectPoolMXBean;
-import zuphinka.Finding;
-import zuphinka.Journal;
-import zuphinka.Segment;
-import zuphinka.ZuphinkaPool;
 
 /** Makes each call of a pool, with what the factory throws, and sees what it returns, throws and leaves. Writes journals to a folder. */
 public final class Calls extends Expectations {
@@ -796,7 +796,7 @@ public final class Calls extends Expectations {
         expect("a setting", 8, server.getAttribute(name, "MaxTotal"));
         expect("a mean", pool.getMeanBorrowWaitTimeMillis(), server.getAttribute(name, "MeanBorrowWaitTimeMillis"));
         String stack = (String) server.getAttribute(name, "CreationStackTrace");
-        expect("the stack of its creation", true, stack.contains("at zuphinka.ZuphinkaPool.<init>(") && stack.contains("at Calls.bean(Calls.java:"));
+        expect("the stack of its creation", true, stack.contains("at io.github.zuphinka.ZuphinkaPool.<init>(") && stack.contains("at Calls.bean(Calls.java:"));
         expect("all attributes", List.of("MeanActiveTimeMillis", "MeanIdleTimeMillis"), missingOf(server.getMBeanInfo(name).getAttributes()));
         CompositeData[] objects = (CompositeData[]) server.invoke(name, "listAllObjects", null, null);
         List<String> told = Arrays.stream(objects).map(object -> object.get("pooledObjectToString") + " " + object.get("borrowedCount"))

@@ -1,10 +1,10 @@
+import io.github.zuphinka.ZuphinkaPool;
 import java.time.Duration;
 import org.apache.commons.pool2.ObjectPool;
 import org.apache.commons.pool2.PooledObjectFactory;
 import org.apache.commons.pool2.impl.AbandonedConfig;
 import org.apache.commons.pool2.impl.GenericObjectPool;
 import org.apache.commons.pool2.impl.GenericObjectPoolConfig;
-import zuphinka.ZuphinkaPool;
 
 /** A pool of one of the two libraries, with the calls that both have and their interface has not. */
 abstract class EitherPool<T> {

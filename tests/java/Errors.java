@@ -1,3 +1,5 @@
+import io.github.zuphinka.Journal;
+import io.github.zuphinka.ZuphinkaPool;
 import java.io.IOException;
 import java.io.PrintWriter;
 import java.io.StringWriter;
@@ -12,8 +14,6 @@ import org.apache.commons.pool2.PooledObject;
 import org.apache.commons.pool2.impl.AbandonedConfig;
 import org.apache.commons.pool2.impl.DefaultPooledObject;
 import org.apache.commons.pool2.impl.GenericObjectPoolConfig;
-import zuphinka.Journal;
-import zuphinka.ZuphinkaPool;
 
 /** Errors of the virtual machine, and of code that a pool calls: none keeps the pool's lock, or the place of an object. */
 public final class Errors extends Expectations {

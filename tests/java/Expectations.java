@@ -1,3 +1,4 @@
+import io.github.zuphinka.ZuphinkaPool;
 import java.util.ArrayList;
 import java.util.Collections;
 import java.util.List;
@@ -5,7 +6,6 @@ import java.util.Objects;
 import java.util.concurrent.Callable;
 import java.util.concurrent.FutureTask;
 import java.util.concurrent.TimeUnit;
-import zuphinka.ZuphinkaPool;
 
 /** What a test program expects: it counts what was found, and prints what was not. */
 abstract class Expectations {

@@ -1,3 +1,8 @@
+import io.github.zuphinka.Journal;
+import io.github.zuphinka.Parts;
+import io.github.zuphinka.Refusal;
+import io.github.zuphinka.Segment;
+import io.github.zuphinka.ZuphinkaPool;
 import java.io.ByteArrayOutputStream;
 import java.io.IOException;
 import java.io.OutputStream;
@@ -18,11 +23,6 @@ import org.apache.commons.pool2.BasePooledObjectFactory;
 import org.apache.commons.pool2.PooledObject;
 import org.apache.commons.pool2.impl.DefaultPooledObject;
 import org.apache.commons.pool2.impl.GenericObjectPoolConfig;
-import zuphinka.Journal;
-import zuphinka.Parts;
-import zuphinka.Refusal;
-import zuphinka.Segment;
-import zuphinka.ZuphinkaPool;
 
 /**
  * Journals in folders: no two pools store theirs in one, a folder stays the same whatever happens to it, and all entries are stored, of any length.

@@ -1,3 +1,4 @@
+import io.github.zuphinka.ZuphinkaPool;
 import java.net.URL;
 import java.net.URLClassLoader;
 import java.nio.file.Path;
@@ -6,7 +7,6 @@ import java.util.List;
 import org.apache.commons.pool2.BasePooledObjectFactory;
 import org.apache.commons.pool2.PooledObject;
 import org.apache.commons.pool2.impl.DefaultPooledObject;
-import zuphinka.ZuphinkaPool;
 
 /**
  * Uses a pool in each of two class loaders, as two applications of one server do. {@code Loaders PATH..}: the paths of the classes of this program,

@@ -1,3 +1,5 @@
+import io.github.zuphinka.Metrics;
+import io.github.zuphinka.ZuphinkaPool;
 import java.io.IOException;
 import java.nio.charset.StandardCharsets;
 import java.nio.file.Files;
@@ -11,8 +13,6 @@ import java.util.regex.Matcher;
 import java.util.regex.Pattern;
 import org.apache.commons.pool2.impl.AbandonedConfig;
 import org.apache.commons.pool2.impl.GenericObjectPoolConfig;
-import zuphinka.Metrics;
-import zuphinka.ZuphinkaPool;
 
 /** The metrics of pools. It writes texts to files of a folder: "course", of a pool while threads borrow, and "pools", of two pools. */
 public final class Measures extends Expectations {

@@ -1,3 +1,8 @@
+import io.github.zuphinka.Counts;
+import io.github.zuphinka.Journal;
+import io.github.zuphinka.Refusal;
+import io.github.zuphinka.Segment;
+import io.github.zuphinka.ZuphinkaPool;
 import java.io.IOException;
 import java.nio.charset.StandardCharsets;
 import java.nio.file.Files;
@@ -18,11 +23,6 @@ import org.apache.commons.pool2.PooledObject;
 import org.apache.commons.pool2.impl.AbandonedConfig;
 import org.apache.commons.pool2.impl.DefaultPooledObject;
 import org.apache.commons.pool2.impl.GenericObjectPoolConfig;
-import zuphinka.Counts;
-import zuphinka.Journal;
-import zuphinka.Refusal;
-import zuphinka.Segment;
-import zuphinka.ZuphinkaPool;
 
 /**
  * Lives of pools in each of which one allocation of the native library fails, each in turn. A call that throws for that leaves the counts as they

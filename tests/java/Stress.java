@@ -1,3 +1,6 @@
+import io.github.zuphinka.Counts;
+import io.github.zuphinka.Journal;
+import io.github.zuphinka.ZuphinkaPool;
 import java.nio.file.Path;
 import java.time.Duration;
 import java.util.ArrayList;
@@ -16,9 +19,6 @@ import org.apache.commons.pool2.PooledObject;
 import org.apache.commons.pool2.impl.AbandonedConfig;
 import org.apache.commons.pool2.impl.DefaultPooledObject;
 import org.apache.commons.pool2.impl.GenericObjectPoolConfig;
-import zuphinka.Counts;
-import zuphinka.Journal;
-import zuphinka.ZuphinkaPool;
 
 /**
  * Eight threads make random calls of one pool, over a factory that fails at random in every method: no object has two holders, none is used

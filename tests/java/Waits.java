@@ -1,3 +1,8 @@
+import io.github.zuphinka.Journal;
+import io.github.zuphinka.Queueing;
+import io.github.zuphinka.Segment;
+import io.github.zuphinka.SegmentSink;
+import io.github.zuphinka.ZuphinkaPool;
 import java.io.IOException;
 import java.nio.charset.StandardCharsets;
 import java.time.Duration;
@@ -11,11 +16,6 @@ import java.util.concurrent.atomic.AtomicBoolean;
 import java.util.concurrent.atomic.AtomicInteger;
 import org.apache.commons.pool2.impl.AbandonedConfig;
 import org.apache.commons.pool2.impl.GenericObjectPoolConfig;
-import zuphinka.Journal;
-import zuphinka.Queueing;
-import zuphinka.Segment;
-import zuphinka.SegmentSink;
-import zuphinka.ZuphinkaPool;
 
 /** Threads that wait for an object: which one is woken, and in what order they are served. */
 public final class Waits extends Expectations {

@@ -1,4 +1,6 @@
 import com.sun.net.httpserver.HttpServer;
+import io.github.zuphinka.Journal;
+import io.github.zuphinka.ZuphinkaPool;
 import java.io.IOException;
 import java.net.InetAddress;
 import java.net.InetSocketAddress;
@@ -24,8 +26,6 @@ import org.apache.commons.dbcp2.PoolableConnection;
 import org.apache.commons.dbcp2.PoolableConnectionFactory;
 import org.apache.commons.dbcp2.PoolingDataSource;
 import org.apache.commons.pool2.impl.GenericObjectPoolConfig;
-import zuphinka.Journal;
-import zuphinka.ZuphinkaPool;
 
 /**
  * Eight threads transfer money between accounts in a database, over DBCP2's {@code PoolingDataSource} with a {@code ZuphinkaPool} of four

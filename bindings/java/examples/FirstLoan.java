@@ -1,10 +1,10 @@
+import io.github.zuphinka.Journal;
+import io.github.zuphinka.ZuphinkaPool;
 import java.nio.file.Path;
 import org.apache.commons.pool2.BasePooledObjectFactory;
 import org.apache.commons.pool2.PooledObject;
 import org.apache.commons.pool2.impl.DefaultPooledObject;
 import org.apache.commons.pool2.impl.GenericObjectPoolConfig;
-import zuphinka.Journal;
-import zuphinka.ZuphinkaPool;
 
 /**
  * Borrows a session from a pool, uses it and returns it.

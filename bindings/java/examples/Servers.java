@@ -1,3 +1,5 @@
+import io.github.zuphinka.Journal;
+import io.github.zuphinka.ZuphinkaPool;
 import java.io.IOException;
 import java.nio.file.Path;
 import java.time.Duration;
@@ -12,8 +14,6 @@ import org.apache.commons.pool2.ObjectPool;
 import org.apache.commons.pool2.PooledObject;
 import org.apache.commons.pool2.impl.DefaultPooledObject;
 import org.apache.commons.pool2.impl.GenericObjectPoolConfig;
-import zuphinka.Journal;
-import zuphinka.ZuphinkaPool;
 
 /**
  * Four servers answer requests over a pool of three connections, some of which break.

@@ -1,6 +1,6 @@
 /*
- * The native methods of zuphinka.Core, over the C library of the core. The caller holds the lock of the pool, and makes one of them in each critical
- * section.
+ * The native methods of io.github.zuphinka.Core, over the C library of the core. The caller holds the lock of the pool, and makes one of them in
+ * each critical section.
  *
  * A reply is one number: the action, the end << 8, flags << 16, and the token of the call's object << 24. A status other than "done" is its negative
  * code. What else a caller may need is in the `struct details` of the pool, until the next call.
@@ -33,7 +33,7 @@ enum { ACTIVATES = 1, VALIDATES = 2, PASSIVATES = 4, RECLAIMS = 8 };
 
 typedef uint32_t line_printer(struct zuphinka *, uint64_t, char *, size_t, uint64_t *);
 
-/* What Java reads of the last reply, by the offsets in zuphinka.Core. */
+/* What Java reads of the last reply, by the offsets in io.github.zuphinka.Core. */
 struct details {
   uint64_t place, number; /* of the call in progress */
   uint64_t object;        /* the id of the object that the action is for */
@@ -53,7 +53,7 @@ static struct pool *pool_at(jlong handle) { return (struct pool *)(intptr_t)hand
 static struct zuphinka *core_at(jlong handle) { return &pool_at(handle)->core; }
 
 /* Opens a pool that works as the flags say, and whose waiters are overtaken at most so often. Returns its handle, or a negative status. */
-JNIEXPORT jlong JNICALL Java_zuphinka_Core_open(JNIEnv *env, jclass class, jbyteArray settings, jint flags, jlong overtakes) {
+JNIEXPORT jlong JNICALL Java_io_github_zuphinka_Core_open(JNIEnv *env, jclass class, jbyteArray settings, jint flags, jlong overtakes) {
   (void)class;
   struct zuphinka_options options = {.max_overtakes = (uint64_t)overtakes,
                                      .activates = flags & ACTIVATES,
@@ -75,14 +75,14 @@ JNIEXPORT jlong JNICALL Java_zuphinka_Core_open(JNIEnv *env, jclass class, jbyte
 }
 
 /* Frees a pool. */
-JNIEXPORT void JNICALL Java_zuphinka_Core_drop(JNIEnv *env, jclass class, jlong handle) {
+JNIEXPORT void JNICALL Java_io_github_zuphinka_Core_drop(JNIEnv *env, jclass class, jlong handle) {
   (void)env, (void)class;
   zuphinka_drop(core_at(handle));
   free(pool_at(handle));
 }
 
 /* Returns the details of a pool, which are valid until it is freed; null if there is no memory for the buffer. */
-JNIEXPORT jobject JNICALL Java_zuphinka_Core_details(JNIEnv *env, jclass class, jlong handle) {
+JNIEXPORT jobject JNICALL Java_io_github_zuphinka_Core_details(JNIEnv *env, jclass class, jlong handle) {
   (void)class;
   return (*env)->NewDirectByteBuffer(env, &pool_at(handle)->details, sizeof(struct details));
 }
@@ -99,7 +99,7 @@ static char *lowest_of_stack(void) {
 }
 
 /* Returns whether the thread has enough stack for a call of the pool. */
-JNIEXPORT jboolean JNICALL Java_zuphinka_Core_hasStack(JNIEnv *env, jclass class) {
+JNIEXPORT jboolean JNICALL Java_io_github_zuphinka_Core_hasStack(JNIEnv *env, jclass class) {
   (void)env, (void)class;
   static _Thread_local char *lowest;
   if (!lowest) lowest = lowest_of_stack();
@@ -124,7 +124,8 @@ static jlong reply(struct pool *pool, const struct zuphinka_effects *effects) {
 }
 
 /* Begins a call. */
-JNIEXPORT jlong JNICALL Java_zuphinka_Core_begin(JNIEnv *env, jclass class, jlong handle, jlong at, jlong id, jlong token, jint caller, jint kind) {
+JNIEXPORT jlong JNICALL Java_io_github_zuphinka_Core_begin(JNIEnv *env, jclass class, jlong handle, jlong at, jlong id, jlong token, jint caller,
+                                                           jint kind) {
   (void)env, (void)class;
   struct pool *pool = pool_at(handle);
   struct zuphinka_start start = {.at = (uint64_t)at,
@@ -142,8 +143,8 @@ JNIEXPORT jlong JNICALL Java_zuphinka_Core_begin(JNIEnv *env, jclass class, jlon
 }
 
 /* Goes on with a call in progress after a report. */
-JNIEXPORT jlong JNICALL Java_zuphinka_Core_advance(JNIEnv *env, jclass class, jlong handle, jlong place, jlong number, jlong at, jlong token,
-                                                   jint caller, jint report) {
+JNIEXPORT jlong JNICALL Java_io_github_zuphinka_Core_advance(JNIEnv *env, jclass class, jlong handle, jlong place, jlong number, jlong at,
+                                                             jlong token, jint caller, jint report) {
   (void)env, (void)class;
   struct pool *pool = pool_at(handle);
   struct zuphinka_call call = {.place = (uint64_t)place, .number = (uint64_t)number};
@@ -155,7 +156,7 @@ JNIEXPORT jlong JNICALL Java_zuphinka_Core_advance(JNIEnv *env, jclass class, jl
 }
 
 /* Lends an idle object at once, and returns its token; or a negative status, and the borrow is to be begun. */
-JNIEXPORT jlong JNICALL Java_zuphinka_Core_lend(JNIEnv *env, jclass class, jlong handle, jlong at, jint caller) {
+JNIEXPORT jlong JNICALL Java_io_github_zuphinka_Core_lend(JNIEnv *env, jclass class, jlong handle, jlong at, jint caller) {
   (void)env, (void)class;
   struct zuphinka_loan loan;
   uint32_t status = zuphinka_lend(core_at(handle), (uint32_t)caller, (uint64_t)at, &loan);
@@ -163,14 +164,15 @@ JNIEXPORT jlong JNICALL Java_zuphinka_Core_lend(JNIEnv *env, jclass class, jlong
 }
 
 /* Takes an object back at once. Returns whether it did; otherwise the return is to be begun. */
-JNIEXPORT jboolean JNICALL Java_zuphinka_Core_takeBack(JNIEnv *env, jclass class, jlong handle, jlong at, jlong id, jlong token, jint caller) {
+JNIEXPORT jboolean JNICALL Java_io_github_zuphinka_Core_takeBack(JNIEnv *env, jclass class, jlong handle, jlong at, jlong id, jlong token,
+                                                                 jint caller) {
   (void)env, (void)class;
   struct zuphinka_loan loan = {.id = (uint64_t)id, .object = (void *)(uintptr_t)token};
   return zuphinka_take_back(core_at(handle), (uint32_t)caller, (uint64_t)at, &loan) == ZUPHINKA_STATUS_DONE;
 }
 
 /* Returns the ticket of the next call to wake, or a negative status. */
-JNIEXPORT jlong JNICALL Java_zuphinka_Core_nextWake(JNIEnv *env, jclass class, jlong handle) {
+JNIEXPORT jlong JNICALL Java_io_github_zuphinka_Core_nextWake(JNIEnv *env, jclass class, jlong handle) {
   (void)env, (void)class;
   uint64_t ticket;
   uint32_t status = zuphinka_next_wake(core_at(handle), &ticket);
@@ -178,7 +180,7 @@ JNIEXPORT jlong JNICALL Java_zuphinka_Core_nextWake(JNIEnv *env, jclass class, j
 }
 
 /* Returns how many objects are lent and calls are in progress. */
-JNIEXPORT jlong JNICALL Java_zuphinka_Core_busy(JNIEnv *env, jclass class, jlong handle) {
+JNIEXPORT jlong JNICALL Java_io_github_zuphinka_Core_busy(JNIEnv *env, jclass class, jlong handle) {
   (void)env, (void)class;
   struct zuphinka_tally counts = {.lent = 0};
   struct zuphinka_activity activity = {.running = 0};
@@ -188,7 +190,7 @@ JNIEXPORT jlong JNICALL Java_zuphinka_Core_busy(JNIEnv *env, jclass class, jlong
 }
 
 /* Returns whether the object with this id is lent. */
-JNIEXPORT jboolean JNICALL Java_zuphinka_Core_isLent(JNIEnv *env, jclass class, jlong handle, jlong id) {
+JNIEXPORT jboolean JNICALL Java_io_github_zuphinka_Core_isLent(JNIEnv *env, jclass class, jlong handle, jlong id) {
   (void)env, (void)class;
   bool is_lent = false;
   zuphinka_is_lent(core_at(handle), (uint64_t)id, &is_lent);
@@ -196,7 +198,7 @@ JNIEXPORT jboolean JNICALL Java_zuphinka_Core_isLent(JNIEnv *env, jclass class, 
 }
 
 /* Sets how often a waiter is overtaken at most. Returns the bound, which is greater while one waits that was overtaken more often. */
-JNIEXPORT jlong JNICALL Java_zuphinka_Core_setOvertakes(JNIEnv *env, jclass class, jlong handle, jlong most) {
+JNIEXPORT jlong JNICALL Java_io_github_zuphinka_Core_setOvertakes(JNIEnv *env, jclass class, jlong handle, jlong most) {
   (void)env, (void)class;
   uint64_t bound = (uint64_t)most;
   zuphinka_set_overtakes(core_at(handle), (uint64_t)most, &bound);
@@ -204,8 +206,8 @@ JNIEXPORT jlong JNICALL Java_zuphinka_Core_setOvertakes(JNIEnv *env, jclass clas
 }
 
 /* Takes a step with an object. Returns its answer, or a negative status. */
-JNIEXPORT jint JNICALL Java_zuphinka_Core_step(JNIEnv *env, jclass class, jlong handle, jlong at, jlong id, jlong token, jint caller, jint input,
-                                               jint outcome) {
+JNIEXPORT jint JNICALL Java_io_github_zuphinka_Core_step(JNIEnv *env, jclass class, jlong handle, jlong at, jlong id, jlong token, jint caller,
+                                                         jint input, jint outcome) {
   (void)env, (void)class;
   struct zuphinka_request request = {.at = (uint64_t)at,
                                      .number = (uint64_t)id,
@@ -220,7 +222,7 @@ JNIEXPORT jint JNICALL Java_zuphinka_Core_step(JNIEnv *env, jclass class, jlong 
 
 /* Takes an idle object by the first step of a borrow that begins now, if more are idle than some that are tested, and no call waits. Returns its
  * token; or a negative status, and the borrow is to be begun. */
-JNIEXPORT jlong JNICALL Java_zuphinka_Core_take(JNIEnv *env, jclass class, jlong handle, jlong at, jint caller, jint tested) {
+JNIEXPORT jlong JNICALL Java_io_github_zuphinka_Core_take(JNIEnv *env, jclass class, jlong handle, jlong at, jint caller, jint tested) {
   (void)env, (void)class;
   struct zuphinka *core = core_at(handle);
   struct zuphinka_activity activity = {.waiting = 1};
@@ -235,7 +237,7 @@ JNIEXPORT jlong JNICALL Java_zuphinka_Core_take(JNIEnv *env, jclass class, jlong
 }
 
 /* Stores the counts in their order in `struct zuphinka_tally`, then the entries since the base, and the room of the journal. */
-JNIEXPORT void JNICALL Java_zuphinka_Core_counts(JNIEnv *env, jclass class, jlong handle, jlongArray to) {
+JNIEXPORT void JNICALL Java_io_github_zuphinka_Core_counts(JNIEnv *env, jclass class, jlong handle, jlongArray to) {
   (void)class;
   struct zuphinka_tally counts;
   uint64_t steps = 0, room = 0;
@@ -284,7 +286,7 @@ static enum ending append_lines(line_printer *print, struct zuphinka *pool, jlon
  * Returns the next part of the text of the journal, which is empty after the last one; null if there is no memory. The two numbers are how many lines
  * of its base, and how many entries since that, the parts before have. They move on with it.
  */
-JNIEXPORT jbyteArray JNICALL Java_zuphinka_Core_part(JNIEnv *env, jclass class, jlong handle, jlongArray numbers) {
+JNIEXPORT jbyteArray JNICALL Java_io_github_zuphinka_Core_part(JNIEnv *env, jclass class, jlong handle, jlongArray numbers) {
   (void)class;
   struct part part = {0};
   jbyteArray bytes = NULL;
@@ -304,7 +306,7 @@ JNIEXPORT jbyteArray JNICALL Java_zuphinka_Core_part(JNIEnv *env, jclass class, 
 }
 
 /* Cuts the journal. Returns a status. */
-JNIEXPORT jint JNICALL Java_zuphinka_Core_cut(JNIEnv *env, jclass class, jlong handle) {
+JNIEXPORT jint JNICALL Java_io_github_zuphinka_Core_cut(JNIEnv *env, jclass class, jlong handle) {
   (void)env, (void)class;
   return -(jint)zuphinka_cut(core_at(handle));
 }

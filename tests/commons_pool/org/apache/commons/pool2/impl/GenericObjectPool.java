@@ -1,5 +1,8 @@
 package org.apache.commons.pool2.impl;
 
+import io.github.zuphinka.Journal;
+import io.github.zuphinka.SegmentSink;
+import io.github.zuphinka.ZuphinkaPool;
 import java.lang.reflect.Field;
 import java.nio.charset.StandardCharsets;
 import java.nio.file.Files;
@@ -14,9 +17,6 @@ import org.apache.commons.pool2.ObjectPool;
 import org.apache.commons.pool2.PooledObject;
 import org.apache.commons.pool2.PooledObjectFactory;
 import org.apache.commons.pool2.UsageTracking;
-import zuphinka.Journal;
-import zuphinka.SegmentSink;
-import zuphinka.ZuphinkaPool;
 
 /**
  * Stands in for the class of this name while the tests of Commons Pool 2 run: it comes before commons-pool2.jar on the class path, and passes each call

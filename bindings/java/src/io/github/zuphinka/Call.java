@@ -1,0 +1,152 @@
+package io.github.zuphinka;
+
+import java.util.concurrent.TimeUnit;
+import org.apache.commons.pool2.DestroyMode;
+
+/** A call of a thread, from its beginning to its end: what it does next, and what came of it. Its thread alone uses it, but for {@link #isWoken}. */
+final class Call<T> {
+    int kind;
+    /** The number of its thread in the journal. */
+    int caller;
+    /** When it began, by {@link System#nanoTime}. */
+    long first;
+    /** For how many nanoseconds it waits at most, besides what the core says; and by how many milliseconds it may wait longer than the settings say. */
+    long limitNanos;
+    long moreMillis;
+    /** How its object is destroyed. */
+    DestroyMode mode;
+
+    /** The names of the call in the core. */
+    long place;
+    long number;
+    /** What it does next, and how it ended. */
+    int action;
+    int end;
+    /** The object that it is for; null if it has none. */
+    Member<T> member;
+    /** Whether that was activated for the call. */
+    boolean isActivated;
+    /** Whether the core knows that the call is given up. */
+    boolean isGivenUp;
+    /** Whether the place of an object is free by the call. */
+    boolean hasFreed;
+
+    /** Why the last work of the factory failed; null if it did not, or if that is told. */
+    Throwable fault;
+    /** Why the last destruction failed. */
+    Throwable destroyFault;
+    /** The first error of the factory, which the call throws at its end. */
+    Error error;
+    /** Why the call cannot go on: it is interrupted, or the journal has no room. */
+    Throwable obstacle;
+    /** The abandoned objects that it took from their holders, to be destroyed: the first one, which knows the next. */
+    Member<T> reclaimed;
+
+    /** The journal, when it had no room: how often it was cut, and whether the pool refuses the call whatever room there is. */
+    long cuts;
+    boolean isRefused;
+
+    /** Its wait: the ticket, for how many nanoseconds since its beginning the core allows it, and whether there is a processor to pause on. */
+    long ticket;
+    long untilNanos;
+    boolean mayPause;
+    Thread thread;
+    volatile boolean isWoken;
+
+    /** Begins anew. */
+    Call<T> begin(int newKind, long now, Member<T> object) {
+        kind = newKind;
+        caller = Callers.number();
+        first = now;
+        limitNanos = Long.MAX_VALUE;
+        moreMillis = 0;
+        mode = DestroyMode.NORMAL;
+        action = Core.ACTION_GO_ON;
+        end = Core.END_NONE;
+        member = object;
+        isActivated = false;
+        isGivenUp = false;
+        hasFreed = false;
+        isRefused = false;
+        thread = null;
+        return this;
+    }
+
+    /** Forgets what another call must not find. */
+    void clear() {
+        member = null;
+        fault = null;
+        destroyFault = null;
+        error = null;
+        obstacle = null;
+    }
+
+    boolean isDone() {
+        return action == Core.ACTION_DONE;
+    }
+
+    /** Returns how many of some nanoseconds since its beginning are left. */
+    long left(long nanos) {
+        return nanos == Long.MAX_VALUE ? nanos : Math.max(0, nanos - (System.nanoTime() - first));
+    }
+
+    /** Waits no longer than some nanoseconds, in place of the time that the settings allow, which may be shorter; if they are negative, that time. */
+    void limitTo(long nanos, CoreSettings settings) {
+        if (nanos < 0 || nanos <= settings.maxWaitNanos) {
+            limitNanos = nanos < 0 ? Long.MAX_VALUE : nanos;
+            return;
+        }
+        long longest = nanos == Long.MAX_VALUE ? CoreSettings.MOST_MILLIS : TimeUnit.NANOSECONDS.toMillis(nanos - 1) + 1;
+        moreMillis = longest - TimeUnit.NANOSECONDS.toMillis(settings.maxWaitNanos);
+    }
+
+    /**
+     * Returns by how many milliseconds the core is to let a borrow wait longer than the settings say: by one more where it may wait at all, since the
+     * times of the core are whole milliseconds, and no wait ends before its time. 0 for another call.
+     */
+    long longerMillis(CoreSettings settings) {
+        boolean mayWait = kind == Core.KIND_BORROW && (settings.maxWaitNanos > 0 || moreMillis > 0);
+        return mayWait ? moreMillis + 1 : 0;
+    }
+
+    /** Returns for how many nanoseconds it may wait yet for room in the journal. */
+    long leftForRoom(CoreSettings settings) {
+        long set = moreMillis == 0 ? settings.maxWaitNanos : settings.maxWaitNanos + TimeUnit.MILLISECONDS.toNanos(moreMillis);
+        return left(Math.min(limitNanos, set));
+    }
+
+    /** Keeps the first error; returns whether it is this failure. */
+    boolean keepsError(Throwable failure) {
+        if (error == null && failure instanceof Error) {
+            error = (Error) failure;
+            return true;
+        }
+        return false;
+    }
+
+    /** Takes an object that was reclaimed, to be destroyed in the order of their ids. */
+    void reclaim(Member<T> object) {
+        Member<T> before = null;
+        Member<T> after = reclaimed;
+        while (after != null && after.id < object.id) {
+            before = after;
+            after = after.next;
+        }
+        object.next = after;
+        if (before == null) {
+            reclaimed = object;
+        } else {
+            before.next = object;
+        }
+    }
+
+    /** Returns whether the call has to be given up: a borrow whose work ended in an error looks for no other object. */
+    boolean isToGiveUp() {
+        return error != null && kind == Core.KIND_BORROW && !isGivenUp;
+    }
+
+    int giveUp() {
+        isGivenUp = true;
+        return Core.REPORT_GIVEN_UP;
+    }
+}

@@ -1,0 +1,45 @@
+package io.github.zuphinka;
+
+import java.util.Collection;
+import java.util.concurrent.ConcurrentHashMap;
+
+/** The objects of a pool by identity, whatever their {@code equals} says: those that have a place, and lent ones that were reclaimed. */
+final class Objects<T> {
+    private final ConcurrentHashMap<Identity, Member<T>> members = new ConcurrentHashMap<>();
+
+    private static final class Identity {
+        private final Object object;
+
+        Identity(Object object) {
+            this.object = object;
+        }
+
+        @Override
+        public int hashCode() {
+            return System.identityHashCode(object);
+        }
+
+        @Override
+        public boolean equals(Object other) {
+            return other instanceof Identity && ((Identity) other).object == object;
+        }
+    }
+
+    /** Adds an object, and returns whether it was not there. */
+    boolean add(Member<T> member) {
+        return members.putIfAbsent(new Identity(member.pooled.getObject()), member) == null;
+    }
+
+    void remove(Member<T> member) {
+        members.remove(new Identity(member.pooled.getObject()), member);
+    }
+
+    /** Returns an object; null if it is not of this pool. */
+    Member<T> find(T object) {
+        return members.get(new Identity(object));
+    }
+
+    Collection<Member<T>> all() {
+        return members.values();
+    }
+}

@@ -1,0 +1,872 @@
+package io.github.zuphinka;
+
+import java.io.IOException;
+import java.lang.ref.Cleaner;
+import java.lang.ref.Reference;
+import java.nio.ByteBuffer;
+import java.util.concurrent.TimeUnit;
+import java.util.concurrent.atomic.AtomicReference;
+import java.util.concurrent.locks.LockSupport;
+import java.util.concurrent.locks.ReentrantLock;
+import java.util.function.BooleanSupplier;
+import java.util.function.Supplier;
+import org.apache.commons.pool2.DestroyMode;
+
+/**
+ * The calls of a pool: its core, its objects and the threads that wait for one, under one lock. The core says what a call does next. The call does
+ * that without the lock, and reports it in a further section, until it is over.
+ */
+final class Sections<T> {
+    private static final Cleaner CLEANER = Cleaner.create();
+    private static final long NANOS_OF_MILLI = 1_000_000;
+
+    private final CoreSettings settings;
+    private final Work<T> work;
+    private final long start = System.nanoTime();
+    private final ReentrantLock lock = new ReentrantLock();
+    private final BooleanSupplier isTaken = () -> lock.isLocked() || !lock.tryLock();
+    /** A call that is over, for the next one. */
+    private final AtomicReference<Call<T>> spare = new AtomicReference<>();
+
+    /** Set before a close stores the rest of the journal. */
+    private volatile boolean isEnding;
+
+    // The lock protects what follows.
+    private final long core;
+    private final ByteBuffer details;
+    private final StoredJournal journal;
+    private final Members<T> members = new Members<>();
+    private final Waiters waiters = new Waiters();
+    /** The thread that is to be unparked once the lock is free; null if there is none. */
+    private Thread woken;
+    private boolean isClosed;
+    /** The time of the last step, in milliseconds since the start. */
+    private long latest;
+    /** How many eviction runs there are, each of which tests an idle object at most. */
+    private int evictions;
+    /** How often a waiter is to be overtaken at most, and the bound that the core has until the waiters who were overtaken more often have left. */
+    private int maxOvertakes;
+    private long overtakes;
+    /** How many objects were reclaimed, of those that are no longer among the members. */
+    private long reclaimed;
+    private long borrowed;
+    private long returned;
+    private long failedOnBorrow;
+    private long longestWaitNanos;
+    private long timeouts;
+    /** How long the borrows took that got an object. */
+    private final Histogram waits = new Histogram();
+    /** How long the loans were that ended, except those of objects that were taken from their holders. */
+    private final Histogram loans = new Histogram();
+
+    Sections(CoreSettings settings, Journal journal, Work<T> work) {
+        this.settings = settings;
+        this.work = work;
+        JournalRoom.require(settings, journal);
+        maxOvertakes = settings.isFair ? 0 : CoreSettings.DEFAULT_OVERTAKES;
+        overtakes = maxOvertakes;
+        long opened = JournalRoom.open(settings.text(), work.flags() | (settings.isAbandonedRemoved ? Core.RECLAIMS : 0), maxOvertakes);
+        core = opened;
+        CLEANER.register(this, () -> Core.drop(opened));
+        details = JournalRoom.detailsOf(opened);
+        this.journal = new StoredJournal(core, journal, settings.text());
+    }
+
+    // The lock.
+
+    /**
+     * Takes the lock for a section that begins a call. The other sections of the call complete work on an object, and take it by {@link #acquire}.
+     *
+     * @throws StackOverflowError if the stack is too full for the sections of a call, which would end in one with the lock, or without an object
+     */
+    private void begin() {
+        if (!Core.hasStack()) {
+            throw new StackOverflowError("zuphinka: too little stack");
+        }
+        acquire();
+    }
+
+    /** Takes the lock. It is held for a fraction of a microsecond, while it takes some to wake a thread: so a thread pauses before it sleeps. */
+    private void acquire() {
+        if (lock.tryLock()) {
+            return;
+        }
+        Pauses.pauseWhile(isTaken, Long.MAX_VALUE);
+        if (!lock.isHeldByCurrentThread()) {
+            lock.lock();
+        }
+    }
+
+    /** Lets the lock go, and then the thread that was woken run, which finds the lock free. */
+    private void release() {
+        Thread next = woken;
+        woken = null;
+        try {
+            journal.cutIfLow(members.size());
+        } finally {
+            lock.unlock();
+            LockSupport.unpark(next);
+            Reference.reachabilityFence(this);
+        }
+    }
+
+    /** Returns the result of a section. */
+    private <R> R locked(Supplier<R> section) {
+        begin();
+        try {
+            return section.get();
+        } finally {
+            release();
+        }
+    }
+
+    /** Returns a reading of {@link System#nanoTime} as a time of the core. */
+    private long millis(long nanoTime) {
+        return (nanoTime - start) / NANOS_OF_MILLI;
+    }
+
+    /** Returns the same as the time of the next step. The clock is read without the lock, so another step may be later. */
+    private long timeOf(long nanoTime) {
+        latest = Math.max(latest, millis(nanoTime));
+        return latest;
+    }
+
+    // Calls that are over at once.
+
+    /** Lends an idle object at once to a borrow that begins now, which need not do anything else; null if the borrow is to be begun. */
+    private Member<T> lendAtOnce(long now) {
+        long token = Core.lend(core, timeOf(now), Callers.number());
+        if (token < 0) {
+            return null;
+        }
+        journal.add(2);
+        wakeMore();
+        return lent(members.at((int) token), now, 0);
+    }
+
+    /** Takes an object back at once. Returns whether it did; otherwise the return is to be begun. */
+    private boolean takeBackAtOnce(Member<T> member, long now) {
+        if (!Core.takeBack(core, timeOf(now), member.id, member.slot, Callers.number())) {
+            return false;
+        }
+        journal.add(2);
+        wakeMore();
+        noteReturn(member, now);
+        return true;
+    }
+
+    // Calls of two steps, on an object that the factory activates or passivates.
+
+    /** Takes an idle object for a borrow that begins now by its first step; null if the borrow is to be begun. */
+    private Member<T> takeIdle(long now) {
+        long token = settings.reclaimsOnBorrow ? -1 : Core.take(core, timeOf(now), Callers.number(), evictions);
+        if (token < 0) {
+            return null;
+        }
+        journal.add(1);
+        return members.at((int) token);
+    }
+
+    /** Makes an object ready that was taken, and lends it to a borrow that began at this time. If that fails, it is destroyed, and this returns false. */
+    private boolean isReadied(Member<T> member, long first) {
+        int outcome = work.makeReady(member);
+        long now = System.nanoTime();
+        acquire();
+        try {
+            complete(Core.INPUT_READY, member, outcome, now);
+            failedOnBorrow += outcome == Core.OUTCOME_TEST_FAILED ? 1 : 0;
+            if (outcome == Core.OUTCOME_GOOD) {
+                lent(member, now, now - first);
+                return true;
+            }
+        } finally {
+            release();
+        }
+        end(member, false);
+        return false;
+    }
+
+    /** Takes a lent object back by the first step of its return, if it is lent. Returns whether it did; otherwise the return is to be begun. */
+    private boolean isTaken(Member<T> member, long now) {
+        if (!member.isLent() || Core.step(core, timeOf(now), member.id, 0, Callers.number(), Core.INPUT_RETURN, 0) != Core.ANSWER_CHECK) {
+            return false;
+        }
+        journal.add(1);
+        noteReturn(member, now);
+        return true;
+    }
+
+    /** Tests and passivates an object that was taken back. It is idle then, or destroyed. */
+    private void putAway(Member<T> member) {
+        int outcome = work.putAway(member);
+        acquire();
+        try {
+            if (complete(Core.INPUT_PARK, member, outcome, System.nanoTime()) == Core.ANSWER_PARKED) {
+                wakeMore();
+                return;
+            }
+        } finally {
+            release();
+        }
+        end(member, true);
+    }
+
+    /** Takes a step that completes work on an object. Returns the answer. */
+    private int complete(int input, Member<T> member, int outcome, long now) {
+        int answer = Core.step(core, timeOf(now), member.id, member.slot, Callers.number(), input, outcome);
+        if (answer < 0) {
+            throw new AssertionError("zuphinka: status " + -answer);
+        }
+        journal.add(1);
+        return answer;
+    }
+
+    /** Destroys an object that failed, or is not kept, and frees its place. What failed is thrown if it is an error, or told if it is of a return. */
+    private void end(Member<T> member, boolean isReturned) {
+        Throwable fault = work.destroyed(member);
+        acquire();
+        try {
+            complete(Core.INPUT_DESTROYED, member, 0, System.nanoTime());
+            members.remove(member);
+            wakeMore();
+        } finally {
+            release();
+        }
+        if (isEnding) {
+            storeLast();
+        }
+        Ends.throwError(member.fault);
+        Ends.throwError(fault);
+        work.swallow(fault);
+        work.swallow(isReturned ? member.fault : null);
+    }
+
+    // Calls of several sections.
+
+    /** Returns a call of this thread that begins now. It is to be {@link #leave left}. */
+    private Call<T> call(int kind, long now, Member<T> member) {
+        Call<T> call = spare.getAndSet(null);
+        return (call == null ? new Call<T>() : call).begin(kind, now, member);
+    }
+
+    /** Leaves a call that is over to the next one. */
+    private void leave(Call<T> call) {
+        call.clear();
+        spare.set(call);
+    }
+
+    /** Begins a call in a section that has the lock. */
+    private void beginCall(Call<T> call) {
+        Member<T> member = call.member;
+        evictions += call.kind == Core.KIND_EVICT ? 1 : 0;
+        long id = member == null ? call.longerMillis(settings) : member.id;
+        long reply = Core.begin(core, timeOf(call.first), id, member == null ? 0 : member.slot, call.caller, call.kind);
+        if (reply == Core.STATUS_OUT_OF_MEMORY) {
+            call.action = Core.ACTION_DONE;
+            call.end = Core.END_OUT_OF_MEMORY;
+            noteEnd(call, call.first);
+            return;
+        }
+        call.place = details.getLong(Core.PLACE);
+        call.number = details.getLong(Core.NUMBER);
+        takeUp(call, reply, call.first);
+    }
+
+    /** Follows a call to its end. */
+    private void follow(Call<T> call) {
+        work.settle(call);
+        while (!call.isDone()) {
+            int report = call.isToGiveUp() ? call.giveUp() : act(call);
+            advance(call, report);
+            work.settle(call);
+        }
+        if (call.hasFreed && isEnding) {
+            storeLast();
+        }
+    }
+
+    /** Does what a call does next. Returns the report. */
+    private int act(Call<T> call) {
+        switch (call.action) {
+            case Core.ACTION_GO_ON:
+                return Core.REPORT_GO_ON;
+            case Core.ACTION_MAKE_ROOM:
+                return makeRoom(call);
+            case Core.ACTION_SLEEP:
+                return sleep(call);
+            default:
+                return work.act(call);
+        }
+    }
+
+    /** Sleeps until a call is to look again, or to be given up. Returns the report. */
+    private int sleep(Call<T> call) {
+        if (call.left(call.limitNanos) == 0) {
+            return call.giveUp();
+        }
+        Waiters.sleep(call, Math.min(call.limitNanos, call.untilNanos));
+        if (call.isWoken) {
+            return Core.REPORT_WOKEN;
+        }
+        if (Thread.interrupted()) {
+            call.obstacle = new InterruptedException();
+            return call.giveUp();
+        }
+        return call.left(call.limitNanos) == 0 ? call.giveUp() : Core.REPORT_WOKEN;
+    }
+
+    /** Reports what came of the last action, and takes up what the call does next. */
+    private void advance(Call<T> call, int report) {
+        long now = System.nanoTime();
+        acquire();
+        try {
+            noteReport(call, report);
+            takeUp(call, advanced(call, report, now), now);
+        } finally {
+            release();
+        }
+    }
+
+    private long advanced(Call<T> call, int report, long now) {
+        long token = call.member == null ? 0 : call.member.slot;
+        return Core.advance(core, call.place, call.number, timeOf(now), token, call.caller, report);
+    }
+
+    /** Notes what a report changes. */
+    private void noteReport(Call<T> call, int report) {
+        switch (call.action) {
+            case Core.ACTION_MAKE:
+                if (report != Core.REPORT_MADE) {
+                    free(call);
+                }
+                break;
+            case Core.ACTION_VALIDATE:
+                boolean isOfBorrow = call.kind == Core.KIND_BORROW && call.isActivated;
+                failedOnBorrow += isOfBorrow && report != Core.REPORT_SUCCEEDED ? 1 : 0;
+                break;
+            case Core.ACTION_DESTROY:
+                if (report != Core.REPORT_GIVEN_UP) {
+                    free(call);
+                }
+                break;
+            case Core.ACTION_SLEEP:
+                unpark(waiters.remove(call));
+                break;
+            default:
+        }
+    }
+
+    /** Asks for the bound on overtakes again that was greater than it is to be, since a waiter may have left. */
+    private void limitOvertakes() {
+        if (overtakes != maxOvertakes) {
+            overtakes = Core.setOvertakes(core, maxOvertakes);
+        }
+    }
+
+    /** The place of a call's object is free, unless it was reclaimed before. */
+    private void free(Call<T> call) {
+        if (members.at(call.member.slot) == call.member) {
+            members.remove(call.member);
+        }
+        call.hasFreed = true;
+    }
+
+    /** Takes up what a call does next. Where there is no memory for that, the call is given up. */
+    private void takeUp(Call<T> call, long reply, long now) {
+        try {
+            takeUpOnce(call, reply, now);
+        } catch (OutOfMemoryError e) {
+            call.keepsError(e);
+            call.giveUp();
+            takeUpOnce(call, advanced(call, Core.REPORT_GIVEN_UP, now), now);
+        }
+    }
+
+    private void takeUpOnce(Call<T> call, long reply, long now) {
+        if (reply < 0) {
+            throw new AssertionError("zuphinka: status " + -reply);
+        }
+        call.action = Core.action(reply);
+        call.end = Core.end(reply);
+        journal.noteEntries(details.getLong(Core.ENTRIES));
+        if (settings.isAbandonedRemoved && details.getLong(Core.RECLAIMED) > reclaimed) {
+            takeReclaimed(call);
+        }
+        prepare(call, reply);
+        if (call.kind == Core.KIND_RETURN || call.kind == Core.KIND_INVALIDATE) {
+            noteEndOfLoan(call);
+        }
+        if (call.isDone()) {
+            noteEnd(call, now);
+        }
+        limitOvertakes();
+        if (Core.hasWake(reply)) {
+            wake(details.getLong(Core.WAKE));
+            wakeMore();
+        }
+    }
+
+    /** Has what the next action needs. */
+    private void prepare(Call<T> call, long reply) {
+        switch (call.action) {
+            case Core.ACTION_MAKE_ROOM:
+                call.cuts = journal.cuts();
+                call.isRefused = isClosed && needsOpenPool(call.kind);
+                break;
+            case Core.ACTION_MAKE:
+                call.member = members.add(details.getLong(Core.OBJECT));
+                call.isActivated = false;
+                break;
+            case Core.ACTION_SLEEP:
+                call.ticket = details.getLong(Core.TICKET);
+                call.untilNanos = Core.hasUntil(reply) ? nanosUntil(details.getLong(Core.UNTIL), call) : Long.MAX_VALUE;
+                call.mayPause = Core.busy(core) <= Pauses.PROCESSORS;
+                waiters.add(call);
+                break;
+            case Core.ACTION_ACTIVATE:
+            case Core.ACTION_VALIDATE:
+            case Core.ACTION_PASSIVATE:
+            case Core.ACTION_DESTROY:
+                takeObject(call, Core.token(reply));
+                break;
+            default:
+                if (call.end == Core.END_LENT) {
+                    takeObject(call, Core.token(reply));
+                }
+        }
+    }
+
+    /** Returns how many nanoseconds after the beginning of a call a time of the core is. */
+    private long nanosUntil(long millis, Call<T> call) {
+        return TimeUnit.MILLISECONDS.toNanos(millis - millis(call.first));
+    }
+
+    /** Has the object that the next action is for, or that is lent. The one of a return or an invalidation is given. */
+    private void takeObject(Call<T> call, int token) {
+        if (call.kind != Core.KIND_RETURN && call.kind != Core.KIND_INVALIDATE) {
+            Member<T> member = members.at(token);
+            call.isActivated &= member == call.member;
+            call.member = member;
+        }
+    }
+
+    /** Takes the objects that were reclaimed from their holders. They are to be destroyed by the call, in the order of their ids. */
+    private void takeReclaimed(Call<T> call) {
+        for (int slot = members.slots() - 1; slot >= 0; slot--) {
+            Member<T> member = members.at(slot);
+            if (member != null && member.isLent() && !Core.isLent(core, member.id)) {
+                member.isGone = true;
+                member.end();
+                members.remove(member);
+                call.reclaim(member);
+            }
+        }
+        reclaimed = details.getLong(Core.RECLAIMED);
+    }
+
+    /** Notes the end of a loan, if the core took the object back. */
+    private void noteEndOfLoan(Call<T> call) {
+        boolean isWork = call.action >= Core.ACTION_ACTIVATE && call.action <= Core.ACTION_DESTROY;
+        if (!call.member.isLent() || !(isWork || call.end == Core.END_PARKED)) {
+            return;
+        }
+        if (call.kind == Core.KIND_RETURN) {
+            noteReturn(call.member, call.first);
+        } else {
+            loans.count(call.member.loanNanos(call.first));
+            call.member.end();
+        }
+    }
+
+    private void noteReturn(Member<T> member, long now) {
+        returned++;
+        loans.count(member.loanNanos(now));
+        member.giveBack(now);
+    }
+
+    /** Notes the end of a call. A closed pool is closed, whatever a call lacks. */
+    private void noteEnd(Call<T> call, long now) {
+        boolean lacks = call.end == Core.END_JOURNAL_FULL || call.end == Core.END_OUT_OF_MEMORY;
+        if (lacks && isClosed && needsOpenPool(call.kind)) {
+            call.end = Core.END_CLOSED;
+        }
+        evictions -= call.kind == Core.KIND_EVICT ? 1 : 0;
+        if (call.end == Core.END_LENT) {
+            lent(call.member, now, now - call.first);
+        }
+        if (call.kind == Core.KIND_BORROW && (call.end == Core.END_TIMED_OUT || call.end == Core.END_CANCELLED)) {
+            boolean isOther = call.error != null || call.obstacle != null || Thread.currentThread().isInterrupted();
+            timeouts += isOther ? 0 : 1;
+        }
+    }
+
+    /** Notes that a borrow has lent an object, and how long it took. */
+    private Member<T> lent(Member<T> member, long now, long nanos) {
+        borrowed++;
+        waits.count(nanos);
+        longestWaitNanos = Math.max(longestWaitNanos, nanos);
+        member.lend(now);
+        return member;
+    }
+
+    /** Returns whether a closed pool refuses a call, whatever its journal has room for. */
+    private static boolean needsOpenPool(int kind) {
+        return kind == Core.KIND_BORROW || kind == Core.KIND_ADD || kind == Core.KIND_FILL || kind == Core.KIND_EVICT;
+    }
+
+    // Wakes.
+
+    /** Wakes a call, in a fair pool once those that were to be woken before it have gone on: so each has the object that came free for it. */
+    private void wake(long ticket) {
+        if (!settings.isFair || waiters.queue(ticket)) {
+            unpark(waiters.wake(ticket));
+        }
+    }
+
+    private void unpark(Thread next) {
+        if (next != null) {
+            LockSupport.unpark(woken);
+            woken = next;
+        }
+    }
+
+    /** Wakes the calls that may find something now. */
+    private void wakeMore() {
+        if (waiters.isEmpty()) {
+            return;
+        }
+        for (long ticket = Core.nextWake(core); ticket >= 0; ticket = Core.nextWake(core)) {
+            wake(ticket);
+        }
+    }
+
+    // Room in the journal.
+
+    /** Makes room in a full journal. Returns the report; if there is no room, the call has the exception for that. */
+    private int makeRoom(Call<T> call) {
+        try {
+            if (call.isRefused || journal.isKept()) {
+                throw new IllegalStateException("Journal full");
+            }
+            if (journal.isPending()) {
+                storePending(call);
+            }
+            cutFull(call.cuts);
+            return Core.REPORT_ROOM_MADE;
+        } catch (InterruptedException e) {
+            call.obstacle = e;
+            return call.giveUp();
+        } catch (IllegalStateException | OutOfMemoryError e) {
+            call.obstacle = e;
+            return Core.REPORT_NO_ROOM;
+        }
+    }
+
+    /** Cuts a full journal, unless it was cut since it had been cut so often. */
+    private void cutFull(long cuts) {
+        acquire();
+        try {
+            if (journal.cuts() == cuts) {
+                journal.cutFull();
+            }
+        } finally {
+            release();
+        }
+    }
+
+    /** Stores the segment that waits. It waits for another thread that stores one: a borrow as long as for an object, other calls without an end. */
+    private void storePending(Call<T> call) throws InterruptedException {
+        if (call.kind == Core.KIND_BORROW) {
+            storeWithin(call.leftForRoom(settings));
+            return;
+        }
+        boolean isInterrupted = false;
+        try {
+            for (;;) {
+                try {
+                    storeWithin(Long.MAX_VALUE);
+                    return;
+                } catch (InterruptedException e) {
+                    isInterrupted = true;
+                }
+            }
+        } finally {
+            if (isInterrupted) {
+                Thread.currentThread().interrupt();
+            }
+        }
+    }
+
+    private void storeWithin(long nanos) throws InterruptedException {
+        boolean hasTurn;
+        try {
+            hasTurn = journal.storePending(nanos);
+        } catch (IOException | RuntimeException e) {
+            throw new IllegalStateException("Journal full", e);
+        }
+        if (!hasTurn) {
+            throw new IllegalStateException("Journal full");
+        }
+    }
+
+    // Loans.
+
+    /**
+     * Lends an object to a borrow that began at this time of {@link System#nanoTime}. It waits no longer than some nanoseconds, if they are not negative.
+     */
+    Member<T> borrow(long first, long longestNanos) throws Exception {
+        Member<T> member;
+        Call<T> call = null;
+        begin();
+        try {
+            member = work.isBorrowedBare ? lendAtOnce(first) : takeIdle(first);
+            if (member == null) {
+                call = begun(first, longestNanos);
+            }
+        } finally {
+            release();
+        }
+        if (call == null && (work.isBorrowedBare || isReadied(member, first))) {
+            return member;
+        }
+        return lentBy(call == null ? begunLater(first, longestNanos) : call);
+    }
+
+    /** Begins a borrow in a section that has the lock. */
+    private Call<T> begun(long first, long longestNanos) {
+        Call<T> call = call(Core.KIND_BORROW, first, null);
+        call.limitTo(longestNanos, settings);
+        beginCall(call);
+        return call;
+    }
+
+    /** Begins a borrow that has failed to make an object ready. */
+    private Call<T> begunLater(long first, long longestNanos) {
+        acquire();
+        try {
+            return begun(first, longestNanos < 0 ? settings.maxWaitNanos : longestNanos);
+        } finally {
+            release();
+        }
+    }
+
+    /** Follows a borrow to its end. Returns its object. */
+    private Member<T> lentBy(Call<T> call) throws Exception {
+        follow(call);
+        Member<T> member = call.member;
+        if (call.end == Core.END_LENT && call.error != null) {
+            giveBack(member);
+        }
+        Ends.check(call);
+        leave(call);
+        return member;
+    }
+
+    /** Returns an object. */
+    void giveBack(Member<T> member) {
+        long now = System.nanoTime();
+        Call<T> call = null;
+        begin();
+        try {
+            boolean isBegun = work.isReturnedBare ? takeBackAtOnce(member, now) : isTaken(member, now);
+            if (!isBegun) {
+                call = call(Core.KIND_RETURN, now, member);
+                beginCall(call);
+            }
+        } finally {
+            release();
+        }
+        if (call != null) {
+            follow(call);
+            Ends.checkUnchecked(call);
+            leave(call);
+        } else if (!work.isReturnedBare) {
+            putAway(member);
+        }
+    }
+
+    /** Makes another call, which is for no object if that is null, and destroys objects in a mode. A second close has no effect. */
+    void make(int kind, Member<T> member, DestroyMode mode) throws Exception {
+        Call<T> call = made(kind, member, mode);
+        Ends.check(call);
+        leave(call);
+    }
+
+    /** Makes such a call that throws no exception that is checked. */
+    void make(int kind, Member<T> member) {
+        Call<T> call = made(kind, member, DestroyMode.NORMAL);
+        Ends.checkUnchecked(call);
+        leave(call);
+    }
+
+    private Call<T> made(int kind, Member<T> member, DestroyMode mode) {
+        Call<T> call = call(kind, System.nanoTime(), member);
+        call.mode = mode;
+        begin();
+        try {
+            if (isClosed && kind == Core.KIND_CLOSE) {
+                call.action = Core.ACTION_DONE;
+                return call;
+            }
+            isClosed |= kind == Core.KIND_CLOSE;
+            beginCall(call);
+        } finally {
+            release();
+        }
+        follow(call);
+        return call;
+    }
+
+    /** Returns whether a lent object is abandoned by now, or soon, as far as the core knows. It takes no lock. */
+    boolean isAbandoned(Member<T> member) {
+        return member.unusedNanos(System.nanoTime()) >= settings.abandonedNanos - 2 * NANOS_OF_MILLI;
+    }
+
+    /** Notes that the holder of an object last used it so many nanoseconds ago, for a borrow with a limit or another call. */
+    void noteUse(Member<T> member, long nanosAgo, int kind, long first, long longestNanos) throws Exception {
+        Call<T> call = call(kind, first, null);
+        call.limitTo(longestNanos, settings);
+        long used = System.nanoTime() - nanosAgo;
+        while (!hasNoted(member, Math.max(used, start), call)) {
+            if (makeRoom(call) != Core.REPORT_ROOM_MADE) {
+                call.end = call.isGivenUp ? Core.END_CANCELLED : Core.END_JOURNAL_FULL;
+                Ends.check(call);
+            }
+        }
+        leave(call);
+    }
+
+    /** Notes a use at a time of {@link System#nanoTime}, and returns whether the journal had room for that. */
+    private boolean hasNoted(Member<T> member, long used, Call<T> call) {
+        begin();
+        try {
+            int status = Core.step(core, millis(used), member.id, 0, call.caller, Core.INPUT_USE, 0);
+            if (status == Core.STATUS_JOURNAL_FULL) {
+                call.cuts = journal.cuts();
+                call.isRefused = isClosed;
+                return false;
+            }
+            if (status < 0) {
+                throw new OutOfMemoryError("zuphinka: no memory for a step");
+            }
+            journal.add(1);
+            member.use(used);
+            return true;
+        } finally {
+            release();
+        }
+    }
+
+    // The journal.
+
+    /** What is freed from now on is to be stored by the call that frees it: the pool is closed. */
+    void endJournal() {
+        isEnding = true;
+        flush();
+    }
+
+    /** Stores the rest of the journal of a closed pool, once it has as many entries as objects are left: a segment has a line for each of these. */
+    private void storeLast() {
+        Counts counts = counts();
+        if (counts.entries() < counts.lent() + counts.reserved()) {
+            return;
+        }
+        try {
+            flush();
+        } catch (OutOfMemoryError e) {
+            work.swallow(new IllegalStateException(e));
+        }
+    }
+
+    /** Stores all entries of a journal that is stored. */
+    void flush() {
+        try {
+            storeRest();
+        } catch (IOException | RuntimeException e) {
+            work.swallow(e);
+        }
+    }
+
+    /** Cuts and stores the rest of a journal that is stored. It has no effect in a sink. */
+    private void storeRest() throws IOException {
+        if (journal.isInSink()) {
+            return;
+        }
+        do {
+            journal.storePending();
+        } while (!locked(journal::isRestCut));
+        journal.storePending();
+    }
+
+    /** Stores the segment that waits, without the lock, if it is due. */
+    void storeDue() {
+        try {
+            journal.storeDue();
+        } catch (Throwable e) {
+            work.swallow(e);
+        }
+    }
+
+    /** Stores the segment that waits, without the lock, also if that failed before. */
+    void storePending() {
+        try {
+            journal.storePending();
+        } catch (Throwable e) {
+            work.swallow(e);
+        }
+    }
+
+    /** Returns the journal since it was last cut. */
+    Segment segment() {
+        Segment segment = locked(journal::segment);
+        if (segment == null) {
+            throw new OutOfMemoryError("zuphinka: no memory for the journal's text");
+        }
+        return segment;
+    }
+
+    /** Cuts the journal, and returns what was cut. */
+    Segment cut() {
+        return locked(journal::cutNow);
+    }
+
+    // Numbers.
+
+    /** Returns the counts of the core. */
+    Counts counts() {
+        return locked(journal::counts);
+    }
+
+    /** Returns the loans of an object. */
+    Loans loansOf(Member<?> member) {
+        return locked(member::loans);
+    }
+
+    /** Returns what the pool counts besides. */
+    Usage usage() {
+        return locked(() -> new Usage(borrowed, returned, failedOnBorrow, waits.sum(), longestWaitNanos, waiters.size()));
+    }
+
+    /** Returns the metrics of the pool, with this label. */
+    Metrics metrics(String label) {
+        return new Metrics(locked(() -> new Metrics.Snapshot(label, journal.counts(), waiters.size(), timeouts, waits.copy(), loans.copy())));
+    }
+
+    /** Returns how often a thread that waits may be overtaken. */
+    int maxOvertakes() {
+        return locked(() -> maxOvertakes);
+    }
+
+    void setMaxOvertakes(int times) {
+        locked(() -> {
+            maxOvertakes = times;
+            overtakes = Core.setOvertakes(core, times);
+            return null;
+        });
+    }
+
+    /** Returns whether the pool was closed. */
+    boolean isClosed() {
+        return locked(() -> isClosed);
+    }
+}

@@ -1,0 +1,92 @@
+package io.github.zuphinka;
+
+import java.io.IOException;
+import java.io.OutputStream;
+import java.nio.ByteBuffer;
+import java.util.List;
+
+/**
+ * A part of a pool's journal that is complete. {@code pool check SETTINGS SEGMENT..} checks all segments of a pool in their order. Any number of
+ * threads may read it.
+ */
+public final class Segment {
+    private final long position;
+    private final long entries;
+    /** Its text, in order. No part is empty. */
+    final List<byte[]> parts;
+    private final String settings;
+
+    Segment(long position, long entries, List<byte[]> parts, String settings) {
+        this.position = position;
+        this.entries = entries;
+        this.parts = parts;
+        this.settings = settings;
+    }
+
+    /**
+     * Returns the position of its first entry: the number of entries before it since the pool was made.
+     *
+     * @return a number from 0
+     */
+    public long position() {
+        return position;
+    }
+
+    /**
+     * Returns the number of its entries.
+     *
+     * @return a number from 0
+     */
+    public long entries() {
+        return entries;
+    }
+
+    /**
+     * Returns the number of bytes of its text.
+     *
+     * @return a number from 0
+     */
+    public long size() {
+        return parts.stream().mapToLong(part -> part.length).sum();
+    }
+
+    /**
+     * Returns its lines in ASCII: those of the base that its entries continue, and those of the entries. Each line ends in a line feed.
+     *
+     * @return an array that is not to be changed. It may be that of the segment itself
+     * @throws IllegalStateException if the text has 2 GiB or more, which no array has; {@link #writeTo} writes it
+     */
+    public byte[] text() {
+        if (parts.size() == 1) {
+            return parts.get(0);
+        }
+        long size = size();
+        if (size > Integer.MAX_VALUE) {
+            throw new IllegalStateException("segment: " + size + " bytes are too many for an array, but not for writeTo");
+        }
+        ByteBuffer text = ByteBuffer.allocate((int) size);
+        parts.forEach(text::put);
+        return text.array();
+    }
+
+    /**
+     * Writes its text, of any length.
+     *
+     * @param to gets the bytes of {@link #text}; not null. It is not closed
+     * @throws IOException if the stream fails
+     */
+    public void writeTo(OutputStream to) throws IOException {
+        for (byte[] part : parts) {
+            to.write(part);
+        }
+    }
+
+    /**
+     * Returns the settings of the pool, as a file in TOML. All its segments have the same.
+     *
+     * @return the text that {@link ZuphinkaPool#getSettingsText} returns
+     */
+    public String settings() {
+        return settings;
+    }
+}

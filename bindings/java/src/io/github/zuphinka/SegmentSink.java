@@ -1,0 +1,22 @@
+package io.github.zuphinka;
+
+import java.io.IOException;
+
+/** Stores the segments of a pool's journal. */
+@FunctionalInterface
+public interface SegmentSink {
+    /**
+     * Stores a segment. Segments come one at a time and in their order, each from the thread whose call found the journal's room low. That call
+     * returns once this does. Other calls continue as long as there is room. Then a borrow waits for this as long as for an object, and another call
+     * as long as it takes. A return of a lent object never waits. This should not call the pool, which does not wait for it in the same thread.
+     *
+     * <p>If it throws anything, the segment counts as not stored. The same segment comes again, before any later one; so a segment may come twice if
+     * it was stored in spite of the failure. It comes again once half of the room that was left is used up, with {@link ZuphinkaPool#maintain} and
+     * {@link ZuphinkaPool#flushJournal}, and with each borrow once there is no room. Until it is stored no other segment is cut, and without room
+     * nothing is lent.
+     *
+     * @param segment the next segment
+     * @throws IOException if the segment is not stored
+     */
+    void store(Segment segment) throws IOException;
+}

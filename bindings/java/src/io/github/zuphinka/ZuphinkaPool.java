@@ -1,0 +1,688 @@
+package io.github.zuphinka;
+
+import java.io.IOException;
+import java.time.Duration;
+import java.time.Instant;
+import java.util.NoSuchElementException;
+import java.util.Set;
+import java.util.concurrent.ConcurrentHashMap;
+import java.util.concurrent.TimeUnit;
+import java.util.stream.Collectors;
+import javax.management.ObjectName;
+import org.apache.commons.pool2.DestroyMode;
+import org.apache.commons.pool2.ObjectPool;
+import org.apache.commons.pool2.PooledObjectFactory;
+import org.apache.commons.pool2.PooledObjectState;
+import org.apache.commons.pool2.TrackedUse;
+import org.apache.commons.pool2.UsageTracking;
+import org.apache.commons.pool2.impl.AbandonedConfig;
+import org.apache.commons.pool2.impl.DefaultPooledObjectInfo;
+import org.apache.commons.pool2.impl.GenericObjectPoolConfig;
+
+/**
+ * A pool with the interface and the behaviour of Commons Pool's {@code GenericObjectPool}, whose decisions are those of a proved core: which object
+ * is lent, kept, tested or destroyed, and when one is made.
+ *
+ * <p>Proved is each step of the core, and the one line of the journal that records it; what a call does after each step; and which thread that waits
+ * is woken. Tested, not proved, is this class: its lock, the sleep of its threads, and what a call with activation, passivation or tests does between
+ * its two steps. The factory's methods run without the lock.
+ *
+ * <p>The configurations are copied, and later changes to them have no effect. Any number of threads may use a pool.
+ *
+ * <p>Each call that takes a step may throw three exceptions that it does not list. They leave the pool as it was before the step:
+ * <ul>
+ * <li>an {@link IllegalStateException} with the message "Journal full", if the journal has no room: a kept one until it is cut, a stored one until
+ * its sink stores the segment that waits. The failure of the sink is its cause, if it failed. Otherwise another thread stores that segment for longer
+ * than a borrow waits;
+ * <li>an {@link OutOfMemoryError}, if there is no memory. The call may be tried again;
+ * <li>a {@link StackOverflowError}, if the thread has less than 120 KiB of its stack left.
+ * </ul>
+ * The return and the invalidation of a lent object never throw the first two, nor does the close of an open pool before it has closed and cleared
+ * it. Work begun on an object is always completed.
+ *
+ * <p>An {@link Error} that the factory throws is thrown by each call, once the place of its object is free. So is one of a wrapper. Of several, as of
+ * a close, the first is thrown once all objects are destroyed.
+ *
+ * @param <T> the type of the objects
+ */
+public class ZuphinkaPool<T> implements ObjectPool<T>, UsageTracking<T> {
+    private final CoreSettings settings;
+    private final Objects<T> objects = new Objects<>();
+    private final Work<T> work;
+    private final Sections<T> sections;
+    private final Duration evictorShutdown;
+    private final Construction construction = new Construction(this, ZuphinkaPool.class);
+    /** The threads that are in {@link #swallowed}. */
+    private final Set<Thread> reporting = ConcurrentHashMap.newKeySet();
+    private final Maintenance maintenance;
+    private final ObjectName beanName;
+
+    /**
+     * Makes a pool with the default configuration, whose journal is dropped.
+     *
+     * @param factory makes, activates, tests, passivates and destroys the objects
+     * @throws IllegalArgumentException if the factory is null
+     */
+    public ZuphinkaPool(PooledObjectFactory<T> factory) {
+        this(factory, new GenericObjectPoolConfig<>());
+    }
+
+    /**
+     * Makes a pool whose journal is dropped.
+     *
+     * @param factory makes, activates, tests, passivates and destroys the objects
+     * @param config the settings; not null
+     * @throws IllegalArgumentException as {@link #ZuphinkaPool(PooledObjectFactory, GenericObjectPoolConfig, AbandonedConfig, Journal)}
+     */
+    public ZuphinkaPool(PooledObjectFactory<T> factory, GenericObjectPoolConfig<T> config) {
+        this(factory, config, null);
+    }
+
+    /**
+     * Makes a pool that takes abandoned objects from their holders, and whose journal is dropped.
+     *
+     * @param factory makes, activates, tests, passivates and destroys the objects
+     * @param config the settings; not null
+     * @param abandoned when objects are abandoned; null: never
+     * @throws IllegalArgumentException as {@link #ZuphinkaPool(PooledObjectFactory, GenericObjectPoolConfig, AbandonedConfig, Journal)}
+     */
+    public ZuphinkaPool(PooledObjectFactory<T> factory, GenericObjectPoolConfig<T> config, AbandonedConfig abandoned) {
+        this(factory, config, abandoned, Journal.dropped());
+    }
+
+    /**
+     * Makes a pool whose journal is dropped, kept or stored. If the configuration has JMX enabled, it registers an MBean. If it has a positive time
+     * between eviction runs, it starts a daemon thread that calls {@link #maintain}.
+     *
+     * @param factory makes, activates, tests, passivates and destroys the objects
+     * @param config the settings; not null
+     * @param abandoned when objects are abandoned; null: never
+     * @param journal what becomes of the journal; not null. A stored one is for one pool
+     * @throws IllegalArgumentException if the factory is null, the limit of the journal is out of its range, or is reached before {@code maxTotal}
+     *     objects are lent; if another pool has the journal of this folder; or if the configuration asks for what the pool does not have: an {@code
+     *     evictionPolicy} other than the default one
+     * @throws OutOfMemoryError if there is no memory for the pool
+     * @throws LinkageError if the native library is not found or cannot be loaded
+     */
+    public ZuphinkaPool(PooledObjectFactory<T> factory, GenericObjectPoolConfig<T> config, AbandonedConfig abandoned, Journal journal) {
+        if (factory == null) {
+            throw new IllegalArgumentException("Factory may not be null");
+        }
+        AbandonedConfig copied = AbandonedConfig.copy(abandoned);
+        settings = new CoreSettings(config, copied, journal.limit);
+        work = new Work<>(factory, settings, copied, objects, this::swallow);
+        sections = open(settings, journal, work);
+        evictorShutdown = config.getEvictorShutdownTimeoutDuration();
+        Duration pause = config.getDurationBetweenEvictionRuns();
+        beanName = config.getJmxEnabled() ? PoolBean.register(this, config.clone(), copied, factory.getClass().getName()) : null;
+        maintenance = pause.isNegative() || pause.isZero() ? null : Maintenance.start(this, pause);
+    }
+
+    private static <T> Sections<T> open(CoreSettings settings, Journal journal, Work<T> work) {
+        journal.take();
+        try {
+            return new Sections<>(settings, journal, work);
+        } catch (Throwable e) {
+            journal.leave();
+            throw e;
+        }
+    }
+
+    // Borrows.
+
+    /**
+     * Lends an object: an idle one, or a new one if there is a free place. Otherwise it waits, as long as the configuration says. Idle objects that
+     * fail their activation or their test are destroyed, and the next one is tried. If the configuration says so, it first takes abandoned objects
+     * from their holders. Once the thread that has waited longest was overtaken as often as {@link #setMaxOvertakes} allows, it queues behind that
+     * one, and makes no entry meanwhile.
+     *
+     * @return an object that no other caller has, until it is returned, invalidated or abandoned
+     * @throws NoSuchElementException if no object and no place is free, and the configuration says not to wait or the time is over; or if a new
+     *     object failed its activation or its test. What the factory threw is the cause, if it threw
+     * @throws IllegalStateException if the pool is closed, also while it waits
+     * @throws InterruptedException if the thread is interrupted while it waits, or is when its time is over
+     * @throws Exception if the factory fails to make an object; the same exception. If it returns null a {@link NullPointerException}, and an {@link
+     *     IllegalStateException} if the pool has the object
+     */
+    @Override
+    public T borrowObject() throws Exception {
+        return borrow(-1);
+    }
+
+    /**
+     * Lends an object as {@link #borrowObject()}, with a limit of its own to the wait.
+     *
+     * @param longest the longest wait, in place of the configured one; negative: without a limit. Not null
+     * @return an object that no other caller has, until it is returned, invalidated or abandoned
+     * @throws Exception as {@link #borrowObject()}
+     */
+    public T borrowObject(Duration longest) throws Exception {
+        boolean isEndless = longest.isNegative() || longest.getSeconds() > TimeUnit.DAYS.toSeconds(10_000);
+        return borrow(isEndless ? Long.MAX_VALUE : longest.toNanos());
+    }
+
+    /**
+     * Lends an object as {@link #borrowObject()}, with a limit of its own to the wait.
+     *
+     * @param longestMillis the longest wait in milliseconds, in place of the configured one; negative: without a limit
+     * @return an object that no other caller has, until it is returned, invalidated or abandoned
+     * @throws Exception as {@link #borrowObject()}
+     */
+    public T borrowObject(long longestMillis) throws Exception {
+        return borrowObject(Duration.ofMillis(longestMillis));
+    }
+
+    /**
+     * Sets how often a waiting borrow is overtaken at most: 64 by default, and 0 if the configuration has {@code fairness}. With 0 the pool is
+     * fair. {@code GenericObjectPool} has no limit unless {@code fairness} is set.
+     *
+     * <p>A later borrow overtakes the oldest waiter if it takes an object or a place, and leaves too few for those who wait. Once the oldest was
+     * overtaken so often, or was woken and found nothing, later borrows queue behind it until it has its object or leaves. A borrow that does not
+     * wait then fails as if nothing were there.
+     *
+     * <p>Overtaking costs no sleep, so a high number lends more objects per second where many wait. A low one makes the longest wait shorter.
+     *
+     * @param times a number from 0
+     * @throws IllegalArgumentException if it is negative
+     */
+    public void setMaxOvertakes(int times) {
+        if (times < 0) {
+            throw new IllegalArgumentException("maxOvertakes: " + times + " is negative");
+        }
+        sections.setMaxOvertakes(times);
+    }
+
+    /**
+     * Returns how often a waiting borrow is overtaken at most.
+     *
+     * @return a number from 0
+     */
+    public int getMaxOvertakes() {
+        return sections.maxOvertakes();
+    }
+
+    /**
+     * Returns whether the pool is fair: no borrow overtakes one that waits.
+     *
+     * @return whether {@link #getMaxOvertakes} is 0
+     */
+    public boolean getFairness() {
+        return getMaxOvertakes() == 0;
+    }
+
+    private T borrow(long longestNanos) throws Exception {
+        long first = System.nanoTime();
+        if (settings.reclaimsOnBorrow) {
+            noteTrackedUses(Core.KIND_BORROW, first, longestNanos);
+        }
+        for (;;) {
+            Member<T> member = sections.borrow(first, longestNanos);
+            sections.storeDue();
+            if (!work.isBorrowedBare || isTold(member)) {
+                return member.pooled.getObject();
+            }
+        }
+    }
+
+    /** Tells the wrapper of an object that it is lent. If that fails the object is destroyed, and this returns false. */
+    private boolean isTold(Member<T> member) throws Exception {
+        try {
+            work.tellLoan(member);
+            return true;
+        } catch (Throwable e) {
+            invalidateQuietly(member);
+            rethrow(e);
+            return false;
+        }
+    }
+
+    private static void rethrow(Throwable fault) {
+        if (fault instanceof Error) {
+            throw (Error) fault;
+        }
+    }
+
+    /** Destroys a lent object whose wrapper failed, whatever the factory throws but an error. */
+    private void invalidateQuietly(Member<T> member) {
+        try {
+            sections.make(Core.KIND_INVALIDATE, member, DestroyMode.NORMAL);
+        } catch (Exception e) {
+            swallow(e);
+        }
+    }
+
+    // Returns.
+
+    /**
+     * Returns a lent object. It becomes idle, or it is destroyed: if it fails its test or its passivation, if {@code maxIdle} objects are idle, or if
+     * the pool is closed. What the factory throws is passed to {@link #swallowed}, except for a failed test. If objects can be abandoned, the return
+     * of an object that is no longer of the pool has no effect.
+     *
+     * @param object a lent object
+     * @throws IllegalStateException if the object was returned before, or is not of this pool and objects cannot be abandoned
+     */
+    @Override
+    public void returnObject(T object) {
+        Member<T> member = objects.find(object);
+        if (member == null) {
+            missing("Returned object not currently part of this pool");
+            return;
+        }
+        if (!work.isReturnedBare || isToldOfReturn(member)) {
+            sections.giveBack(member);
+        }
+        sections.storeDue();
+    }
+
+    /** Tells the wrapper of an object that it is returned, before another thread may have it. If that fails it is destroyed, and this returns false. */
+    private boolean isToldOfReturn(Member<T> member) {
+        try {
+            work.tellReturn(member);
+            return true;
+        } catch (Throwable e) {
+            invalidateQuietly(member);
+            rethrow(e);
+            swallow(e);
+            return false;
+        }
+    }
+
+    private void missing(String message) {
+        if (!settings.isAbandonedRemoved) {
+            throw new IllegalStateException(message);
+        }
+    }
+
+    /**
+     * Destroys a lent object and frees its place. If objects can be abandoned, it has no effect on an object that is no longer of the pool.
+     *
+     * @param object a lent object
+     * @throws IllegalStateException if the object is of this pool and not lent, or is not of this pool and objects cannot be abandoned
+     * @throws Exception if the factory fails to destroy it. Its place is free all the same
+     */
+    @Override
+    public void invalidateObject(T object) throws Exception {
+        invalidateObject(object, DestroyMode.NORMAL);
+    }
+
+    /** Does the same, and passes a mode on to the factory. */
+    @Override
+    public void invalidateObject(T object, DestroyMode mode) throws Exception {
+        Member<T> member = objects.find(object);
+        if (member == null) {
+            missing("Invalidated object not currently part of this pool");
+            return;
+        }
+        sections.make(Core.KIND_INVALIDATE, member, mode);
+        sections.storeDue();
+    }
+
+    /**
+     * Notes that its holder uses a lent object now, if the configuration tracks usage: the time until it is abandoned begins again, and its wrapper
+     * records the stack of the call. Otherwise it has no effect, nor on an object that is not of this pool.
+     *
+     * @param object a lent object
+     */
+    @Override
+    public void use(T object) {
+        Member<T> member = settings.isUsageTracked ? objects.find(object) : null;
+        if (member == null) {
+            return;
+        }
+        Instant now = Instant.now();
+        member.pooled.use();
+        sections.make(Core.KIND_TOUCH, member);
+        member.used = now;
+        sections.storeDue();
+    }
+
+    // Upkeep.
+
+    /**
+     * Makes one more idle object, if there is a free place. One that fails its test is destroyed, without an exception.
+     *
+     * @throws IllegalStateException if the pool is closed
+     * @throws Exception if the factory fails to make or to passivate it, or its test throws; the same exception. Its place is free
+     */
+    @Override
+    public void addObject() throws Exception {
+        sections.make(Core.KIND_ADD, null, DestroyMode.NORMAL);
+        sections.storeDue();
+    }
+
+    /**
+     * Makes idle objects until {@code minIdle} are idle, as far as there are places. One that fails its test is destroyed, and no other is made then.
+     * It has no effect on a closed pool.
+     *
+     * @throws Exception if the factory fails to make or to passivate one; the same exception. Those made before stay idle
+     */
+    public void preparePool() throws Exception {
+        sections.make(Core.KIND_FILL, null, DestroyMode.NORMAL);
+        sections.storeDue();
+    }
+
+    /**
+     * Maintains the pool: {@link #evict}, then {@link #preparePool}. It stores a segment that a sink did not store before. The maintenance thread
+     * calls it.
+     *
+     * @throws IllegalStateException if the pool is closed
+     * @throws Exception as {@link #preparePool}
+     */
+    public void maintain() throws Exception {
+        evict();
+        preparePool();
+        sections.storePending();
+    }
+
+    /**
+     * Examines idle objects, as many as {@code numTestsPerEvictionRun} says. It destroys those that were idle for too long, and those that fail their
+     * test if {@code testWhileIdle} is set. Then, if the configuration says so, it takes abandoned objects from their holders and destroys them. What
+     * the factory throws is passed to {@link #swallowed}.
+     *
+     * @throws IllegalStateException if the pool is closed
+     * @throws Exception if an override does; this method throws none that is checked
+     */
+    public void evict() throws Exception {
+        sections.make(Core.KIND_EVICT, null);
+        if (settings.reclaimsOnMaintenance) {
+            noteTrackedUses(Core.KIND_RECLAIM, System.nanoTime(), -1);
+            sections.make(Core.KIND_RECLAIM, null);
+        }
+        sections.storeDue();
+    }
+
+    /** Notes when lent objects were last used that know it themselves, and that are abandoned otherwise. */
+    private void noteTrackedUses(int kind, long first, long longestNanos) throws Exception {
+        if (!work.hasTracked()) {
+            return;
+        }
+        for (Member<T> member : objects.all()) {
+            boolean isTracked = member.pooled.getObject() instanceof TrackedUse && member.pooled.getState() == PooledObjectState.ALLOCATED;
+            if (isTracked && sections.isAbandoned(member)) {
+                Instant used = ((TrackedUse) member.pooled.getObject()).getLastUsedInstant();
+                if (used.isAfter(member.pooled.getLastBorrowInstant()) && (member.used == null || used.isAfter(member.used))) {
+                    Instant now = Instant.now();
+                    long ago = used.isBefore(now) ? Duration.between(used, now).toNanos() : 0;
+                    sections.noteUse(member, ago, kind, first, longestNanos);
+                    member.used = used;
+                }
+            }
+        }
+    }
+
+    /** Destroys all idle objects, except those under an idle test. What the factory throws is passed to {@link #swallowed}. */
+    @Override
+    public void clear() {
+        sections.make(Core.KIND_CLEAR, null);
+        sections.storeDue();
+    }
+
+    /**
+     * Closes the pool: nothing is lent any more, threads that wait get an {@link IllegalStateException}, and idle objects are destroyed. Lent ones
+     * are destroyed when they are returned. It ends the maintenance thread, for which it waits as long as {@code evictorShutdownTimeout} says,
+     * unregisters the MBean, and stores the rest of a journal that is stored, also if the factory throws an {@link Error}. The entries of later
+     * returns are stored by these, each time that there are as many as objects that are still lent. What the factory and the sink throw otherwise is
+     * passed to {@link #swallowed}. A second close destroys nothing.
+     *
+     * @throws OutOfMemoryError if there is no memory to cut the rest of a journal that is stored; the pool is closed, and {@link #flushJournal} may
+     *     be tried again
+     */
+    @Override
+    public void close() {
+        try {
+            sections.make(Core.KIND_CLOSE, null);
+        } finally {
+            end();
+        }
+    }
+
+    /** Ends what a pool has besides its objects. */
+    private void end() {
+        if (maintenance != null) {
+            maintenance.stop(evictorShutdown);
+        }
+        if (beanName != null) {
+            PoolBean.unregister(beanName);
+        }
+        sections.endJournal();
+    }
+
+    // Numbers.
+
+    /**
+     * Returns the counts of the pool at one moment.
+     *
+     * @return the counts, which later calls do not change
+     */
+    public Counts getCounts() {
+        return sections.counts();
+    }
+
+    /**
+     * Returns the state of the pool at one moment, to be written as a text in the OpenMetrics format.
+     *
+     * @param name what tells the pool from others in that text, any text
+     * @return the metrics, which later calls do not change
+     * @throws NullPointerException if the name is null
+     */
+    public Metrics metrics(String name) {
+        return sections.metrics(Metrics.label(name));
+    }
+
+    /**
+     * Returns the number of idle objects, including those under an idle test.
+     *
+     * @return a number from 0
+     */
+    @Override
+    public int getNumIdle() {
+        return (int) sections.counts().idle();
+    }
+
+    /**
+     * Returns the number of objects that are lent, or being made, activated, tested, passivated or destroyed.
+     *
+     * @return a number from 0
+     */
+    @Override
+    public int getNumActive() {
+        Counts counts = sections.counts();
+        return (int) (counts.lent() + counts.reserved());
+    }
+
+    /**
+     * Returns the number of threads that wait for an object.
+     *
+     * @return a number from 0
+     */
+    public int getNumWaiters() {
+        return sections.usage().waiters;
+    }
+
+    /**
+     * Returns whether the pool is closed.
+     *
+     * @return true from the first {@link #close} on
+     */
+    public boolean isClosed() {
+        return sections.isClosed();
+    }
+
+    /**
+     * Returns the number of loans since the pool was made.
+     *
+     * @return a number from 0
+     */
+    public long getBorrowedCount() {
+        return sections.usage().borrowed;
+    }
+
+    /**
+     * Returns the number of returns of lent objects since the pool was made. An object that was abandoned or invalidated before does not count.
+     *
+     * @return a number from 0
+     */
+    public long getReturnedCount() {
+        return sections.usage().returned;
+    }
+
+    /**
+     * Returns the number of objects that the pool asked its factory to make, also if that failed.
+     *
+     * @return a number from 0
+     */
+    public long getCreatedCount() {
+        return sections.counts().created();
+    }
+
+    /**
+     * Returns the number of objects that lost their places: they were destroyed, could not be made, or were taken from their holders.
+     *
+     * @return a number from 0
+     */
+    public long getDestroyedCount() {
+        Counts counts = sections.counts();
+        return counts.destroyed() + counts.reclaimed();
+    }
+
+    /**
+     * Returns the number of idle objects that eviction runs destroyed, for their idle time or a failed test.
+     *
+     * @return a number from 0
+     */
+    public long getDestroyedByEvictorCount() {
+        return sections.counts().evicted();
+    }
+
+    /**
+     * Returns the number of objects that were destroyed for a failed test of {@code testOnBorrow}.
+     *
+     * @return a number from 0
+     */
+    public long getDestroyedByBorrowValidationCount() {
+        return sections.usage().failedOnBorrow;
+    }
+
+    /**
+     * Returns the longest time that a borrow took to lend an object: its wait, and the calls of the factory.
+     *
+     * @return milliseconds, from 0
+     */
+    public long getMaxBorrowWaitTimeMillis() {
+        return TimeUnit.NANOSECONDS.toMillis(sections.usage().longestWaitNanos);
+    }
+
+    /**
+     * Returns the mean time that a borrow took to lend an object, of all borrows since the pool was made: its wait, and the calls of the factory.
+     *
+     * @return milliseconds, from 0; 0 if there was no loan
+     */
+    public long getMeanBorrowWaitTimeMillis() {
+        Usage usage = sections.usage();
+        return usage.borrowed == 0 ? 0 : TimeUnit.NANOSECONDS.toMillis(usage.waitedNanos / usage.borrowed);
+    }
+
+    /**
+     * Returns a view of each object that was made and is not being destroyed. It takes no lock: objects that come or go meanwhile may be missing.
+     *
+     * @return a new set
+     */
+    public Set<DefaultPooledObjectInfo> listAllObjects() {
+        return objects.all().stream().map(this::infoOf).collect(Collectors.toSet());
+    }
+
+    private DefaultPooledObjectInfo infoOf(Member<T> member) {
+        return member.isWrapperTold ? new DefaultPooledObjectInfo(member.pooled) : new MemberInfo(sections, member);
+    }
+
+    /**
+     * Returns the name of the pool's MBean.
+     *
+     * @return the name, also after the pool was closed; null if it was not registered
+     */
+    public ObjectName getJmxName() {
+        return beanName;
+    }
+
+    // The journal.
+
+    /**
+     * Returns the number of this thread in the journals of all pools. Threads are numbered from 0, in the order in which they first take a step of a
+     * pool or call this method. After 2<sup>32</sup> threads the numbers begin again.
+     *
+     * @return a number from 0 to 2<sup>32</sup> - 1, always the same in one thread
+     */
+    public static long callerNumber() {
+        return Integer.toUnsignedLong(Callers.number());
+    }
+
+    /**
+     * Returns the settings as a file in TOML, by which {@code pool check} checks the journal.
+     *
+     * @return the text, always the same
+     */
+    public String getSettingsText() {
+        return settings.text();
+    }
+
+    /**
+     * Returns the journal since it was last cut. The pool is unchanged.
+     *
+     * @return the entries, with the base that they continue
+     * @throws OutOfMemoryError if there is no memory for the text
+     */
+    public Segment getJournal() {
+        return sections.segment();
+    }
+
+    /**
+     * Cuts a journal that is kept, and returns what was cut. Objects, waits and counts are unchanged. Entries of a journal that is stored would be
+     * missing from its segments.
+     *
+     * @return the entries since the last cut, with the base that they continue
+     * @throws OutOfMemoryError if there is no memory; then nothing is cut
+     */
+    public Segment cut() {
+        return sections.cut();
+    }
+
+    /**
+     * Stores all entries of a journal that is stored. It has no effect on one that is kept or dropped. A failure of the sink is passed to {@link
+     * #swallowed}, and the segment waits.
+     *
+     * @throws OutOfMemoryError if there is no memory; then nothing is cut
+     */
+    public void flushJournal() {
+        sections.flush();
+    }
+
+    /**
+     * Receives each failure that no call throws: those of destructions, passivations and tests of returned or idle objects, of the maintenance
+     * thread, and of a sink. It does nothing. Override it to log them. It runs without the pool's lock, in the thread whose call failed, and so in
+     * several threads at once. It may call the pool: in a thread that is in it, it is not called again. Nor is it before the constructor of a
+     * subclass has ended, except by calls in that. What it throws is ignored, since the call that failed has to be completed.
+     *
+     * @param failure what the factory or the sink threw; an {@link Error} as the cause of an {@link IllegalStateException}
+     */
+    protected void swallowed(Exception failure) {}
+
+    /** Passes a failure to {@link #swallowed}, unless this thread is in it. */
+    final void swallow(Throwable failure) {
+        try {
+            construction.await();
+            if (reporting.add(Thread.currentThread())) {
+                report(failure);
+            }
+        } catch (Throwable e) {
+            // No object may lose its place by that.
+        }
+    }
+
+    private void report(Throwable failure) {
+        try {
+            swallowed(failure instanceof Exception ? (Exception) failure : new IllegalStateException(failure));
+        } finally {
+            reporting.remove(Thread.currentThread());
+        }
+    }
+}
