@@ -46,9 +46,11 @@ final class Call<T> {
     long cuts;
     boolean isRefused;
 
-    /** Its wait: the ticket, for how many nanoseconds since its beginning the core allows it, and whether there is a processor to pause on. */
-    long ticket;
+    /** When its wait is over by the core, if it is a borrow: in milliseconds of the core, and in nanoseconds since its beginning. */
+    long untilMillis;
     long untilNanos;
+    /** The ticket by which it is woken, and whether there is a processor to pause on. */
+    long ticket;
     boolean mayPause;
     Thread thread;
     volatile boolean isWoken;
@@ -60,6 +62,8 @@ final class Call<T> {
         first = now;
         limitNanos = Long.MAX_VALUE;
         moreMillis = 0;
+        untilMillis = Long.MAX_VALUE;
+        untilNanos = Long.MAX_VALUE;
         mode = DestroyMode.NORMAL;
         action = Core.ACTION_GO_ON;
         end = Core.END_NONE;
@@ -98,15 +102,6 @@ final class Call<T> {
         }
         long longest = nanos == Long.MAX_VALUE ? CoreSettings.MOST_MILLIS : TimeUnit.NANOSECONDS.toMillis(nanos - 1) + 1;
         moreMillis = longest - TimeUnit.NANOSECONDS.toMillis(settings.maxWaitNanos);
-    }
-
-    /**
-     * Returns by how many milliseconds the core is to let a borrow wait longer than the settings say: by one more where it may wait at all, since the
-     * times of the core are whole milliseconds, and no wait ends before its time. 0 for another call.
-     */
-    long longerMillis(CoreSettings settings) {
-        boolean mayWait = kind == Core.KIND_BORROW && (settings.maxWaitNanos > 0 || moreMillis > 0);
-        return mayWait ? moreMillis + 1 : 0;
     }
 
     /** Returns for how many nanoseconds it may wait yet for room in the journal. */

@@ -259,7 +259,7 @@ final class Sections<T> {
     private void beginCall(Call<T> call) {
         Member<T> member = call.member;
         evictions += call.kind == Core.KIND_EVICT ? 1 : 0;
-        long id = member == null ? call.longerMillis(settings) : member.id;
+        long id = member == null ? call.moreMillis : member.id;
         long reply = Core.begin(core, timeOf(call.first), id, member == null ? 0 : member.slot, call.caller, call.kind);
         if (reply == Core.STATUS_OUT_OF_MEMORY) {
             call.action = Core.ACTION_DONE;
@@ -317,14 +317,30 @@ final class Sections<T> {
 
     /** Reports what came of the last action, and takes up what the call does next. */
     private void advance(Call<T> call, int report) {
+        while (!hasAdvanced(call, report)) {
+            LockSupport.parkNanos(call, call.left(call.untilNanos));
+        }
+    }
+
+    /** Does so, unless the call is early. Returns whether it did. */
+    private boolean hasAdvanced(Call<T> call, int report) {
         long now = System.nanoTime();
         acquire();
         try {
+            if (report != Core.REPORT_GIVEN_UP && isEarly(call, now)) {
+                return false;
+            }
             noteReport(call, report);
             takeUp(call, advanced(call, report, now), now);
+            return true;
         } finally {
             release();
         }
+    }
+
+    /** Returns whether the wait of a call is over by the milliseconds of the core, and not yet by the clock: for less than a millisecond. */
+    private boolean isEarly(Call<T> call, long now) {
+        return timeOf(now) >= call.untilMillis && call.left(call.untilNanos) > 0;
     }
 
     private long advanced(Call<T> call, int report, long now) {
@@ -388,6 +404,10 @@ final class Sections<T> {
         }
         call.action = Core.action(reply);
         call.end = Core.end(reply);
+        if (Core.hasUntil(reply)) {
+            call.untilMillis = details.getLong(Core.UNTIL);
+            call.untilNanos = nanosUntil(call.untilMillis, call);
+        }
         journal.noteEntries(details.getLong(Core.ENTRIES));
         if (settings.isAbandonedRemoved && details.getLong(Core.RECLAIMED) > reclaimed) {
             takeReclaimed(call);
@@ -419,7 +439,6 @@ final class Sections<T> {
                 break;
             case Core.ACTION_SLEEP:
                 call.ticket = details.getLong(Core.TICKET);
-                call.untilNanos = Core.hasUntil(reply) ? nanosUntil(details.getLong(Core.UNTIL), call) : Long.MAX_VALUE;
                 call.mayPause = Core.busy(core) <= Pauses.PROCESSORS;
                 waiters.add(call);
                 break;
