@@ -1851,12 +1851,20 @@ static struct told line_at(struct zuphinka *pool, uint64_t position) {
   return line;
 }
 
+/* No idle object is taken, and no lent one is checked. */
+static void refuse_by_halves(struct zuphinka *pool, uint32_t status, struct zuphinka_loan *loan) {
+  const struct zuphinka_loan before = *loan;
+  check(zuphinka_take(pool, 3, 9, loan) == status && loan->id == before.id && loan->object == before.object);
+  check(zuphinka_check(pool, 3, 9, loan->id) == status);
+}
+
 /* No loan begins or ends at once; nothing changes. */
 static void refuse_at_once(struct zuphinka *pool, uint32_t status, uint64_t id) {
   struct zuphinka_loan loan = {id, &maker};
   struct told before = tell(pool);
   check(zuphinka_lend(pool, 3, 9, &loan) == status && loan.id == id && loan.object == &maker);
   check(zuphinka_take_back(pool, 3, 9, &loan) == status);
+  refuse_by_halves(pool, status, &loan);
   check_text(tell(pool).text, before.text);
 }
 
@@ -1886,6 +1894,77 @@ static void test_loans_at_once(void) {
   refuse_at_once(&pool, ZUPHINKA_STATUS_NOT_AT_ONCE, 0);
   check(zuphinka_next_wake(&pool, &ticket) == ZUPHINKA_STATUS_DONE && ticket == effects.ticket);
   check(advance(&pool, &call, ZUPHINKA_REPORT_WOKEN, &effects) == ZUPHINKA_STATUS_DONE && effects.end == ZUPHINKA_END_LENT);
+  zuphinka_drop(&pool);
+}
+
+static bool is_lent(struct zuphinka *pool, uint64_t id) {
+  bool is_lent = false;
+  check(zuphinka_is_lent(pool, id, &is_lent) == ZUPHINKA_STATUS_DONE);
+  return is_lent;
+}
+
+/* Takes a step of caller 4 on an object at a time. Returns the answer. */
+static uint32_t step_at(struct zuphinka *pool, uint64_t at, uint32_t input, uint32_t outcome, struct zuphinka_loan loan) {
+  const struct zuphinka_request request = {
+      .at = at, .number = loan.id, .object = loan.object, .caller = 4, .input = input, .outcome = outcome};
+  struct zuphinka_reply reply;
+  check(zuphinka_step(pool, &request, &reply) == ZUPHINKA_STATUS_DONE);
+  return reply.answer;
+}
+
+/* With hooks a loan and its end take two halves each, between which the host works. */
+static void test_loans_by_halves(void) {
+  const struct zuphinka_options hooks = {.activates = true, .validates = true, .passivates = true};
+  const struct zuphinka_start last = {.kind = ZUPHINKA_KIND_RETURN, .at = 9, .object = &maker};
+  struct zuphinka pool = {.at = NULL};
+  struct zuphinka_call call;
+  struct zuphinka_effects effects;
+  struct zuphinka_loan loan = {0, &maker};
+  refuse_by_halves(&pool, ZUPHINKA_STATUS_NOT_OPEN, &loan);
+  check(zuphinka_open_with(&pool, "maxTotal = 1\n", 13, &hooks) == ZUPHINKA_STATUS_DONE);
+  refuse_by_halves(&pool, ZUPHINKA_STATUS_NOT_AT_ONCE, &loan);
+  check(begin(&pool, ZUPHINKA_KIND_BORROW, &call, &effects) == ZUPHINKA_STATUS_DONE);
+  check(advance(&pool, &call, ZUPHINKA_REPORT_MADE, &effects) == ZUPHINKA_STATUS_DONE && effects.action == ZUPHINKA_ACTION_ACTIVATE);
+  refuse_by_halves(&pool, ZUPHINKA_STATUS_NOT_AT_ONCE, &loan);
+  check(advance(&pool, &call, ZUPHINKA_REPORT_SUCCEEDED, &effects) == ZUPHINKA_STATUS_DONE && effects.end == ZUPHINKA_END_LENT);
+  check(zuphinka_check(&pool, 4, 5, 1) == ZUPHINKA_STATUS_NOT_AT_ONCE);
+  check(zuphinka_check(&pool, 4, 5, 0) == ZUPHINKA_STATUS_DONE);
+  check(zuphinka_check(&pool, 4, 5, 0) == ZUPHINKA_STATUS_NOT_AT_ONCE && !is_lent(&pool, 0));
+  check(step_at(&pool, 6, ZUPHINKA_INPUT_PARK, ZUPHINKA_OUTCOME_GOOD, loan) == ZUPHINKA_ANSWER_PARKED);
+  loan = (struct zuphinka_loan){7, NULL};
+  check(zuphinka_take(&pool, 4, 3, &loan) == ZUPHINKA_STATUS_DONE && loan.id == 0 && loan.object == &maker && !is_lent(&pool, 0));
+  check(step_at(&pool, 8, ZUPHINKA_INPUT_READY, ZUPHINKA_OUTCOME_GOOD, loan) == ZUPHINKA_ANSWER_LENT && is_lent(&pool, 0));
+  check_text(line_at(&pool, 2).text, "4 5 return 0 = check");
+  check_text(line_at(&pool, 3).text, "4 6 park 0 good = parked");
+  check_text(line_at(&pool, 4).text, "4 6 borrow 6 = take 0");
+  check_text(line_at(&pool, 5).text, "4 8 ready 0 good = lent");
+  check(zuphinka_begin(&pool, &last, &call, &effects) == ZUPHINKA_STATUS_DONE && effects.action == ZUPHINKA_ACTION_PASSIVATE);
+  zuphinka_drop(&pool);
+}
+
+/* A borrow that takes an idle object by halves overtakes one that waits, and no more often than is set. */
+static void test_overtakes_by_halves(void) {
+  const struct zuphinka_options hooks = {.activates = true, .passivates = true, .max_overtakes = 2};
+  struct zuphinka pool = {.at = NULL};
+  struct zuphinka_call call;
+  struct zuphinka_effects effects;
+  struct zuphinka_loan loan = {0, &maker};
+  uint64_t ticket = 7;
+  check(zuphinka_open_with(&pool, "maxTotal = 1\n", 13, &hooks) == ZUPHINKA_STATUS_DONE);
+  check(begin(&pool, ZUPHINKA_KIND_BORROW, &call, &effects) == ZUPHINKA_STATUS_DONE);
+  check(advance(&pool, &call, ZUPHINKA_REPORT_MADE, &effects) == ZUPHINKA_STATUS_DONE);
+  check(advance(&pool, &call, ZUPHINKA_REPORT_SUCCEEDED, &effects) == ZUPHINKA_STATUS_DONE && effects.end == ZUPHINKA_END_LENT);
+  check(begin(&pool, ZUPHINKA_KIND_BORROW, &call, &effects) == ZUPHINKA_STATUS_DONE && effects.action == ZUPHINKA_ACTION_SLEEP);
+  for (int overtakes = 0; overtakes < 3; overtakes++) {
+    check(zuphinka_check(&pool, 4, 0, 0) == ZUPHINKA_STATUS_DONE);
+    check(step_at(&pool, 0, ZUPHINKA_INPUT_PARK, ZUPHINKA_OUTCOME_GOOD, loan) == ZUPHINKA_ANSWER_PARKED);
+    check(zuphinka_next_wake(&pool, &ticket) == ZUPHINKA_STATUS_DONE && ticket == effects.ticket);
+    check(zuphinka_take(&pool, 4, 0, &loan) == (overtakes < 2 ? ZUPHINKA_STATUS_DONE : ZUPHINKA_STATUS_NOT_AT_ONCE));
+    if (overtakes == 2) break;
+    check(zuphinka_next_wake(&pool, &ticket) == ZUPHINKA_STATUS_NO_WAKE);
+    check(step_at(&pool, 0, ZUPHINKA_INPUT_READY, ZUPHINKA_OUTCOME_GOOD, loan) == ZUPHINKA_ANSWER_LENT);
+  }
+  check(advance(&pool, &call, ZUPHINKA_REPORT_WOKEN, &effects) == ZUPHINKA_STATUS_DONE && effects.action == ZUPHINKA_ACTION_ACTIVATE);
   zuphinka_drop(&pool);
 }
 
@@ -1983,12 +2062,6 @@ static void test_changed_overtakes(void) {
   check(advance(&pool, &call, ZUPHINKA_REPORT_WOKEN, &effects) == ZUPHINKA_STATUS_DONE && effects.end == ZUPHINKA_END_LENT);
   check(zuphinka_set_overtakes(&pool, 0, &bound) == ZUPHINKA_STATUS_DONE && bound == 0);
   zuphinka_drop(&pool);
-}
-
-static bool is_lent(struct zuphinka *pool, uint64_t id) {
-  bool is_lent = false;
-  check(zuphinka_is_lent(pool, id, &is_lent) == ZUPHINKA_STATUS_DONE);
-  return is_lent;
 }
 
 /* An object is lent from its loan until its return, its end, or its removal from its holder. */
@@ -2560,6 +2633,8 @@ static const struct {
     TEST(calls_of_an_empty_handle),
     TEST(loans_at_once),
     TEST(many_loans_at_once),
+    TEST(loans_by_halves),
+    TEST(overtakes_by_halves),
     TEST(longer_waits),
     TEST(changed_overtakes),
     TEST(lent_objects),

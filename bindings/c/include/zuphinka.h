@@ -520,6 +520,18 @@ uint32_t zuphinka_advance(struct zuphinka *pool, const struct zuphinka_call *cal
 uint32_t zuphinka_lend(struct zuphinka *pool, uint32_t caller, uint64_t at, struct zuphinka_loan *loan);
 
 /*
+ * Takes an idle object for a borrow that begins now, by its first step, `borrow`, and stores the object's id and token in `loan`. The host activates
+ * and tests it without its lock, and reports that by a step, ZUPHINKA_INPUT_READY. If the work failed, the answer is ZUPHINKA_ANSWER_DESTROY: the
+ * host destroys the object, reports that by ZUPHINKA_INPUT_DESTROYED, and begins the borrow. Times, overtakes and wakes are those of
+ * `zuphinka_lend`.
+ *
+ * Returns ZUPHINKA_STATUS_DONE. Otherwise the pool and `loan` are unchanged: ZUPHINKA_STATUS_NOT_OPEN; or ZUPHINKA_STATUS_NOT_AT_ONCE, and the
+ * borrow is to be begun: abandoned objects are to be removed; calls that wait come first; no object is idle; the journal is to be cut, or has no
+ * room; or there is no memory.
+ */
+uint32_t zuphinka_take(struct zuphinka *pool, uint32_t caller, uint64_t at, struct zuphinka_loan *loan);
+
+/*
  * Takes a lent object back at once, if its return would end so: it takes both steps of that, `return` and `park`, and the object is idle, with its
  * token. Then the host wakes the calls of `zuphinka_next_wake`.
  *
@@ -527,6 +539,16 @@ uint32_t zuphinka_lend(struct zuphinka *pool, uint32_t caller, uint64_t at, stru
  * to be begun: a hook or a test is to run; the object is not lent; the pool is closed, or has as many idle objects as it may; or the journal is to be cut.
  */
 uint32_t zuphinka_take_back(struct zuphinka *pool, uint32_t caller, uint64_t at, const struct zuphinka_loan *loan);
+
+/*
+ * Takes the first step, `return`, of the return of lent object `id`. The host tests and passivates it without its lock, and reports that by a step,
+ * ZUPHINKA_INPUT_PARK. If the answer is ZUPHINKA_ANSWER_DESTROY, it destroys the object, and reports that by ZUPHINKA_INPUT_DESTROYED. After the
+ * object is idle or its place is free the host wakes the calls of `zuphinka_next_wake`. Times count as in `zuphinka_begin`.
+ *
+ * Returns ZUPHINKA_STATUS_DONE. Otherwise the pool is unchanged: ZUPHINKA_STATUS_NOT_OPEN; or ZUPHINKA_STATUS_NOT_AT_ONCE, and the return is to be
+ * begun: the object is not lent, or the journal is to be cut.
+ */
+uint32_t zuphinka_check(struct zuphinka *pool, uint32_t caller, uint64_t at, uint64_t id);
 
 /*
  * Stores in `ticket` the ticket of the next call to wake: the oldest that sleeps, one for each idle object and each free place, and all once the pool

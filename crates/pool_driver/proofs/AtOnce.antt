@@ -102,14 +102,10 @@ module _ (S : Settings) (b : Base) (J : List Entry) (sound : IsWellFormed b) (le
       ∙ ap (λ (n : ℕ). not (closed_from b J) && is_below S.max_idle n) (queue_stays rs i lent rs found)
 
 module _ (caller at i : ℕ) (old new : CoreModel ℕ) where
-  -- the check of a lent object, by its expected answer
-  pub answered_check : (a : Answer) (out : Option ℕ) → answers.Check ≡ reply_from old.settings old.base old.journal at (GiveBack i)
-      → Answered caller at (GiveBack i) None old new a out → Answered caller at (GiveBack i) None old new answers.Check None
-  answered_check a out due p =
-      let P : Answer → Type 0 = λ x. Answered caller at (GiveBack i) None old new x out in
-      let Q : Option ℕ → Type 0 = λ o. Answered caller at (GiveBack i) None old new answers.Check o in
-      let q = subst P (p.due ∙ sym due) p in
-      subst Q q.transfers.0 q
+  -- the entry of a check
+  pub appended_check : Answered caller at (GiveBack i) None old new answers.Check None
+      → new.journal ≡ old.journal ++ entry_of caller at (GiveBack i) answers.Check ∷ []
+  appended_check p = p.appended ∙ ap (λ (a : Answer). old.journal ++ entry_of caller at (GiveBack i) a ∷ []) (sym p.due)
 
   -- the end of a return, if the queue has room
   pub answered_parked : (token : ℕ) (a : Answer) (out : Option ℕ) → answers.Parked ≡ reply_from old.settings old.base old.journal at (Park i outcomes.Good)

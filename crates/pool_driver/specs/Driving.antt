@@ -310,15 +310,13 @@ asks_at_borrow p = p.activates || p.test_on_borrow || p.remove_abandoned_on_borr
 abbrev pub asks_at_return : Plan → Bool
 asks_at_return p = p.passivates || p.test_on_return
 
--- a borrow that may come before those that wait lends an idle object by its two steps, and its host is asked nothing. It has
--- overtaken each of them once more if they could have had the object
-pub record LendsAtOnce (caller at id token : ℕ) (old new : DrivenModel) : Type 0 where
-  pub silent : asks_at_borrow old.plan ≡ false
+-- a borrow that may come before those that wait takes an idle object by its first step. It has overtaken each of them once more
+-- if they could have had the object
+pub record TakesAtOnce (caller at id token : ℕ) (old new : DrivenModel) : Type 0 where
+  pub keeps : old.plan.remove_abandoned_on_borrow ≡ false
   pub may : may_come_in (available_in old.core) old ≡ true
   pub waiting : new.queue.waiting ≡ passed (takes_from_waiters (available_in old.core) old.queue) old.queue.waiting
-  pub mid : CoreModel ℕ
-  pub taken : Answered caller at (inputs.Borrow at) None old.core mid (answers.Take id) (Some token)
-  pub lent : Answered caller at (inputs.Ready id outcomes.Good) None mid new.core answers.Lent None
+  pub taken : Answered caller at (inputs.Borrow at) None old.core new.core (answers.Take id) (Some token)
   pub rest :
       new
       ≡ record old {
@@ -327,13 +325,26 @@ pub record LendsAtOnce (caller at id token : ℕ) (old new : DrivenModel) : Type
         last = at;
       }
 
--- a returned object is idle again by its two steps, and its host is asked nothing
+-- such a borrow lends the object by its two steps, and its host is asked nothing
+pub record LendsAtOnce (caller at id token : ℕ) (old new : DrivenModel) : Type 0 where
+  pub silent : asks_at_borrow old.plan ≡ false
+  pub mid : DrivenModel
+  pub taken : TakesAtOnce caller at id token old mid
+  pub lent : Answered caller at (inputs.Ready id outcomes.Good) None mid.core new.core answers.Lent None
+  pub rest : new ≡ record mid { core = new.core }
+
+-- a returned object is checked, by the first step of its return
+pub record ChecksAtOnce (caller at id : ℕ) (old new : DrivenModel) : Type 0 where
+  pub checked : Answered caller at (inputs.GiveBack id) None old.core new.core answers.Check None
+  pub rest : new ≡ record old { core = new.core; last = at }
+
+-- it is idle again by its two steps, and its host is asked nothing
 pub record TakesBackAtOnce (caller at id token : ℕ) (old new : DrivenModel) : Type 0 where
   pub silent : asks_at_return old.plan ≡ false
-  pub mid : CoreModel ℕ
-  pub checked : Answered caller at (inputs.GiveBack id) None old.core mid answers.Check None
-  pub parked : Answered caller at (inputs.Park id outcomes.Good) (Some token) mid new.core answers.Parked None
-  pub rest : new ≡ record old { core = new.core; last = at }
+  pub mid : DrivenModel
+  pub checked : ChecksAtOnce caller at id old mid
+  pub parked : Answered caller at (inputs.Park id outcomes.Good) (Some token) mid.core new.core answers.Parked None
+  pub rest : new ≡ record mid { core = new.core }
 
 -- ---- reports
 abbrev pub WakesAs : Waking → Operation → Operation → Type 0

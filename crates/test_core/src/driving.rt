@@ -3,7 +3,7 @@
 use crate::playing::entries;
 use pool_calls::{Action, End, Operation, StepFailure};
 use pool_driver::{Call, DrivenPool, Effects, Hooks, Options, Report};
-use pool_journal::{Answer, Cause, Input};
+use pool_journal::{Answer, Cause, Input, Outcome};
 use pool_settings::Settings;
 use std::alloc::Global;
 use std::fmt::Debug;
@@ -632,11 +632,10 @@ fn nothing_is_lent_at_once_after_a_vain_wake(rt: HostRuntime) {
     expect_equal(&rt, pool.lend_at_once(0, 0), Some((0, 7)));
 }
 
-// Hooks, a full or closed queue, and a journal without room take a call.
-#[test]
-fn what_asks_something_is_begun(rt: HostRuntime) {
-    let mut hooked = opened(&rt, rt.alloc(), true, 1_000);
-    let mut addition = hooked.add();
+// A pool with all hooks, and with the idle object 0.
+fn hooked_with_idle(rt: &impl Abort, alloc: Global) -> DrivenPool {
+    let mut pool = opened(rt, alloc, true, 1_000);
+    let mut addition = pool.add();
     let reports = [
         (Report::GoOn, Action::Make(0)),
         (Report::Made(7), Action::Validate(0)),
@@ -644,13 +643,102 @@ fn what_asks_something_is_begun(rt: HostRuntime) {
         (Report::Succeeded, Action::Done(End::Parked)),
     ];
     for (report, action) in reports {
-        goes_on(&rt, &mut hooked, &mut addition, 0, report, action);
+        goes_on(rt, &mut pool, &mut addition, 0, report, action);
     }
+    pool
+}
+
+// Takes a step of the host's own, and compares its answer.
+fn answers(
+    rt: &impl Abort,
+    pool: &mut DrivenPool,
+    at: u64,
+    input: Input,
+    value: Option<u64>,
+    wanted: Answer,
+) {
+    match pool.step(1, at, input, value) {
+        Ok((answer, _)) => expect_equal(rt, answer, wanted),
+        Err(_) => assert!(rt; false, "the step was not taken"),
+    }
+}
+
+fn lend_ready(rt: &impl Abort, pool: &mut DrivenPool, at: u64) {
+    let ready = Input::Ready {
+        id: 0,
+        outcome: Outcome::Good,
+    };
+    answers(rt, pool, at, ready, None, Answer::Lent);
+}
+
+fn park_checked(rt: &impl Abort, pool: &mut DrivenPool, at: u64, token: u64) {
+    let park = Input::Park {
+        id: 0,
+        outcome: Outcome::Good,
+    };
+    answers(rt, pool, at, park, Some(token), Answer::Parked);
+}
+
+// With hooks a loan and its end begin at once, with the first entry of each.
+#[test]
+fn what_asks_the_host_begins_at_once(rt: HostRuntime) {
+    let mut pool = hooked_with_idle(&rt, rt.alloc());
+    expect_equal(&rt, pool.check_at_once(1, 2, 0), false);
+    expect_equal(&rt, pool.take_at_once(1, 2), Some((0, 7)));
+    expect_equal(&rt, pool.take_at_once(1, 2), None);
+    expect_equal(&rt, pool.check_at_once(1, 2, 0), false);
+    lend_ready(&rt, &mut pool, 3);
+    expect_equal(&rt, pool.check_at_once(2, 4, 1), false);
+    expect_equal(&rt, pool.check_at_once(2, 4, 0), true);
+    expect_equal(&rt, pool.check_at_once(2, 4, 0), false);
+    park_checked(&rt, &mut pool, 4, 8);
+    // An earlier time counts as the greatest one.
+    expect_equal(&rt, pool.take_at_once(3, 1), Some((0, 8)));
+    let wanted = entries(
+        &rt,
+        rt.alloc(),
+        "1 2 borrow 2 = take 0
+1 3 ready 0 good = lent
+2 4 return 0 = check
+1 4 park 0 good = parked
+3 4 borrow 4 = take 0
+",
+    );
+    let found = pool.core().journal().get(2..).expect(&rt, "five entries");
+    assert!(&rt; found == wanted.as_slice());
+}
+
+// A call that waits is overtaken by halves as often as is set, and then has what comes back.
+#[test]
+fn a_waiter_is_overtaken_once_by_halves(rt: HostRuntime) {
+    let mut pool = hooked_with_idle(&rt, rt.alloc());
+    expect_equal(&rt, pool.take_at_once(1, 0), Some((0, 7)));
+    lend_ready(&rt, &mut pool, 0);
+    let mut waiting = wait(&rt, &mut pool, 1, 0);
+    expect_equal(&rt, pool.check_at_once(1, 2, 0), true);
+    park_checked(&rt, &mut pool, 2, 7);
+    expect_equal(&rt, wake(&mut pool), (Some(0), None, true));
+    expect_equal(&rt, pool.take_at_once(1, 2), Some((0, 7)));
+    expect_equal(&rt, wake(&mut pool), (None, None, true));
+    lend_ready(&rt, &mut pool, 2);
+    expect_equal(&rt, pool.check_at_once(1, 3, 0), true);
+    park_checked(&rt, &mut pool, 3, 7);
+    expect_equal(&rt, wake(&mut pool), (Some(0), None, true));
+    expect_equal(&rt, pool.take_at_once(1, 3), None);
+    let activates = Action::Activate(0);
+    goes_on(&rt, &mut pool, &mut waiting, 3, Report::Woken, activates);
+}
+
+// Hooks, a full or closed queue, and a journal without room take a call.
+#[test]
+fn what_asks_something_is_begun(rt: HostRuntime) {
+    let mut hooked = hooked_with_idle(&rt, rt.alloc());
     expect_equal(&rt, hooked.lend_at_once(0, 1), None);
     let mut full = opened(&rt, rt.alloc(), false, 8);
     let _ = lend_new(&rt, &mut full, 0, 7);
     give_back(&rt, &mut full, 1, 7);
     expect_equal(&rt, full.lend_at_once(0, 2), None);
+    expect_equal(&rt, full.take_at_once(0, 2), None);
     expect_equal(&rt, full.core().journal().len(), 4);
     let mut closed = opened(&rt, rt.alloc(), false, 1_000);
     let _ = lend_new(&rt, &mut closed, 0, 7);

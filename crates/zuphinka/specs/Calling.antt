@@ -18,7 +18,7 @@ use Rattle.pool_calls.specs.Turns.{Turn, asks_room}
 use Rattle.pool_calls.specs.Waiting.{IsSettled, Signals, most_overtaken}
 use Rattle.pool_calls.specs.declared.operation.Operation.{Operation}
 use Rattle.pool_calls.specs.declared.operation.Operation.TheVariants as operations
-use Rattle.pool_driver.specs.Driving.{DrivenModel, Begins, GoesFrom, IsTold, LendsAtOnce, Moves, TakesBackAtOnce, available_in, detaches, fits_report, is_done, is_low_in, is_maintenance, told, until_of}
+use Rattle.pool_driver.specs.Driving.{DrivenModel, Begins, ChecksAtOnce, GoesFrom, IsTold, LendsAtOnce, Moves, TakesAtOnce, TakesBackAtOnce, available_in, detaches, fits_report, is_done, is_low_in, is_maintenance, told, until_of}
 use Rattle.pool_driver.specs.Overtaking.{CountsOvertakes}
 use Rattle.pool_driver.specs.declared.call.Call.{Call}
 use Rattle.pool_driver.specs.declared.effects.Effects.{Effects}
@@ -232,6 +232,14 @@ LendsTo caller at old new loan loan' Done =
 LendsTo caller at old new loan loan' NotAtOnce = SameButSpare old new × (loan' ≡ loan)
 LendsTo caller at old new loan loan' _ = ⊥
 
+-- the result of the first step of a borrow that is not begun as a call. A place is set aside for the return of what is taken
+abbrev pub TakesTo : ℕ → ℕ → OpenModel → OpenModel → Loan → Loan → Status → Type 0
+TakesTo caller at old new loan loan' Done =
+    TakesAtOnce caller (max at old.driven.last) loan'.id loan'.object old.driven new.driven
+    × (new ≡ record old { driven = new.driven; calls = record old.calls { spare = new.calls.spare } })
+TakesTo caller at old new loan loan' NotAtOnce = SameButSpare old new × (loan' ≡ loan)
+TakesTo caller at old new loan loan' _ = ⊥
+
 -- the result of a return that is not begun as a call
 abbrev pub TakesBackTo : ℕ → ℕ → Loan → OpenModel → OpenModel → Status → Type 0
 TakesBackTo caller at loan old new Done =
@@ -239,16 +247,32 @@ TakesBackTo caller at loan old new Done =
 TakesBackTo caller at loan old new NotAtOnce = new ≡ old
 TakesBackTo caller at loan old new _ = ⊥
 
+-- the result of the first step of a return that is not begun as a call
+abbrev pub ChecksTo : ℕ → ℕ → ℕ → OpenModel → OpenModel → Status → Type 0
+ChecksTo caller at id old new Done = ChecksAtOnce caller (max at old.driven.last) id old.driven new.driven × (new ≡ record old { driven = new.driven })
+ChecksTo caller at id old new NotAtOnce = new ≡ old
+ChecksTo caller at id old new _ = ⊥
+
 -- ---- handles
 -- the result of lending an object of the pool in a handle
 abbrev pub LendsIn : ℕ → ℕ → Option OpenModel → Option OpenModel → Loan → Loan → Status → Type 0
 LendsIn caller at None new loan loan' s = (s ≡ NotOpen) × (new ≡ None) × (loan' ≡ loan)
 LendsIn caller at (Some old) new loan loan' s = IsSomeAnd new (λ p. LendsTo caller at old p loan loan' s)
 
+-- the result of taking an idle object of the pool in a handle
+abbrev pub TakesIn : ℕ → ℕ → Option OpenModel → Option OpenModel → Loan → Loan → Status → Type 0
+TakesIn caller at None new loan loan' s = (s ≡ NotOpen) × (new ≡ None) × (loan' ≡ loan)
+TakesIn caller at (Some old) new loan loan' s = IsSomeAnd new (λ p. TakesTo caller at old p loan loan' s)
+
 -- the result of taking an object back into the pool in a handle
 abbrev pub TakesBackIn : ℕ → ℕ → Loan → Option OpenModel → Option OpenModel → Status → Type 0
 TakesBackIn caller at loan None new s = (s ≡ NotOpen) × (new ≡ None)
 TakesBackIn caller at loan (Some old) new s = IsSomeAnd new (λ p. TakesBackTo caller at loan old p s)
+
+-- the result of checking a returned object of the pool in a handle
+abbrev pub ChecksIn : ℕ → ℕ → ℕ → Option OpenModel → Option OpenModel → Status → Type 0
+ChecksIn caller at id None new s = (s ≡ NotOpen) × (new ≡ None)
+ChecksIn caller at id (Some old) new s = IsSomeAnd new (λ p. ChecksTo caller at id old p s)
 
 -- the result of beginning a call of the pool in a handle
 abbrev pub BeginsIn : CallStart → Option OpenModel → Option OpenModel → CallName → CallName → CallEffects → CallEffects → Status → Type 0

@@ -1,8 +1,8 @@
 //! A pool with its calls in progress: what each export of the library works on.
-ghost use Rattle.std.specs.Prelude.{◌≡◌, true, IfNone, IfOk, IfSome};
+ghost use Rattle.std.specs.Prelude.{◌≡◌, ◌≤◌, true, IfNone, IfOk, IfSome};
 ghost use Rattle.std.specs.Option.{is_some};
 ghost use Rattle.pool_driver.specs.Driving.{Opened, fits_report, is_done};
-ghost use Rattle.zuphinka.specs.Calling.{AdvancesTo, BeginsTo, GoesOn, LendsTo, LimitsOvertakes, ReportsState, TakesBackTo, WakesTo, ends_loan, is_lent_in, is_set_aside};
+ghost use Rattle.zuphinka.specs.Calling.{AdvancesTo, BeginsTo, ChecksTo, GoesOn, LendsTo, LimitsOvertakes, ReportsState, TakesBackTo, TakesTo, WakesTo, ends_loan, is_lent_in, is_set_aside};
 ghost use Rattle.zuphinka.specs.Opening.{call_at, options_of};
 ghost use Rattle.zuphinka.specs.Tables.{HasSpare, IsEmpty};
 
@@ -124,8 +124,21 @@ impl OpenPool {
         }
     }
 
-    // Reserves the place of a call, and sets aside one for each object that is lent, and for the close. Returns whether
-    // the call has a place.
+    // Sets aside a place for each object that is lent or may be lent by a step, for the close, and for one more call.
+    // Returns whether they are there.
+    fn set_aside(&mut self) -> bool
+        ensures there { result ≡ true → HasSpare self.new.calls }
+        ensures spare { self.old.calls.spare ≤ self.new.calls.spare }
+        ensures rest { self.new ≡ record self.old {
+          calls = record self.old.calls { spare = self.new.calls.spare };
+        } }
+    {
+        let counts = self.driven.core().counts();
+        let present = counts.lent.saturating_add(counts.reserved);
+        self.calls.reserve(present.saturating_add(2))
+    }
+
+    // Reserves the place of a call, and sets aside those of others. Returns whether the call has a place.
     fn reserve_place(&mut self, start: &CallStart, kind: Kind) -> bool
         ensures there { result ≡ true → HasSpare self.new.calls }
         ensures aside { HasSpare self.old.calls
@@ -134,8 +147,7 @@ impl OpenPool {
           calls = record self.old.calls { spare = self.new.calls.spare };
         } }
     {
-        let lent = self.driven.core().counts().lent;
-        if self.calls.reserve(lent.saturating_add(2)) {
+        if self.set_aside() {
             return true;
         }
         self.calls.has_spare() && self.has_place(start, kind)
@@ -222,13 +234,28 @@ impl OpenPool {
     pub(crate) fn lend(&mut self, caller: u32, at: u64, loan: &mut Loan) -> Status
         ensures { LendsTo caller at self.old self.new loan.old loan.new result }
     {
-        let lent = self.driven.core().counts().lent;
-        if !self.calls.reserve(lent.saturating_add(2)) {
+        if !self.set_aside() {
             return Status::NotAtOnce;
         }
         match self.driven.lend_at_once(caller, at) {
             Some((id, object)) => {
                 *loan = Loan { id, object };
+                Status::Done
+            }
+            None => Status::NotAtOnce,
+        }
+    }
+
+    /// Takes an idle object by the first step of a borrow, with a place set aside for its return.
+    pub(crate) fn take(&mut self, caller: u32, at: u64, loan: &mut Loan) -> Status
+        ensures { TakesTo caller at self.old self.new loan.old loan.new result }
+    {
+        if !self.set_aside() {
+            return Status::NotAtOnce;
+        }
+        match self.driven.take_at_once(caller, at) {
+            Some((id, token)) => {
+                *loan = Loan { id, object: token };
                 Status::Done
             }
             None => Status::NotAtOnce,
@@ -243,6 +270,17 @@ impl OpenPool {
             .driven
             .take_back_at_once(caller, at, loan.id, loan.object)
         {
+            Status::Done
+        } else {
+            Status::NotAtOnce
+        }
+    }
+
+    /// Has a lent object checked by the first step of its return.
+    pub(crate) fn check(&mut self, caller: u32, at: u64, id: u64) -> Status
+        ensures { ChecksTo caller at id self.old self.new result }
+    {
+        if self.driven.check_at_once(caller, at, id) {
             Status::Done
         } else {
             Status::NotAtOnce
