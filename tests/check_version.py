@@ -1,6 +1,6 @@
 #!/usr/bin/env python3
-"""Sees that all tell the version that the file VERSION has: the Rust crate and its lock file, the C header, the C library, the programs, the man
-page and the change log.
+"""Sees that all tell the version that the file VERSION has: the Rust crate and its lock file, the description of the Java library for Maven, the C
+header, the C library, the programs, the man page and the change log.
 
     check_version.py [PROGRAM..]
 
@@ -47,6 +47,7 @@ def checks(version, programs):
     yield "the form of VERSION", True, bool(re.fullmatch(r"\d+\.\d+\.\d+", version))
     yield "Cargo.toml", version, tomllib.loads((TOP / "bindings/rust/Cargo.toml").read_text())["package"]["version"]
     yield "Cargo.lock", [version], [package["version"] for package in lock if package["name"] == "zuphinka"]
+    yield "pom.xml", [version], found(r"^  <version>(.*)</version>$", "bindings/java/pom.xml")
     yield "the text of zuphinka.h", [version], found(r'^#define ZUPHINKA_VERSION "(.*)"$', HEADER)
     yield "the numbers of zuphinka.h", version.split("."), found(r"^#define ZUPHINKA_VERSION_(?:MAJOR|MINOR|PATCH) (\d+)$", HEADER)
     yield "the C library", [(number(version),) * 2], [tuple(map(int, numbers)) for numbers in found(NUMBER, "crates/zuphinka/src/lib.rt")]

@@ -43,6 +43,7 @@ PARTS = (
     Part("java",
          "the pool for Java: its calls, also with failing allocations, eight threads that call at random, its journals, examples and documentation",
          "python3 tests/play_java.py {zuphinka} {pool} {journal_picture}"),
+    Part("maven", "the jars of the pool for Java that Maven builds", "python3 tests/play_maven.py {zuphinka}"),
     Part("java-random", "six threads that call at random over a factory that fails, on the pool for Java; what Commons Pool 2 does there is shown",
          "python3 tests/play_java_random.py {zuphinka}"),
     Part("commons-random", "random calls of one thread, each made of the pool for Java and of Commons Pool 2, whose outcomes are compared",
@@ -104,7 +105,8 @@ QUICK_ALONE = (
 QUICK = ("unproved", "rust-model", "case-files", "life", "readme", "metrics", "names", "tables")
 
 JARS, CRATES = "/usr/share/java", "/usr/share/cargo/registry"
-IN_JAVA = ("java", "java-random", "commons-random", "commons-pool", "benchmarks", "release", "postgres")
+PLUGINS = "/usr/share/maven-repo/org/apache/maven/plugins"
+IN_JAVA = ("java", "maven", "java-random", "commons-random", "commons-pool", "benchmarks", "release", "postgres")
 OVER_POSTGRES = ("postgres", "benchmarks")
 
 PACKAGES = (
@@ -123,6 +125,14 @@ PACKAGES = (
     Package("libcommons-pool2-java", f"{JARS}/commons-pool2.jar", IN_JAVA, "COMMONS_POOL2"),
     Package("libcommons-dbcp2-java", f"{JARS}/commons-dbcp2.jar", ("java", "release", "postgres", "benchmarks")),
     Package("libh2-java", f"{JARS}/h2.jar", ("java", "release")),
+    Package("maven", "mvn", ("maven",)),
+    Package("libmaven-antrun-plugin-java", f"{PLUGINS}/maven-antrun-plugin/3.1.0", ("maven",)),
+    Package("libmaven-compiler-plugin-java", f"{PLUGINS}/maven-compiler-plugin/3.10.1", ("maven",)),
+    Package("libmaven-jar-plugin-java", f"{PLUGINS}/maven-jar-plugin/3.3.0", ("maven",)),
+    Package("libmaven-javadoc-plugin-java", f"{PLUGINS}/maven-javadoc-plugin/3.4.1", ("maven",)),
+    Package("libmaven-resources-plugin-java", f"{PLUGINS}/maven-resources-plugin/2.6", ("maven",)),
+    Package("libmaven-source-plugin-java", f"{PLUGINS}/maven-source-plugin/3.2.1", ("maven",)),
+    Package("libsurefire-java", f"{PLUGINS}/maven-surefire-plugin/2.12.4", ("maven",)),
     Package("junit5", f"{JARS}/junit-jupiter-engine.jar", ("commons-pool",)),
     Package("libcglib-java", f"{JARS}/cglib.jar", ("commons-pool",)),
     Package("libhikaricp-java", f"{JARS}/HikariCP.jar", ("benchmarks",)),

@@ -1,5 +1,6 @@
 import io.github.zuphinka.Finding;
 import io.github.zuphinka.Journal;
+import io.github.zuphinka.Lease;
 import io.github.zuphinka.Segment;
 import io.github.zuphinka.ZuphinkaPool;
 import java.io.IOException;
@@ -19,6 +20,7 @@ import java.util.Set;
 import java.util.concurrent.Callable;
 import java.util.concurrent.CompletableFuture;
 import java.util.concurrent.CountDownLatch;
+import java.util.concurrent.FutureTask;
 import java.util.concurrent.TimeUnit;
 import java.util.concurrent.atomic.AtomicInteger;
 import java.util.stream.Collectors;
@@ -189,6 +191,102 @@ public final class Calls extends Expectations {
         expect("returned after the close", "0 idle, 0 active, 5 created, 5 destroyed", counts(pool));
         expect("numbers", "4 borrowed, 2 returned", pool.getBorrowedCount() + " borrowed, " + pool.getReturnedCount() + " returned");
         expect("nothing swallowed", List.of(), pool.noted);
+        write(pool);
+    }
+
+    /** Returns what a lease gives after it was used in a block, which ends normally or not. */
+    private static Object afterBlock(Noting pool, Exception failure) throws Exception {
+        Lease<String> kept = null;
+        try (Lease<String> lease = pool.lease()) {
+            kept = lease;
+            expect("the object of a lease", true, lease.get() != null && lease.get() == lease.get());
+            expect("while it is leased", "0 idle, 1 active", counts(pool).substring(0, 16));
+            if (failure != null) {
+                throw failure;
+            }
+        } catch (IOException e) {
+            expect("what a block throws", failure, e);
+        }
+        return result(kept::get);
+    }
+
+    private static void leases() throws Exception {
+        GenericObjectPoolConfig<String> config = config();
+        config.setMaxTotal(1);
+        config.setMaxWait(Duration.ofMillis(30));
+        Texts texts = new Texts();
+        Noting pool = new Noting(texts, config, null);
+        expect("after a block", "IllegalStateException: The lease is over", afterBlock(pool, null));
+        expect("after a block that throws", "IllegalStateException: The lease is over", afterBlock(pool, new IOException("block")));
+        expect("one object for both", "1 idle, 0 active, 1 created, 0 destroyed", counts(pool));
+        Lease<String> lease = pool.lease(Duration.ZERO);
+        expect("no second lease", "NoSuchElementException: Timeout waiting for idle object", result(() -> pool.lease(Duration.ZERO)));
+        expect("nor one with the configured wait", "NoSuchElementException: Timeout waiting for idle object", result(pool::lease));
+        lease.close();
+        String other = pool.borrowObject();
+        lease.close();
+        expect("a second close", "0 idle, 1 active, 1 created, 0 destroyed", counts(pool));
+        expect("an invalidation after it", "IllegalStateException: The lease is over", ending(lease::invalidate));
+        expect("none of it", "0 idle, 1 active, 1 created, 0 destroyed", counts(pool));
+        pool.returnObject(other);
+        expect("returns", 4L, pool.getReturnedCount());
+        texts.asked();
+        try (Lease<String> broken = pool.lease()) {
+            broken.invalidate();
+            expect("an invalidated lease", "IllegalStateException: The lease is over", result(broken::get));
+            expect("a second invalidation", "IllegalStateException: The lease is over", ending(broken::invalidate));
+        }
+        expect("the close has no effect", "activate destroy", texts.asked());
+        expect("invalidated", "0 idle, 0 active, 1 created, 1 destroyed", counts(pool));
+        pool.close();
+        expect("a lease of a closed pool", "IllegalStateException: Pool not open", result(pool::lease));
+        expect("swallowed", List.of(), pool.noted);
+        write(pool);
+    }
+
+    /** What the factory throws ends no lease twice, and costs no place. */
+    private static void failingLeases() throws Exception {
+        GenericObjectPoolConfig<String> config = config();
+        config.setMaxTotal(1);
+        Texts texts = new Texts();
+        Noting pool = new Noting(texts, config, null);
+        texts.makes = new IOException("make");
+        expect("a lease whose make fails", "IOException: make", result(pool::lease));
+        texts.makes = null;
+        Lease<String> broken = pool.lease();
+        texts.passivates = new IOException("passivate");
+        expect("a close whose passivation fails", "done", ending(broken::close));
+        expect("it is swallowed", "passivate", pool.noted.get(0).getMessage());
+        for (Throwable failure : List.of(new IOException("destroy"), new StackOverflowError("destroy"))) {
+            texts.destroys = null;
+            Lease<String> lease = pool.lease();
+            texts.destroys = failure;
+            expect("an invalidation that fails", failure.getClass().getSimpleName() + ": destroy", ending(lease::invalidate));
+            expect("its lease", "IllegalStateException: The lease is over", result(lease::get));
+            expect("its close", "done", ending(lease::close));
+        }
+        texts.destroys = null;
+        Lease<String> full = pool.lease();
+        texts.passivates = new StackOverflowError("passivate");
+        expect("a close that ends in an error", "StackOverflowError: passivate", ending(full::close));
+        expect("its second close", "done", ending(full::close));
+        expect("no place is lost", "0 idle, 0 active, 5 created, 5 destroyed", counts(pool));
+        pool.close();
+        write(pool);
+    }
+
+    /** Of the threads that end a lease, one does. */
+    private static void leasesOfThreads() throws Exception {
+        Noting pool = new Noting(new Texts(), config(), null);
+        for (int round = 0; round < 100; round++) {
+            Lease<String> lease = pool.lease();
+            Lease<String> other = pool.lease();
+            List<FutureTask<Object>> ends = List.of(begun(() -> ending(lease::close)), begun(() -> ending(lease::close)));
+            expect("both closes", List.of("done", "done"), ends.stream().map(Calls::within).collect(Collectors.toList()));
+            other.close();
+        }
+        expect("loans and returns", "200 200", pool.getBorrowedCount() + " " + pool.getReturnedCount());
+        pool.close();
         write(pool);
     }
 
@@ -487,6 +585,26 @@ public final class Calls extends Expectations {
         expect("nothing is destroyed twice", "passivate", texts.asked());
         pool.close();
         write(pool);
+    }
+
+    /** A lease whose object was reclaimed has the object still, and its end has no effect. */
+    private static void abandonedLease() throws Exception {
+        AbandonedConfig abandoned = new AbandonedConfig();
+        abandoned.setRemoveAbandonedOnMaintenance(true);
+        abandoned.setRemoveAbandonedTimeout(Duration.ofMillis(20));
+        for (boolean isInvalidated : new boolean[] {false, true}) {
+            Texts texts = new Texts();
+            Noting pool = new Noting(texts, config(), abandoned);
+            Lease<String> forgotten = pool.lease();
+            Thread.sleep(60);
+            pool.evict();
+            expect("an abandoned lease", "text 0", forgotten.get());
+            expect("its end", "done", ending(isInvalidated ? forgotten::invalidate : forgotten::close));
+            expect("what it destroys", "make activate destroy ABANDONED", texts.asked());
+            expect("its object", "IllegalStateException: The lease is over", result(forgotten::get));
+            pool.close();
+            write(pool);
+        }
     }
 
     /** A use is noted only if the configuration tracks usage. */
@@ -1027,6 +1145,9 @@ public final class Calls extends Expectations {
         folder = Path.of(words[0]);
         callers();
         life();
+        leases();
+        failingLeases();
+        leasesOfThreads();
         limits();
         wholeWaits();
         times();
@@ -1035,6 +1156,7 @@ public final class Calls extends Expectations {
         closedDuringMaintenance();
         construction();
         abandonment();
+        abandonedLease();
         uses();
         shortTimes();
         expect("objects by slot", List.of(), within(begun(Finding::faults)));

@@ -1,4 +1,5 @@
 import io.github.zuphinka.Journal;
+import io.github.zuphinka.Lease;
 import io.github.zuphinka.ZuphinkaPool;
 import java.io.IOException;
 import java.io.PrintWriter;
@@ -40,8 +41,8 @@ public final class Errors extends Expectations {
     }
 
     /** Calls a pool while little of the stack is left: first nothing, then more in each frame. */
-    private static final class Diver implements Runnable {
-        private final ZuphinkaPool<Object> pool;
+    private static class Diver implements Runnable {
+        final ZuphinkaPool<Object> pool;
         private Object lent;
         private int calls;
 
@@ -69,14 +70,38 @@ public final class Errors extends Expectations {
             }
             calls++;
             try {
-                if (lent == null) {
-                    lent = pool.borrowObject();
-                }
-                pool.returnObject(lent);
-                lent = null;
+                makeLoan();
             } catch (Exception e) {
                 throw new AssertionError(e);
             }
+        }
+
+        /** Makes a loan, or ends one that could not be ended. */
+        void makeLoan() throws Exception {
+            if (lent == null) {
+                lent = pool.borrowObject();
+            }
+            pool.returnObject(lent);
+            lent = null;
+        }
+    }
+
+    /** Does the same with leases. */
+    private static final class LeaseDiver extends Diver {
+        private Lease<Object> lease;
+
+        LeaseDiver(ZuphinkaPool<Object> pool) {
+            super(pool);
+        }
+
+        @Override
+        void makeLoan() throws Exception {
+            if (lease == null) {
+                lease = pool.lease();
+            }
+            lease.get();
+            lease.close();
+            lease = null;
         }
     }
 
@@ -84,7 +109,8 @@ public final class Errors extends Expectations {
         for (int number = 0; number < POOLS; number++) {
             Journal journal = number % 2 == 0 ? Journal.dropped().limit(100) : Journal.storedBy(segment -> {}).limit(100);
             ZuphinkaPool<Object> pool = new ZuphinkaPool<>(new Plain(), config(1), null, journal);
-            Thread thread = new Thread(null, new Diver(pool), "diver", SMALL_STACK);
+            Diver diver = number / 2 % 2 == 0 ? new Diver(pool) : new LeaseDiver(pool);
+            Thread thread = new Thread(null, diver, "diver", SMALL_STACK);
             thread.start();
             thread.join();
             expect("a pool that was called with a full stack", "1 idle, 0 active, 1 created, 0 destroyed", afterLoan(pool));

@@ -1,4 +1,5 @@
 import io.github.zuphinka.Journal;
+import io.github.zuphinka.Lease;
 import io.github.zuphinka.ZuphinkaPool;
 import java.nio.file.Path;
 import org.apache.commons.pool2.BasePooledObjectFactory;
@@ -26,11 +27,8 @@ public final class FirstLoan extends BasePooledObjectFactory<StringBuilder> {
         GenericObjectPoolConfig<StringBuilder> config = new GenericObjectPoolConfig<>();
         config.setMaxTotal(2);
         try (ZuphinkaPool<StringBuilder> pool = new ZuphinkaPool<>(new FirstLoan(), config, null, Journal.inFolder(Path.of(words[0])))) {
-            StringBuilder session = pool.borrowObject(); // in any thread
-            try {
-                System.out.println(session);
-            } finally {
-                pool.returnObject(session);
+            try (Lease<StringBuilder> lease = pool.lease()) { // in any thread
+                System.out.println(lease.get());
             }
         }
     }

@@ -173,6 +173,33 @@ public class ZuphinkaPool<T> implements ObjectPool<T>, UsageTracking<T> {
     }
 
     /**
+     * Lends an object as {@link #borrowObject()}, for a {@code try} block, at whose end it is returned:
+     *
+     * <pre>{@code
+     * try (Lease<Connection> lease = pool.lease()) {
+     *     lease.get().send(request);
+     * }
+     * }</pre>
+     *
+     * @return a lease of an object that no other caller has, until the lease is over or the object abandoned
+     * @throws Exception as {@link #borrowObject()}
+     */
+    public Lease<T> lease() throws Exception {
+        return Lease.of(this);
+    }
+
+    /**
+     * Lends an object as {@link #lease()}, with a limit of its own to the wait.
+     *
+     * @param longest the longest wait, in place of the configured one; negative: without a limit. Not null
+     * @return a lease of an object that no other caller has, until the lease is over or the object abandoned
+     * @throws Exception as {@link #borrowObject()}
+     */
+    public Lease<T> lease(Duration longest) throws Exception {
+        return Lease.of(this, longest);
+    }
+
+    /**
      * Sets how often a waiting borrow is overtaken at most: 64 by default, and 0 if the configuration has {@code fairness}. With 0 the pool is
      * fair. {@code GenericObjectPool} has no limit unless {@code fairness} is set.
      *
@@ -589,6 +616,11 @@ public class ZuphinkaPool<T> implements ObjectPool<T>, UsageTracking<T> {
      */
     public Set<DefaultPooledObjectInfo> listAllObjects() {
         return objects.all().stream().map(this::infoOf).collect(Collectors.toSet());
+    }
+
+    /** Returns whether an object is of this pool: it was made, and is not being destroyed. */
+    final boolean has(T object) {
+        return objects.find(object) != null;
     }
 
     private DefaultPooledObjectInfo infoOf(Member<T> member) {
