@@ -7,10 +7,6 @@ use crate::sleepers::Sleepers;
 use crate::stored_journal::{Mode, StoredJournal};
 use crate::values::{Loan, Values};
 
-/// How many entries the library drops at least, and for each present object.
-const FEWEST_DROPPED: u64 = 1_024;
-const DROPPED_PER_OBJECT: u64 = 4;
-
 /// The core, with the values of its idle objects, and with those that it has told to sleep.
 pub(crate) struct LockedPool<T> {
     pub core: Core,
@@ -78,25 +74,26 @@ impl<T> LockedPool<T> {
         None
     }
 
-    /// Returns whether a borrow may take an idle object by a step: none waits, and the library has nothing to do before.
-    pub fn may_take_idle(&mut self) -> bool {
-        let may_begin = self.values.len() > 0 && !self.has_long_journal();
-        may_begin && self.core.waiting() == 0
+    /// Takes an idle object by the first step of a borrow, if the core does so at once.
+    pub fn take(&mut self, caller: u32, at: Moment) -> Option<Loan<Aged<T>>> {
+        if self.values.len() == 0 {
+            return None;
+        }
+        let time = self.tell(at);
+        let (id, token) = self.core.take(caller, time)?;
+        let object = self.values.take(token);
+        Some(Loan { id, token, object })
     }
 
-    /// Returns whether the library would drop the journal before a step of a call.
-    pub fn has_long_journal(&mut self) -> bool {
-        let stored = match self.journal.mode() {
-            Mode::Off => self.core.steps(),
-            Mode::Memory | Mode::Segments => 0,
-        };
-        stored >= FEWEST_DROPPED && self.has_entries_for_objects(stored)
-    }
-
-    #[cold]
-    fn has_entries_for_objects(&mut self, stored: u64) -> bool {
-        let counts = self.core.counts();
-        stored / DROPPED_PER_OBJECT >= counts.idle + counts.lent + counts.reserved
+    /// Takes the first step of the return of an object, if the core does so at once. Returns whether it does.
+    pub fn check(&mut self, caller: u32, at: Moment, loan: &Loan<Aged<T>>) -> bool {
+        let time = self.tell(at);
+        let is_checked = self.core.check(caller, time, loan.id);
+        if is_checked {
+            self.measures.loans.count(loan.object.lent, at.nanos);
+            self.care_for_journal();
+        }
+        is_checked
     }
 
     /// Returns the ticket of the next call to wake, if any call waits.

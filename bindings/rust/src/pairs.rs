@@ -1,5 +1,5 @@
-//! Borrows of idle objects and returns that ask something of the manager. They take both of their steps by themselves, in half of the instructions
-//! of the library's calls, while nothing fails and no call waits.
+//! Borrows of idle objects and returns that ask something of the manager. The library takes the first step of each, and this module reports what
+//! came of the manager's work by the second one, in half of the instructions of the library's calls.
 
 use crate::ages::{complete, unexpected};
 use crate::clock::Moment;
@@ -102,14 +102,18 @@ impl<M: Manager> Shared<M> {
     }
 
     /// Lends an idle object that the manager makes ready, to a borrow that begins at a time. Otherwise the borrow is to be made by a call, with
-    /// the lock if it is still held: there is no such object, or others wait; or it failed, and is destroyed.
+    /// the lock if it is still held: the library took no such object; or that failed, and is destroyed.
     pub fn lend_ready<'a>(
         &'a self,
-        state: Held<'a, M>,
+        mut state: Held<'a, M>,
         caller: u32,
         at: Moment,
     ) -> Result<Loan<Item<M>>, Option<Held<'a, M>>> {
-        let mut taken = self.take_idle(state, caller, at).map_err(Some)?;
+        let Some(loan) = state.take(caller, at) else {
+            return Err(Some(state));
+        };
+        let mut taken = self.worked(caller, false, loan);
+        self.leave_after_step(state);
         let activated = taken.activate();
         match activated.and_then(|()| taken.validate(self.settings.test_on_borrow)) {
             Ok(()) => Ok(self.lend(taken, at)),
@@ -118,29 +122,6 @@ impl<M: Manager> Shared<M> {
                 Err(None)
             }
         }
-    }
-
-    /// Takes an idle object for a borrow, by its first step.
-    fn take_idle<'a>(
-        &'a self,
-        mut state: Held<'a, M>,
-        caller: u32,
-        at: Moment,
-    ) -> Result<Worked<'a, M>, Held<'a, M>> {
-        if self.settings.removes_on_borrow() || !state.may_take_idle() {
-            return Err(state);
-        }
-        let began = state.tell(at);
-        let input = Input::Borrow { began };
-        let (id, token) = match state.core.step(caller, began, input, 0) {
-            Ok((Answer::Take(id), token)) => (id, token),
-            Ok((answer, _)) => unexpected(input, answer),
-            Err(_) => return Err(state),
-        };
-        let object = state.values.take(token);
-        state.care_for_journal();
-        self.leave(state, Wakes::default());
-        Ok(self.worked(caller, false, Loan { id, token, object }))
     }
 
     /// Lends an object that is ready, to a borrow that began at a time.
@@ -163,15 +144,16 @@ impl<M: Manager> Shared<M> {
     /// Takes an object back that the manager puts away. If its first step is not taken, the return is to be made by a call.
     pub fn put_away<'a>(
         &'a self,
-        state: Held<'a, M>,
+        mut state: Held<'a, M>,
         caller: u32,
         at: Moment,
         loan: Loan<Item<M>>,
     ) -> Result<Returned, NotTaken<'a, M>> {
-        let mut returned = match self.take_returned(state, caller, at, loan)? {
-            Some(returned) => returned,
-            None => return Ok(Returned::Gone),
-        };
+        if !state.check(caller, at, &loan) {
+            return Err((state, loan));
+        }
+        let mut returned = self.worked(caller, true, loan);
+        self.leave(state, Wakes::default());
         let tested = returned.validate(self.settings.test_on_return);
         match tested.and_then(|()| returned.passivate()) {
             Ok(()) => Ok(self.park(returned)),
@@ -180,37 +162,6 @@ impl<M: Manager> Shared<M> {
                 Ok(Returned::Destroyed)
             }
         }
-    }
-
-    /// Takes a returned object, by the first step of its return. If it was reclaimed before, it is destroyed.
-    fn take_returned<'a>(
-        &'a self,
-        mut state: Held<'a, M>,
-        caller: u32,
-        at: Moment,
-        loan: Loan<Item<M>>,
-    ) -> Result<Option<Worked<'a, M>>, NotTaken<'a, M>> {
-        if state.has_long_journal() {
-            return Err((state, loan));
-        }
-        let input = Input::GiveBack { id: loan.id };
-        let time = state.tell(at);
-        let is_lent = match state.core.step(caller, time, input, 0) {
-            Ok((Answer::Check, _)) => true,
-            Ok((Answer::Gone, _)) => false,
-            Ok((answer, _)) => unexpected(input, answer),
-            Err(_) => return Err((state, loan)),
-        };
-        if is_lent {
-            state.measures.loans.count(loan.object.lent, at.nanos);
-        }
-        state.care_for_journal();
-        self.leave(state, Wakes::default());
-        if !is_lent {
-            self.let_go(loan);
-            return Ok(None);
-        }
-        Ok(Some(self.worked(caller, true, loan)))
     }
 
     /// Makes an object idle that was put away, unless the pool does not keep it.

@@ -290,6 +290,30 @@ impl Core {
         }
     }
 
+    /// Takes an idle object by the first step of a borrow that begins now. Returns the object's id and its token; nothing if the borrow is to be
+    /// begun. The calls of `next_wake` are to be woken then.
+    #[inline(always)]
+    pub fn take(&mut self, caller: u32, at: u64) -> Option<(u64, u64)> {
+        let mut loan = sys::Loan::default();
+        // SAFETY: the handle is this core's, and does not overlap the loan.
+        match unsafe { sys::zuphinka_take(&mut self.handle, caller, at, &mut loan) } {
+            sys::STATUS_DONE => Some((loan.id, loan.object as u64)),
+            sys::STATUS_NOT_AT_ONCE => None,
+            status => unreachable!("a first step has status {status}"),
+        }
+    }
+
+    /// Takes the first step of the return of an object. Returns whether it does; otherwise the return is to be begun.
+    #[inline(always)]
+    pub fn check(&mut self, caller: u32, at: u64, id: u64) -> bool {
+        // SAFETY: the handle is this core's.
+        match unsafe { sys::zuphinka_check(&mut self.handle, caller, at, id) } {
+            sys::STATUS_DONE => true,
+            sys::STATUS_NOT_AT_ONCE => false,
+            status => unreachable!("a first step has status {status}"),
+        }
+    }
+
     /// Takes a lent object back, if it is idle after the two steps of its return: takes both. Returns whether it does.
     #[inline(always)]
     pub fn take_back(&mut self, caller: u32, at: u64, id: u64, token: u64) -> bool {
@@ -411,7 +435,6 @@ fn request_of(input: Input) -> sys::Request {
     let plain = |input, number| (input, number, 0);
     let told = |input, number, outcome| (input, number, outcome_code(outcome));
     let (input, number, outcome) = match input {
-        Input::Borrow { began } => plain(sys::INPUT_BORROW, began),
         Input::Ready { id, outcome } => told(sys::INPUT_READY, id, outcome),
         Input::GiveBack { id } => plain(sys::INPUT_RETURN, id),
         Input::Park { id, outcome } => told(sys::INPUT_PARK, id, outcome),
@@ -441,7 +464,6 @@ fn outcome_code(outcome: Outcome) -> u32 {
 #[inline]
 fn answer_of(reply: &sys::Reply) -> Answer {
     match reply.answer {
-        sys::ANSWER_TAKE => Answer::Take(reply.number),
         sys::ANSWER_LENT => Answer::Lent,
         sys::ANSWER_CHECK => Answer::Check,
         sys::ANSWER_PARKED => Answer::Parked,

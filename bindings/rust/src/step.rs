@@ -3,7 +3,6 @@
 /// What a step asks of the core.
 #[derive(Clone, Copy, Debug, PartialEq, Eq)]
 pub(crate) enum Input {
-    Borrow { began: u64 },
     Ready { id: u64, outcome: Outcome },
     GiveBack { id: u64 },
     Park { id: u64, outcome: Outcome },
@@ -24,7 +23,6 @@ pub(crate) enum Outcome {
 /// The answer of the core.
 #[derive(Clone, Copy, Debug, PartialEq, Eq)]
 pub(crate) enum Answer {
-    Take(u64),
     Lent,
     Check,
     Parked,
