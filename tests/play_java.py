@@ -4,15 +4,15 @@
     play_java.py LIBRARY POOL JOURNAL_PICTURE
 
 LIBRARY is libzuphinka.a, and the other two are programs. tests/java/Calls.java makes each call of a pool, with what the factory throws.
-tests/java/Errors.java lets everything that a pool calls end in an error, and calls pools on a full stack. tests/java/Waits.java lets threads wait,
-and counts who overtakes. tests/java/Measures.java reads metrics, whose texts must be in the format. tests/java/Stress.java makes random calls in
-eight threads over a factory that fails at random. tests/java/Refusals.java refuses the native library each of its allocations in turn.
-tests/java/Folders.java has pools that want one folder, and folders that are removed; tests/java/Loaders.java has pools in two class loaders, where
-temporary folders are unfit. A pool runs in a module too. The journals that they write must be legal. A stored file must be synced before it has its
-name, and its folder afterwards. The jar must have the version of all products and load nothing but the C library, and the codes of
-io.github.zuphinka.Core must be those of bindings/c/include/zuphinka.h. Each public and protected item must have documentation in which javac finds
-nothing wrong. The examples are run by the commands of bindings/java/README.md; the journal of that over DBCP2 must be drawn. What needs a JDK or a
-jar that is missing is skipped, with the reason.
+tests/java/Policies.java has eviction policies of the user's own, in this pool and in Commons Pool. tests/java/Errors.java lets everything that a pool
+calls end in an error, and calls pools on a full stack. tests/java/Waits.java lets threads wait, and counts who overtakes. tests/java/Measures.java
+reads metrics, whose texts must be in the format. tests/java/Stress.java makes random calls in eight threads over a factory that fails at random.
+tests/java/Refusals.java refuses the native library each of its allocations in turn. tests/java/Folders.java has pools that want one folder, and
+folders that are removed; tests/java/Loaders.java has pools in two class loaders, where temporary folders are unfit. A pool runs in a module too. The
+journals that they write must be legal. A stored file must be synced before it has its name, and its folder afterwards. The jar must have the version
+of all products and load nothing but the C library, and the codes of io.github.zuphinka.Core must be those of bindings/c/include/zuphinka.h. Each
+public and protected item must have documentation in which javac finds nothing wrong. The examples are run by the commands of bindings/java/README.md;
+the journal of that over DBCP2 must be drawn. What needs a JDK or a jar that is missing is skipped, with the reason.
 
 Prints what fails, and in the end the line 'N passed, M failed'.
 """
@@ -199,6 +199,15 @@ def calls(jar, classes, pool, folder):
     yield "calls: names of unfinished files", 2, len({name for line in lines for name in UNFINISHED.findall(line)})
 
 
+def policies(jar, classes, pool, folder):
+    """What is wanted of pools with eviction policies of the user's own, and of their journals; and what came of it."""
+    place = folder / "policies"
+    place.mkdir()
+    yield from program("policies", run(jar, classes, "Policies", place))
+    for settings in sorted(place.glob("*.toml")):
+        yield f"policies: {settings.stem}", *legal(pool, settings, settings.with_suffix(""))
+
+
 def portable(jar):
     """What is wanted of the classes and the native library of a jar, and what it is: the page's oldest Java, and no library but that of C."""
     oldest = int(re.search(r"a JDK from version (\d+) on", (java.JAVA / "README.md").read_text())[1])
@@ -274,6 +283,7 @@ def checks(library, pool, picture):
         classes = folder / "classes"
         java.compile_classes(sorted((TOP / "tests/java").rglob("*.java")), classes, jar, java.commons_pool())
         yield from calls(jar, classes, pool, folder)
+        yield from policies(jar, classes, pool, folder)
         for name in PROGRAMS:
             yield from program(name.lower(), run(jar, classes, name))
         yield from measures(jar, classes, folder)

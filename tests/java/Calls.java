@@ -880,14 +880,6 @@ public final class Calls extends Expectations {
     }
 
     private static void refusals() {
-        GenericObjectPoolConfig<String> own = config();
-        own.setEvictionPolicy((settings, object, idle) -> true);
-        GenericObjectPoolConfig<String> named = config();
-        named.setEvictionPolicyClassName("org.example.Policy");
-        for (GenericObjectPoolConfig<String> config : Arrays.asList(own, named)) {
-            Object ending = ending(() -> new ZuphinkaPool<>(new Texts(), config).close());
-            expect("refused", "evictionPolicy", ending.toString().replaceAll(".*Exception: |:.*", ""));
-        }
         expect("no factory", "IllegalArgumentException: Factory may not be null", ending(() -> new ZuphinkaPool<String>(null).close()));
         expect("a limit of no entries", "IllegalArgumentException: journal limit: 0 is not from 1 to 4294967296",
                 ending(() -> new ZuphinkaPool<>(new Texts(), config(), null, Journal.kept().limit(0)).close()));

@@ -24,6 +24,8 @@ final class Call<T> {
     int end;
     /** The object that it is for; null if it has none. */
     Member<T> member;
+    /** How many objects were idle when an eviction run took its object, if the user has an eviction policy. */
+    long idle;
     /** Whether that was activated for the call. */
     boolean isActivated;
     /** Whether the core knows that the call is given up. */

@@ -3,7 +3,6 @@ package io.github.zuphinka;
 import java.time.Duration;
 import java.util.concurrent.TimeUnit;
 import org.apache.commons.pool2.impl.AbandonedConfig;
-import org.apache.commons.pool2.impl.BaseObjectPoolConfig;
 import org.apache.commons.pool2.impl.GenericObjectPoolConfig;
 
 /** The settings of a pool: a copy of its configurations, and their text for the core. */
@@ -19,6 +18,8 @@ final class CoreSettings {
     final boolean testOnCreate;
     final boolean testOnReturn;
     final boolean testWhileIdle;
+    /** Whether the user has an eviction policy. The core then evicts by no time, and tests each object that a run examines. */
+    private final boolean hasUserPolicy;
     final boolean isAbandonedRemoved;
     final boolean reclaimsOnBorrow;
     final boolean reclaimsOnMaintenance;
@@ -37,8 +38,7 @@ final class CoreSettings {
      *
      * @throws IllegalArgumentException if they ask for what the pool does not have, with the name of the property
      */
-    CoreSettings(GenericObjectPoolConfig<?> config, AbandonedConfig abandoned, long journalLimit) {
-        refuseUnknown(config);
+    CoreSettings(GenericObjectPoolConfig<?> config, boolean hasUserPolicy, AbandonedConfig abandoned, long journalLimit) {
         if (journalLimit < 1 || journalLimit > MOST_ENTRIES) {
             throw new IllegalArgumentException("journal limit: " + journalLimit + " is not from 1 to " + MOST_ENTRIES);
         }
@@ -46,6 +46,7 @@ final class CoreSettings {
         testOnCreate = config.getTestOnCreate();
         testOnReturn = config.getTestOnReturn();
         testWhileIdle = config.getTestWhileIdle();
+        this.hasUserPolicy = hasUserPolicy;
         isAbandonedRemoved = abandoned != null;
         reclaimsOnBorrow = isAbandonedRemoved && abandoned.getRemoveAbandonedOnBorrow();
         reclaimsOnMaintenance = isAbandonedRemoved && abandoned.getRemoveAbandonedOnMaintenance();
@@ -58,14 +59,6 @@ final class CoreSettings {
         text = textOf(config, journalLimit) + (isAbandonedRemoved ? textOf(abandoned) : "");
     }
 
-    private static void refuseUnknown(GenericObjectPoolConfig<?> config) {
-        String policy = config.getEvictionPolicyClassName();
-        boolean isDefault = policy == null || policy.equals(BaseObjectPoolConfig.DEFAULT_EVICTION_POLICY_CLASS_NAME);
-        if (config.getEvictionPolicy() != null || !isDefault) {
-            throw new IllegalArgumentException("evictionPolicy: the pool has the default policy only");
-        }
-    }
-
     private String textOf(GenericObjectPoolConfig<?> config, long journalLimit) {
         return key("blockWhenExhausted", config.getBlockWhenExhausted())
                 + key("journalLimit", journalLimit)
@@ -73,14 +66,14 @@ final class CoreSettings {
                 + key("maxIdle", config.getMaxIdle())
                 + key("maxTotal", maxTotal)
                 + key("maxWaitMillis", maxWaitMillis)
-                + key("minEvictableIdleMillis", millis(config.getMinEvictableIdleDuration(), -1))
+                + key("minEvictableIdleMillis", hasUserPolicy ? -1 : millis(config.getMinEvictableIdleDuration(), -1))
                 + key("minIdle", Math.max(0, config.getMinIdle()))
                 + key("numTestsPerEvictionRun", config.getNumTestsPerEvictionRun())
-                + key("softMinEvictableIdleMillis", millis(config.getSoftMinEvictableIdleDuration(), -1))
+                + key("softMinEvictableIdleMillis", hasUserPolicy ? -1 : millis(config.getSoftMinEvictableIdleDuration(), -1))
                 + key("testOnBorrow", testOnBorrow)
                 + key("testOnCreate", testOnCreate)
                 + key("testOnReturn", testOnReturn)
-                + key("testWhileIdle", testWhileIdle);
+                + key("testWhileIdle", testWhileIdle || hasUserPolicy);
     }
 
     private String textOf(AbandonedConfig abandoned) {

@@ -447,6 +447,7 @@ final class Sections<T> {
             case Core.ACTION_PASSIVATE:
             case Core.ACTION_DESTROY:
                 takeObject(call, Core.token(reply));
+                call.idle = work.hasPolicy() && call.kind == Core.KIND_EVICT ? journal.counts().idle() : 0;
                 break;
             default:
                 if (call.end == Core.END_LENT) {

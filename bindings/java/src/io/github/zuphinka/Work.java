@@ -16,6 +16,8 @@ final class Work<T> {
     static final Exception INVALID = new InvalidObject();
 
     private final PooledObjectFactory<T> factory;
+    /** Null: the policy is the core's. */
+    private final UserPolicy<T> policy;
     private final AbandonedConfig abandoned;
     private final Objects<T> objects;
     private final Consumer<Throwable> swallowing;
@@ -37,17 +39,21 @@ final class Work<T> {
 
     private final boolean testsOnBorrow;
     private final boolean testsOnReturn;
+    private final boolean testsWhileIdle;
 
-    Work(PooledObjectFactory<T> factory, CoreSettings settings, AbandonedConfig abandoned, Objects<T> objects, Consumer<Throwable> swallowing) {
+    Work(PooledObjectFactory<T> factory, UserPolicy<T> policy, CoreSettings settings, AbandonedConfig abandoned, Objects<T> objects,
+            Consumer<Throwable> swallowing) {
         this.factory = factory;
+        this.policy = policy;
         this.abandoned = abandoned;
         this.objects = objects;
         this.swallowing = swallowing;
         testsOnBorrow = settings.testOnBorrow;
         testsOnReturn = settings.testOnReturn;
+        testsWhileIdle = settings.testWhileIdle;
         isBorrowedBare = !settings.testOnBorrow && inherits("activateObject", PooledObject.class);
         isReturnedBare = !settings.testOnReturn && inherits("passivateObject", PooledObject.class);
-        isWrapperUnseen = isBorrowedBare && isReturnedBare && abandoned == null
+        isWrapperUnseen = isBorrowedBare && isReturnedBare && abandoned == null && policy == null
                 && (!settings.testWhileIdle || inherits("validateObject", PooledObject.class))
                 && inherits("destroyObject", PooledObject.class) && inherits("destroyObject", PooledObject.class, DestroyMode.class);
     }
@@ -67,6 +73,11 @@ final class Work<T> {
         return hasTracked;
     }
 
+    /** Returns whether the user has an eviction policy. */
+    boolean hasPolicy() {
+        return policy != null;
+    }
+
     /** Returns the flags by which the core asks for this work. */
     int flags() {
         return Core.VALIDATES | (isBorrowedBare ? 0 : Core.ACTIVATES) | (isReturnedBare ? 0 : Core.PASSIVATES);
@@ -82,24 +93,53 @@ final class Work<T> {
     /** Does what a call is asked for. Returns the report. */
     int act(Call<T> call) {
         try {
-            switch (call.action) {
-                case Core.ACTION_MAKE:
-                    make(call);
-                    return Core.REPORT_MADE;
-                case Core.ACTION_ACTIVATE:
-                    activate(call);
-                    return Core.REPORT_SUCCEEDED;
-                case Core.ACTION_VALIDATE:
-                    return validate(call);
-                case Core.ACTION_PASSIVATE:
-                    passivate(call);
-                    return Core.REPORT_SUCCEEDED;
-                default:
-                    destroy(call);
-                    return Core.REPORT_SUCCEEDED;
-            }
+            boolean isOfPolicy = policy != null && call.kind == Core.KIND_EVICT && call.action != Core.ACTION_DESTROY;
+            return isOfPolicy ? examine(call) : actOnObject(call);
         } catch (Throwable e) {
             return failed(call, e);
+        }
+    }
+
+    private int actOnObject(Call<T> call) throws Exception {
+        switch (call.action) {
+            case Core.ACTION_MAKE:
+                make(call);
+                return Core.REPORT_MADE;
+            case Core.ACTION_ACTIVATE:
+                activate(call);
+                return Core.REPORT_SUCCEEDED;
+            case Core.ACTION_VALIDATE:
+                return validate(call);
+            case Core.ACTION_PASSIVATE:
+                passivate(call);
+                return Core.REPORT_SUCCEEDED;
+            default:
+                destroy(call);
+                return Core.REPORT_SUCCEEDED;
+        }
+    }
+
+    /**
+     * Does what is part of the idle test of an object that an eviction run of the user's policy examines. The policy is asked first: an object that it
+     * wants gone fails its test. Any other is tested if the user wants tests, and passes otherwise. Returns the report.
+     */
+    private int examine(Call<T> call) throws Exception {
+        int first = isBorrowedBare ? Core.ACTION_VALIDATE : Core.ACTION_ACTIVATE;
+        if (call.action == first && isEvicted(call)) {
+            return Core.REPORT_FAILED;
+        }
+        return testsWhileIdle ? actOnObject(call) : Core.REPORT_SUCCEEDED;
+    }
+
+    /** Asks the policy for an object. One for which it throws stays. */
+    private boolean isEvicted(Call<T> call) {
+        try {
+            return policy.evicts(call.member.pooled, call.idle);
+        } catch (Throwable e) {
+            if (!call.keepsError(e)) {
+                swallow(e);
+            }
+            return false;
         }
     }
 

@@ -99,8 +99,8 @@ public class ZuphinkaPool<T> implements ObjectPool<T>, UsageTracking<T> {
      * @param abandoned when objects are abandoned; null: never
      * @param journal what becomes of the journal; not null. A stored one is for one pool
      * @throws IllegalArgumentException if the factory is null, the limit of the journal is out of its range, or is reached before {@code maxTotal}
-     *     objects are lent; if another pool has the journal of this folder; or if the configuration asks for what the pool does not have: an {@code
-     *     evictionPolicy} other than the default one
+     *     objects are lent; if another pool has the journal of this folder; or if no policy can be made of the class that {@code
+     *     evictionPolicyClassName} names
      * @throws OutOfMemoryError if there is no memory for the pool
      * @throws LinkageError if the native library is not found or cannot be loaded
      */
@@ -109,8 +109,9 @@ public class ZuphinkaPool<T> implements ObjectPool<T>, UsageTracking<T> {
             throw new IllegalArgumentException("Factory may not be null");
         }
         AbandonedConfig copied = AbandonedConfig.copy(abandoned);
-        settings = new CoreSettings(config, copied, journal.limit);
-        work = new Work<>(factory, settings, copied, objects, this::swallow);
+        UserPolicy<T> policy = UserPolicy.of(config);
+        settings = new CoreSettings(config, policy != null, copied, journal.limit);
+        work = new Work<>(factory, policy, settings, copied, objects, this::swallow);
         sections = open(settings, journal, work);
         evictorShutdown = config.getEvictorShutdownTimeoutDuration();
         Duration pause = config.getDurationBetweenEvictionRuns();
@@ -405,6 +406,11 @@ public class ZuphinkaPool<T> implements ObjectPool<T>, UsageTracking<T> {
      * Examines idle objects, as many as {@code numTestsPerEvictionRun} says. It destroys those that were idle for too long, and those that fail their
      * test if {@code testWhileIdle} is set. Then, if the configuration says so, it takes abandoned objects from their holders and destroys them. What
      * the factory throws is passed to {@link #swallowed}.
+     *
+     * <p>If the configuration has an {@code evictionPolicy} of the user's own, that says which objects were idle for too long. It is asked without the
+     * pool's lock, about an object that no borrow gets meanwhile. If it throws, the object stays, and {@link #swallowed} receives what it threw; an
+     * {@link Error} is thrown once the run is over. The core then has the settings {@code testWhileIdle = true} and no idle times, and the journal
+     * shows each examined object as tested, and one that the policy wants gone as one that failed.
      *
      * @throws IllegalStateException if the pool is closed
      * @throws Exception if an override does; this method throws none that is checked

@@ -141,7 +141,7 @@ public class GenericObjectPool<T> extends BaseGenericObjectPool<T> implements Ob
         config.setTestOnCreate(getTestOnCreate());
         config.setTestOnReturn(getTestOnReturn());
         config.setTestWhileIdle(getTestWhileIdle());
-        config.setEvictionPolicyClassName(getEvictionPolicyClassName());
+        config.setEvictionPolicy(getEvictionPolicy());
         return config;
     }
 
@@ -149,7 +149,7 @@ public class GenericObjectPool<T> extends BaseGenericObjectPool<T> implements Ob
     private Opened pool() {
         Opened last = opened;
         GenericObjectPoolConfig<T> config = config();
-        String settings = config + " " + abandonedConfig;
+        String settings = config + " " + System.identityHashCode(config.getEvictionPolicy()) + " " + abandonedConfig;
         if (last != null && (isClosed() || last.settings.equals(settings))) {
             return last;
         }
