@@ -220,20 +220,18 @@ JNIEXPORT jint JNICALL Java_io_github_zuphinka_Core_step(JNIEnv *env, jclass cla
   return status == ZUPHINKA_STATUS_DONE ? (jint)reply.answer : -(jint)status;
 }
 
-/* Takes an idle object by the first step of a borrow that begins now, if more are idle than some that are tested, and no call waits. Returns its
- * token; or a negative status, and the borrow is to be begun. */
-JNIEXPORT jlong JNICALL Java_io_github_zuphinka_Core_take(JNIEnv *env, jclass class, jlong handle, jlong at, jint caller, jint tested) {
+/* Takes an idle object by the first step of a borrow that begins now, and returns its token; or a negative status, and the borrow is to be begun. */
+JNIEXPORT jlong JNICALL Java_io_github_zuphinka_Core_take(JNIEnv *env, jclass class, jlong handle, jlong at, jint caller) {
   (void)env, (void)class;
-  struct zuphinka *core = core_at(handle);
-  struct zuphinka_activity activity = {.waiting = 1};
-  struct zuphinka_tally counts = {.idle = 0};
-  struct zuphinka_request request = {.at = (uint64_t)at, .number = (uint64_t)at, .caller = (uint32_t)caller, .input = ZUPHINKA_INPUT_BORROW};
-  struct zuphinka_reply reply;
-  zuphinka_state(core, &activity);
-  zuphinka_counts(core, &counts);
-  if (activity.waiting > 0 || activity.is_closed || counts.idle <= (uint64_t)tested) return -(jlong)ZUPHINKA_STATUS_NOT_AT_ONCE;
-  uint32_t status = zuphinka_step(core, &request, &reply);
-  return status == ZUPHINKA_STATUS_DONE ? (jlong)(uintptr_t)reply.object : -(jlong)status;
+  struct zuphinka_loan loan;
+  uint32_t status = zuphinka_take(core_at(handle), (uint32_t)caller, (uint64_t)at, &loan);
+  return status == ZUPHINKA_STATUS_DONE ? (jlong)(uintptr_t)loan.object : -(jlong)status;
+}
+
+/* Takes the first step of the return of an object. Returns whether it did; otherwise the return is to be begun. */
+JNIEXPORT jboolean JNICALL Java_io_github_zuphinka_Core_check(JNIEnv *env, jclass class, jlong handle, jlong at, jlong id, jint caller) {
+  (void)env, (void)class;
+  return zuphinka_check(core_at(handle), (uint32_t)caller, (uint64_t)at, (uint64_t)id) == ZUPHINKA_STATUS_DONE;
 }
 
 /* Stores the counts in their order in `struct zuphinka_tally`, then the entries since the base, and the room of the journal. */

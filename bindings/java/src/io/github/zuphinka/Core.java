@@ -62,7 +62,6 @@ final class Core {
     static final int END_CONTRADICTED = 20;
 
     static final int INPUT_READY = 2;
-    static final int INPUT_RETURN = 3;
     static final int INPUT_PARK = 4;
     static final int INPUT_USE = 6;
     static final int INPUT_DESTROYED = 18;
@@ -72,7 +71,6 @@ final class Core {
     static final int OUTCOME_TEST_FAILED = 5;
     static final int OUTCOME_PASSIVATE_FAILED = 6;
 
-    static final int ANSWER_CHECK = 7;
     static final int ANSWER_PARKED = 8;
 
     static final int STATUS_OUT_OF_MEMORY = -3;
@@ -164,11 +162,11 @@ final class Core {
     /** Takes a step with an object. Returns its answer, or a negative status. */
     static native int step(long core, long at, long id, long token, int caller, int input, int outcome);
 
-    /**
-     * Takes an idle object by the first step of a borrow that begins now, if more are idle than some that are tested, and no call waits. Returns its
-     * token; or a negative status, and the borrow is to be begun.
-     */
-    static native long take(long core, long at, int caller, int tested);
+    /** Takes an idle object by the first step of a borrow, and returns its token; or a negative status, and the borrow is to be begun. */
+    static native long take(long core, long at, int caller);
+
+    /** Takes the first step of the return of an object. Returns whether it did; otherwise the return is to be begun. */
+    static native boolean check(long core, long at, long id, int caller);
 
     /** Stores the counts, in the order of {@link Counts}. */
     static native void counts(long core, long[] to);

@@ -42,8 +42,6 @@ final class Sections<T> {
     private boolean isClosed;
     /** The time of the last step, in milliseconds since the start. */
     private long latest;
-    /** How many eviction runs there are, each of which tests an idle object at most. */
-    private int evictions;
     /** How often a waiter is to be overtaken at most, and the bound that the core has until the waiters who were overtaken more often have left. */
     private int maxOvertakes;
     private long overtakes;
@@ -159,11 +157,12 @@ final class Sections<T> {
 
     /** Takes an idle object for a borrow that begins now by its first step; null if the borrow is to be begun. */
     private Member<T> takeIdle(long now) {
-        long token = settings.reclaimsOnBorrow ? -1 : Core.take(core, timeOf(now), Callers.number(), evictions);
+        long token = Core.take(core, timeOf(now), Callers.number());
         if (token < 0) {
             return null;
         }
         journal.add(1);
+        wakeMore();
         return members.at((int) token);
     }
 
@@ -188,7 +187,7 @@ final class Sections<T> {
 
     /** Takes a lent object back by the first step of its return, if it is lent. Returns whether it did; otherwise the return is to be begun. */
     private boolean isTaken(Member<T> member, long now) {
-        if (!member.isLent() || Core.step(core, timeOf(now), member.id, 0, Callers.number(), Core.INPUT_RETURN, 0) != Core.ANSWER_CHECK) {
+        if (!Core.check(core, timeOf(now), member.id, Callers.number())) {
             return false;
         }
         journal.add(1);
@@ -258,7 +257,6 @@ final class Sections<T> {
     /** Begins a call in a section that has the lock. */
     private void beginCall(Call<T> call) {
         Member<T> member = call.member;
-        evictions += call.kind == Core.KIND_EVICT ? 1 : 0;
         long id = member == null ? call.moreMillis : member.id;
         long reply = Core.begin(core, timeOf(call.first), id, member == null ? 0 : member.slot, call.caller, call.kind);
         if (reply == Core.STATUS_OUT_OF_MEMORY) {
@@ -510,7 +508,6 @@ final class Sections<T> {
         if (lacks && isClosed && needsOpenPool(call.kind)) {
             call.end = Core.END_CLOSED;
         }
-        evictions -= call.kind == Core.KIND_EVICT ? 1 : 0;
         if (call.end == Core.END_LENT) {
             lent(call.member, now, now - call.first);
         }
