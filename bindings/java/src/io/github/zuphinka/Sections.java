@@ -132,8 +132,8 @@ final class Sections<T> {
     // Calls that are over at once.
 
     /** Lends an idle object at once to a borrow that begins now, which need not do anything else; null if the borrow is to be begun. */
-    private Member<T> lendAtOnce(long now) {
-        long token = Core.lend(core, timeOf(now), Callers.number());
+    private Member<T> lendAtOnce(long now, int caller) {
+        long token = Core.lend(core, timeOf(now), caller);
         if (token < 0) {
             return null;
         }
@@ -143,8 +143,8 @@ final class Sections<T> {
     }
 
     /** Takes an object back at once. Returns whether it did; otherwise the return is to be begun. */
-    private boolean takeBackAtOnce(Member<T> member, long now) {
-        if (!Core.takeBack(core, timeOf(now), member.id, member.slot, Callers.number())) {
+    private boolean takeBackAtOnce(Member<T> member, long now, int caller) {
+        if (!Core.takeBack(core, timeOf(now), member.id, member.slot, caller)) {
             return false;
         }
         journal.add(2);
@@ -156,8 +156,8 @@ final class Sections<T> {
     // Calls of two steps, on an object that the factory activates or passivates.
 
     /** Takes an idle object for a borrow that begins now by its first step; null if the borrow is to be begun. */
-    private Member<T> takeIdle(long now) {
-        long token = Core.take(core, timeOf(now), Callers.number());
+    private Member<T> takeIdle(long now, int caller) {
+        long token = Core.take(core, timeOf(now), caller);
         if (token < 0) {
             return null;
         }
@@ -167,12 +167,12 @@ final class Sections<T> {
     }
 
     /** Makes an object ready that was taken, and lends it to a borrow that began at this time. If that fails, it is destroyed, and this returns false. */
-    private boolean isReadied(Member<T> member, long first) {
+    private boolean isReadied(Member<T> member, long first, int caller) {
         int outcome = work.makeReady(member);
         long now = System.nanoTime();
         acquire();
         try {
-            complete(Core.INPUT_READY, member, outcome, now);
+            complete(Core.INPUT_READY, member, outcome, now, caller);
             failedOnBorrow += outcome == Core.OUTCOME_TEST_FAILED ? 1 : 0;
             if (outcome == Core.OUTCOME_GOOD) {
                 lent(member, now, now - first);
@@ -181,13 +181,13 @@ final class Sections<T> {
         } finally {
             release();
         }
-        end(member, false);
+        end(member, false, caller);
         return false;
     }
 
     /** Takes a lent object back by the first step of its return, if it is lent. Returns whether it did; otherwise the return is to be begun. */
-    private boolean isTaken(Member<T> member, long now) {
-        if (!Core.check(core, timeOf(now), member.id, Callers.number())) {
+    private boolean isTaken(Member<T> member, long now, int caller) {
+        if (!Core.check(core, timeOf(now), member.id, caller)) {
             return false;
         }
         journal.add(1);
@@ -196,23 +196,23 @@ final class Sections<T> {
     }
 
     /** Tests and passivates an object that was taken back. It is idle then, or destroyed. */
-    private void putAway(Member<T> member) {
+    private void putAway(Member<T> member, int caller) {
         int outcome = work.putAway(member);
         acquire();
         try {
-            if (complete(Core.INPUT_PARK, member, outcome, System.nanoTime()) == Core.ANSWER_PARKED) {
+            if (complete(Core.INPUT_PARK, member, outcome, System.nanoTime(), caller) == Core.ANSWER_PARKED) {
                 wakeMore();
                 return;
             }
         } finally {
             release();
         }
-        end(member, true);
+        end(member, true, caller);
     }
 
     /** Takes a step that completes work on an object. Returns the answer. */
-    private int complete(int input, Member<T> member, int outcome, long now) {
-        int answer = Core.step(core, timeOf(now), member.id, member.slot, Callers.number(), input, outcome);
+    private int complete(int input, Member<T> member, int outcome, long now, int caller) {
+        int answer = Core.step(core, timeOf(now), member.id, member.slot, caller, input, outcome);
         if (answer < 0) {
             throw new AssertionError("zuphinka: status " + -answer);
         }
@@ -221,11 +221,11 @@ final class Sections<T> {
     }
 
     /** Destroys an object that failed, or is not kept, and frees its place. What failed is thrown if it is an error, or told if it is of a return. */
-    private void end(Member<T> member, boolean isReturned) {
+    private void end(Member<T> member, boolean isReturned, int caller) {
         Throwable fault = work.destroyed(member);
         acquire();
         try {
-            complete(Core.INPUT_DESTROYED, member, 0, System.nanoTime());
+            complete(Core.INPUT_DESTROYED, member, 0, System.nanoTime(), caller);
             members.remove(member);
             wakeMore();
         } finally {
@@ -632,18 +632,19 @@ final class Sections<T> {
      * Lends an object to a borrow that began at this time of {@link System#nanoTime}. It waits no longer than some nanoseconds, if they are not negative.
      */
     Member<T> borrow(long first, long longestNanos) throws Exception {
+        int caller = Callers.number();
         Member<T> member;
         Call<T> call = null;
         begin();
         try {
-            member = work.isBorrowedBare ? lendAtOnce(first) : takeIdle(first);
+            member = work.isBorrowedBare ? lendAtOnce(first, caller) : takeIdle(first, caller);
             if (member == null) {
                 call = begun(first, longestNanos);
             }
         } finally {
             release();
         }
-        if (call == null && (work.isBorrowedBare || isReadied(member, first))) {
+        if (call == null && (work.isBorrowedBare || isReadied(member, first, caller))) {
             return member;
         }
         return lentBy(call == null ? begunLater(first, longestNanos) : call);
@@ -681,11 +682,12 @@ final class Sections<T> {
 
     /** Returns an object. */
     void giveBack(Member<T> member) {
+        int caller = Callers.number();
         long now = System.nanoTime();
         Call<T> call = null;
         begin();
         try {
-            boolean isBegun = work.isReturnedBare ? takeBackAtOnce(member, now) : isTaken(member, now);
+            boolean isBegun = work.isReturnedBare ? takeBackAtOnce(member, now, caller) : isTaken(member, now, caller);
             if (!isBegun) {
                 call = call(Core.KIND_RETURN, now, member);
                 beginCall(call);
@@ -698,7 +700,7 @@ final class Sections<T> {
             Ends.checkUnchecked(call);
             leave(call);
         } else if (!work.isReturnedBare) {
-            putAway(member);
+            putAway(member, caller);
         }
     }
 
