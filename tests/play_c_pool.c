@@ -1932,11 +1932,11 @@ static void test_loans_by_halves(void) {
   check(zuphinka_check(&pool, 4, 5, 0) == ZUPHINKA_STATUS_NOT_AT_ONCE && !is_lent(&pool, 0));
   check(step_at(&pool, 6, ZUPHINKA_INPUT_PARK, ZUPHINKA_OUTCOME_GOOD, loan) == ZUPHINKA_ANSWER_PARKED);
   loan = (struct zuphinka_loan){7, NULL};
-  check(zuphinka_take(&pool, 4, 3, &loan) == ZUPHINKA_STATUS_DONE && loan.id == 0 && loan.object == &maker && !is_lent(&pool, 0));
+  check(zuphinka_take(&pool, 4, 7, &loan) == ZUPHINKA_STATUS_DONE && loan.id == 0 && loan.object == &maker && !is_lent(&pool, 0));
   check(step_at(&pool, 8, ZUPHINKA_INPUT_READY, ZUPHINKA_OUTCOME_GOOD, loan) == ZUPHINKA_ANSWER_LENT && is_lent(&pool, 0));
   check_text(line_at(&pool, 2).text, "4 5 return 0 = check");
   check_text(line_at(&pool, 3).text, "4 6 park 0 good = parked");
-  check_text(line_at(&pool, 4).text, "4 6 borrow 6 = take 0");
+  check_text(line_at(&pool, 4).text, "4 7 borrow 7 = take 0");
   check_text(line_at(&pool, 5).text, "4 8 ready 0 good = lent");
   check(zuphinka_begin(&pool, &last, &call, &effects) == ZUPHINKA_STATUS_DONE && effects.action == ZUPHINKA_ACTION_PASSIVATE);
   zuphinka_drop(&pool);
