@@ -8,7 +8,7 @@ mod common;
 
 use common::chance::{
     assert_dropped_once, close_empty, hush_random_panics, panic_at_random, Dice, Drops, Failed,
-    Thing,
+    Fickle, Thing,
 };
 use common::{
     caught, cut_off, entries_of, journal_of, judge_segments, texts_of, MemorySink, Stored,
@@ -27,19 +27,10 @@ const CALLS: u32 = 2_000;
 /// Before one in so many the thread lets others run.
 const YIELDS_OF: u64 = 50;
 
-/// A manager whose calls fail by chance, each by its number.
-struct Fickle<const HOOKS: bool> {
-    seed: u64,
-    calls: AtomicU64,
-    drops: Arc<Drops>,
-    panics: bool,
-}
-
 impl<const HOOKS: bool> Fickle<HOOKS> {
     /// Fails or panics now and then.
     fn call(&self) -> Result<(), Failed> {
-        let call = self.calls.fetch_add(1, Ordering::Relaxed);
-        let mut dice = Dice(self.seed.wrapping_add(call));
+        let mut dice = self.dice();
         if dice.roll(YIELDS_OF) == 0 {
             thread::yield_now();
         }
@@ -543,12 +534,7 @@ fn play<const HOOKS: bool>(seed: u64) -> (usize, String) {
     let drops = Arc::new(Drops::default());
     let (manner, panics) = (Manner::of(seed), seed % 4 == 0);
     let (keeping, stored) = (Keeping::of(seed), Stored::default());
-    let manager = Fickle::<HOOKS> {
-        seed,
-        calls: AtomicU64::new(0),
-        drops: Arc::clone(&drops),
-        panics,
-    };
+    let manager = Fickle::<HOOKS>::new(seed, &drops, panics);
     let table = Table {
         pool: manner.open(manager, keeping.journal(seed, &stored)),
         manner,

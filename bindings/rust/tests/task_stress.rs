@@ -6,7 +6,7 @@
 mod common;
 
 use common::chance::{
-    assert_dropped_once, close_empty, hush_random_panics, Dice, Drops, Failed, Thing,
+    assert_dropped_once, close_empty, hush_random_panics, Dice, Drops, Failed, Fickle, Thing,
 };
 use common::tasks::{poll, yield_now, Bell};
 use common::{assert_segments_legal, caught, entries_of, journal_of, texts_of, MemorySink, Stored};
@@ -28,20 +28,7 @@ const AWAITS: u64 = 3;
 /// The borrows that a thread has at most, and the objects.
 const MOST: usize = 3;
 
-/// A manager whose calls are awaited, fail and panic at random.
-struct Fickle<const HOOKS: bool> {
-    seed: u64,
-    calls: AtomicU64,
-    drops: Arc<Drops>,
-    panics: bool,
-}
-
 impl<const HOOKS: bool> Fickle<HOOKS> {
-    fn dice(&self) -> Dice {
-        let call = self.calls.fetch_add(1, Ordering::Relaxed);
-        Dice(self.seed.wrapping_add(call))
-    }
-
     async fn call_async(&self) -> Result<(), Failed> {
         let mut dice = self.dice();
         for _ in 0..dice.roll(AWAITS + 1) {
@@ -314,12 +301,7 @@ fn play_all<const HOOKS: bool>(table: &Table<HOOKS>, seed: u64) -> Vec<(u32, u64
 /// Plays with a seed. Returns the number of objects and of loans.
 fn play<const HOOKS: bool>(seed: u64) -> (usize, usize) {
     let (drops, stored) = (Arc::new(Drops::default()), Stored::default());
-    let manager = Fickle::<HOOKS> {
-        seed,
-        calls: AtomicU64::new(0),
-        drops: Arc::clone(&drops),
-        panics: seed % 4 > 1,
-    };
+    let manager = Fickle::<HOOKS>::new(seed, &drops, seed % 4 > 1);
     let table = Table {
         pool: open(seed, manager, &stored),
         handed: Mutex::default(),

@@ -2,7 +2,7 @@
 
 use super::caught;
 use std::panic;
-use std::sync::atomic::AtomicBool;
+use std::sync::atomic::{AtomicBool, AtomicU64, Ordering};
 use std::sync::{Arc, Mutex};
 use zuphinka::{Manager, Pool};
 
@@ -40,6 +40,31 @@ impl Dice {
             true => Err(Failed),
             false => Ok(()),
         }
+    }
+}
+
+/// A manager whose calls fail and panic by chance, each by its number.
+pub struct Fickle<const HOOKS: bool> {
+    pub drops: Arc<Drops>,
+    pub panics: bool,
+    seed: u64,
+    calls: AtomicU64,
+}
+
+impl<const HOOKS: bool> Fickle<HOOKS> {
+    pub fn new(seed: u64, drops: &Arc<Drops>, panics: bool) -> Fickle<HOOKS> {
+        Fickle {
+            drops: Arc::clone(drops),
+            panics,
+            seed,
+            calls: AtomicU64::new(0),
+        }
+    }
+
+    /// Returns the dice of the next call.
+    pub fn dice(&self) -> Dice {
+        let call = self.calls.fetch_add(1, Ordering::Relaxed);
+        Dice(self.seed.wrapping_add(call))
     }
 }
 
