@@ -648,15 +648,16 @@ fn hooked_with_idle(rt: &impl Abort, alloc: Global) -> DrivenPool {
     pool
 }
 
-// Takes a step of the host's own, and compares its answer.
+// Takes a step of the host's own, with a token if the input carries one, and compares its answer.
 fn answers(
     rt: &impl Abort,
     pool: &mut DrivenPool,
     at: u64,
     input: Input,
-    value: Option<u64>,
+    token: u64,
     wanted: Answer,
 ) {
+    let value = if input.carries() { Some(token) } else { None };
     match pool.step(1, at, input, value) {
         Ok((answer, _)) => expect_equal(rt, answer, wanted),
         Err(_) => assert!(rt; false, "the step was not taken"),
@@ -668,7 +669,7 @@ fn lend_ready(rt: &impl Abort, pool: &mut DrivenPool, at: u64) {
         id: 0,
         outcome: Outcome::Good,
     };
-    answers(rt, pool, at, ready, None, Answer::Lent);
+    answers(rt, pool, at, ready, 0, Answer::Lent);
 }
 
 fn park_checked(rt: &impl Abort, pool: &mut DrivenPool, at: u64, token: u64) {
@@ -676,7 +677,7 @@ fn park_checked(rt: &impl Abort, pool: &mut DrivenPool, at: u64, token: u64) {
         id: 0,
         outcome: Outcome::Good,
     };
-    answers(rt, pool, at, park, Some(token), Answer::Parked);
+    answers(rt, pool, at, park, token, Answer::Parked);
 }
 
 // With hooks a loan and its end begin at once, with the first entry of each.
