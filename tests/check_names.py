@@ -36,7 +36,8 @@ SAID = r"\b(?:ensures|ghost|pub (?:trait|struct|enum|fn)|pub\(crate\) fn) %s\b"
 # The sources besides those of the crates.
 OTHERS = (
     *("bindings/c/include/*", "bindings/c/src/*", "bindings/c/examples/*", "bindings/rust/src/*.rs", "bindings/rust/examples/*"),
-    *("bindings/java/src/**/*", "bindings/java/native/*", "bindings/java/examples/*", "tests/*.*", "tests/java/*", "tests/commons_pool/**/*"),
+    *("bindings/java/src/**/*", "bindings/java/commons-pool2/src/**/*", "bindings/java/native/*", "bindings/java/examples/*"),
+    *("tests/*.*", "tests/java/*", "tests/drop_in/*", "tests/commons_pool/*"),
     *("bench/*", "tools/*", "docs/pictures/*.py", "examples/*.toml", "examples/*.script", "pool", "check", "crates.txt", "bindings/c/Makefile"),
 )
 

@@ -1,5 +1,5 @@
 #!/usr/bin/env python3
-"""Sees that all tell the version that the file VERSION has: the Rust crate and its lock file, the description of the Java library for Maven, the C
+"""Sees that all tell the version that the file VERSION has: the Rust crate and its lock file, the descriptions of the Java library for Maven, the C
 header, the C library, the programs, the man page and the change log.
 
     check_version.py [PROGRAM..]
@@ -47,7 +47,10 @@ def checks(version, programs):
     yield "the form of VERSION", True, bool(re.fullmatch(r"\d+\.\d+\.\d+", version))
     yield "Cargo.toml", version, tomllib.loads((TOP / "bindings/rust/Cargo.toml").read_text())["package"]["version"]
     yield "Cargo.lock", [version], [package["version"] for package in lock if package["name"] == "zuphinka"]
-    yield "pom.xml", [version], found(r"^  <version>(.*)</version>$", "bindings/java/pom.xml")
+    for name in "bindings/java/pom.xml", "bindings/java/commons-pool2/pom.xml":
+        yield name, [version], found(r"^  <version>(.*)</version>$", name)
+    shown = found(r"<artifactId>zuphinka-commons-pool2</artifactId>\n *<version>(.*)</version>|'io.github.zuphinka:\S*:([\d.]*)'", "bindings/java/README.md")
+    yield "the dependencies of the page for Java", [version] * 2, ["".join(pair) for pair in shown]
     yield "the text of zuphinka.h", [version], found(r'^#define ZUPHINKA_VERSION "(.*)"$', HEADER)
     yield "the numbers of zuphinka.h", version.split("."), found(r"^#define ZUPHINKA_VERSION_(?:MAJOR|MINOR|PATCH) (\d+)$", HEADER)
     yield "the C library", [(number(version),) * 2], [tuple(map(int, numbers)) for numbers in found(NUMBER, "crates/zuphinka/src/lib.rt")]

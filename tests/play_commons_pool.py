@@ -5,9 +5,9 @@
     play_commons_pool.py --fetch
 
 LIBRARY is libzuphinka.a, POOL the program `pool`, and FOLDER the source of Commons Pool 2 of the version that is installed. Else COMMONS_POOL2_SOURCE
-names it, or Debian's archive of it is downloaded, unless --fetch has stored it in the folder out. The tests run in four virtual machines, over
-a class that stands in for GenericObjectPool and passes each call on (tests/commons_pool). A test that does not end as the page says runs again,
-alone, up to twice.
+names it, or Debian's archive of it is downloaded, unless --fetch has stored it in the folder out. The tests run in four virtual machines, over the
+GenericObjectPool of bindings/java/commons-pool2, which comes before the library's and passes each call on. A test that does not end as the page says
+runs again, alone, up to twice.
 
 What fails is a test that fails without a row on the page, that passes although its row says that it differs, or that does not exist; a class of which
 another number of tests passes; and a journal that is not legal, of a pool that a test closed. If a tool, a library or the source is missing, all of
@@ -180,7 +180,7 @@ class Tests:
 
     def __init__(self, names, source, jar, folder):
         self.folder, self.sources = folder, source / "src/test/java"
-        others = [jar, java.commons_pool(), *jars()]
+        others = [java.drop_in(jar.parent), jar, java.commons_pool(), *jars()]
         own, tests = folder / "own", folder / "tests"
         java.compile_classes(sorted(OWN.rglob("*.java")), own, *others)
         words = [*(f"-J{option}" for option in SHORT_RUN), "-nowarn", "-implicit:class", "-cp", self.joined(own, *others)]
@@ -281,7 +281,7 @@ def fault_of_journal(pool, folder):
 
 def checks_of_journals(pool, folder):
     """What is wanted of the journals, and what they are."""
-    journals = sorted(path.parent for path in folder.glob("journals-*/*/settings.toml"))
+    journals = sorted({path.parent for path in folder.glob("journals-*/*/segment-*")})
     with concurrent.futures.ThreadPoolExecutor(MACHINES) as workers:
         faults = list(workers.map(lambda journal: fault_of_journal(pool, journal), journals))
     print(f"{faults.count(None)} journals are legal")

@@ -233,8 +233,8 @@ def undocumented(source):
 
 
 def documentation(folder):
-    """What is wanted of the documentation of the library, and what is wrong with it by javac."""
-    sources = sorted((java.JAVA / "src").rglob("*.java"))
+    """What is wanted of the documentation of both jars' classes, and what is wrong with it by javac."""
+    sources = sorted(path for place in (java.JAVA, java.DROP_IN) for path in (place / "src").rglob("*.java"))
     words = [f"-J{java.QUICK}", "--release", java.RELEASE, "-Xdoclint:all/protected", "-Xmaxwarns", "1000", "-d", folder]
     words += ["-cp", java.commons_pool(), *sources]
     done = subprocess.run([java.jdk() / "bin/javac", *words], capture_output=True, text=True)

@@ -1,11 +1,12 @@
 #!/usr/bin/env python3
-"""Builds the pool for Java with Maven, offline, from Debian's packages of its plugins, and compares the jars with the one of tools/java.py.
+"""Builds the pool for Java with Maven, offline, from Debian's packages of its plugins, and compares the jars with those of tools/java.py.
 
     play_maven.py LIBRARY
 
-LIBRARY is libzuphinka.a. The jar must have the same classes and native library, byte for byte, and the same manifest, besides what Maven says of
-itself. That of the sources must have them all, and that of the Javadoc the page of each public class. Without a library the build must fail, and name
-the property. What needs a JDK, Maven or a plugin that is missing is skipped, with the reason.
+LIBRARY is libzuphinka.a. Both jars must have the same classes and native library, byte for byte, and the same manifest, besides what Maven says of
+itself. Those of the sources must have them all, and those of the Javadoc the page of each public class. Without a library the build must fail, and
+name the property. A project depends on DBCP2 and on the jar that stands in place of Commons Pool 2, as bindings/java/README.md shows it, and must
+have its class. What needs a JDK, Maven or a plugin that is missing is skipped, with the reason.
 
 Prints what fails, and in the end the line 'N passed, M failed'.
 """
@@ -33,7 +34,21 @@ DEBIAN_REPOSITORY = pathlib.Path("/usr/share/maven-repo")
 NEEDED = [package.name for package in NAMED.values() if "maven" in package.parts]
 # What Maven adds to a manifest and to a jar, about itself.
 ABOUT_MAVEN = {"Created-By", "Build-Jdk-Spec"}
-DESCRIPTION = "META-INF/maven/io.github.zuphinka/zuphinka/"
+DESCRIPTION = "META-INF/maven/io.github.zuphinka/"
+# The description of a project.
+USER = """<project xmlns="http://maven.apache.org/POM/4.0.0">
+  <modelVersion>4.0.0</modelVersion>
+  <groupId>org.example</groupId>
+  <artifactId>user</artifactId>
+  <version>1</version>
+  <properties>
+    <project.build.sourceEncoding>UTF-8</project.build.sourceEncoding>
+    <maven.compiler.release>{release}</maven.compiler.release>
+  </properties>
+  <dependencies>
+{dependencies}  </dependencies>
+</project>
+"""
 # What Maven writes to a terminal, and else too.
 COLOURS = re.compile(r"\x1b\[\d*m")
 # A build that takes longer hangs, in seconds.
@@ -67,30 +82,49 @@ def manifest_of(files):
     return dict(re.findall(r"^([\w-]+): (.*)$", files.pop("META-INF/MANIFEST.MF").decode().replace("\r\n", "\n"), flags=re.MULTILINE))
 
 
-def same_jar(made, wanted):
-    """What is wanted of the jar of Maven, and what it is."""
+def same_jar(name, made, wanted):
+    """What is wanted of a jar of Maven, and what it is."""
     files, others = files_of(made), files_of(wanted)
     manifest, other = manifest_of(files), manifest_of(others)
-    yield "the manifest", other, {name: value for name, value in manifest.items() if name not in ABOUT_MAVEN}
-    described = {name: files.pop(name) for name in sorted(files) if name.startswith(DESCRIPTION)}
-    yield "the description", [DESCRIPTION + "pom.properties", DESCRIPTION + "pom.xml"], list(described)
-    properties = dict(re.findall(r"^(\w+)=(.*)$", described.get(DESCRIPTION + "pom.properties", b"").decode(), flags=re.MULTILINE))
-    yield "the coordinates", {"groupId": "io.github.zuphinka", "artifactId": "zuphinka", "version": version()}, properties
-    yield "the files", sorted(others), sorted(files)
-    yield "files that differ", [], [name for name in others if files.get(name) != others[name]]
-    yield "it has the native library", True, "libzuphinka_jni.so" in files
+    yield f"{name}: the manifest", other, {key: value for key, value in manifest.items() if key not in ABOUT_MAVEN}
+    place = f"{DESCRIPTION}{name}/"
+    described = {path: files.pop(path) for path in sorted(files) if path.startswith(DESCRIPTION)}
+    yield f"{name}: the description", [place + "pom.properties", place + "pom.xml"], list(described)
+    properties = dict(re.findall(r"^(\w+)=(.*)$", described.get(place + "pom.properties", b"").decode(), flags=re.MULTILINE))
+    yield f"{name}: the coordinates", {"groupId": "io.github.zuphinka", "artifactId": name, "version": version()}, properties
+    yield f"{name}: the files", sorted(others), sorted(files)
+    yield f"{name}: files that differ", [], [path for path in others if files.get(path) != others[path]]
+    yield f"{name}: it has classes", True, any(path.endswith(".class") for path in files)
 
 
-def other_jars(folder):
+def other_jars(name, folder, source):
     """What is wanted of the jars of the sources and of the Javadoc, and what they are."""
-    sources = {path.relative_to(java.JAVA / "src").as_posix(): path.read_bytes() for path in (java.JAVA / "src").rglob("*.java")}
-    packed = files_of(folder / f"zuphinka-{version()}-sources.jar")
-    yield "the sources", sources, {name: text for name, text in packed.items() if name.endswith(".java")}
-    pages = files_of(folder / f"zuphinka-{version()}-javadoc.jar")
-    public = [name for name, text in sources.items() if re.search(rb"^public ", text, flags=re.MULTILINE)]
-    found = {name.removeprefix("io.github.zuphinka/").removesuffix(".html") for name in pages}
-    yield "public classes without a page", [], [name for name in public if name.removesuffix(".java") not in found]
-    yield "there are public classes", True, len(public) > 5
+    sources = {path.relative_to(source).as_posix(): path.read_bytes() for path in source.rglob("*.java")}
+    packed = files_of(folder / f"{name}-{version()}-sources.jar")
+    yield f"{name}: the sources", sources, {path: text for path, text in packed.items() if path.endswith(".java")}
+    found = {path.removeprefix("io.github.zuphinka/") for path in files_of(folder / f"{name}-{version()}-javadoc.jar")}
+    public = [path for path, text in sources.items() if re.search(rb"^public ", text, flags=re.MULTILINE)]
+    yield f"{name}: public classes without a page", [], [path for path in public if path.removesuffix(".java") + ".html" not in found]
+    yield f"{name}: there are public classes", True, bool(public)
+
+
+def dependencies():
+    """The dependencies of a project that has the pool in place of Commons Pool 2, as the page shows them; DBCP2 comes first."""
+    page = (java.JAVA / "README.md").read_text()
+    shown = re.search(r"^```xml\n(.*?)^```$", page, flags=re.MULTILINE | re.DOTALL)[1]
+    return "".join(reversed(re.findall(r"<dependency>.*?</dependency>\n", shown, flags=re.DOTALL)))
+
+
+def user(maven, folder):
+    """What is wanted of a project that has the pool in place of Commons Pool 2, and what it does."""
+    sources = folder / "user/src/main/java"
+    sources.mkdir(parents=True)
+    for source in TOP / "tests/drop_in/DropIn.java", TOP / "tests/java/Expectations.java":
+        shutil.copy(source, sources)
+    (folder / "user/pom.xml").write_text(USER.format(dependencies=dependencies(), release=java.RELEASE))
+    words = ["-Dexec.mainClass=DropIn", f"-Dexec.args=zuphinka-commons-pool2-{version()}.jar"]
+    status, output = maven.run(folder / "user/pom.xml", "compile", "org.codehaus.mojo:exec-maven-plugin:3.1.0:java", *words)
+    yield "a project with it", (0, True), (status, re.search(r"^\d{2,} passed, 0 failed$", output, flags=re.MULTILINE) is not None or output)
 
 
 def checks(library):
@@ -100,9 +134,15 @@ def checks(library):
         status, output = maven.run(project, "package")
         yield "without a library", (True, True), (status != 0, "-Dzuphinka.library=FILE" in output)
         words = [f"-Dzuphinka.library={library.resolve()}", f"-Dzuphinka.heap={heap_of_kit()}"]
-        yield "the build", (0, ""), maven.run(project, *words, "package")
-        yield from same_jar(folder / f"build/zuphinka-{version()}.jar", java.build(library, heap_of_kit(), folder / "out"))
-        yield from other_jars(folder / "build")
+        yield "the build", (0, ""), maven.run(project, *words, "install")
+        jar = java.build(library, heap_of_kit(), folder / "out")
+        yield from same_jar("zuphinka", folder / f"build/zuphinka-{version()}.jar", jar)
+        yield from other_jars("zuphinka", folder / "build", java.JAVA / "src")
+        shutil.rmtree(folder / "build")
+        yield "the build in place of Commons Pool 2", (0, ""), maven.run(java.DROP_IN / "pom.xml", "install")
+        yield from same_jar("zuphinka-commons-pool2", folder / f"build/zuphinka-commons-pool2-{version()}.jar", java.drop_in(jar.parent))
+        yield from other_jars("zuphinka-commons-pool2", folder / "build", java.DROP_IN / "src")
+        yield from user(maven, folder)
 
 
 def main():

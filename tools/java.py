@@ -7,8 +7,9 @@ FILE is libzuphinka.a, else that of crates/zuphinka/out, which is proved and bui
 library allocates, else that of the command `rt`. JAVA_HOME names the JDK, else it is that of the command javac; COMMONS_POOL2 the jar of Commons
 Pool 2, else it is Debian's; CC the C compiler, else it is cc. Made are, in bindings/java/out,
 
-    libzuphinka_jni.so    the native library
-    zuphinka.jar          the classes and the native library; its manifest names commons-pool2.jar as its class path, the module and the version
+    libzuphinka_jni.so            the native library
+    zuphinka.jar                  the classes and the native library; its manifest names the module, and commons-pool2.jar as its class path
+    zuphinka-commons-pool2.jar    a GenericObjectPool in place of the library's; its manifest names both other jars as its class path
 
 The same sources, library and compilers give the same bytes. The status is 1 if something cannot be compiled, and 3 if a tool or Commons Pool 2 is missing: then its package is named.
 """
@@ -27,6 +28,7 @@ from install import INCLUDE, heap_of_kit, version
 
 TOP = pathlib.Path(__file__).resolve().parent.parent
 JAVA = TOP / "bindings/java"
+DROP_IN = JAVA / "commons-pool2"
 OUT = JAVA / "out"
 LIBRARY = TOP / "crates/zuphinka/out/libzuphinka.a"
 BUILD = TOP / "tools/build.py"
@@ -88,14 +90,13 @@ def compile_classes(sources, to, *jars):
     run(jdk() / "bin/javac", f"-J{QUICK}", "--release", RELEASE, *flags, "-d", to, "-cp", path, *sources)
 
 
-def pack(classes, native, jar):
-    """Makes a jar of the classes and the native library. Each file has the earliest time that a jar can tell."""
-    lines = ["Manifest-Version: 1.0", "Implementation-Title: zuphinka", f"Implementation-Version: {version()}", f"Bundle-License: {LICENCE}"]
-    lines += [f"Automatic-Module-Name: {MODULE}", f"Class-Path: {DEBIAN_JAR.name}"]
-    manifest = "".join(f"{line}\n" for line in lines)
+def pack(classes, others, jar, title, attributes):
+    """Makes a jar of classes and other files, with more attributes in its manifest. Each file has the earliest time that a jar can tell."""
+    lines = ["Manifest-Version: 1.0", f"Implementation-Title: {title}", f"Implementation-Version: {version()}", f"Bundle-License: {LICENCE}"]
+    manifest = "".join(f"{line}\n" for line in [*lines, *attributes])
     files = {"META-INF/MANIFEST.MF": manifest.encode()}
-    files |= {path.relative_to(classes).as_posix(): path.read_bytes() for path in sorted(classes.rglob("*.class"))}
-    files[native.name] = native.read_bytes()
+    files |= {path.relative_to(classes).as_posix(): path.read_bytes() for path in sorted(pathlib.Path(classes).rglob("*.class"))}
+    files |= {path.name: path.read_bytes() for path in others}
     with zipfile.ZipFile(jar, "w") as packed:
         for name, text in files.items():
             entry = zipfile.ZipInfo(name)
@@ -104,14 +105,23 @@ def pack(classes, native, jar):
 
 
 def build(library, heap, folder=OUT):
-    """Builds all of it in a folder, and returns the jar."""
+    """Builds all of it in a folder, and returns the jar of the pool."""
     folder.mkdir(exist_ok=True)
     native, jar = folder / "libzuphinka_jni.so", folder / "zuphinka.jar"
     compile_native(library, heap, native)
     with tempfile.TemporaryDirectory() as classes:
         compile_classes(sorted((JAVA / "src").rglob("*.java")), classes, commons_pool())
-        pack(pathlib.Path(classes), native, jar)
+        pack(classes, [native], jar, "zuphinka", [f"Automatic-Module-Name: {MODULE}", f"Class-Path: {DEBIAN_JAR.name}"])
+    with tempfile.TemporaryDirectory() as classes:
+        compile_classes(sorted((DROP_IN / "src").rglob("*.java")), classes, jar, commons_pool())
+        path = f"Class-Path: {jar.name} {DEBIAN_JAR.name}"
+        pack(classes, [], drop_in(folder), drop_in(folder).stem, [path])
     return jar
+
+
+def drop_in(folder=OUT):
+    """The jar with a GenericObjectPool in place of the library's."""
+    return folder / "zuphinka-commons-pool2.jar"
 
 
 def arguments():

@@ -43,6 +43,8 @@ PARTS = (
     Part("java",
          "the pool for Java: its calls, also with failing allocations, eight threads that call at random, its journals, examples and documentation",
          "python3 tests/play_java.py {zuphinka} {pool} {journal_picture}"),
+    Part("drop-in", "the pool for Java in place of Commons Pool 2: its members, settings that change, and DBCP2's BasicDataSource over it",
+         "python3 tests/play_drop_in.py {zuphinka} {pool}"),
     Part("maven", "the jars of the pool for Java that Maven builds", "python3 tests/play_maven.py {zuphinka}"),
     Part("java-random", "six threads that call at random over a factory that fails, on the pool for Java; what Commons Pool 2 does there is shown",
          "python3 tests/play_java_random.py {zuphinka}"),
@@ -106,7 +108,7 @@ QUICK = ("unproved", "rust-model", "case-files", "life", "readme", "metrics", "n
 
 JARS, CRATES = "/usr/share/java", "/usr/share/cargo/registry"
 PLUGINS = "/usr/share/maven-repo/org/apache/maven/plugins"
-IN_JAVA = ("java", "maven", "java-random", "commons-random", "commons-pool", "benchmarks", "release", "postgres")
+IN_JAVA = ("java", "drop-in", "maven", "java-random", "commons-random", "commons-pool", "benchmarks", "release", "postgres")
 OVER_POSTGRES = ("postgres", "benchmarks")
 
 PACKAGES = (
@@ -123,11 +125,14 @@ PACKAGES = (
     Package("librust-r2d2-dev", f"{CRATES}/r2d2-[0-9]*", ("benchmarks",)),
     Package("default-jdk-headless", "javac", IN_JAVA, "JAVA_HOME"),
     Package("libcommons-pool2-java", f"{JARS}/commons-pool2.jar", IN_JAVA, "COMMONS_POOL2"),
-    Package("libcommons-dbcp2-java", f"{JARS}/commons-dbcp2.jar", ("java", "release", "postgres", "benchmarks")),
-    Package("libh2-java", f"{JARS}/h2.jar", ("java", "release")),
+    Package("libcommons-dbcp2-java", f"{JARS}/commons-dbcp2.jar", ("java", "drop-in", "maven", "release", "postgres", "benchmarks")),
+    Package("libcommons-logging-java", f"{JARS}/commons-logging.jar", ("drop-in",)),
+    Package("libh2-java", f"{JARS}/h2.jar", ("java", "drop-in", "release")),
     Package("maven", "mvn", ("maven",)),
     Package("libmaven-antrun-plugin-java", f"{PLUGINS}/maven-antrun-plugin/3.1.0", ("maven",)),
     Package("libmaven-compiler-plugin-java", f"{PLUGINS}/maven-compiler-plugin/3.10.1", ("maven",)),
+    Package("libexec-maven-plugin-java", "/usr/share/maven-repo/org/codehaus/mojo/exec-maven-plugin/3.1.0", ("maven",)),
+    Package("libmaven-install-plugin-java", f"{PLUGINS}/maven-install-plugin/2.4", ("maven",)),
     Package("libmaven-jar-plugin-java", f"{PLUGINS}/maven-jar-plugin/3.3.0", ("maven",)),
     Package("libmaven-javadoc-plugin-java", f"{PLUGINS}/maven-javadoc-plugin/3.4.1", ("maven",)),
     Package("libmaven-resources-plugin-java", f"{PLUGINS}/maven-resources-plugin/2.6", ("maven",)),

@@ -126,12 +126,14 @@ def lay_out(stage, programs):
 
 
 def lay_out_java(stage, programs):
-    """Builds the jar, and puts it, its page and its examples in their places."""
+    """Builds the jars, and puts them, their page and the examples in their places."""
     folder = stage / "java"
     shutil.copytree(java.JAVA / "examples", folder / "examples")
     shutil.copy(java.JAVA / "README.md", folder)
     with tempfile.TemporaryDirectory() as out:
-        shutil.copy(java.build(built(LIBRARY, programs), install.heap_of_kit(), pathlib.Path(out)), folder)
+        jar = java.build(built(LIBRARY, programs), install.heap_of_kit(), pathlib.Path(out))
+        for file in jar, java.drop_in(jar.parent):
+            shutil.copy(file, folder)
 
 
 def describe(stage, has_java):

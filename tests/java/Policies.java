@@ -20,8 +20,8 @@ import org.apache.commons.pool2.impl.GenericObjectPool;
 import org.apache.commons.pool2.impl.GenericObjectPoolConfig;
 
 /**
- * Eviction policies of the user's own. The same calls are made of Commons Pool and of {@link ZuphinkaPool}, with policies that note what they are asked,
- * and each must find the same.
+ * Eviction policies of the user's own. The same calls are made of Commons Pool and of {@link ZuphinkaPool}, with policies that note what they are
+ * asked, and each must find the same.
  *
  * <p>{@code Policies FOLDER} writes the journals to the folder.
  */

@@ -52,8 +52,8 @@ public final class Lease<T> implements AutoCloseable {
     }
 
     /**
-     * Destroys the object and ends the lease, as {@link ZuphinkaPool#invalidateObject(Object)}. Call it if the object is broken. A later {@link #close}
-     * has no effect.
+     * Destroys the object and ends the lease, as {@link ZuphinkaPool#invalidateObject(Object)}. Call it if the object is broken. A later {@link
+     * #close} has no effect.
      *
      * @throws IllegalStateException if the lease is over
      * @throws StackOverflowError if the thread has less than 120 KiB of its stack left: then the lease is not over, and may be ended later
@@ -87,7 +87,7 @@ public final class Lease<T> implements AutoCloseable {
         } catch (StackOverflowError e) {
             if (isMine) {
                 isOver = false; // before a call that may find the stack full again
-                if (!pool.has(object)) {
+                if (pool.wrapperOf(object) == null) {
                     isOver = true;
                 }
             }

@@ -11,6 +11,7 @@ import java.util.stream.Collectors;
 import javax.management.ObjectName;
 import org.apache.commons.pool2.DestroyMode;
 import org.apache.commons.pool2.ObjectPool;
+import org.apache.commons.pool2.PooledObject;
 import org.apache.commons.pool2.PooledObjectFactory;
 import org.apache.commons.pool2.PooledObjectState;
 import org.apache.commons.pool2.TrackedUse;
@@ -624,9 +625,15 @@ public class ZuphinkaPool<T> implements ObjectPool<T>, UsageTracking<T> {
         return objects.all().stream().map(this::infoOf).collect(Collectors.toSet());
     }
 
-    /** Returns whether an object is of this pool: it was made, and is not being destroyed. */
-    final boolean has(T object) {
-        return objects.find(object) != null;
+    /**
+     * Returns the wrapper of an object. It takes no lock.
+     *
+     * @param object any object
+     * @return its wrapper, if it was made by the factory and is not being destroyed; otherwise null
+     */
+    protected PooledObject<T> wrapperOf(T object) {
+        Member<T> member = objects.find(object);
+        return member == null ? null : member.pooled;
     }
 
     private DefaultPooledObjectInfo infoOf(Member<T> member) {

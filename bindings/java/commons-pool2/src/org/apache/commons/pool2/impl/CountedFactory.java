@@ -1,0 +1,144 @@
+package org.apache.commons.pool2.impl;
+
+import java.util.concurrent.atomic.AtomicLong;
+import org.apache.commons.pool2.BasePooledObjectFactory;
+import org.apache.commons.pool2.DestroyMode;
+import org.apache.commons.pool2.PooledObject;
+import org.apache.commons.pool2.PooledObjectFactory;
+
+/** Passes the calls of a factory on, and counts the objects that are made and destroyed for a pool. It has no work to activate or passivate one. */
+class CountedFactory<T> extends BasePooledObjectFactory<T> {
+    final PooledObjectFactory<T> factory;
+    private final BaseGenericObjectPool<T> pool;
+    private final AtomicLong making = new AtomicLong();
+    /** What the eviction run of a thread throws at its end. */
+    private final ThreadLocal<EvictionFailure> failures = new ThreadLocal<>();
+
+    /** An eviction run. */
+    interface Run {
+        void make() throws Exception;
+    }
+
+    /** What a test or a destruction threw first in an eviction run; null if none did. */
+    private static final class EvictionFailure {
+        Exception first;
+    }
+
+    /** Has such work too. */
+    private static final class Hooked<T> extends CountedFactory<T> {
+        Hooked(PooledObjectFactory<T> factory, BaseGenericObjectPool<T> pool) {
+            super(factory, pool);
+        }
+
+        @Override
+        public void activateObject(PooledObject<T> pooled) throws Exception {
+            factory.activateObject(pooled);
+        }
+
+        @Override
+        public void passivateObject(PooledObject<T> pooled) throws Exception {
+            factory.passivateObject(pooled);
+        }
+    }
+
+    private CountedFactory(PooledObjectFactory<T> factory, BaseGenericObjectPool<T> pool) {
+        this.factory = factory;
+        this.pool = pool;
+    }
+
+    static <T> CountedFactory<T> of(PooledObjectFactory<T> factory, BaseGenericObjectPool<T> pool) {
+        boolean isBare = factory instanceof BasePooledObjectFactory && inherits(factory, "activateObject") && inherits(factory, "passivateObject");
+        return isBare ? new CountedFactory<>(factory, pool) : new Hooked<>(factory, pool);
+    }
+
+    /** Returns whether a method of a factory is that of its base class, which does nothing. */
+    private static boolean inherits(PooledObjectFactory<?> factory, String method) {
+        try {
+            Class<?> declaring = factory.getClass().getMethod(method, PooledObject.class).getDeclaringClass();
+            return declaring.isAssignableFrom(BasePooledObjectFactory.class);
+        } catch (NoSuchMethodException e) {
+            return false;
+        }
+    }
+
+    /** Returns how many objects are being made. */
+    long making() {
+        return making.get();
+    }
+
+    @Override
+    public PooledObject<T> makeObject() throws Exception {
+        making.incrementAndGet();
+        try {
+            PooledObject<T> made = factory.makeObject();
+            pool.createdCount.addAndGet(made == null ? 0 : 1);
+            return made;
+        } finally {
+            making.decrementAndGet();
+        }
+    }
+
+    /** Makes an eviction run in this thread, and then throws what a test or a destruction threw first, as the library does at once. */
+    void evict(Run run) throws Exception {
+        EvictionFailure failure = new EvictionFailure();
+        failures.set(failure);
+        try {
+            run.make();
+        } finally {
+            failures.remove();
+        }
+        if (failure.first != null) {
+            throw failure.first;
+        }
+    }
+
+    /** Returns whether the eviction run of this thread throws a failure at its end. */
+    boolean isToBeThrown(Exception failure) {
+        EvictionFailure ofRun = failures.get();
+        return ofRun != null && ofRun.first == failure;
+    }
+
+    /** Notes what the factory threw, if this is the first failure of an eviction run. */
+    private <E extends Exception> E noted(E failure) {
+        EvictionFailure ofRun = failures.get();
+        if (ofRun != null && ofRun.first == null) {
+            ofRun.first = failure;
+        }
+        return failure;
+    }
+
+    @Override
+    public boolean validateObject(PooledObject<T> pooled) {
+        try {
+            return factory.validateObject(pooled);
+        } catch (RuntimeException e) {
+            throw noted(e);
+        }
+    }
+
+    @Override
+    public void destroyObject(PooledObject<T> pooled) throws Exception {
+        destroyObject(pooled, DestroyMode.NORMAL);
+    }
+
+    @Override
+    public void destroyObject(PooledObject<T> pooled, DestroyMode mode) throws Exception {
+        try {
+            factory.destroyObject(pooled, mode);
+        } catch (Exception e) {
+            throw mode == DestroyMode.ABANDONED ? e : noted(e);
+        } finally {
+            pool.destroyedCount.incrementAndGet();
+        }
+    }
+
+    @Override
+    public T create() {
+        throw new UnsupportedOperationException("makeObject makes the objects");
+    }
+
+    @Override
+    public PooledObject<T> wrap(T object) {
+        throw new UnsupportedOperationException("makeObject makes the wrappers");
+    }
+}

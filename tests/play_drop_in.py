@@ -1,0 +1,102 @@
+#!/usr/bin/env python3
+"""Tests the jar with a GenericObjectPool in place of the library's, which tools/java.py builds, before Commons Pool 2 on the class path.
+
+    play_drop_in.py LIBRARY POOL
+
+LIBRARY is libzuphinka.a, and POOL the program `pool`. The class must have all public and protected members of the library's, and no others
+(tests/drop_in/Surface.java). tests/drop_in/DropIn.java changes its settings at any time, also while threads call it. tests/drop_in/DataSources.java
+makes calls of DBCP2's BasicDataSource over H2, and must print the same over both classes. The journals must be legal. What needs a JDK or a jar that
+is missing is skipped, with the reason. The library's own tests run over the class in play_commons_pool.py.
+
+Prints what fails, and in the end the line 'N passed, M failed'.
+"""
+
+import pathlib
+import re
+import subprocess
+import sys
+import tempfile
+
+from play_java import LONGEST, legal, program
+from playing import play_checks
+from skipping import has, skip
+
+TOP = pathlib.Path(__file__).resolve().parent.parent
+sys.path.append(str(TOP / "tools"))
+
+import java
+from install import heap_of_kit
+
+CLASS = "org.apache.commons.pool2.impl.GenericObjectPool"
+# What DBCP2 needs, and the packages that have it.
+JARS = {"commons-dbcp2": "libcommons-dbcp2-java", "commons-logging": "libcommons-logging-java", "h2": "libh2-java"}
+# How many members the class has at least, by the library's documentation of version 2.11.1.
+LEAST_MEMBERS = 100
+
+
+def run(path, *words, options=()):
+    """Runs a test program over a class path."""
+    command = [java.jdk() / "bin/java", java.QUICK, "-XX:-UsePerfData", *options, "-cp", ":".join(map(str, path)), *map(str, words)]
+    return subprocess.run(command, stdout=subprocess.PIPE, stderr=subprocess.STDOUT, text=True, timeout=LONGEST)
+
+
+def surface(classes, jars):
+    """What is wanted of the members of the class, and what they are."""
+    library = java.commons_pool()
+    done = run([classes], "Surface", CLASS, library, ":".join(map(str, [*jars, library])))
+    *others, last = done.stdout.splitlines() or [""]
+    yield "members that one class alone has", [], others
+    count = re.fullmatch(r"(\d+) members", last)
+    yield "there are members", True, count is not None and int(count[1]) >= LEAST_MEMBERS or done.stdout
+
+
+def legal_journals(name, pool, folder):
+    """What is wanted of the journals in a folder, and what they are."""
+    journals = sorted({segment.parent for segment in folder.glob("*/segment-*")})
+    yield f"{name}: there are journals", True, bool(journals)
+    for journal in journals:
+        yield f"{name}: {journal.name}", *legal(pool, journal / "settings.toml", *sorted(journal.glob("segment-*")))
+
+
+def data_sources(classes, jars, pool, folder):
+    """What is wanted of DBCP2 over the class, which is what it does over the library's; and what it does."""
+    others = [java.DEBIAN_JAR.parent / f"{name}.jar" for name in JARS]
+    wanted = run([classes, *others, java.commons_pool()], "DataSources")
+    yield "DBCP2 over the library", 0, wanted.returncode
+    yield "DBCP2 over the library: its lines", True, len(wanted.stdout.splitlines()) > 20 or wanted.stdout
+    done = run([jars[0], classes, *others, java.commons_pool()], "DataSources", options=[f"-Dzuphinka.journals={folder}"])
+    yield "DBCP2", (wanted.stdout, 0), (done.stdout, done.returncode)
+    yield from legal_journals("DBCP2", pool, folder)
+
+
+def checks(library, pool):
+    with tempfile.TemporaryDirectory() as name:
+        folder = pathlib.Path(name).resolve()
+        jar = java.build(library, heap_of_kit(), folder / "out")
+        jars, classes = [java.drop_in(jar.parent), jar], folder / "classes"
+        sources = [*sorted((TOP / "tests/drop_in").glob("*.java")), TOP / "tests/java/Expectations.java"]
+        has_jars = has("DBCP2 over the pool for Java", *JARS.values())
+        sources = [source for source in sources if has_jars or source.name != "DataSources.java"]
+        java.compile_classes(sources, classes, *jars, java.commons_pool(), *(java.DEBIAN_JAR.parent / f"{name}.jar" for name in JARS))
+        yield from surface(classes, jars)
+        path = [jars[0], classes, java.commons_pool()]
+        yield from program("drop-in", run(path, "DropIn", jars[0].name, options=[f"-Dzuphinka.journals={folder / 'journals'}"]))
+        yield from legal_journals("drop-in", pool, folder / "journals")
+        if has_jars:
+            yield from data_sources(classes, jars, pool, folder / "of-data-sources")
+
+
+def main():
+    if len(sys.argv) != 3:
+        sys.exit(__doc__)
+    try:
+        java.jdk(), java.commons_pool()
+    except java.Missing as missing:
+        skip("the pool for Java in place of Commons Pool 2", missing)
+        print("0 passed, 0 failed")
+        return 0
+    return play_checks(checks(*map(pathlib.Path, sys.argv[1:])))
+
+
+if __name__ == "__main__":
+    sys.exit(main())
