@@ -78,10 +78,14 @@ final class Sections<T> {
      * @throws StackOverflowError if the stack is too full for the sections of a call, which would end in one with the lock, or without an object
      */
     private void begin() {
+        requireStack();
+        acquire();
+    }
+
+    private static void requireStack() {
         if (!Core.hasStack()) {
             throw new StackOverflowError("zuphinka: too little stack");
         }
-        acquire();
     }
 
     /** Takes the lock. It is held for a fraction of a microsecond, while it takes some to wake a thread: so a thread pauses before it sleeps. */
@@ -108,9 +112,15 @@ final class Sections<T> {
         }
     }
 
-    /** Returns the result of a section. */
+    /** Returns the result of a section that begins a call. */
     private <R> R locked(Supplier<R> section) {
-        begin();
+        requireStack();
+        return completing(section);
+    }
+
+    /** Returns the result of a section that completes a call. */
+    private <R> R completing(Supplier<R> section) {
+        acquire();
         try {
             return section.get();
         } finally {
@@ -786,7 +796,7 @@ final class Sections<T> {
 
     /** Stores the rest of the journal of a closed pool, once it has as many entries as objects are left: a segment has a line for each of these. */
     private void storeLast() {
-        Counts counts = counts();
+        Counts counts = completing(journal::counts);
         if (counts.entries() < counts.lent() + counts.reserved()) {
             return;
         }
@@ -813,7 +823,7 @@ final class Sections<T> {
         }
         do {
             journal.storePending();
-        } while (!locked(journal::isRestCut));
+        } while (!completing(journal::isRestCut));
         journal.storePending();
     }
 
