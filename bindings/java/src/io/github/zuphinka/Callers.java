@@ -9,6 +9,9 @@ final class Callers {
 
     private Callers() {}
 
+    /** Has the class initialized, which would fail for good on a full stack. */
+    static void load() {}
+
     /** Returns the number of this thread, of 32 bits without a sign. */
     static int number() {
         return NUMBER.get();

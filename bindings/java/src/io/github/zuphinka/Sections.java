@@ -61,6 +61,7 @@ final class Sections<T> {
         this.settings = settings;
         this.work = work;
         JournalRoom.require(settings, journal);
+        Callers.load();
         maxOvertakes = settings.isFair ? 0 : CoreSettings.DEFAULT_OVERTAKES;
         overtakes = maxOvertakes;
         long opened = JournalRoom.open(settings.text(), work.flags() | (settings.isAbandonedRemoved ? Core.RECLAIMS : 0), maxOvertakes);
@@ -642,11 +643,12 @@ final class Sections<T> {
      * Lends an object to a borrow that began at this time of {@link System#nanoTime}. It waits no longer than some nanoseconds, if they are not negative.
      */
     Member<T> borrow(long first, long longestNanos) throws Exception {
-        int caller = Callers.number();
+        int caller;
         Member<T> member;
         Call<T> call = null;
         begin();
         try {
+            caller = Callers.number();
             member = work.isBorrowedBare ? lendAtOnce(first, caller) : takeIdle(first, caller);
             if (member == null) {
                 call = begun(first, longestNanos);
@@ -692,11 +694,12 @@ final class Sections<T> {
 
     /** Returns an object. */
     void giveBack(Member<T> member) {
-        int caller = Callers.number();
+        int caller;
         long now = System.nanoTime();
         Call<T> call = null;
         begin();
         try {
+            caller = Callers.number();
             boolean isBegun = work.isReturnedBare ? takeBackAtOnce(member, now, caller) : isTaken(member, now, caller);
             if (!isBegun) {
                 call = call(Core.KIND_RETURN, now, member);
