@@ -37,13 +37,20 @@ pub fn judge(settings: &str, journal: &[u8]) -> String {
     judge_segments(settings, &[journal])
 }
 
-/// A new folder for temporary files.
+/// A new folder for temporary files. A process of the same number may have left some.
 pub fn new_folder() -> PathBuf {
     static NEXT: AtomicU64 = AtomicU64::new(0);
-    let number = NEXT.fetch_add(1, Ordering::Relaxed);
-    let folder = env::temp_dir().join(format!("zuphinka-{}-{number}", std::process::id()));
-    fs::create_dir(&folder).unwrap();
-    folder
+    loop {
+        let number = NEXT.fetch_add(1, Ordering::Relaxed);
+        let folder = env::temp_dir().join(format!("zuphinka-{}-{number}", std::process::id()));
+        match fs::create_dir(&folder) {
+            Err(error) if error.kind() == io::ErrorKind::AlreadyExists => {}
+            made => {
+                made.unwrap();
+                return folder;
+            }
+        }
+    }
 }
 
 /// Segments that a sink stored, each with its position.
