@@ -1942,6 +1942,31 @@ static void test_loans_by_halves(void) {
   zuphinka_drop(&pool);
 }
 
+/* The same with many objects, which are idle by halves and lent by halves. */
+static void test_many_loans_by_halves(void) {
+  const struct zuphinka_options hooks = {.activates = true, .passivates = true};
+  const char *settings = "maxTotal = -1\nmaxIdle = -1\njournalLimit = 10000000\n";
+  struct zuphinka pool = {.at = NULL};
+  struct zuphinka_call call;
+  struct zuphinka_effects effects;
+  struct zuphinka_loan loan = {0, &maker};
+  check(zuphinka_open_with(&pool, settings, strlen(settings), &hooks) == ZUPHINKA_STATUS_DONE);
+  for (uint64_t n = 0; n < MANY_LOANS; n++) {
+    check(begin(&pool, ZUPHINKA_KIND_BORROW, &call, &effects) == ZUPHINKA_STATUS_DONE && effects.number == n);
+    check(advance(&pool, &call, ZUPHINKA_REPORT_MADE, &effects) == ZUPHINKA_STATUS_DONE);
+    check(advance(&pool, &call, ZUPHINKA_REPORT_SUCCEEDED, &effects) == ZUPHINKA_STATUS_DONE && effects.end == ZUPHINKA_END_LENT);
+  }
+  for (loan.id = 0; loan.id < MANY_LOANS; loan.id++) check(zuphinka_check(&pool, 4, 1, loan.id) == ZUPHINKA_STATUS_DONE);
+  for (loan.id = 0; loan.id < MANY_LOANS; loan.id++) {
+    check(step_at(&pool, 1, ZUPHINKA_INPUT_PARK, ZUPHINKA_OUTCOME_GOOD, loan) == ZUPHINKA_ANSWER_PARKED);
+  }
+  for (uint64_t n = MANY_LOANS; n-- > 0;) check(zuphinka_take(&pool, 4, 1, &loan) == ZUPHINKA_STATUS_DONE && loan.id == n);
+  for (loan.id = 0; loan.id < MANY_LOANS; loan.id++) {
+    check(step_at(&pool, 1, ZUPHINKA_INPUT_READY, ZUPHINKA_OUTCOME_GOOD, loan) == ZUPHINKA_ANSWER_LENT);
+  }
+  zuphinka_drop(&pool);
+}
+
 /* A borrow that takes an idle object by halves overtakes one that waits, and no more often than is set. */
 static void test_overtakes_by_halves(void) {
   const struct zuphinka_options hooks = {.activates = true, .passivates = true, .max_overtakes = 2};
@@ -2634,6 +2659,7 @@ static const struct {
     TEST(loans_at_once),
     TEST(many_loans_at_once),
     TEST(loans_by_halves),
+    TEST(many_loans_by_halves),
     TEST(overtakes_by_halves),
     TEST(longer_waits),
     TEST(changed_overtakes),

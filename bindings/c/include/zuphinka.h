@@ -492,7 +492,7 @@ uint32_t zuphinka_open_with(struct zuphinka *pool, const char *settings, size_t 
  * Returns ZUPHINKA_STATUS_DONE. Errors leave the pool, `call` and `effects` unchanged:
  *   - ZUPHINKA_STATUS_NOT_OPEN; ZUPHINKA_STATUS_BAD_REQUEST, if `kind` has a wrong code;
  *   - ZUPHINKA_STATUS_OUT_OF_MEMORY, if there is no memory for one more call in progress. It does not come to the return, invalidation or
- *     detachment of an object that was lent by a call, nor to the close of an open pool: their memory is set aside.
+ *     detachment of an object that was lent by a call or taken by `zuphinka_take`, nor to the close of an open pool: their memory is set aside.
  */
 uint32_t zuphinka_begin(struct zuphinka *pool, const struct zuphinka_start *start, struct zuphinka_call *call,
                         struct zuphinka_effects *effects);
