@@ -8,7 +8,7 @@
  *     play_c_pool metrics PAIRS THREADS                 the same, while the metrics are read
  *
  * `sink` and `random` write the journal's segments to files of the folder, each named for its first position, and the settings to the file
- * `settings`. They print `steps N`, how many entries there were; `sink` prints also how often `store` was called, and `random` a line `caller
+ * `settings`. Settings that change go to a file `settings-POSITION`, with that of the first entry which they hold for. They print `steps N`, how many entries there were; `sink` prints also how often `store` was called, and `random` a line `caller
  * NUMBER lent N` for each thread. In `soak` the memory of the process must not grow by more than a tenth, or SLACK bytes, after the first tenth of
  * the pairs. `metrics` prints the texts of the metrics, the last one after all pairs. Exits with status 0; or with status 4 and a line on standard
  * error that says what is wrong. */
@@ -1108,6 +1108,140 @@ static void test_maintained_journal(void) {
   end_pool(pool);
 }
 
+/* ---- settings that change */
+
+static void reconfigure(struct zuphinka_pool *pool, const char *settings, enum zuphinka_pool_error wanted) {
+  uint64_t first = UINT64_MAX;
+  check_error(zuphinka_pool_reconfigure(pool, settings, strlen(settings), store_segment, &maker, &first), wanted);
+  check((first == UINT64_MAX) == (wanted != ZUPHINKA_POOL_ERROR_NONE));
+}
+
+/* With fewer places than objects none is taken away, and none is made until fewer are present. */
+static void test_fewer_places(void) {
+  struct zuphinka_pool *pool = open_kept("maxTotal = 3\nblockWhenExhausted = false\n", 3);
+  struct zuphinka_pool_loan loans[3], more;
+  for (int n = 0; n < 3; n++) loans[n] = lend(pool);
+  reconfigure(pool, "maxTotal = 2\nblockWhenExhausted = false\n", ZUPHINKA_POOL_ERROR_NONE);
+  check(counts_of(pool).lent == 3);
+  check_error(zuphinka_pool_get(pool, &more), ZUPHINKA_POOL_ERROR_EXHAUSTED);
+  give_back(pool, &loans[0]);
+  loans[0] = lend(pool); /* the idle one */
+  check(loans[0].id == 0 && counts_of(pool).created == 3);
+  invalidate(pool, &loans[0]);
+  check_error(zuphinka_pool_get(pool, &more), ZUPHINKA_POOL_ERROR_EXHAUSTED); /* two are present */
+  check_error(zuphinka_pool_add(pool), ZUPHINKA_POOL_ERROR_NO_PLACE);
+  invalidate(pool, &loans[1]);
+  maker.most = 2;
+  loans[0] = lend(pool);
+  check(loans[0].id == 3);
+  check_error(zuphinka_pool_get(pool, &more), ZUPHINKA_POOL_ERROR_EXHAUSTED);
+  give_back(pool, &loans[0]);
+  give_back(pool, &loans[2]);
+  end_pool(pool);
+}
+
+/* Each setting that a pool looks at holds from the change on. */
+static void test_changed_settings(void) {
+  struct zuphinka_pool *pool = open_kept("maxTotal = 2\n", 8);
+  struct zuphinka_pool_loan first = lend(pool), second = lend(pool);
+  calls();
+  reconfigure(pool, "maxTotal = 3\nmaxIdle = 1\nlifo = false\ntestOnBorrow = true\nblockWhenExhausted = false\n", ZUPHINKA_POOL_ERROR_NONE);
+  struct zuphinka_pool_loan third = lend(pool), more;
+  check_text(calls(), "mav");
+  check_error(zuphinka_pool_get(pool, &more), ZUPHINKA_POOL_ERROR_EXHAUSTED);
+  give_back(pool, &first);
+  give_back(pool, &second); /* one is idle already */
+  check(counts_of(pool).idle == 1 && counts_of(pool).destroyed == 1);
+  reconfigure(pool, "maxIdle = 8\nminEvictableIdleMillis = 5\n", ZUPHINKA_POOL_ERROR_NONE);
+  give_back(pool, &third);
+  check(counts_of(pool).idle == 2);
+  atomic_fetch_add(&maker.now, 6);
+  struct zuphinka_pool_eviction eviction;
+  check_error(zuphinka_pool_evict(pool, &eviction), ZUPHINKA_POOL_ERROR_NONE);
+  check(eviction.destroyed == 2);
+  end_pool(pool);
+}
+
+/* The entries before a change are one segment, and those after it count from its end. */
+static void test_segments_of_changed_settings(void) {
+  struct zuphinka_pool *pool = open_kept("maxTotal = 1\nblockWhenExhausted = false\n", 8);
+  static char text[LONGEST_TEXT];
+  uint64_t first = 0;
+  const char *settings = "maxTotal = 2\nblockWhenExhausted = false\n";
+  struct zuphinka_pool_loan loan = lend(pool), more;
+  check_error(zuphinka_pool_get(pool, &more), ZUPHINKA_POOL_ERROR_EXHAUSTED);
+  check_error(zuphinka_pool_reconfigure(pool, settings, strlen(settings), append_text, text, &first), ZUPHINKA_POOL_ERROR_NONE);
+  check(first == 3 && strstr(text, " = exhausted\n"));
+  text[0] = 0;
+  check_error(zuphinka_pool_reconfigure(pool, settings, strlen(settings), append_text, text, &first), ZUPHINKA_POOL_ERROR_NONE);
+  check_text(text, ""); /* no entries, no segment */
+  check(first == 3);
+  more = lend(pool);
+  check(strstr(entries(pool), " = make 1\n") && counts_of(pool).steps == 5);
+  give_back(pool, &loan);
+  give_back(pool, &more);
+  end_pool(pool);
+}
+
+/* Settings that are refused change nothing, and no entry is lost. */
+static void test_refused_settings(void) {
+  struct zuphinka_pool *pool = open_kept("maxTotal = 1\nblockWhenExhausted = false\n", 1);
+  struct zuphinka_pool_loan loan = lend(pool), more;
+  reconfigure(pool, "maxTotal = ", ZUPHINKA_POOL_ERROR_NOT_TOML);
+  reconfigure(pool, "maxTotl = 2", ZUPHINKA_POOL_ERROR_UNKNOWN_KEY);
+  reconfigure(pool, "maxTotal = true", ZUPHINKA_POOL_ERROR_WRONG_TYPE);
+  reconfigure(pool, "maxTotal = 3000000000", ZUPHINKA_POOL_ERROR_OUT_OF_RANGE);
+  reconfigure(pool, "maxTotal = 2 # \xff", ZUPHINKA_POOL_ERROR_NOT_TEXT);
+  reconfigure(pool, "maxTotal = 2\njournalLimit = 4\n", ZUPHINKA_POOL_ERROR_JOURNAL_FULL); /* 5 entries free the place and close the pool */
+  check_error(zuphinka_pool_reconfigure(pool, NULL, 0, store_segment, &maker, NULL), ZUPHINKA_POOL_ERROR_NULL_POINTER);
+  check_error(zuphinka_pool_reconfigure(pool, "", 0, NULL, NULL, NULL), ZUPHINKA_POOL_ERROR_MISSING_CALLBACK);
+  check_error(zuphinka_pool_get(pool, &more), ZUPHINKA_POOL_ERROR_EXHAUSTED);
+  check(atomic_load(&maker.sink.called) == 0 && counts_of(pool).steps == 3 && strstr(entries(pool), " = exhausted\n"));
+  reconfigure(pool, "maxTotal = 1\nblockWhenExhausted = false\njournalLimit = 5\n", ZUPHINKA_POOL_ERROR_NONE);
+  check_error(zuphinka_pool_get(pool, &more), ZUPHINKA_POOL_ERROR_JOURNAL_FULL);
+  give_back(pool, &loan);
+  end_pool(pool);
+}
+
+/* A segment that can't be stored at a change is stored by the next cut; one that an earlier cut could not store comes first. */
+static void test_failing_store_at_a_change(void) {
+  struct zuphinka_pool *pool = open_stored(&maker, "maxTotal = 1\nblockWhenExhausted = false\n", NULL, ZUPHINKA_POOL_JOURNAL_SEGMENTS);
+  struct zuphinka_pool_loan loan = lend(pool), second;
+  uint64_t first = 0, stored = 0;
+  const char *settings = "maxTotal = 2\nblockWhenExhausted = false\n";
+  maker.sink.fails_at = -1;
+  check_error(zuphinka_pool_reconfigure(pool, settings, strlen(settings), NULL, NULL, &first), ZUPHINKA_POOL_ERROR_NONE);
+  check(first == 2 && atomic_load(&maker.sink.called) == 1);
+  second = lend(pool);
+  check_error(zuphinka_pool_reconfigure(pool, "", 0, NULL, NULL, &first), ZUPHINKA_POOL_ERROR_STORE_FAILED);
+  check(first == 2);
+  check_error(zuphinka_pool_get(pool, &(struct zuphinka_pool_loan){.object = NULL}), ZUPHINKA_POOL_ERROR_EXHAUSTED); /* as before */
+  maker.sink.fails_at = 0;
+  check_error(zuphinka_pool_cut(pool, store_segment, &maker, &stored), ZUPHINKA_POOL_ERROR_NONE);
+  check(stored == 5);
+  give_back(pool, &loan);
+  give_back(pool, &second);
+  zuphinka_pool_close(pool);
+  maker.pool = NULL;
+  end_stored(pool);
+}
+
+static bool store_and_reconfigure(void *context, uint64_t first, const char *text, size_t size) {
+  struct maker *made = context;
+  (void)first, (void)text, (void)size;
+  check_error(zuphinka_pool_reconfigure(made->pool, "", 0, store_and_reconfigure, made, NULL), ZUPHINKA_POOL_ERROR_IN_USE);
+  return true;
+}
+
+/* A store can't change the settings while it stores. */
+static void test_store_that_changes_settings(void) {
+  struct zuphinka_pool *pool = open_kept("", 8);
+  struct zuphinka_pool_loan loan = lend(pool);
+  check_error(zuphinka_pool_cut(pool, store_and_reconfigure, &maker, NULL), ZUPHINKA_POOL_ERROR_NONE);
+  give_back(pool, &loan);
+  end_pool(pool);
+}
+
 /* ---- threads that wait */
 
 struct waiter {
@@ -1188,6 +1322,48 @@ static void test_woken_by_a_place(void) {
     check_error(zuphinka_pool_give_back(pool, &waiter.loan), ZUPHINKA_POOL_ERROR_NONE);
     end_pool(pool);
   }
+}
+
+/* A change that brings more places wakes those that wait for one, for each journal. */
+static void test_woken_by_more_places(void) {
+  for (int journal = ZUPHINKA_POOL_JOURNAL_OFF; journal <= ZUPHINKA_POOL_JOURNAL_SEGMENTS; journal++) {
+    maker.most = 3;
+    struct zuphinka_pool *pool = open_stored(&maker, "maxTotal = 1\n", NULL, (enum zuphinka_pool_journal)journal);
+    struct zuphinka_pool_loan loan = lend(pool);
+    struct waiter waiters[3];
+    start(waiters, 3, pool, wait_for_one);
+    reconfigure(pool, "maxTotal = 3\n", ZUPHINKA_POOL_ERROR_NONE);
+    while (counts_of(pool).lent < 3) sleep_for(1);
+    check(waiting_in(pool) == 1);
+    give_back(pool, &loan);
+    join(waiters, 3, ZUPHINKA_POOL_ERROR_NONE);
+    for (int n = 0; n < 3; n++) check_error(zuphinka_pool_give_back(pool, &waiters[n].loan), ZUPHINKA_POOL_ERROR_NONE);
+    zuphinka_pool_close(pool);
+    maker.pool = NULL;
+    end_stored(pool);
+  }
+}
+
+/* A wait ends by the settings that hold when it would end by those before. */
+static void test_waits_by_changed_settings(void) {
+  maker.has_no_clock = true;
+  struct zuphinka_pool *pool = open_stored(&maker, "maxTotal = 1\nmaxWaitMillis = 50\n", NULL, ZUPHINKA_POOL_JOURNAL_OFF);
+  struct zuphinka_pool_loan loan = lend(pool);
+  struct waiter waiters[2];
+  start(waiters, 1, pool, wait_for_one);
+  reconfigure(pool, "maxTotal = 1\nmaxWaitMillis = -1\n", ZUPHINKA_POOL_ERROR_NONE);
+  sleep_for(150);
+  check(waiting_in(pool) == 1);
+  start(waiters + 1, 1, pool, wait_for_one);
+  reconfigure(pool, "maxTotal = 1\nmaxWaitMillis = 0\n", ZUPHINKA_POOL_ERROR_NONE);
+  give_back(pool, &loan);
+  join(waiters, 1, ZUPHINKA_POOL_ERROR_NONE);
+  check_error(zuphinka_pool_give_back(pool, &waiters[0].loan), ZUPHINKA_POOL_ERROR_NONE);
+  join(waiters + 1, 1, ZUPHINKA_POOL_ERROR_NONE);
+  check_error(zuphinka_pool_give_back(pool, &waiters[1].loan), ZUPHINKA_POOL_ERROR_NONE);
+  zuphinka_pool_close(pool);
+  maker.pool = NULL;
+  end_stored(pool);
 }
 
 static void test_woken_by_a_reclaim(void) {
@@ -1897,6 +2073,68 @@ static void test_loans_at_once(void) {
   zuphinka_drop(&pool);
 }
 
+/* Opens a pool with one object, which is lent. */
+static struct zuphinka open_core_lent(const char *settings, const struct zuphinka_options *options) {
+  struct zuphinka pool = {.at = NULL};
+  struct zuphinka_call call;
+  struct zuphinka_effects effects;
+  check(zuphinka_open_with(&pool, settings, strlen(settings), options) == ZUPHINKA_STATUS_DONE);
+  check(begin(&pool, ZUPHINKA_KIND_BORROW, &call, &effects) == ZUPHINKA_STATUS_DONE);
+  check(advance(&pool, &call, ZUPHINKA_REPORT_MADE, &effects) == ZUPHINKA_STATUS_DONE);
+  while (effects.action != ZUPHINKA_ACTION_DONE) check(advance(&pool, &call, ZUPHINKA_REPORT_SUCCEEDED, &effects) == ZUPHINKA_STATUS_DONE);
+  check(effects.end == ZUPHINKA_END_LENT);
+  return pool;
+}
+
+/* Once a call was woken and found nothing, nothing is lent at once until one that waits has left. */
+static void test_nothing_at_once_after_a_vain_wake(void) {
+  const struct zuphinka_options options = {.max_overtakes = 16};
+  struct zuphinka pool = open_core_lent("maxTotal = 1\n", &options);
+  struct zuphinka_call call;
+  struct zuphinka_effects effects;
+  struct zuphinka_loan loan = {0, &maker};
+  uint64_t ticket;
+  check(begin(&pool, ZUPHINKA_KIND_BORROW, &call, &effects) == ZUPHINKA_STATUS_DONE && effects.action == ZUPHINKA_ACTION_SLEEP);
+  check(zuphinka_take_back(&pool, 0, 0, &loan) == ZUPHINKA_STATUS_DONE);
+  check(zuphinka_next_wake(&pool, &ticket) == ZUPHINKA_STATUS_DONE && ticket == effects.ticket);
+  check(zuphinka_lend(&pool, 0, 0, &loan) == ZUPHINKA_STATUS_DONE && loan.object == &maker);
+  check(zuphinka_next_wake(&pool, &ticket) == ZUPHINKA_STATUS_NO_WAKE);
+  check(advance(&pool, &call, ZUPHINKA_REPORT_WOKEN, &effects) == ZUPHINKA_STATUS_DONE && effects.action == ZUPHINKA_ACTION_SLEEP);
+  check(zuphinka_take_back(&pool, 0, 0, &loan) == ZUPHINKA_STATUS_DONE);
+  check(zuphinka_next_wake(&pool, &ticket) == ZUPHINKA_STATUS_DONE && ticket == effects.ticket);
+  refuse_at_once(&pool, ZUPHINKA_STATUS_NOT_AT_ONCE, 0);
+  check(advance(&pool, &call, ZUPHINKA_REPORT_WOKEN, &effects) == ZUPHINKA_STATUS_DONE && effects.end == ZUPHINKA_END_LENT);
+  check(zuphinka_take_back(&pool, 0, 0, &loan) == ZUPHINKA_STATUS_DONE);
+  check(zuphinka_lend(&pool, 0, 0, &loan) == ZUPHINKA_STATUS_DONE);
+  zuphinka_drop(&pool);
+}
+
+/* What takes more than its two steps, or asks the host, is for a call: a return that does not come back at once, or a borrow of what has. */
+static void test_what_is_begun(void) {
+  static const struct {
+    const char *settings;
+    bool validates, is_closed, comes_back;
+  } rows[] = {
+      {"maxIdle = 0\n", false, false, false},
+      {"testOnReturn = true\n", true, false, false},
+      {"maxIdle = 8\n", false, true, false},
+      {"journalLimit = 8\n", false, false, false},
+      {"testOnBorrow = true\n", true, false, true},
+      {"[abandoned]\nremoveAbandonedOnBorrow = true\n", false, false, true},
+  };
+  for (size_t n = 0; n < sizeof rows / sizeof *rows; n++) {
+    const struct zuphinka_options options = {.validates = rows[n].validates};
+    struct zuphinka pool = open_core_lent(rows[n].settings, &options);
+    struct zuphinka_call call;
+    struct zuphinka_effects effects;
+    struct zuphinka_loan loan = {0, &maker}, taken = {9, NULL};
+    if (rows[n].is_closed) check(begin(&pool, ZUPHINKA_KIND_CLOSE, &call, &effects) == ZUPHINKA_STATUS_DONE);
+    check(zuphinka_take_back(&pool, 0, 1, &loan) == (rows[n].comes_back ? ZUPHINKA_STATUS_DONE : ZUPHINKA_STATUS_NOT_AT_ONCE));
+    check(zuphinka_lend(&pool, 0, 1, &taken) == ZUPHINKA_STATUS_NOT_AT_ONCE && taken.id == 9);
+    zuphinka_drop(&pool);
+  }
+}
+
 static bool is_lent(struct zuphinka *pool, uint64_t id) {
   bool is_lent = false;
   check(zuphinka_is_lent(pool, id, &is_lent) == ZUPHINKA_STATUS_DONE);
@@ -2248,11 +2486,11 @@ enum { HELD = 6, MOST_THREADS = 16 };
 enum manner { WAITING, REFUSED, HASTY, MANNERS };
 
 static const char *const settings_of_manner[MANNERS] = {
-    [WAITING] = "maxTotal = 1\nlifo = false\nminEvictableIdleMillis = 40\nsoftMinEvictableIdleMillis = 20\nnumTestsPerEvictionRun = -1\n",
+    [WAITING] = "lifo = false\nminEvictableIdleMillis = 40\nsoftMinEvictableIdleMillis = 20\nnumTestsPerEvictionRun = -1\n",
     [REFUSED] =
-        ("maxTotal = 4\nmaxIdle = 2\nblockWhenExhausted = false\ntestOnCreate = true\nminEvictableIdleMillis = 40\n"
+        ("maxIdle = 2\nblockWhenExhausted = false\ntestOnCreate = true\nminEvictableIdleMillis = 40\n"
          "numTestsPerEvictionRun = 2\n"),
-    [HASTY] = "maxTotal = 3\nmaxWaitMillis = 2\nminEvictableIdleMillis = 1\n",
+    [HASTY] = "maxWaitMillis = 2\nminEvictableIdleMillis = 1\n",
 };
 static const int most_of_manner[MANNERS] = {1, 4, 3};
 static const int timeout_of_manner[MANNERS] = {60, 200, 3};
@@ -2263,6 +2501,9 @@ struct table {
   enum zuphinka_pool_journal journal;
   int calls;
   bool is_short; /* allocations may fail */
+  bool is_changing; /* the settings change now and then */
+  char settings[2][1024]; /* those of the table, and those with one place */
+  pthread_mutex_t changing; /* held while the settings change, until they are stored */
   pthread_mutex_t lock;
   struct zuphinka_pool_loan handed[MOST_THREADS]; /* loans that one thread hands to another */
   size_t count;
@@ -2392,6 +2633,22 @@ static void maintain_at_random(struct player *player) {
   check(error == ZUPHINKA_POOL_ERROR_NO_PLACE || is_expected(table, error));
 }
 
+/* Changes the settings to those with one place, or back, and stores them beside the segments. Returns whether there was room and memory. */
+static bool change_settings(struct table *table, int which) {
+  const char *settings = table->settings[which];
+  char name[64];
+  uint64_t first;
+  pthread_mutex_lock(&table->changing);
+  enum zuphinka_pool_error error = zuphinka_pool_reconfigure(table->pool, settings, strlen(settings), store_segment, &maker, &first);
+  check(is_expected(table, error));
+  bool is_written = error || table->journal == ZUPHINKA_POOL_JOURNAL_OFF;
+  if (!error) snprintf(name, sizeof name, "settings-%020" PRIu64, first);
+  for (int tries = 0; !is_written && tries < 1000; tries++) is_written = write_file(maker.sink.folder, name, settings, strlen(settings));
+  check(is_written);
+  pthread_mutex_unlock(&table->changing);
+  return !error;
+}
+
 /* Calls that are made seldom: the pool is closed now and then. */
 static void call_seldom(struct player *player) {
   struct table *table = player->table;
@@ -2402,6 +2659,8 @@ static void call_seldom(struct player *player) {
     check(is_expected(table, zuphinka_pool_clear(table->pool, NULL)));
   } else if (call <= 600 && table->journal == ZUPHINKA_POOL_JOURNAL_MEMORY) {
     check(is_expected(table, zuphinka_pool_cut(table->pool, store_segment, &maker, NULL)));
+  } else if (call > 600 && call <= 900 && table->is_changing) {
+    change_settings(table, (int)(call % 2));
   } else {
     struct zuphinka_tally counts = counts_of(table->pool);
     check(counts.idle + counts.lent + counts.reserved <= (uint64_t)most_of_manner[table->manner]);
@@ -2430,7 +2689,6 @@ static void *play(void *argument) {
 /* Opens a pool whose manner, journal and callbacks the seed chooses. */
 static void open_table(struct table *table, uint64_t seed, const char *folder) {
   static const char *const limits[] = {"journalLimit = 100\n", "", "journalLimit = 400\n"};
-  static char settings[1024];
   bool is_abandoning = seed % 2 == 0;
   table->manner = (enum manner)(seed % MANNERS);
   table->journal = (enum zuphinka_pool_journal)(seed / MANNERS % 3);
@@ -2438,16 +2696,21 @@ static void open_table(struct table *table, uint64_t seed, const char *folder) {
   maker.has_no_clock = table->manner == HASTY;
   maker.most = is_abandoning ? -1 : most_of_manner[table->manner];
   atomic_store(&maker.ticks, 1);
-  int length = snprintf(settings, sizeof settings, "%s%sminIdle = 1\n%s", settings_of_manner[table->manner], limits[table->journal],
-                        maker.is_plain ? "" : "testOnBorrow = true\ntestOnReturn = true\ntestWhileIdle = true\n");
-  if (is_abandoning) {
-    snprintf(settings + length, sizeof settings - (size_t)length,
+  table->is_changing = seed % 5 == 2 || seed % 5 == 4;
+  for (int which = 0; which < 2; which++) {
+    char *settings = table->settings[which];
+    size_t size = sizeof table->settings[which];
+    int length = snprintf(settings, size, "maxTotal = %d\n%s%sminIdle = 1\n%s", which ? 1 : most_of_manner[table->manner],
+                          settings_of_manner[table->manner], limits[table->journal],
+                          maker.is_plain ? "" : "testOnBorrow = true\ntestOnReturn = true\ntestWhileIdle = true\n");
+    if (!is_abandoning) continue;
+    snprintf(settings + length, size - (size_t)length,
              "[abandoned]\nremoveAbandonedOnBorrow = true\nremoveAbandonedOnMaintenance = true\nremoveAbandonedTimeoutMillis = %d\n",
              timeout_of_manner[table->manner]);
   }
   maker.is_fair = seed % 4 == 1;
   maker.max_overtakes = seed % 4 == 2 ? 1 : 0;
-  table->pool = open_stored(&maker, settings, folder, table->journal);
+  table->pool = open_stored(&maker, table->settings[0], folder, table->journal);
   maker.seed = seed;
   maker.has_chance = true;
 }
@@ -2470,6 +2733,7 @@ static void lend_all(struct table *table) {
 /* Closes the pool, which has nothing left then, and stores the rest of its journal. */
 static void close_table(struct table *table) {
   while (table->count > 0) end_loan(table, table->handed[--table->count], false);
+  for (int tries = 0; table->is_changing && !change_settings(table, 0) && tries < 1000; tries++) continue;
   lend_all(table);
   zuphinka_pool_close(table->pool);
   struct zuphinka_tally counts = counts_of(table->pool);
@@ -2486,7 +2750,7 @@ static void close_table(struct table *table) {
 }
 
 static void run_random(uint64_t seed, int threads, int calls, const char *folder) {
-  static struct table table = {.lock = PTHREAD_MUTEX_INITIALIZER};
+  static struct table table = {.lock = PTHREAD_MUTEX_INITIALIZER, .changing = PTHREAD_MUTEX_INITIALIZER};
   static struct player players[MOST_THREADS];
   int started = 0;
   check(threads > 0 && threads <= MOST_THREADS);
@@ -2629,8 +2893,16 @@ static const struct {
     TEST(failing_store),
     TEST(small_journals),
     TEST(maintained_journal),
+    TEST(fewer_places),
+    TEST(changed_settings),
+    TEST(segments_of_changed_settings),
+    TEST(refused_settings),
+    TEST(failing_store_at_a_change),
+    TEST(store_that_changes_settings),
     TEST(woken_by_a_return),
     TEST(woken_by_a_place),
+    TEST(woken_by_more_places),
+    TEST(waits_by_changed_settings),
     TEST(woken_by_a_reclaim),
     TEST(woken_by_a_failure),
     TEST(all_hear_of_a_close),
@@ -2658,6 +2930,8 @@ static const struct {
     TEST(calls_of_an_empty_handle),
     TEST(loans_at_once),
     TEST(many_loans_at_once),
+    TEST(nothing_at_once_after_a_vain_wake),
+    TEST(what_is_begun),
     TEST(loans_by_halves),
     TEST(many_loans_by_halves),
     TEST(overtakes_by_halves),

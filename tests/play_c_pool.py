@@ -1,9 +1,9 @@
 #!/usr/bin/env python3
 """Tests the pool for threads in C, bindings/c/src/zuphinka_pool.c, by the program tests/play_c_pool.c.
 
-    play_c_pool.py LIBRARY POOL
+    play_c_pool.py LIBRARY POOL JUDGE
 
-LIBRARY is libzuphinka.a, as `rt lib` builds it, and POOL the program `pool`. The C compiler that CC names, or cc, compiles the pool with the
+LIBRARY is libzuphinka.a, as `rt lib` builds it, and POOL and JUDGE are the programs `pool` and `judge`. The C compiler that CC names, or cc, compiles the pool with the
 program, with warnings as errors. The header must compile by itself as C99, C11 and C++ too, with more warnings, and each of its codes is named after
 its enum.
 
@@ -11,7 +11,8 @@ its enum.
 - A pool whose `store` fails at each call in turn must store its whole journal in the end.
 - With SEEDS seeds, THREADS threads call a pool at random over callbacks that fail at random. No two threads have an object at once, a loan that has
   ended takes none, no more objects exist than maxTotal allows, and none is left; the program `pool` must judge the journal legal, whatever segments
-  it has; it must have each loan that the threads counted; and all journals together must have each answer.
+  it has; it must have each loan that the threads counted; and all journals together must have each answer. The settings of some pools change meanwhile:
+  `judge` must judge each segment legal with its own, and each must begin with the base that the one before it reached.
 - A pool without a journal lends SOAKED times to THREADS threads, in memory that does not grow.
 - While THREADS threads borrow MEASURED times, each text of its metrics is in the format, and in the end their sums are right (tests/openmetrics.py).
 - bindings/c/examples/shared_life.c must write the segments of a legal journal, with SHARED_ROUNDS loans for each thread. A second run over the same
@@ -45,6 +46,7 @@ MEASURED = 400_000
 # Under valgrind and ThreadSanitizer, and while allocations fail.
 FEW_SEEDS, FEW_CALLS, MORE_THREADS = 6, 400, 8
 REFUSE_OF = 20
+EMPTY_BASE = b"pool-journal 2 0 0 open none 0 0 0 0\n"
 LENT = re.compile(rb"^(\d+) \d+ ready \d+ good = lent$", re.MULTILINE)
 ANSWER = re.compile(rb" = (\w+)")
 ANSWERS = set(
@@ -71,8 +73,8 @@ def has_tsan(folder):
 class Runs:
     """The runs of one build of the program, perhaps under another program or with a library that is loaded before."""
 
-    def __init__(self, name, words, pool, environment=None):
-        self.name, self.words, self.pool, self.environment = name, words, pool, environment
+    def __init__(self, name, words, pool, judge, environment=None):
+        self.name, self.words, self.pool, self.judge, self.environment = name, words, pool, judge, environment
         self.answers = set()
 
     def run(self, *words):
@@ -84,12 +86,28 @@ class Runs:
 
     def judged(self, name, folder, steps):
         """The journal that was written to a folder, and what differs where it is judged."""
-        paths = sorted(path for path in folder.iterdir() if path.name != "settings")
+        paths = sorted(path for path in folder.iterdir() if not path.name.startswith("settings"))
         journal = b"".join(path.read_bytes() for path in paths)
         self.answers |= set(ANSWER.findall(journal))
         if not steps:
             return journal, [f"{name}: segments of a journal that is dropped"] if paths else []
+        if any(folder.glob("settings-*")):
+            return journal, self.judged_by_each(name, folder, paths, steps)
         return journal, differing(f"{name}, judged", (b"legal %d\n" % steps, b"", 0), run(self.pool, "check", folder / "settings", *paths))
+
+    def judged_by_each(self, name, folder, paths, steps):
+        """What differs where each segment is judged with the settings that it had."""
+        changes = {int(path.name.removeprefix("settings-")): path for path in folder.glob("settings-*")} | {-1: folder / "settings"}
+        found, due = [], EMPTY_BASE
+        for path in paths:
+            text = path.read_bytes()
+            settings = changes[max(first for first in changes if first <= int(path.name))]
+            found += [f"{name}: {path.name} does not begin where the one before it ended"] * (not text.startswith(due))
+            reached = run(self.judge, settings, path)
+            found += differing(f"{name}, {path.name} with {settings.name}", (reached.stdout, b"", 0), reached)
+            due = reached.stdout
+        is_whole = due.split()[2:3] == [b"%d" % steps]
+        return found + [f"{name}: the last segment does not end at {steps}"] * (not is_whole)
 
     def told(self, name, *words):
         """Runs the program over a folder: what it printed, as pairs of words and a number, the journal, and what differs."""
@@ -171,7 +189,7 @@ def refused(plain, refuse, folder, seed):
     """What differs in a run in which allocations fail."""
     mark = pathlib.Path(folder) / f"refused_{seed}"
     changes = {"REFUSE_OF": str(REFUSE_OF), "REFUSE_SEED": str(seed), "REFUSED": str(mark), "LD_PRELOAD": str(refuse)}
-    runs = Runs("allocations that fail", plain.words, plain.pool, os.environ | changes)
+    runs = Runs("allocations that fail", plain.words, plain.pool, plain.judge, os.environ | changes)
     return runs.random(seed, THREADS, CALLS) + [f"{runs.name}, seed {seed}: no allocation failed"] * (not mark.exists())
 
 
@@ -182,15 +200,15 @@ def all_calls(plain, library, folder, watches):
     few = range(1, FEW_SEEDS + 1)
     calls = [(plain.test, name) for name in names] + [(plain.random, seed, THREADS, CALLS) for seed in range(1, SEEDS + 1)]
     for name, flags, before, threads in watches:
-        runs = Runs(name, [*before, built(folder, name, library, flags)], plain.pool)
+        runs = Runs(name, [*before, built(folder, name, library, flags)], plain.pool, plain.judge)
         calls += [(runs.test, name) for name in names] + [(runs.random, seed, threads, FEW_CALLS) for seed in few]
     return calls + [(refused, plain, refuse, folder, seed) for seed in few]
 
 
-def found(library, pool, folder):
+def found(library, programs, folder):
     """What differs in each run."""
     yield from header_differing(folder)
-    plain = Runs("plain", [built(folder, "plain", library, [])], str(pathlib.Path(pool).resolve()))
+    plain = Runs("plain", [built(folder, "plain", library, [])], *(str(pathlib.Path(program).resolve()) for program in programs))
     calls = all_calls(plain, library, folder, list(tools(folder)))
     yield from side_by_side(lambda call: call[0](*call[1:]), calls)
     shared = built(folder, "shared_life", library, [], EXAMPLES / "shared_life.c")
@@ -199,9 +217,9 @@ def found(library, pool, folder):
     yield [f"no journal has {sorted(missing)}"] * bool(missing)
 
 
-def main(library, pool):
+def main(library, *programs):
     with tempfile.TemporaryDirectory() as folder:
-        return tell(found(library, pool, folder), SEEDS)
+        return tell(found(library, programs, folder), SEEDS)
 
 
 if __name__ == "__main__":

@@ -1,13 +1,13 @@
 #!/usr/bin/env python3
 """Runs the tests of Commons Pool 2, unchanged, over the pool for Java, and compares which pass with docs/guide/commons-pool-tests.md.
 
-    play_commons_pool.py [--source FOLDER] LIBRARY POOL
+    play_commons_pool.py [--source FOLDER] LIBRARY POOL JUDGE
     play_commons_pool.py --fetch
 
-LIBRARY is libzuphinka.a, POOL the program `pool`, and FOLDER the source of Commons Pool 2 of the version that is installed. Else COMMONS_POOL2_SOURCE
-names it, or Debian's archive of it is downloaded, unless --fetch has stored it in the folder out. The tests run in four virtual machines, over the
-GenericObjectPool of bindings/java/commons-pool2, which comes before the library's and passes each call on. A test that does not end as the page says
-runs again, alone, up to twice.
+LIBRARY is libzuphinka.a, POOL and JUDGE the programs `pool` and `judge`, and FOLDER the source of Commons Pool 2 of the version that is installed.
+Else COMMONS_POOL2_SOURCE names it, or Debian's archive of it is downloaded, unless --fetch has stored it in the folder out. The tests run in four
+virtual machines, over the GenericObjectPool of bindings/java/commons-pool2, which comes before the library's and passes each call on. A test that does
+not end as the page says runs again, alone, up to twice.
 
 What fails is a test that fails without a row on the page, that passes although its row says that it differs, or that does not exist; a class of which
 another number of tests passes; and a journal that is not legal, of a pool that a test closed. If a tool, a library or the source is missing, all of
@@ -36,6 +36,7 @@ import urllib.request
 import zipfile
 
 from check_names import backquoted, tables
+from play_java import legal_in
 from playing import play_checks
 from skipping import skip
 
@@ -273,23 +274,23 @@ def checks_of_results(page, results):
         yield test, wanted, got
 
 
-def fault_of_journal(pool, folder):
+def fault_of_journal(pool, judge, folder):
     """What is wrong with the journal in a folder, if it is not legal."""
-    done = subprocess.run([pool, "check", folder / "settings.toml", *sorted(folder.glob("segment-*"))], capture_output=True, text=True)
-    return None if done.stdout.startswith("legal ") and done.returncode == 0 else f"{folder.name}: {done.stdout or done.stderr}"
+    wanted, found = legal_in(folder, pool, judge)
+    return None if found == wanted else f"{folder.name}: {found}"
 
 
-def checks_of_journals(pool, folder):
+def checks_of_journals(pool, judge, folder):
     """What is wanted of the journals, and what they are."""
     journals = sorted({path.parent for path in folder.glob("journals-*/*/segment-*")})
     with concurrent.futures.ThreadPoolExecutor(MACHINES) as workers:
-        faults = list(workers.map(lambda journal: fault_of_journal(pool, journal), journals))
+        faults = list(workers.map(lambda journal: fault_of_journal(pool, judge, journal), journals))
     print(f"{faults.count(None)} journals are legal")
     yield "journals that are not legal", [], [fault for fault in faults if fault]
     yield "there are journals", True, bool(faults)
 
 
-def checks(library, pool, source):
+def checks(library, pool, judge, source):
     page = read_page()
     with tempfile.TemporaryDirectory() as name:
         folder = pathlib.Path(name)
@@ -304,7 +305,7 @@ def checks(library, pool, source):
         for test, number in runs.items():
             print(f"{test} ran again, {number} times, and {results[test].end}")
         yield from checks_of_results(page, results)
-        yield from checks_of_journals(pool, folder)
+        yield from checks_of_journals(pool, judge, folder)
 
 
 def arguments():
@@ -313,6 +314,7 @@ def arguments():
     words.add_argument("--fetch", action="store_true", help="store the archive of the source, and test nothing")
     words.add_argument("library", metavar="LIBRARY", nargs="?", help="libzuphinka.a")
     words.add_argument("pool", metavar="POOL", nargs="?", help="the program pool")
+    words.add_argument("judge", metavar="JUDGE", nargs="?", help="the program judge, unless --fetch")
     given = words.parse_args()
     if not given.fetch and not given.pool:
         words.error("LIBRARY and POOL are missing")
@@ -327,7 +329,7 @@ def main():
         sys.exit(f"{given.source}/src/test/java: no such folder\n0 passed, 1 failed")
     try:
         java.jdk(), jars(), require_version()
-        return play_checks(checks(given.library, given.pool, given.source))
+        return play_checks(checks(given.library, given.pool, given.judge, given.source))
     except java.Missing as missing:
         skip("the tests of Commons Pool 2", missing)
         print("0 passed, 0 failed")

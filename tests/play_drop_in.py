@@ -1,12 +1,13 @@
 #!/usr/bin/env python3
 """Tests the jar with a GenericObjectPool in place of the library's, which tools/java.py builds, before Commons Pool 2 on the class path.
 
-    play_drop_in.py LIBRARY POOL
+    play_drop_in.py LIBRARY POOL JUDGE
 
-LIBRARY is libzuphinka.a, and POOL the program `pool`. The class must have all public and protected members of the library's, and no others
-(tests/drop_in/Surface.java). tests/drop_in/DropIn.java changes its settings at any time, also while threads call it. tests/drop_in/DataSources.java
-makes calls of DBCP2's BasicDataSource over H2, and must print the same over both classes. The journals must be legal. What needs a JDK or a jar that
-is missing is skipped, with the reason. The library's own tests run over the class in play_commons_pool.py.
+LIBRARY is libzuphinka.a, and the others are the programs `pool` and `judge`. The class must have all public and protected members of the library's, and
+no others (tests/drop_in/Surface.java). tests/drop_in/DropIn.java changes its settings at any time, also while threads call it.
+tests/drop_in/LaterSettings.java prints what calls do after each change, and must print the same over both classes. So must
+tests/drop_in/DataSources.java, which makes calls of DBCP2's BasicDataSource over H2. The journals must be legal, by the settings beside their segments.
+What needs a JDK or a jar that is missing is skipped, with the reason. The library's own tests run over the class in play_commons_pool.py.
 
 Prints what fails, and in the end the line 'N passed, M failed'.
 """
@@ -17,7 +18,7 @@ import subprocess
 import sys
 import tempfile
 
-from play_java import LONGEST, legal, program
+from play_java import LONGEST, legal_in, program
 from playing import play_checks
 from skipping import has, skip
 
@@ -50,15 +51,24 @@ def surface(classes, jars):
     yield "there are members", True, count is not None and int(count[1]) >= LEAST_MEMBERS or done.stdout
 
 
-def legal_journals(name, pool, folder):
+def legal_journals(name, pool, judge, folder):
     """What is wanted of the journals in a folder, and what they are."""
     journals = sorted({segment.parent for segment in folder.glob("*/segment-*")})
     yield f"{name}: there are journals", True, bool(journals)
     for journal in journals:
-        yield f"{name}: {journal.name}", *legal(pool, journal / "settings.toml", *sorted(journal.glob("segment-*")))
+        yield f"{name}: {journal.name}", *legal_in(journal, pool, judge)
 
 
-def data_sources(classes, jars, pool, folder):
+def later_settings(classes, jars, pool, judge, folder):
+    """What is wanted of settings that change, which is what the library does; and what the class does."""
+    wanted = run([classes, java.commons_pool()], "LaterSettings")
+    yield "settings that change in the library", (0, True), (wanted.returncode, len(wanted.stdout.splitlines()) > 100)
+    done = run([jars[0], classes, java.commons_pool()], "LaterSettings", options=[f"-Dzuphinka.journals={folder}"])
+    yield "settings that change", (wanted.stdout, 0), (done.stdout, done.returncode)
+    yield from legal_journals("settings that change", pool, judge, folder)
+
+
+def data_sources(classes, jars, pool, judge, folder):
     """What is wanted of DBCP2 over the class, which is what it does over the library's; and what it does."""
     others = [java.DEBIAN_JAR.parent / f"{name}.jar" for name in JARS]
     wanted = run([classes, *others, java.commons_pool()], "DataSources")
@@ -66,10 +76,10 @@ def data_sources(classes, jars, pool, folder):
     yield "DBCP2 over the library: its lines", True, len(wanted.stdout.splitlines()) > 20 or wanted.stdout
     done = run([jars[0], classes, *others, java.commons_pool()], "DataSources", options=[f"-Dzuphinka.journals={folder}"])
     yield "DBCP2", (wanted.stdout, 0), (done.stdout, done.returncode)
-    yield from legal_journals("DBCP2", pool, folder)
+    yield from legal_journals("DBCP2", pool, judge, folder)
 
 
-def checks(library, pool):
+def checks(library, pool, judge):
     with tempfile.TemporaryDirectory() as name:
         folder = pathlib.Path(name).resolve()
         jar = java.build(library, heap_of_kit(), folder / "out")
@@ -81,13 +91,14 @@ def checks(library, pool):
         yield from surface(classes, jars)
         path = [jars[0], classes, java.commons_pool()]
         yield from program("drop-in", run(path, "DropIn", jars[0].name, options=[f"-Dzuphinka.journals={folder / 'journals'}"]))
-        yield from legal_journals("drop-in", pool, folder / "journals")
+        yield from legal_journals("drop-in", pool, judge, folder / "journals")
+        yield from later_settings(classes, jars, pool, judge, folder / "of-later-settings")
         if has_jars:
-            yield from data_sources(classes, jars, pool, folder / "of-data-sources")
+            yield from data_sources(classes, jars, pool, judge, folder / "of-data-sources")
 
 
 def main():
-    if len(sys.argv) != 3:
+    if len(sys.argv) != 4:
         sys.exit(__doc__)
     try:
         java.jdk(), java.commons_pool()

@@ -1,15 +1,17 @@
 #!/usr/bin/env python3
 """Builds the pool for Java (tools/java.py), and plays its test programs, each under the checks of the virtual machine for native methods.
 
-    play_java.py LIBRARY POOL JOURNAL_PICTURE
+    play_java.py LIBRARY POOL JOURNAL_PICTURE JUDGE
 
-LIBRARY is libzuphinka.a, and the other two are programs. tests/java/Calls.java makes each call of a pool, with what the factory throws.
+LIBRARY is libzuphinka.a, and the others are programs. tests/java/Calls.java makes each call of a pool, with what the factory throws.
 tests/java/Policies.java has eviction policies of the user's own, in this pool and in Commons Pool. tests/java/Errors.java lets everything that a pool
 calls end in an error, and calls pools on a full stack. tests/java/Waits.java lets threads wait, and counts who overtakes. tests/java/Measures.java
 reads metrics, whose texts must be in the format. tests/java/Stress.java makes random calls in eight threads over a factory that fails at random.
 tests/java/Refusals.java refuses the native library each of its allocations in turn. tests/java/Folders.java has pools that want one folder, and
-folders that are removed; tests/java/Loaders.java has pools in two class loaders, where temporary folders are unfit. A pool runs in a module too. The
-journals that they write must be legal. A stored file must be synced before it has its name, and its folder afterwards. The jar must have the version
+folders that are removed. tests/java/Reconfigures.java changes the settings of pools in use, also beside threads, and tests/java/RefusedChanges.java while
+allocations fail: JUDGE must find each segment legal by the settings beside it, and each must begin at the base that the one before it reached.
+tests/java/Loaders.java has pools in two class loaders, where temporary folders are unfit. A pool runs in a module too. The journals that they write must
+be legal. A stored file must be synced before it has its name, and its folder afterwards. The jar must have the version
 of all products and load nothing but the C library, and the codes of io.github.zuphinka.Core must be those of bindings/c/include/zuphinka.h. Each
 public and protected item must have documentation in which javac finds nothing wrong. The examples are run by the commands of bindings/java/README.md;
 the journal of that over DBCP2 must be drawn. What needs a JDK or a jar that is missing is skipped, with the reason.
@@ -60,6 +62,8 @@ EXAMPLE_JARS = {"commons-dbcp2": "libcommons-dbcp2-java", "h2": "libh2-java"}
 # What that prints: 16 of its connections break, and others take their places.
 BANK = r"1000 transfers, \d+ a second, 0 failed\n2000 euros in all\ncreated (1[7-9]|[2-9]\d), destroyed \1, idle 0, lent 0\n"
 # A run that takes longer hangs, in seconds.
+# The base before all entries.
+EMPTY_BASE = b"pool-journal 2 0 0 open none 0 0 0 0\n"
 LONGEST = 120
 
 
@@ -95,6 +99,38 @@ def legal(pool, settings, *journals):
     """What is wanted of a check of journals, and what came of it."""
     done = subprocess.run([pool, "check", settings, *journals], capture_output=True, text=True)
     return "legal", done.stdout.partition(" ")[0] or done.stderr
+
+
+def position_of(path):
+    """The position in the name of a segment, or of its settings; that of the first settings is 0."""
+    return int(path.stem.partition("-")[2] or 0)
+
+
+def with_settings(folder):
+    """Each segment in a folder, in their order, with the settings that it has."""
+    settings = {position_of(path): path for path in folder.glob("settings*.toml")}
+    for segment in sorted(folder.glob("segment-*")):
+        yield settings[max(position for position in settings if position <= position_of(segment))], segment
+
+
+def chained(judge, folder):
+    """What is wanted of the segments in a folder, and what they are: each is legal by its settings, and begins at the base that the one before it
+    reached."""
+    reached = None
+    for settings, segment in with_settings(folder):
+        done, text = subprocess.run([judge, settings, segment], capture_output=True), segment.read_bytes()
+        begins = text.startswith(reached) if reached else not text.startswith(b"pool-journal") or text.startswith(EMPTY_BASE)
+        if done.returncode or not begins:
+            return "legal", f"{segment.name}: {done.stderr.decode() or 'another base'}"
+        reached = done.stdout
+    return "legal", "legal" if reached else "no segments"
+
+
+def legal_in(folder, pool, judge):
+    """What is wanted of the journal in a folder, and what came of it: segments with several settings are judged one by one."""
+    if len([*folder.glob("settings*.toml")]) > 1:
+        return chained(judge, folder)
+    return legal(pool, folder / "settings.toml", *sorted(folder.glob("segment-*")))
 
 
 def falls(*segments):
@@ -199,6 +235,17 @@ def calls(jar, classes, pool, folder):
     yield "calls: names of unfinished files", 2, len({name for line in lines for name in UNFINISHED.findall(line)})
 
 
+def reconfigures(jar, classes, native, pool, judge, folder):
+    """What is wanted of pools whose settings change, and of their journals; and what came of it."""
+    place = folder / "reconfigures"
+    place.mkdir()
+    yield from program("reconfigures", run(jar, classes, "Reconfigures", place))
+    yield from program("refused changes", run(jar, classes, "RefusedChanges", options=[f"-Dzuphinka.library={native}", java.QUICK]))
+    for journal in sorted(place.iterdir()):
+        yield f"reconfigures: {journal.name}: files of settings", True, len([*journal.glob("settings-*.toml")]) > 0
+        yield f"reconfigures: {journal.name}", *legal_in(journal, pool, judge)
+
+
 def policies(jar, classes, pool, folder):
     """What is wanted of pools with eviction policies of the user's own, and of their journals; and what came of it."""
     place = folder / "policies"
@@ -272,7 +319,7 @@ def examples(pool, picture, folder):
         yield "Bank: its picture", [], differences(picture, *sorted((folder / "bank").glob("segment-*")))
 
 
-def checks(library, pool, picture):
+def checks(library, pool, picture, judge):
     yield from codes()
     jar = java.build(library, heap_of_kit())
     with zipfile.ZipFile(jar) as packed:
@@ -281,7 +328,8 @@ def checks(library, pool, picture):
     with tempfile.TemporaryDirectory() as name:
         folder = pathlib.Path(name).resolve()
         classes = folder / "classes"
-        java.compile_classes(sorted((TOP / "tests/java").rglob("*.java")), classes, jar, java.commons_pool())
+        sources = sorted((TOP / "tests/java").rglob("*.java"))
+        java.compile_classes(sources, classes, jar, java.commons_pool())
         yield from calls(jar, classes, pool, folder)
         yield from policies(jar, classes, pool, folder)
         for name in PROGRAMS:
@@ -290,6 +338,7 @@ def checks(library, pool, picture):
         native = refusing(library, folder)
         yield from refusals(jar, classes, native, pool, folder)
         yield from folders(jar, classes, native, pool, folder)
+        yield from reconfigures(jar, classes, native, pool, judge, folder)
         yield from found(jar, classes, folder)
         yield from module(jar, classes, folder)
         yield from documentation(folder / "documented")
@@ -304,7 +353,7 @@ def checks(library, pool, picture):
 
 
 def main():
-    if len(sys.argv) != 4:
+    if len(sys.argv) != 5:
         sys.exit(__doc__)
     try:
         java.jdk(), java.commons_pool()

@@ -11,6 +11,8 @@ with the lines that were written of the one before it.
   says so; where it does, what is written of each must be the lines of the next one's base.
 - Three segments are damaged: in each place a byte is changed, dropped or doubled. Joined, they must be legal exactly where those of
   tests/pool_model.py are, and where `POOL check` over all of them says so.
+- The inputs of each case with a legal verdict are answered anew by tests/pool_model.py, whose settings change in the middle: from there on there is one
+  place, or none, which the objects may exceed. Each segment must be legal with its own settings, and reach the next one's base.
 - The commands of docs/guide/audits.md that check segments and join them are run on these: they must find them legal where the verdict does.
   The command for GNU parallel is run here for each segment, and so is the array job for each of its tasks.
 - Other arguments, requests for help or the version, and files that cannot be opened, read or taken, must have the line, which names the file,
@@ -35,7 +37,7 @@ from play_commands import TOP, blocks, commands
 from play_damaged import Chance
 from play_segments import THREE, damaged_segments, play_trials, segmented
 from playing import differing, write_files
-from pool_model import settings_of, verdict_of_segments
+from pool_model import LineFault, Pool, read_entry, settings_of, verdict_of_segments, words_of
 from preloading import preloaded, refusals, refusing
 
 def run(*command):
@@ -94,6 +96,46 @@ def of_case(judge, case, settings, paths, chance):
     reached = reached_by(judge, settings, paths, chance)
     wrong = are_joined(texts_of(case), reached) != is_legal(case)
     return [f"{case.name}: legal is {is_legal(case)}, reached {reached}"] * wrong
+
+
+# How many places there are after a change of the settings, by the number of the case, modulo 2.
+FEWER = (1, 0)
+
+
+def of_changes(judge, cases):
+    for number, (case, _, _) in enumerate(segmented(cases)):
+        if is_legal(case):
+            yield of_change, judge, case, FEWER[number % 2]
+
+
+def of_change(judge, case, places):
+    """What differs where the settings change in the middle of a case."""
+    pool = Pool(settings_of(case.settings.decode()))
+    requests = [request for text in texts_of(case) for request in text.removeprefix(base_lines(text)).splitlines()]
+    middle = len(requests) // 2
+    before = EMPTY + answered(pool, requests[:middle])
+    pool.settings = pool.settings | {"maxTotal": places}
+    due = b"".join(pool.base())
+    after = due + answered(pool, requests[middle:])
+    changed = re.sub(rb"^maxTotal = .*$", b"", case.settings, flags=re.MULTILINE)
+    with tempfile.TemporaryDirectory() as room:
+        files = {"old.toml": case.settings, "new.toml": b"maxTotal = %d\n" % places + changed, "before": before, "after": after}
+        old, new, first, second = write_files(room, files)
+        found = differing(f"{case.name}, before a change", (due, b"", 0), playing.run(judge, old, first))
+        return found + differing(f"{case.name}, after a change", (b"".join(pool.base()), b"", 0), playing.run(judge, new, second))
+
+
+def answered(pool, requests):
+    """The entries of these inputs, with the answers of the pool, as many as its journal has room for."""
+    first, lines = pool.position, []
+    for request in requests:
+        at, asked, *_ = read_entry(request + b"\n", 0)
+        try:
+            pool.copy().take(at, asked, first)
+        except LineFault:
+            break
+        lines.append(request.partition(b" = ")[0] + b" = " + words_of(pool.take(at, asked, first)) + b"\n")
+    return b"".join(lines)
 
 
 def scripts_of_page():
@@ -225,7 +267,7 @@ def of_refused(command, wanted, library, mark):
 def main(judge, pool, *words):
     with tempfile.TemporaryDirectory() as room:
         cases, (defaults,) = unpacked(room, *words), write_files(room, {"defaults.toml": b""})
-        trials = [*of_cases(judge, cases), *of_page(judge, cases), *of_damage(judge, pool, defaults), (of_uses, judge, defaults)]
+        trials = [*of_cases(judge, cases), *of_changes(judge, cases), *of_page(judge, cases), *of_damage(judge, pool, defaults), (of_uses, judge, defaults)]
         return play_trials([*trials, *of_refusals(judge, cases, room)])
 
 

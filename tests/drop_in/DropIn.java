@@ -1,17 +1,13 @@
 import java.time.Duration;
 import java.util.ArrayList;
-import java.util.LinkedHashMap;
 import java.util.List;
-import java.util.Map;
 import java.util.NoSuchElementException;
 import java.util.Random;
 import java.util.concurrent.FutureTask;
 import java.util.concurrent.atomic.AtomicInteger;
-import java.util.function.Consumer;
 import org.apache.commons.pool2.BasePooledObjectFactory;
 import org.apache.commons.pool2.DestroyMode;
 import org.apache.commons.pool2.PooledObject;
-import org.apache.commons.pool2.impl.AbandonedConfig;
 import org.apache.commons.pool2.impl.DefaultPooledObject;
 import org.apache.commons.pool2.impl.GenericObjectPool;
 import org.apache.commons.pool2.impl.GenericObjectPoolConfig;
@@ -20,8 +16,6 @@ import org.apache.commons.pool2.impl.GenericObjectPoolConfig;
 public final class DropIn extends Expectations {
     private static final int THREADS = 4;
     private static final int ROUNDS = 1_000;
-    /** What a call throws if settings were changed. */
-    private static final String CHANGED = "UnsupportedOperationException";
 
     private DropIn() {}
 
@@ -74,70 +68,62 @@ public final class DropIn extends Expectations {
         return String.valueOf(result).replaceAll(":.*", "");
     }
 
-    /** Settings that are fixed while there are objects: how they are changed, and set to the value that a new pool has. */
-    private static Map<String, List<Consumer<GenericObjectPool<Object>>>> changes() {
-        Map<String, List<Consumer<GenericObjectPool<Object>>>> changes = new LinkedHashMap<>();
-        AbandonedConfig abandoned = new AbandonedConfig();
-        changes.put("maxTotal", List.of(pool -> pool.setMaxTotal(2), pool -> pool.setMaxTotal(8)));
-        changes.put("maxIdle", List.of(pool -> pool.setMaxIdle(2), pool -> pool.setMaxIdle(8)));
-        changes.put("minIdle", List.of(pool -> pool.setMinIdle(2), pool -> pool.setMinIdle(0)));
-        changes.put("lifo", List.of(pool -> pool.setLifo(false), pool -> pool.setLifo(true)));
-        changes.put("blockWhenExhausted", List.of(pool -> pool.setBlockWhenExhausted(false), pool -> pool.setBlockWhenExhausted(true)));
-        changes.put("testOnBorrow", List.of(pool -> pool.setTestOnBorrow(true), pool -> pool.setTestOnBorrow(false)));
-        changes.put("testOnCreate", List.of(pool -> pool.setTestOnCreate(true), pool -> pool.setTestOnCreate(false)));
-        changes.put("testOnReturn", List.of(pool -> pool.setTestOnReturn(true), pool -> pool.setTestOnReturn(false)));
-        changes.put("testWhileIdle", List.of(pool -> pool.setTestWhileIdle(true), pool -> pool.setTestWhileIdle(false)));
-        changes.put("tests", List.of(pool -> pool.setNumTestsPerEvictionRun(7), pool -> pool.setNumTestsPerEvictionRun(3)));
-        changes.put("idle time", List.of(pool -> pool.setMinEvictableIdle(Duration.ofSeconds(7)),
-                pool -> pool.setMinEvictableIdle(Duration.ofMinutes(30))));
-        changes.put("soft idle time", List.of(pool -> pool.setSoftMinEvictableIdle(Duration.ofSeconds(7)),
-                pool -> pool.setSoftMinEvictableIdle(Duration.ofMillis(-1))));
-        changes.put("abandonment", List.of(pool -> pool.setAbandonedConfig(abandoned), pool -> pool.setAbandonedConfig(null)));
-        return changes;
-    }
-
-    /** A setting that changed is refused by calls while there is an object, and holds once there is none, or is set back. */
-    private static void fixedSettings() {
-        changes().forEach((name, ways) -> {
-            Counted factory = new Counted();
-            GenericObjectPool<Object> pool = pool(factory);
-            ways.get(0).accept(pool);
-            expect(name + ": set before the first call", "done", ending(pool::addObject));
-            ways.get(1).accept(pool);
-            expect(name + ": an addition", CHANGED, kind(ending(pool::addObject)));
-            expect(name + ": a borrow", CHANGED, kind(result(pool::borrowObject)));
-            expect(name + ": an eviction run", CHANGED, kind(ending(pool::evict)));
-            expect(name + ": what it leaves", "1 idle, 0 active, 1 created, 0 destroyed, 0 borrowed, 0 returned", numbers(pool));
-            ways.get(0).accept(pool);
-            expect(name + ": set back", "done", ending(() -> pool.returnObject(pool.borrowObject())));
-            ways.get(1).accept(pool);
-            pool.clear();
-            expect(name + ": once there is none", "done", ending(() -> pool.returnObject(pool.borrowObject())));
-            expect(name + ": the numbers go on", "1 idle, 0 active, 2 created, 1 destroyed, 2 borrowed, 2 returned", numbers(pool));
-            pool.close();
-            expect(name + ": alive", 0, factory.alive.get());
-        });
-    }
-
-    /** A lent object comes back, whatever was set meanwhile. */
-    private static void lentMeanwhile() throws Exception {
+    /** A changed limit holds from the next call on, and lent objects come back. */
+    private static void changedLimit() throws Exception {
         Counted factory = new Counted();
         GenericObjectPool<Object> pool = pool(factory);
         Object first = pool.borrowObject();
         Object second = pool.borrowObject();
         pool.setMaxTotal(1);
-        String message = result(pool::borrowObject).toString();
-        expect("both values are told", true, message.contains("maxTotal=8") && message.contains("maxTotal=1,"));
+        pool.setBlockWhenExhausted(false);
+        expect("the new limit", "NoSuchElementException", kind(result(pool::borrowObject)));
         pool.returnObject(first);
         pool.invalidateObject(second);
         expect("both came back", "1 idle, 0 active, 2 created, 1 destroyed, 2 borrowed, 1 returned", numbers(pool));
-        pool.clear();
-        Object third = pool.borrowObject(Duration.ofMillis(10));
-        expect("the new limit", "NoSuchElementException", kind(result(() -> pool.borrowObject(Duration.ofMillis(10)))));
+        Object third = pool.borrowObject();
+        expect("the same limit", "NoSuchElementException", kind(result(pool::borrowObject)));
         pool.close();
         pool.returnObject(third);
-        expect("after the close", "0 idle, 0 active, 3 created, 3 destroyed, 3 borrowed, 2 returned", numbers(pool));
+        expect("after the close", "0 idle, 0 active, 2 created, 2 destroyed, 3 borrowed, 2 returned", numbers(pool));
         expect("a closed one", "IllegalStateException", kind(result(pool::borrowObject)));
+    }
+
+    private static FutureTask<Object> waiting(GenericObjectPool<Object> pool) throws Exception {
+        FutureTask<Object> waiting = begun(() -> kind(pool.borrowObject()).replaceAll("@.*", ""));
+        while (pool.getNumWaiters() == 0) {
+            Thread.sleep(1);
+        }
+        return waiting;
+    }
+
+    /** A thread that waits gets a new place by {@code setConfig}, and by another setter and a later call. */
+    private static void servedWaiters() throws Exception {
+        GenericObjectPool<Object> pool = pool(new Counted());
+        pool.setMaxTotal(1);
+        Object lent = pool.borrowObject();
+        FutureTask<Object> first = waiting(pool);
+        GenericObjectPoolConfig<Object> config = new GenericObjectPoolConfig<>();
+        config.setMaxTotal(2);
+        pool.setConfig(config);
+        expect("a new place by all settings", "java.lang.Object", within(first));
+        FutureTask<Object> second = waiting(pool);
+        pool.setMaxTotal(3);
+        pool.use(lent);
+        expect("a new place by one", "java.lang.Object", within(second));
+        pool.close();
+    }
+
+    /** Settings that the pool cannot have: calls that borrow throw that, and others go on with the settings before. */
+    private static void refused() throws Exception {
+        GenericObjectPool<Object> pool = pool(new Counted());
+        Object lent = pool.borrowObject();
+        pool.setMaxTotal(900_000);
+        expect("more objects than a stored journal has room for", "IllegalArgumentException", kind(result(pool::borrowObject)));
+        pool.returnObject(lent);
+        expect("what is left", "1 idle, 0 active, 1 created, 0 destroyed, 1 borrowed, 1 returned", numbers(pool));
+        pool.setMaxTotal(8);
+        expect("set back", lent, pool.borrowObject());
+        pool.close();
     }
 
     /** Some settings hold at once. */
@@ -168,15 +154,12 @@ public final class DropIn extends Expectations {
         GenericObjectPool<Object> pool = pool(new Counted());
         pool.setMaxTotal(1);
         pool.borrowObject();
-        FutureTask<Object> waiting = begun(pool::borrowObject);
-        while (pool.getNumWaiters() == 0) {
-            Thread.sleep(1);
-        }
+        FutureTask<Object> waiting = waiting(pool);
         pool.close();
         expect("a borrow that a close ends", "InterruptedException", kind(within(waiting)));
     }
 
-    /** Borrows, returns, and changes a limit, which other threads refuse or find changed. */
+    /** Borrows, returns, and changes settings. */
     private static Object calls(GenericObjectPool<Object> pool, int seed) throws Exception {
         Random random = new Random(seed);
         for (int round = 0; round < ROUNDS; round++) {
@@ -187,11 +170,14 @@ public final class DropIn extends Expectations {
                 } else {
                     pool.invalidateObject(object);
                 }
-            } catch (UnsupportedOperationException | NoSuchElementException e) {
+            } catch (NoSuchElementException e) {
                 pool.clear();
             }
             if (random.nextInt(50) == 0) {
                 pool.setMaxTotal(2 + random.nextInt(2));
+                pool.setTestOnBorrow(random.nextBoolean());
+                pool.setTestOnReturn(random.nextBoolean());
+                pool.setMaxIdle(1 + random.nextInt(3));
             }
         }
         return "done";
@@ -220,8 +206,11 @@ public final class DropIn extends Expectations {
     public static void main(String[] words) throws Exception {
         String place = GenericObjectPool.class.getProtectionDomain().getCodeSource().getLocation().toString();
         expect("where the class is from", words[0], place.replaceAll(".*/", ""));
-        fixedSettings();
-        lentMeanwhile();
+        changedLimit();
+        servedWaiters();
+        if (System.getProperty("zuphinka.journals") != null) {
+            refused();
+        }
         freeSettings();
         closedWhileWaiting();
         changedByThreads();

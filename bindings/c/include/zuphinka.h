@@ -466,6 +466,21 @@ uint32_t zuphinka_base(struct zuphinka *pool, uint64_t position, char *text, siz
 uint32_t zuphinka_cut(struct zuphinka *pool);
 
 /*
+ * Goes on with other settings, from a text as in `zuphinka_open`, and cuts the journal, as `zuphinka_cut`: the entries before are answered by the old
+ * settings, those after it by the new ones. The objects stay, also if they are more than maxTotal then: none is made until fewer are present. Calls
+ * in progress go on. Callbacks that a call had when it began stay its own; a wait has the new maxWaitMillis once its call is woken or its time is
+ * over. Then the host calls `zuphinka_next_wake` until it returns ZUPHINKA_STATUS_NO_WAKE, since there may be more places.
+ *
+ * To keep the history, write a segment first, as for `zuphinka_cut`, and the new settings beside the next one. `judge SETTINGS SEGMENT` checks each
+ * segment with its own settings, and docs/guide/audits.md has the join. `pool check` takes the same settings for all of its segments.
+ *
+ * Returns ZUPHINKA_STATUS_DONE. Errors change nothing: ZUPHINKA_STATUS_NOT_OPEN; ZUPHINKA_STATUS_NOT_TEXT, _NOT_TOML, _UNKNOWN_KEY, _WRONG_TYPE,
+ * _OUT_OF_RANGE, of the settings; ZUPHINKA_STATUS_JOURNAL_FULL, if the new journalLimit has no room for the outstanding entries;
+ * ZUPHINKA_STATUS_OUT_OF_MEMORY, and it may be tried again.
+ */
+uint32_t zuphinka_reconfigure(struct zuphinka *pool, const char *settings, size_t length);
+
+/*
  * Ends a pool and frees its memory. The handle is then empty and may be opened again. It does nothing to an empty handle. The tokens that the
  * pool stores are lost, and their objects still belong to the host: close and clear the pool first.
  */

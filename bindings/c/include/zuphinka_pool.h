@@ -309,6 +309,23 @@ bool zuphinka_pool_is_low(struct zuphinka_pool *pool);
  */
 enum zuphinka_pool_error zuphinka_pool_cut(struct zuphinka_pool *pool, zuphinka_pool_store *store, void *context, uint64_t *entries);
 
+/*
+ * Goes on with other settings, from a text as in `zuphinka_pool_open`. The objects stay, also if they are more than maxTotal then: none is made
+ * until fewer are present. Calls in progress go on: each has the callbacks that its settings asked for when it began, and a thread that waits does so
+ * for the new maxWaitMillis once it is woken or its time is over.
+ *
+ * Stores in `first`, unless it is null, the position of the first entry with these settings. What the journal stored before is cut off, as one segment
+ * with the old settings. It goes to `store`, as by `zuphinka_pool_cut`; if `store` is null, to that of the host, for ZUPHINKA_POOL_JOURNAL_SEGMENTS.
+ * A segment that can't be stored then is kept for the next cut. A journal that is dropped needs no `store`. `judge SETTINGS SEGMENT` checks each segment
+ * with the settings that it had: keep these beside the first one (docs/guide/audits.md).
+ *
+ * Errors, and the settings are as before: ZUPHINKA_POOL_ERROR_NULL_POINTER, also for settings of no bytes; _MISSING_CALLBACK, if there is no `store`;
+ * _NOT_TEXT, _NOT_TOML, _UNKNOWN_KEY, _WRONG_TYPE, _OUT_OF_RANGE; _JOURNAL_FULL, if the new journalLimit leaves no room for the entries that end what
+ * is in progress; _STORE_FAILED, of a segment that an earlier cut could not store; _OUT_OF_MEMORY; _IN_USE, if `store` called it.
+ */
+enum zuphinka_pool_error zuphinka_pool_reconfigure(struct zuphinka_pool *pool, const char *settings, size_t length, zuphinka_pool_store *store,
+                                                   void *context, uint64_t *first);
+
 /* Returns the number of the calling thread in the journals of all pools. */
 uint32_t zuphinka_pool_caller(void);
 

@@ -68,6 +68,15 @@ struct run {
   int64_t limit;                /* when it waits no longer, besides what the settings say */
 };
 
+/* Settings that a pool is to have from a cut on. */
+struct change {
+  const char *text;
+  size_t length;
+  uint64_t quarter; /* of their journalLimit */
+  uint64_t first;   /* once it is made: the position of the first entry with these settings */
+  bool is_made;
+};
+
 /* ---- time and numbers of threads */
 
 /* Returns the time by the pool's clock, without the lock. */
@@ -157,13 +166,32 @@ static enum zuphinka_pool_error error_of_loan(const struct zuphinka_pool *pool, 
 
 /* ---- segments */
 
+/* Wakes the calls that may find something now, with the lock held. */
+static void wake_more(struct zuphinka_pool *pool) {
+  uint64_t ticket;
+  while (zuphinka_next_wake(&pool->core, &ticket) == ZUPHINKA_STATUS_DONE) wake(condition_of(pool, ticket));
+}
+
+/* Cuts the stored entries off, with the lock held. If there is a change of the settings, makes it. Returns the status. */
+static uint32_t cut_off(struct zuphinka_pool *pool, struct change *change) {
+  uint32_t status = change ? zuphinka_reconfigure(&pool->core, change->text, change->length) : zuphinka_cut(&pool->core);
+  if (status != ZUPHINKA_STATUS_DONE) return status;
+  pool->cuts++;
+  if (!change) return status;
+  change->is_made = true;
+  change->first = look(pool).counts.steps;
+  pool->low = pool->quarter = change->quarter;
+  wake_more(pool);
+  return status;
+}
+
 /* Copies the base and the stored entries, and cuts them off: they are the unstored segment then. A critical section is for MOST_LINES lines at most.
  * A pool that drops entries would drop some between two sections, so all of its lines are copied in one. Each line allocates, and other threads may
  * free memory until the next try. */
-static enum zuphinka_pool_error copy_segment(struct zuphinka_pool *pool) {
+static enum zuphinka_pool_error copy_segment(struct zuphinka_pool *pool, struct change *change) {
   struct segment segment = {.text = NULL};
-  bool is_whole = pool->journal == ZUPHINKA_POOL_JOURNAL_OFF, is_cut = false;
-  for (int failures = 0; failures < TRIES && !is_cut; failures++) {
+  bool is_whole = pool->journal == ZUPHINKA_POOL_JOURNAL_OFF, is_cut = false, is_full = false;
+  for (int failures = 0; failures < TRIES && !is_cut && !is_full; failures++) {
     size_t before = segment.size, capacity = 2 * (before + MOST_LINES * ZUPHINKA_LONGEST_LINE);
     char *text = realloc(segment.text, capacity);
     if (!text) continue;
@@ -171,29 +199,34 @@ static enum zuphinka_pool_error copy_segment(struct zuphinka_pool *pool) {
     lock(pool);
     if (is_whole) segment = (struct segment){.text = text};
     uint32_t status = copy_lines(&pool->core, &segment, capacity, is_whole ? UINT64_MAX : MOST_LINES);
-    is_cut = status == ZUPHINKA_STATUS_NO_ENTRY && zuphinka_cut(&pool->core) == ZUPHINKA_STATUS_DONE;
-    pool->cuts += is_cut;
+    bool is_copied = status == ZUPHINKA_STATUS_NO_ENTRY;
+    if (is_copied) status = cut_off(pool, change);
+    is_cut = is_copied && status == ZUPHINKA_STATUS_DONE;
+    is_full = is_copied && status == ZUPHINKA_STATUS_JOURNAL_FULL;
     segment.first = look(pool).counts.steps - segment.entries;
     unlock(pool);
     if (segment.size > before) failures = -1;
   }
-  if (is_cut) pool->unstored = segment;
+  if (is_cut && segment.entries > 0) pool->unstored = segment;
   else free(segment.text);
-  return is_cut ? ZUPHINKA_POOL_ERROR_NONE : ZUPHINKA_POOL_ERROR_OUT_OF_MEMORY;
+  if (is_cut) return ZUPHINKA_POOL_ERROR_NONE;
+  return is_full ? ZUPHINKA_POOL_ERROR_JOURNAL_FULL : ZUPHINKA_POOL_ERROR_OUT_OF_MEMORY;
 }
 
 /* Stores the unstored segment and then the journal, as the thread that cuts, with the lock held before and after, and not meanwhile. Adds the stored
- * entries to `entries`, unless it is null. After an error the next borrow that tries again is one that finds half of the room that is left. */
-static enum zuphinka_pool_error cut_and_store(struct zuphinka_pool *pool, zuphinka_pool_store *store, void *context, uint64_t *entries) {
+ * entries to `entries`, unless it is null, and makes a change of the settings, if there is one. After an error the next borrow that tries again is
+ * one that finds half of the room that is left. */
+static enum zuphinka_pool_error cut_and_store(struct zuphinka_pool *pool, zuphinka_pool_store *store, void *context, uint64_t *entries,
+                                              struct change *change) {
   struct segment *segment = &pool->unstored;
   enum zuphinka_pool_error error = ZUPHINKA_POOL_ERROR_NONE;
   uint64_t steps = 0, room = 0;
   zuphinka_steps(&pool->core, &steps);
   pool->cutter = UINT64_C(1) + zuphinka_pool_caller();
   unlock(pool);
-  for (bool is_copied = steps == 0; !error && (segment->text || !is_copied);) {
+  for (bool is_copied = steps == 0 && !change; !error && (segment->text || !is_copied);) {
     if (!segment->text) {
-      error = copy_segment(pool);
+      error = copy_segment(pool, change);
       is_copied = true;
     } else if (store(context, segment->first, segment->text, segment->size)) {
       if (entries) *entries += segment->entries;
@@ -217,7 +250,7 @@ static void keep_room(struct zuphinka_pool *pool, uint32_t kind) {
   bool maintains = kind == ZUPHINKA_KIND_MAINTAIN;
   if (pool->journal != ZUPHINKA_POOL_JOURNAL_SEGMENTS || pool->cutter || !(maintains || kind == ZUPHINKA_KIND_BORROW)) return;
   bool is_due = maintains ? pool->unstored.text || zuphinka_is_low(&pool->core, 2 * pool->low) : zuphinka_is_low(&pool->core, pool->low);
-  if (is_due) cut_and_store(pool, pool->host.store, pool->host.context, NULL);
+  if (is_due) cut_and_store(pool, pool->host.store, pool->host.context, NULL, NULL);
 }
 
 /* Sleeps while another thread cuts the journal, until `end` at most, with the lock held before and after. Returns whether none cuts any more. */
@@ -231,7 +264,7 @@ static bool wait_for_cut(struct zuphinka_pool *pool, int64_t end) {
 static uint32_t make_room(struct zuphinka_pool *pool, const struct run *run) {
   uint64_t cuts = pool->cuts;
   if (pool->journal != ZUPHINKA_POOL_JOURNAL_SEGMENTS) return ZUPHINKA_REPORT_NO_ROOM;
-  if (wait_for_cut(pool, end_of_wait(run)) && pool->cuts == cuts) cut_and_store(pool, pool->host.store, pool->host.context, NULL);
+  if (wait_for_cut(pool, end_of_wait(run)) && pool->cuts == cuts) cut_and_store(pool, pool->host.store, pool->host.context, NULL, NULL);
   return pool->cuts != cuts ? ZUPHINKA_REPORT_ROOM_MADE : ZUPHINKA_REPORT_NO_ROOM;
 }
 
@@ -282,12 +315,6 @@ static uint32_t act(struct zuphinka_pool *pool, struct run *run) {
     default: return report;
   }
   return succeeds ? ZUPHINKA_REPORT_SUCCEEDED : ZUPHINKA_REPORT_FAILED;
-}
-
-/* Wakes the calls that may find something now, with the lock held. */
-static void wake_more(struct zuphinka_pool *pool) {
-  uint64_t ticket;
-  while (zuphinka_next_wake(&pool->core, &ticket) == ZUPHINKA_STATUS_DONE) wake(condition_of(pool, ticket));
 }
 
 /* Makes a borrow or a return that needs no callback and no wait, with the lock held. Returns whether it is over. */
@@ -455,9 +482,32 @@ void zuphinka_pool_counts(struct zuphinka_pool *pool, struct zuphinka_tally *cou
 enum zuphinka_pool_error zuphinka_pool_cut(struct zuphinka_pool *pool, zuphinka_pool_store *store, void *context, uint64_t *entries) {
   if (entries) *entries = 0;
   lock(pool);
-  enum zuphinka_pool_error error = wait_for_cut(pool, NEVER) ? cut_and_store(pool, store, context, entries) : ZUPHINKA_POOL_ERROR_IN_USE;
+  enum zuphinka_pool_error error = wait_for_cut(pool, NEVER) ? cut_and_store(pool, store, context, entries, NULL) : ZUPHINKA_POOL_ERROR_IN_USE;
   unlock(pool);
   return error;
+}
+
+enum zuphinka_pool_error zuphinka_pool_reconfigure(struct zuphinka_pool *pool, const char *settings, size_t length, zuphinka_pool_store *store,
+                                                   void *context, uint64_t *first) {
+  struct change change = {.text = settings, .length = length};
+  struct zuphinka_setup setup;
+  char key;
+  uint64_t size = 0;
+  if (!settings) return ZUPHINKA_POOL_ERROR_NULL_POINTER;
+  bool has_store = pool->journal == ZUPHINKA_POOL_JOURNAL_SEGMENTS && !store;
+  if (has_store) store = pool->host.store;
+  if (has_store) context = pool->host.context;
+  if (pool->journal != ZUPHINKA_POOL_JOURNAL_OFF && !store) return ZUPHINKA_POOL_ERROR_MISSING_CALLBACK;
+  enum zuphinka_pool_error error = find_error(ZUPHINKA_END_NONE, zuphinka_settings(settings, length, &setup, &key, 1, &size));
+  if (error) return error;
+  change.quarter = setup.journal_limit / 4;
+  lock(pool);
+  if (pool->journal == ZUPHINKA_POOL_JOURNAL_OFF) error = find_error(ZUPHINKA_END_NONE, cut_off(pool, &change));
+  else if (wait_for_cut(pool, NEVER)) error = cut_and_store(pool, store, context, NULL, &change);
+  else error = ZUPHINKA_POOL_ERROR_IN_USE;
+  unlock(pool);
+  if (change.is_made && first) *first = change.first;
+  return change.is_made ? ZUPHINKA_POOL_ERROR_NONE : error;
 }
 
 /* ---- the pool */

@@ -74,6 +74,19 @@ JNIEXPORT jlong JNICALL Java_io_github_zuphinka_Core_open(JNIEnv *env, jclass cl
   return -(jlong)status;
 }
 
+/* Goes on with other settings, and with other flags of whether objects may be reclaimed. Returns a status, and on an error nothing changed. */
+JNIEXPORT jint JNICALL Java_io_github_zuphinka_Core_reconfigure(JNIEnv *env, jclass class, jlong handle, jbyteArray settings, jint flags) {
+  (void)class;
+  jsize length = (*env)->GetArrayLength(env, settings);
+  char *text = malloc((size_t)length + 1);
+  if (!text) return -(jint)ZUPHINKA_STATUS_OUT_OF_MEMORY;
+  (*env)->GetByteArrayRegion(env, settings, 0, length, (jbyte *)text);
+  uint32_t status = zuphinka_reconfigure(core_at(handle), text, (size_t)length);
+  free(text);
+  if (status == ZUPHINKA_STATUS_DONE) pool_at(handle)->reclaims = flags & RECLAIMS;
+  return -(jint)status;
+}
+
 /* Frees a pool. */
 JNIEXPORT void JNICALL Java_io_github_zuphinka_Core_drop(JNIEnv *env, jclass class, jlong handle) {
   (void)env, (void)class;

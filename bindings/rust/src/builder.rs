@@ -12,7 +12,7 @@ use crate::manager::Manager;
 use crate::pool::Pool;
 use crate::proved_core::{Core, OpenFault};
 use crate::reports::{OnError, Reports};
-use crate::settings::{millis, Abandoned, Settings};
+use crate::settings::{millis, Abandoned, Settings, DEFAULT_WAIT_MILLIS};
 use crate::shared::{Policy, Shared};
 use crate::stored_journal::Mode;
 use crate::sys;
@@ -85,10 +85,7 @@ impl<M: Manager> Builder<M> {
     ///
     /// The text is not TOML, or one of its keys or values is invalid.
     pub fn settings(mut self, toml: &str) -> Result<Builder<M>, SettingsError> {
-        self.settings = Settings::from_toml(toml)?;
-        if !Settings::names_max_wait(toml)? {
-            self.settings.max_wait_millis = DEFAULT_WAIT_MILLIS;
-        }
+        self.settings = Settings::of_pool(toml)?;
         self.chosen = Chosen::default();
         Ok(self)
     }
@@ -289,15 +286,16 @@ impl<M: Manager> Builder<M> {
     /// A number or a time is out of its range, settings contradict each other, or there is no memory.
     pub fn build(mut self, manager: M) -> Result<Pool<M>, OpenError> {
         Settings::from_toml(&self.settings.to_string())?;
+        let (mode, journal_limit, outlet) = self.take_journal();
         let policy = Policy {
             max_lifetime: self.max_lifetime.map(|time| millis(time).unsigned_abs()),
-            tests_idle: self.settings.test_while_idle,
+            journal_limit,
             max_overtakes: self.max_overtakes,
             reports: Reports::new(self.on_error.take()),
         };
-        self.settings.test_while_idle |= self.max_lifetime.is_some();
-        let (mode, outlet) = self.take_journal();
-        if let Some(found) = self.chosen.contradiction(&self.settings, mode)? {
+        self.chosen.journal_limit |= journal_limit.is_some();
+        let setup = policy.setup(self.settings);
+        if let Some(found) = self.chosen.contradiction(&setup.settings, mode)? {
             return Err(OpenError::Contradiction(found));
         }
         let options = sys::Options {
@@ -308,19 +306,12 @@ impl<M: Manager> Builder<M> {
             passivates: M::PASSIVATES,
             drops_journal: mode == Mode::Off,
         };
-        let state = LockedPool::new(open_core(&self.settings, &options)?, mode);
+        let state = LockedPool::new(open_core(&setup.settings, &options)?, mode, setup);
         let clock = match self.clock {
             Some(clock) => Clock::Given(clock),
             None => Clock::Since(Instant::now()),
         };
-        let pool = Arc::new(Shared::new(
-            state,
-            clock,
-            outlet,
-            manager,
-            self.settings,
-            policy,
-        ));
+        let pool = Arc::new(Shared::new(state, clock, outlet, manager, policy));
         let is_maintained = self.maintenance.is_some();
         if let Some((start, time)) = self.maintenance {
             let started = start(&pool, time).map_err(|error| OpenError::Thread(error.kind()))?;
@@ -329,20 +320,15 @@ impl<M: Manager> Builder<M> {
         Ok(Pool::of(Handle::new(pool, is_maintained)))
     }
 
-    /// Returns what becomes of the journal, whose limit is set then.
-    fn take_journal(&mut self) -> (Mode, Option<Outlet>) {
-        let (mode, limit, outlet) = match std::mem::take(&mut self.journal) {
+    /// Returns what becomes of the journal, and the limit that it has whatever the settings say.
+    fn take_journal(&mut self) -> (Mode, Option<u64>, Option<Outlet>) {
+        match std::mem::take(&mut self.journal) {
             Journal::Off => (Mode::Off, Some(GREATEST_LIMIT), None),
             Journal::Memory(limit) => (Mode::Memory, limit, None),
             Journal::Segments(segments) => {
                 (Mode::Segments, segments.limit, Some(Outlet::new(segments)))
             }
-        };
-        if let Some(entries) = limit {
-            self.settings.journal_limit = i64::try_from(entries).unwrap_or(i64::MAX);
-            self.chosen.journal_limit = true;
         }
-        (mode, outlet)
     }
 }
 
@@ -366,9 +352,6 @@ impl<M: Manager + 'static> Builder<M> {
         self
     }
 }
-
-/// The limit of a wait if nothing else is set: that of r2d2.
-const DEFAULT_WAIT_MILLIS: i64 = 30_000;
 
 /// How often a waiter is overtaken at most, if nothing else is set.
 const DEFAULT_OVERTAKES: u32 = 64;

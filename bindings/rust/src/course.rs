@@ -37,6 +37,8 @@ pub(crate) struct Course<M: Manager> {
     /// The object that it works on: its token, and its value.
     pub token: u64,
     pub value: Value<Item<M>>,
+    /// Whether an eviction run validates that object, by the settings at which it was taken.
+    pub tests_idle: bool,
     /// Whether it found no memory for its object or for its sleep.
     pub lacks_memory: bool,
     /// Whether it was begun again, after entries were dropped for the sake of memory.
@@ -61,6 +63,7 @@ impl<M: Manager> Course<M> {
             lent: 0,
             token: 0,
             value: Value::None,
+            tests_idle: false,
             lacks_memory: false,
             is_begun_again: false,
             longest: None,
@@ -229,6 +232,7 @@ impl<M: Manager> Course<M> {
             self.release(state);
             self.token = token;
             self.value = Value::Here(state.values.take(token));
+            self.tests_idle = state.setup.tests_idle;
         }
     }
 

@@ -97,6 +97,27 @@ pub enum OpenError {
     Thread(io::ErrorKind),
 }
 
+/// Why a pool kept its settings, in [`Pool::reconfigure`](crate::Pool::reconfigure).
+#[derive(Debug)]
+#[non_exhaustive]
+pub enum ReconfigureError {
+    /// The settings are invalid.
+    Settings(SettingsError),
+    /// The journal has a limit of its own, and is full before the new `maxTotal` objects are lent at a time
+    /// ([`Contradiction::JournalTooSmall`]).
+    Contradiction(Contradiction),
+    /// The new `journalLimit` is less than the entries that may still be needed to free each place and close the pool.
+    NoRoom,
+    /// An allocation failed.
+    OutOfMemory,
+    /// A segment that was cut off before is not stored yet, and the sink failed again, with this error.
+    Sink(io::Error),
+    /// A segment that was cut off before is still in memory. Call [`cut`](crate::Pool::cut), which writes it, and try again.
+    Unwritten,
+    /// The sink called it while it stored a segment, or the writer of a [`cut`](crate::Pool::cut).
+    FromWriter,
+}
+
 /// Which settings of a builder contradict each other.
 ///
 /// Only settings from the builder's own methods are checked. A text of settings is read as the program reads it.
@@ -164,6 +185,58 @@ impl From<SettingsError> for OpenError {
         match error {
             SettingsError::OutOfMemory => OpenError::OutOfMemory,
             error => OpenError::Settings(error),
+        }
+    }
+}
+
+impl From<SettingsError> for ReconfigureError {
+    fn from(error: SettingsError) -> ReconfigureError {
+        match error {
+            SettingsError::OutOfMemory => ReconfigureError::OutOfMemory,
+            error => ReconfigureError::Settings(error),
+        }
+    }
+}
+
+impl From<StepFault> for ReconfigureError {
+    fn from(fault: StepFault) -> ReconfigureError {
+        match fault {
+            StepFault::JournalFull => ReconfigureError::NoRoom,
+            StepFault::OutOfMemory => ReconfigureError::OutOfMemory,
+        }
+    }
+}
+
+/// Writes what happened. The sink's error is the source.
+impl fmt::Display for ReconfigureError {
+    fn fmt(&self, f: &mut fmt::Formatter<'_>) -> fmt::Result {
+        match self {
+            ReconfigureError::Settings(error) => write!(f, "settings: {error}"),
+            ReconfigureError::Contradiction(contradiction) => {
+                write!(f, "settings: {contradiction}")
+            }
+            ReconfigureError::NoRoom => {
+                f.write_str("the new journal has too little room for what is in progress")
+            }
+            ReconfigureError::OutOfMemory => f.write_str("out of memory"),
+            ReconfigureError::Sink(_) => {
+                f.write_str("a segment of the journal could not be stored")
+            }
+            ReconfigureError::Unwritten => {
+                f.write_str("a segment of the journal that was cut off is not written yet")
+            }
+            ReconfigureError::FromWriter => {
+                f.write_str("the settings are changed while a segment is written")
+            }
+        }
+    }
+}
+
+impl error::Error for ReconfigureError {
+    fn source(&self) -> Option<&(dyn error::Error + 'static)> {
+        match self {
+            ReconfigureError::Sink(error) => Some(error),
+            _ => None,
         }
     }
 }

@@ -92,17 +92,17 @@ fn begin<'a, M: Manager>(
     context: &Context<'_>,
 ) -> Result<Pooled<M>, Polled<'a, M>> {
     let (caller, at) = (caller_number(), pool.now());
-    if pool.lends_at_once() {
-        if let Ok(loan) = pool.lend_at_once(caller, at) {
-            return Ok(Pooled::new(pool.clone(), loan));
-        }
-    }
-    if !pool.lends_at_once() && !M::AWAITS {
-        if let Ok(loan) = pool.lend_ready(pool.lock(), caller, at) {
-            return Ok(Pooled::new(pool.clone(), loan));
-        }
+    let state = match pool.lend_at_once(caller, at) {
+        Ok(loan) => return Ok(Pooled::new(pool.clone(), loan)),
+        Err(state) => state,
+    };
+    if pool.lends_at_once(&state) || M::AWAITS {
+        drop(state);
+    } else if let Ok(loan) = pool.lend_ready(state, caller, at) {
+        return Ok(Pooled::new(pool.clone(), loan));
     }
     let course = Course::new(Kind::Borrow, caller, at, WaitLimit::AsSet);
+    // Code of others, so without the lock.
     let waker = Some(context.waker().clone());
     Err(InProgress::begin(&**pool, pool.lock(), course, waker))
 }

@@ -26,7 +26,8 @@ pub enum Journal {
     /// [cut](crate::Pool::cut).
     Memory(Option<u64>),
     /// The entries are handed to a sink as segments, each when about half of the room in memory is used up, and the rest by
-    /// [`Pool::flush_journal`](crate::Pool::flush_journal) and when the last handle and the last lent object are gone.
+    /// [`Pool::flush_journal`](crate::Pool::flush_journal) and [`Pool::reconfigure`](crate::Pool::reconfigure), and when the last handle and the
+    /// last lent object are gone.
     ///
     /// The call that uses up the half stores the segment before it returns, without the lock: a borrow, a poll of
     /// [`Pool::get_async`](crate::Pool::get_async), or a return. Other calls continue meanwhile. If they use up the rest, those that need room
@@ -43,10 +44,6 @@ const ROUNDS: u32 = 4;
 /// Appends a line at a position. Returns whether there is one.
 type Line = fn(&mut Core, u64, &mut Vec<u8>) -> Result<bool, StepFault>;
 
-pub(crate) fn out_of_memory(_: StepFault) -> io::Error {
-    io::ErrorKind::OutOfMemory.into()
-}
-
 /// Appends the lines from a position up to another, if there are as many. Returns the position after the last one.
 pub(crate) fn copy_lines(
     core: &mut Core,
@@ -54,9 +51,9 @@ pub(crate) fn copy_lines(
     from: u64,
     to: u64,
     text: &mut Vec<u8>,
-) -> io::Result<u64> {
+) -> Result<u64, StepFault> {
     for position in from..to {
-        if !line(core, position, text).map_err(out_of_memory)? {
+        if !line(core, position, text)? {
             return Ok(position);
         }
     }
@@ -84,7 +81,7 @@ impl<M: Manager> Shared<M> {
     }
 
     /// Copies the stored journal. Returns its text and the number of its entries.
-    fn copy_journal(&self) -> io::Result<(Vec<u8>, u64)> {
+    fn copy_journal(&self) -> Result<(Vec<u8>, u64), StepFault> {
         for _ in 0..ROUNDS {
             if let Some(copied) = self.try_copy_journal()? {
                 return Ok(copied);
@@ -100,7 +97,7 @@ impl<M: Manager> Shared<M> {
     }
 
     /// Copies the stored journal, some hundred lines at a time. Returns none if it was cut meanwhile.
-    fn try_copy_journal(&self) -> io::Result<Option<(Vec<u8>, u64)>> {
+    fn try_copy_journal(&self) -> Result<Option<(Vec<u8>, u64)>, StepFault> {
         let mut text = Vec::new();
         let mut state = self.lock();
         let (first, len) = (state.first_stored(), state.core.steps());
@@ -111,7 +108,7 @@ impl<M: Manager> Shared<M> {
     }
 
     /// Copies the lines of the base at a position. Returns whether the journal was not cut meanwhile.
-    pub fn copy_base(&self, first: u64, text: &mut Vec<u8>) -> io::Result<bool> {
+    pub fn copy_base(&self, first: u64, text: &mut Vec<u8>) -> Result<bool, StepFault> {
         self.copy_in_parts(first, Core::base_line, u64::MAX, text)
     }
 
@@ -123,7 +120,7 @@ impl<M: Manager> Shared<M> {
         line: Line,
         count: u64,
         text: &mut Vec<u8>,
-    ) -> io::Result<bool> {
+    ) -> Result<bool, StepFault> {
         let mut copied = 0;
         while copied < count {
             let mut state = self.lock();
@@ -142,7 +139,7 @@ impl<M: Manager> Shared<M> {
 
     /// Copies the stored entries up to the last one, some hundred at a time, while no other thread may cut them. Returns how many were
     /// copied.
-    pub fn copy_stored(&self, mut copied: u64, text: &mut Vec<u8>) -> io::Result<u64> {
+    pub fn copy_stored(&self, mut copied: u64, text: &mut Vec<u8>) -> Result<u64, StepFault> {
         let end = self.lock().core.steps();
         while copied < end {
             let mut state = self.lock();
@@ -189,7 +186,7 @@ impl<M: Manager> Shared<M> {
     }
 
     /// Copies entries that were not drained, some hundred, up to a position. Returns the positions between which they are.
-    fn copy_undrained(&self, end: u64, text: &mut Vec<u8>) -> io::Result<(u64, u64)> {
+    fn copy_undrained(&self, end: u64, text: &mut Vec<u8>) -> Result<(u64, u64), StepFault> {
         let mut state = self.lock();
         let first = state.first_stored();
         let from = state.journal.drained.max(first);

@@ -56,7 +56,7 @@ impl<M: Manager> Shared<M> {
     #[inline]
     pub fn lend_at_once(&self, caller: u32, at: Moment) -> LentOr<'_, M> {
         let mut state = self.lock();
-        let may_lend = self.lends_at_once();
+        let may_lend = self.lends_at_once(&state);
         match may_lend.then(|| state.lend(caller, at)).flatten() {
             Some(loan) => {
                 let mut wakes = Wakes::default();
@@ -75,7 +75,7 @@ impl<M: Manager> Shared<M> {
         at: Moment,
         limit: WaitLimit,
     ) -> Result<Loan<Item<M>>, Error<M::Error>> {
-        let mut state = match self.lends_at_once() {
+        let mut state = match self.lends_at_once(&state) {
             true => state,
             false => match self.lend_ready(state, caller, at) {
                 Ok(loan) => return Ok(loan),
@@ -101,7 +101,7 @@ impl<M: Manager> Shared<M> {
             return self.end_too_old(caller, at, loan);
         }
         let mut state = self.lock();
-        let (state, loan) = match self.parks_at_once() {
+        let (state, loan) = match self.parks_at_once(&state) {
             true => match state.take_back(caller, at, loan) {
                 None => {
                     let mut wakes = Wakes::default();

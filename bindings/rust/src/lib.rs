@@ -51,6 +51,8 @@
 //! them in memory ([`Journal::Memory`]), or stores them in segments ([`Journal::Segments`]), which `pool check` checks as one journal. The call that
 //! finds a segment due stores it, also a borrow, a poll or a return; if the journal is full, calls wait for the thread that stores one.
 //!
+//! The settings of a pool may change while it is in use ([`Pool::reconfigure`]).
+//!
 //! **A forked child** that does not `exec` has copies of its parent's pools. It may drop their handles, and nothing else: a thread of the parent may
 //! have held a lock. Such a drop calls neither the manager nor the sink, and leaks the idle objects, which are the parent's. Forget guards there
 //! ([`std::mem::forget`]), since their drop is a call. [`std::process::Command`] does `exec`, so it needs no care.
@@ -88,6 +90,7 @@ mod pauses;
 mod pool;
 mod pooled;
 mod proved_core;
+mod reconfiguring;
 mod reports;
 mod segments;
 mod settings;
@@ -104,7 +107,7 @@ mod writing;
 pub use async_manager::{Async, AsyncManager};
 pub use builder::Builder;
 pub use callers::caller_number;
-pub use error::{Contradiction, Error, OpenError, SettingsError};
+pub use error::{Contradiction, Error, OpenError, ReconfigureError, SettingsError};
 pub use failure::Failure;
 pub use get::Get;
 pub use journal::Journal;

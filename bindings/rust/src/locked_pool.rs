@@ -3,7 +3,9 @@
 use crate::clock::{Aged, Moment};
 use crate::metrics::Measures;
 use crate::proved_core::Core;
+use crate::settings::Setup;
 use crate::sleepers::Sleepers;
+use crate::step::StepFault;
 use crate::stored_journal::{Mode, StoredJournal};
 use crate::values::{Loan, Values};
 
@@ -14,18 +16,20 @@ pub(crate) struct LockedPool<T> {
     pub values: Values<Aged<T>>,
     pub sleepers: Sleepers,
     pub measures: Measures,
+    pub setup: Setup,
     /// The greatest time that the core was told, in milliseconds.
     last_time: u64,
 }
 
 impl<T> LockedPool<T> {
-    pub fn new(mut core: Core, mode: Mode) -> LockedPool<T> {
+    pub fn new(mut core: Core, mode: Mode, setup: Setup) -> LockedPool<T> {
         LockedPool {
             journal: StoredJournal::new(mode, core.room()),
             core,
             values: Values::new(),
             sleepers: Sleepers::new(),
             measures: Measures::default(),
+            setup,
             last_time: 0,
         }
     }
@@ -132,6 +136,27 @@ impl<T> LockedPool<T> {
     #[cold]
     pub fn free_memory(&mut self) -> bool {
         self.journal.mode() == Mode::Off && self.core.steps() > 0 && self.core.cut().is_ok()
+    }
+
+    /// Cuts the journal: its entries are not stored any more. If it fails, nothing changes.
+    pub fn cut(&mut self) -> Result<(), StepFault> {
+        self.core.cut()?;
+        self.plan_segment();
+        Ok(())
+    }
+
+    /// Cuts the journal, and goes on with other settings. Then the calls of `next_wake` are to be woken. If it fails, nothing changes.
+    pub fn reconfigure(&mut self, setup: Setup) -> Result<(), StepFault> {
+        self.core.reconfigure(&setup.text)?;
+        self.setup = setup;
+        self.plan_segment();
+        Ok(())
+    }
+
+    /// Plans the next segment of a journal that was cut.
+    fn plan_segment(&mut self) {
+        let room = self.core.room();
+        self.journal.cut(room);
     }
 
     /// Returns the position of the first stored entry. Positions count from the first entry since the pool was opened.

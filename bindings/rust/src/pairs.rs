@@ -113,9 +113,10 @@ impl<M: Manager> Shared<M> {
             return Err(Some(state));
         };
         let mut taken = self.worked(caller, false, loan);
+        let is_tested = state.setup.settings.test_on_borrow;
         self.leave_after_step(state);
         let activated = taken.activate();
-        match activated.and_then(|()| taken.validate(self.settings.test_on_borrow)) {
+        match activated.and_then(|()| taken.validate(is_tested)) {
             Ok(()) => Ok(self.lend(taken, at)),
             Err(fault) => {
                 self.give_up(taken, fault);
@@ -153,8 +154,9 @@ impl<M: Manager> Shared<M> {
             return Err((state, loan));
         }
         let mut returned = self.worked(caller, true, loan);
+        let is_tested = state.setup.settings.test_on_return;
         self.leave(state, Wakes::default());
-        let tested = returned.validate(self.settings.test_on_return);
+        let tested = returned.validate(is_tested);
         match tested.and_then(|()| returned.passivate()) {
             Ok(()) => Ok(self.park(returned)),
             Err(fault) => {

@@ -1,7 +1,7 @@
 //! The handles of a pool that threads share, with all calls of users, and its weak handles.
 
 use crate::builder::Builder;
-use crate::error::{Error, OpenError};
+use crate::error::{Error, OpenError, ReconfigureError};
 use crate::get::Get;
 use crate::handle::{Handle, WeakHandle};
 use crate::keeping::{Addition, Eviction, Maintenance};
@@ -12,6 +12,7 @@ use crate::shared::WaitLimit;
 use crate::step::Counts;
 use std::fmt;
 use std::io::{self, Write};
+use std::sync::Arc;
 use std::time::{Duration, Instant};
 
 /// A pool that threads share. A clone is a handle of the same pool.
@@ -279,7 +280,7 @@ impl<M: Manager> Pool<M> {
 
     /// Writes the stored journal as text, up to the last entry at this call, and returns the number of entries. `pool check` checks it, with
     /// these [`settings`](Pool::settings). If entries were cut off before, or dropped, or handed to a sink, the text is a segment: it
-    /// begins with the lines of the base that its entries continue. A segment that is cut off and could not be written is not part of it.
+    /// begins with the lines of the base that its entries continue. A segment that is cut off and not written yet is not part of it.
     ///
     /// The text is copied first, under the lock for some hundred lines at a time; then it is written without the lock. Only a journal that
     /// is cut again and again meanwhile is copied as a whole under the lock.
@@ -341,6 +342,8 @@ impl<M: Manager> Pool<M> {
     /// entry falls between two segments. The text is written and flushed without the lock. One cut of a pool runs at a time, and others wait
     /// for it. With [`Journal::Off`](crate::Journal::Off) all lines are copied under the lock, and the journal is cut before they are written.
     ///
+    /// After a change of the settings ([`reconfigure`](Pool::reconfigure)) the next cut writes the segment before it and no other.
+    ///
     /// # Errors
     ///
     /// Those of the writer, which may have a part of the segment. Nothing is lost. In most cases the journal is then not cut. If only the last
@@ -362,9 +365,57 @@ impl<M: Manager> Pool<M> {
         self.shared.flush_journal()
     }
 
-    /// Returns the settings, as a file in TOML that has all of them, with which the journal is checked.
+    /// Returns the settings, as a file in TOML that has all of them, with which the journal is checked since the last
+    /// [change](Pool::reconfigure) of them. It takes the lock.
     pub fn settings(&self) -> String {
-        self.shared.settings_text.clone()
+        let text = Arc::clone(&self.shared.lock().setup.text);
+        text.to_string()
+    }
+
+    /// Goes on with other settings, from a text as in [`Builder::settings`], while others use the pool. Returns the position of the first entry
+    /// with them.
+    ///
+    /// Settings that the text does not name have their defaults, not their values so far. What the builder set besides the settings stays: a limit
+    /// in [`Journal::Memory`](crate::Journal::Memory) or [`Segments::limit`](crate::Segments::limit) and the 2^32 of
+    /// [`Journal::Off`](crate::Journal::Off), each instead of `journalLimit`; the lifetime of objects, with which `testWhileIdle` is set; and
+    /// [`Builder::max_overtakes`].
+    ///
+    /// The objects stay, also if they are more than `maxTotal` then: none is made until fewer are present. Those that wait are woken if there are
+    /// more places. A borrow or a return in progress goes on with the tests that were set when it began. A wait has the new `maxWaitMillis` once it
+    /// is woken or its time is over.
+    ///
+    /// A change cuts the journal: the entries that are stored are one segment, with the settings so far. What becomes of them:
+    ///
+    /// - [`Journal::Off`](crate::Journal::Off): they are dropped.
+    /// - [`Journal::Segments`](crate::Journal::Segments): this call hands them to the sink. If the sink fails, the settings are changed all the same.
+    ///   The failure goes to [`Builder::on_error`], and [`Segments::on_failure`](crate::Segments::on_failure) says what becomes of the segment.
+    /// - [`Journal::Memory`](crate::Journal::Memory): they are kept as a segment, which ends before the returned position, and the next
+    ///   [`cut`](Pool::cut) writes this segment and no other.
+    ///
+    /// ```
+    /// # struct Numbers;
+    /// # impl zuphinka::Manager for Numbers {
+    /// #     type Object = u64;
+    /// #     type Error = ();
+    /// #     fn make(&self, id: u64) -> Result<u64, ()> { Ok(id) }
+    /// # }
+    /// let pool = zuphinka::Pool::builder().max_total(1).build(Numbers)?;
+    /// let held = pool.get().unwrap();
+    /// pool.reconfigure("maxTotal = 2\ntestOnBorrow = true\n").unwrap();
+    /// assert_eq!(*pool.get().unwrap(), 1);
+    /// # Ok::<(), zuphinka::OpenError>(())
+    /// ```
+    ///
+    /// # Errors
+    ///
+    /// All leave the settings and the journal as they were. [`ReconfigureError::Settings`]: the text is invalid.
+    /// [`ReconfigureError::Contradiction`]: the journal has a limit of its own, which is too small for the new `maxTotal`.
+    /// [`ReconfigureError::NoRoom`]: the new `journalLimit` is too small for what is in progress. [`ReconfigureError::OutOfMemory`].
+    /// [`ReconfigureError::Sink`]: a segment that the sink failed to store before comes first, and it failed again.
+    /// [`ReconfigureError::Unwritten`]: a segment that was cut off before is in memory: [`cut`](Pool::cut) the journal first.
+    /// [`ReconfigureError::FromWriter`]: the sink calls this, or the writer of a cut.
+    pub fn reconfigure(&self, settings: &str) -> Result<u64, ReconfigureError> {
+        self.shared.reconfigure(settings)
     }
 
     /// Returns a handle that does not keep the pool open.

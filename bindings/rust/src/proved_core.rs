@@ -420,6 +420,22 @@ impl Core {
             status => unreachable!("a cut has status {status}"),
         }
     }
+
+    /// Cuts the journal, and goes on with other settings, in TOML and valid. The calls of `next_wake` are to be woken then.
+    ///
+    /// # Errors
+    ///
+    /// The settings leave no room in the journal for the outstanding entries, or an allocation failed. The core is unchanged.
+    pub fn reconfigure(&mut self, settings: &str) -> Result<(), StepFault> {
+        let (text, size) = (settings.as_ptr().cast(), settings.len());
+        // SAFETY: the handle is this core's, the text has this size, and they do not overlap.
+        match unsafe { sys::zuphinka_reconfigure(&mut self.handle, text, size) } {
+            sys::STATUS_DONE => Ok(()),
+            sys::STATUS_JOURNAL_FULL => Err(StepFault::JournalFull),
+            sys::STATUS_OUT_OF_MEMORY => Err(StepFault::OutOfMemory),
+            status => unreachable!("other settings have status {status}"),
+        }
+    }
 }
 
 impl Drop for Core {

@@ -9,7 +9,8 @@ use std::path::{Path, PathBuf};
 
 /// A part of a pool's journal that is complete: the base that its entries continue, and the entries.
 ///
-/// `pool check SETTINGS SEGMENT..` checks all segments of a pool, in their order, as the one journal that they are.
+/// `pool check SETTINGS SEGMENT..` checks all segments of a pool, in their order, as the one journal that they are, unless its settings changed
+/// ([`Pool::reconfigure`](crate::Pool::reconfigure)).
 #[derive(Clone, Copy, Debug)]
 #[non_exhaustive]
 pub struct Segment<'a> {
@@ -19,7 +20,8 @@ pub struct Segment<'a> {
     pub entries: u64,
     /// Its lines.
     pub text: &'a [u8],
-    /// The settings of the pool, as a file in TOML. They are the same for all its segments.
+    /// The settings that the pool had for its entries, as a file in TOML. They change only between two segments, by
+    /// [`Pool::reconfigure`](crate::Pool::reconfigure).
     pub settings: &'a str,
 }
 
@@ -122,15 +124,20 @@ const SETTINGS: &str = "settings.toml";
 /// The settings come first, as a hard link, which fails if another pool has stored its settings there. So no two pools store segments in
 /// one folder. The file system must have hard links. A crash may leave a file `.unfinished-NUMBER`, which nobody reads.
 ///
-/// `pool check FOLDER/settings.toml FOLDER/segment-*` checks them.
+/// If [`Pool::reconfigure`](crate::Pool::reconfigure) changes the settings, the new ones are stored in `settings-POSITION.toml`, with the position of
+/// the first segment that has them, and before that segment. So the settings of a segment are in the last of these files whose position is not
+/// above its own, or else in `settings.toml`.
+///
+/// `pool check FOLDER/settings.toml FOLDER/segment-*` checks the segments if the settings never changed. Otherwise `judge SETTINGS SEGMENT` checks
+/// each with its own settings (`docs/guide/audits.md`).
 #[derive(Debug)]
 pub struct SegmentFolder {
     /// From the root.
     path: PathBuf,
     /// Where a file is written before it gets its name. No other pool has this name.
     unfinished: PathBuf,
-    /// Whether the folder has the settings of this pool.
-    is_own: bool,
+    /// The settings that were stored last, once the folder is this pool's.
+    settings: Option<String>,
 }
 
 impl SegmentFolder {
@@ -149,7 +156,7 @@ impl SegmentFolder {
         Ok(SegmentFolder {
             unfinished: path.join(format!(".unfinished-{number:016x}")),
             path,
-            is_own: false,
+            settings: None,
         })
     }
 
@@ -158,7 +165,7 @@ impl SegmentFolder {
         check_is_free(&self.path)?;
         self.write_unfinished(settings.as_bytes())?;
         let linked = fs::hard_link(&self.unfinished, self.path.join(SETTINGS));
-        self.is_own = linked.is_ok();
+        self.settings = linked.is_ok().then(|| settings.to_owned());
         let removed = fs::remove_file(&self.unfinished);
         linked.map_err(|error| match error.kind() {
             io::ErrorKind::AlreadyExists => is_taken(&self.path),
@@ -166,6 +173,21 @@ impl SegmentFolder {
         })?;
         removed?;
         sync_folder(&self.path)
+    }
+
+    /// Stores the settings of a segment, unless the one before has the same.
+    fn store_settings(&mut self, segment: &Segment<'_>) -> io::Result<()> {
+        let settings = segment.settings;
+        match &self.settings {
+            None => self.claim(settings),
+            Some(stored) if stored == settings => Ok(()),
+            Some(_) => {
+                let name = format!("settings-{:020}.toml", segment.position);
+                self.write(&name, settings.as_bytes())?;
+                self.settings = Some(settings.to_owned());
+                Ok(())
+            }
+        }
     }
 
     /// Writes a file that is complete once it has its name.
@@ -215,11 +237,20 @@ fn check_is_free(path: &Path) -> io::Result<()> {
     for entry in fs::read_dir(path)? {
         let name = entry?.file_name();
         let name = name.to_string_lossy();
-        if name.starts_with("segment-") || name == SETTINGS {
+        if name.starts_with("segment-") || name == SETTINGS || is_of_change(&name) {
             return Err(is_taken(path));
         }
     }
     Ok(())
+}
+
+/// Returns whether a file has the settings from a position on.
+fn is_of_change(name: &str) -> bool {
+    let position = name.strip_prefix("settings-");
+    let position = position.and_then(|rest| rest.strip_suffix(".toml"));
+    position.is_some_and(|digits| {
+        digits.len() == 20 && digits.bytes().all(|digit| digit.is_ascii_digit())
+    })
 }
 
 fn is_taken(path: &Path) -> io::Error {
@@ -234,9 +265,7 @@ fn sync_folder(path: &Path) -> io::Result<()> {
 
 impl SegmentSink for SegmentFolder {
     fn store(&mut self, segment: &Segment<'_>) -> io::Result<()> {
-        if !self.is_own {
-            self.claim(segment.settings)?;
-        }
+        self.store_settings(segment)?;
         self.write(&format!("segment-{:020}", segment.position), segment.text)
     }
 }

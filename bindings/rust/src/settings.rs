@@ -4,6 +4,7 @@ use crate::error::SettingsError;
 use crate::proved_core::settings_of;
 use crate::sys;
 use std::fmt;
+use std::sync::Arc;
 use std::time::Duration;
 
 /// The size of the longest text that is read, in bytes.
@@ -12,6 +13,9 @@ const LONGEST: usize = 1 << 20;
 /// How many lines and bytes of a text that is not TOML are searched for the line of the error.
 const MOST_LINES: usize = 1_000;
 const MOST_BYTES: usize = 1 << 16;
+
+/// The limit of a wait if nothing else is set: that of r2d2.
+pub(crate) const DEFAULT_WAIT_MILLIS: i64 = 30_000;
 
 /// The settings. `docs/guide/settings.md` explains each.
 #[derive(Clone, Debug, PartialEq, Eq)]
@@ -31,6 +35,17 @@ pub(crate) struct Settings {
     pub test_on_return: bool,
     pub test_while_idle: bool,
     pub abandoned: Option<Abandoned>,
+}
+
+/// The settings that a pool has now.
+#[derive(Clone, Debug)]
+pub(crate) struct Setup {
+    /// As the core has them.
+    pub settings: Settings,
+    /// The same in TOML.
+    pub text: Arc<str>,
+    /// Whether eviction runs validate idle objects, and do not only look at their age.
+    pub tests_idle: bool,
 }
 
 /// When lent objects count as abandoned, for [`Builder::abandoned`](crate::Builder::abandoned).
@@ -177,8 +192,17 @@ impl Settings {
             })
     }
 
+    /// Returns the settings that a pool has by a TOML text. A wait has the crate's own limit unless the text names one.
+    pub fn of_pool(text: &str) -> Result<Settings, SettingsError> {
+        let mut settings = Settings::from_toml(text)?;
+        if !Settings::names_max_wait(text)? {
+            settings.max_wait_millis = DEFAULT_WAIT_MILLIS;
+        }
+        Ok(settings)
+    }
+
     /// Returns whether a valid text names `maxWaitMillis`: with the key once more before it, it is not TOML.
-    pub fn names_max_wait(text: &str) -> Result<bool, SettingsError> {
+    fn names_max_wait(text: &str) -> Result<bool, SettingsError> {
         let text = text.strip_prefix('\u{feff}').unwrap_or(text);
         match settings_of(&["maxWaitMillis = 0\n", text].concat()) {
             Ok(_) => Ok(false),

@@ -11,7 +11,7 @@ use crate::metrics::Snapshot;
 use crate::panics::unless_it_panics;
 use crate::pauses::{count_processors, Pauses};
 use crate::reports::Reports;
-use crate::settings::Settings;
+use crate::settings::{Settings, Setup};
 use crate::sleepers::{OldestSleeper, Wakes};
 use crate::writing::Outlet;
 use std::sync::{Arc, Condvar, Mutex, MutexGuard, PoisonError};
@@ -31,11 +31,27 @@ pub(crate) enum WaitLimit {
 pub(crate) struct Policy<M: Manager> {
     /// How old an object may get, in milliseconds.
     pub max_lifetime: Option<u64>,
-    /// Whether eviction runs validate idle objects, and do not only look at their age.
-    pub tests_idle: bool,
+    /// The limit of the journal, if it is not that of the settings.
+    pub journal_limit: Option<u64>,
     /// How often a waiter is overtaken.
     pub max_overtakes: u32,
     pub reports: Reports<M>,
+}
+
+impl<M: Manager> Policy<M> {
+    /// Returns what a pool makes of settings: its journal may have a limit of its own, and the core tests idle objects that have a lifetime.
+    pub fn setup(&self, mut settings: Settings) -> Setup {
+        let tests_idle = settings.test_while_idle;
+        settings.test_while_idle |= self.max_lifetime.is_some();
+        if let Some(entries) = self.journal_limit {
+            settings.journal_limit = i64::try_from(entries).unwrap_or(i64::MAX);
+        }
+        Setup {
+            text: settings.to_string().into(),
+            settings,
+            tests_idle,
+        }
+    }
 }
 
 /// A pool. The manager is called without the lock.
@@ -50,10 +66,6 @@ pub(crate) struct Shared<M: Manager> {
     /// Where segments go.
     pub outlet: Option<Outlet>,
     pub manager: M,
-    /// The settings as the core has them.
-    pub settings: Settings,
-    /// The same in TOML.
-    pub settings_text: String,
     pub policy: Policy<M>,
     maintainer: Mutex<Option<Maintainer>>,
     /// The process that opened the pool.
@@ -72,7 +84,6 @@ impl<M: Manager> Shared<M> {
         clock: Clock,
         outlet: Option<Outlet>,
         manager: M,
-        settings: Settings,
         policy: Policy<M>,
     ) -> Shared<M> {
         // Here, since a call that waits can do without its allocations.
@@ -85,8 +96,6 @@ impl<M: Manager> Shared<M> {
             draining: Mutex::new(()),
             outlet,
             manager,
-            settings_text: settings.to_string(),
-            settings,
             policy,
             maintainer: Mutex::new(None),
             process: process::id(),
@@ -96,6 +105,11 @@ impl<M: Manager> Shared<M> {
     pub fn maintainer(&self) -> MutexGuard<'_, Option<Maintainer>> {
         let maintainer = self.maintainer.lock();
         maintainer.unwrap_or_else(PoisonError::into_inner)
+    }
+
+    /// Returns the settings that the pool has now.
+    pub fn settings(&self) -> Settings {
+        self.lock().setup.settings.clone()
     }
 
     /// Returns what a text of metrics says of the pool, under this name.
@@ -175,14 +189,14 @@ impl<M: Manager> Shared<M> {
 
     /// Returns whether an idle object is lent without a call of the manager.
     #[inline]
-    pub fn lends_at_once(&self) -> bool {
-        !M::ACTIVATES && !self.settings.test_on_borrow
+    pub fn lends_at_once(&self, state: &LockedPool<M::Object>) -> bool {
+        !M::ACTIVATES && !state.setup.settings.test_on_borrow
     }
 
     /// Returns whether an object is idle after its return without a call of the manager.
     #[inline]
-    pub fn parks_at_once(&self) -> bool {
-        !M::PASSIVATES && !self.settings.test_on_return
+    pub fn parks_at_once(&self, state: &LockedPool<M::Object>) -> bool {
+        !M::PASSIVATES && !state.setup.settings.test_on_return
     }
 
     /// Returns whether a call that lacks room in the journal or memory fails since the pool is closed: a closed pool is closed, whatever else is

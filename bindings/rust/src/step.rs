@@ -1,5 +1,7 @@
 //! The steps of the core that a pool takes by itself, for pairs with hooks and for the age of its objects. `docs/proof/definitions.md` defines each.
 
+use std::io;
+
 /// What a step asks of the core.
 #[derive(Clone, Copy, Debug, PartialEq, Eq)]
 pub(crate) enum Input {
@@ -41,6 +43,13 @@ pub(crate) enum Answer {
 pub(crate) enum StepFault {
     JournalFull,
     OutOfMemory,
+}
+
+/// A line is not copied, or a journal not cut, only for lack of memory.
+impl From<StepFault> for io::Error {
+    fn from(_: StepFault) -> io::Error {
+        io::ErrorKind::OutOfMemory.into()
+    }
 }
 
 /// Numbers of entries and objects.

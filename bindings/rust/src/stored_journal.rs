@@ -1,5 +1,6 @@
 //! The state of a pool's journal that the pool's lock protects, beside the entries themselves, which the core has.
 
+use std::sync::Arc;
 use std::thread::{self, ThreadId};
 
 /// What becomes of entries.
@@ -19,6 +20,8 @@ pub(crate) struct CutSegment {
     pub position: u64,
     pub entries: u64,
     pub text: Vec<u8>,
+    /// The settings that the pool had then, in TOML.
+    pub settings: Arc<str>,
 }
 
 /// When a segment is to be written, who writes it, and what is not written.

@@ -97,8 +97,8 @@ impl<M: Manager> Course<M> {
     }
 
     /// Returns whether an eviction run looks at the ages of objects, and does nothing else with them.
-    fn looks_at_age_only(&self, pool: &Shared<M>) -> bool {
-        self.kind == Kind::Evict && !pool.policy.tests_idle
+    fn looks_at_age_only(&self) -> bool {
+        self.kind == Kind::Evict && !self.tests_idle
     }
 
     /// Returns whether an eviction run finds its object too old.
@@ -119,11 +119,11 @@ impl<M: Manager> Course<M> {
                 let object = manager.make(id).map_err(Fault::Make)?;
                 Ok(self.own(pool, object))
             }
-            Action::Activate if self.looks_at_age_only(pool) || self.is_too_old(pool) => {
+            Action::Activate if self.looks_at_age_only() || self.is_too_old(pool) => {
                 Ok(Report::Succeeded)
             }
             Action::Validate if self.is_too_old(pool) => Err(Fault::TooOld),
-            Action::Validate | Action::Passivate if self.looks_at_age_only(pool) => {
+            Action::Validate | Action::Passivate if self.looks_at_age_only() => {
                 Ok(Report::Succeeded)
             }
             Action::Activate => {

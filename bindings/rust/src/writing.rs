@@ -1,15 +1,17 @@
 //! Cuts of the journal, and the segments that are handed to a sink.
 
 use crate::failure::Failure;
-use crate::journal::{copy_lines, out_of_memory};
+use crate::journal::copy_lines;
 use crate::manager::Manager;
 use crate::panics::unless_it_panics;
 use crate::proved_core::Core;
 use crate::segments::{Segment, SegmentSink, Segments, SinkFailure};
+use crate::settings::Setup;
 use crate::shared::{Held, Shared, WaitLimit};
+use crate::step::StepFault;
 use crate::stored_journal::{CutSegment, Mode};
 use std::io::{self, Write};
-use std::sync::{Mutex, PoisonError};
+use std::sync::{Arc, Mutex, PoisonError};
 use std::thread;
 use std::time::{Duration, Instant};
 
@@ -31,12 +33,12 @@ impl Outlet {
     }
 
     /// Hands a segment to the sink.
-    fn store(&self, segment: &CutSegment, settings: &str) -> io::Result<()> {
+    fn store(&self, segment: &CutSegment) -> io::Result<()> {
         let segment = Segment {
             position: segment.position,
             entries: segment.entries,
             text: &segment.text,
-            settings,
+            settings: &segment.settings,
         };
         let mut sink = self.sink.lock().unwrap_or_else(PoisonError::into_inner);
         unless_it_panics(|| sink.store(&segment))
@@ -45,9 +47,9 @@ impl Outlet {
 }
 
 /// The right to cut the journal, of one thread at a time, and the segment that is unwritten. This goes back to the journal in the end.
-struct Turn<'a, M: Manager> {
+pub(crate) struct Turn<'a, M: Manager> {
     pool: &'a Shared<M>,
-    unwritten: Option<CutSegment>,
+    pub unwritten: Option<CutSegment>,
 }
 
 impl<M: Manager> Drop for Turn<'_, M> {
@@ -62,7 +64,7 @@ impl<M: Manager> Drop for Turn<'_, M> {
 
 impl<M: Manager> Shared<M> {
     /// Takes the turn to cut the journal, and waits for the thread that has it, as far as the limit and the settings allow.
-    fn take_turn<'a>(
+    pub fn take_turn<'a>(
         &'a self,
         mut state: Held<'a, M>,
         limit: Option<Instant>,
@@ -84,14 +86,15 @@ impl<M: Manager> Shared<M> {
         })
     }
 
-    /// Copies and cuts the journal. The segment is kept as unwritten.
-    fn cut_off(&self, turn: &mut Turn<'_, M>) -> io::Result<()> {
+    /// Copies and cuts the journal. The segment is kept as unwritten. If there is a change, the pool goes on with those settings. Returns the
+    /// position after the last entry of the segment.
+    pub fn cut_off(&self, turn: &mut Turn<'_, M>, change: Option<Setup>) -> Result<u64, StepFault> {
         let mut text = self.base_text()?;
         let mut copied = 0;
         for _ in 0..ROUNDS {
             copied = self.copy_stored(copied, &mut text)?;
         }
-        self.cut_after(turn, copied, text)
+        self.cut_in(turn, self.lock(), copied, text, change)
     }
 
     /// Writes and cuts the journal. The segment is kept as unwritten. Returns how many of its bytes are written: if that fails, nothing is
@@ -111,12 +114,12 @@ impl<M: Manager> Shared<M> {
             written = text.len();
         }
         out.flush()?;
-        self.cut_after(turn, copied, text)?;
+        self.cut_in(turn, self.lock(), copied, text, None)?;
         Ok(written)
     }
 
     /// Returns the lines of the base, while no other thread may cut the journal.
-    fn base_text(&self) -> io::Result<Vec<u8>> {
+    fn base_text(&self) -> Result<Vec<u8>, StepFault> {
         let first = self.lock().first_stored();
         let mut text = Vec::new();
         let is_whole = self.copy_base(first, &mut text)?;
@@ -124,36 +127,47 @@ impl<M: Manager> Shared<M> {
         Ok(text)
     }
 
-    /// Copies the entries that are not copied yet, and cuts the journal. The segment is kept as unwritten.
-    fn cut_after(&self, turn: &mut Turn<'_, M>, copied: u64, text: Vec<u8>) -> io::Result<()> {
-        self.cut_in(turn, self.lock(), copied, text)
-    }
-
     /// Copies and cuts the journal in one critical section.
-    fn cut_at_once(&self, turn: &mut Turn<'_, M>, mut state: Held<'_, M>) -> io::Result<()> {
+    fn cut_at_once(
+        &self,
+        turn: &mut Turn<'_, M>,
+        mut state: Held<'_, M>,
+    ) -> Result<u64, StepFault> {
         let mut text = Vec::new();
         copy_lines(&mut state.core, Core::base_line, 0, u64::MAX, &mut text)?;
-        self.cut_in(turn, state, 0, text)
+        self.cut_in(turn, state, 0, text, None)
     }
 
+    /// Copies the entries that are not copied yet, and cuts the journal. A change of the settings leaves no segment without entries.
     fn cut_in(
         &self,
         turn: &mut Turn<'_, M>,
         mut state: Held<'_, M>,
         copied: u64,
         mut text: Vec<u8>,
-    ) -> io::Result<()> {
+        change: Option<Setup>,
+    ) -> Result<u64, StepFault> {
         let (position, entries) = (state.first_stored(), state.core.steps());
         copy_lines(&mut state.core, Core::line, copied, entries, &mut text)?;
-        state.core.cut().map_err(out_of_memory)?;
-        let room = state.core.room();
-        state.journal.cut(room);
-        turn.unwritten = Some(CutSegment {
+        let settings = Arc::clone(&state.setup.text);
+        let segment = CutSegment {
             position,
             entries,
             text,
-        });
-        Ok(())
+            settings,
+        };
+        match change {
+            Some(setup) => {
+                state.reconfigure(setup)?;
+                turn.unwritten = (entries > 0).then_some(segment);
+                self.leave_after_step(state);
+            }
+            None => {
+                state.cut()?;
+                turn.unwritten = Some(segment);
+            }
+        }
+        Ok(position + entries)
     }
 
     /// Writes a segment, and cuts the journal after it. Returns the number of its entries.
@@ -226,7 +240,8 @@ impl<M: Manager> Shared<M> {
             return false;
         };
         let before = state.first_stored();
-        let Some(turn) = self.take_turn(state, self.end_of_wait(limit)) else {
+        let end = end_of_wait(limit, state.setup.settings.max_wait_millis);
+        let Some(turn) = self.take_turn(state, end) else {
             return false;
         };
         match self.has_room() {
@@ -239,20 +254,8 @@ impl<M: Manager> Shared<M> {
 
     /// Returns whether there is room for any call.
     fn has_room(&self) -> bool {
-        let room = self.lock().core.room();
-        room >= self.settings.least_room()
-    }
-
-    /// Returns until when a call waits for a thread that writes a segment.
-    fn end_of_wait(&self, limit: WaitLimit) -> Option<Instant> {
-        match limit {
-            WaitLimit::None => Some(Instant::now()),
-            WaitLimit::Until(end) => Some(end),
-            WaitLimit::AsSet => {
-                let most = u64::try_from(self.settings.max_wait_millis).ok()?;
-                Instant::now().checked_add(Duration::from_millis(most))
-            }
-        }
+        let mut state = self.lock();
+        state.core.room() >= state.setup.settings.least_room()
     }
 
     /// Writes a segment, and reports that this failed once others may cut the journal.
@@ -267,18 +270,23 @@ impl<M: Manager> Shared<M> {
     /// Hands to the sink what is unwritten, and then the stored entries. Returns their number.
     fn write_out(&self, turn: &mut Turn<'_, M>, outlet: &Outlet) -> io::Result<u64> {
         let written = self.try_to_write_out(turn, outlet);
+        self.plan_next_try(&written);
+        written
+    }
+
+    /// Plans the next try if this one failed.
+    pub fn plan_next_try(&self, written: &io::Result<u64>) {
         if written.is_err() {
             let mut state = self.lock();
             let (stored, room) = (state.core.steps(), state.core.room());
             state.journal.try_later(stored, room);
         }
-        written
     }
 
     fn try_to_write_out(&self, turn: &mut Turn<'_, M>, outlet: &Outlet) -> io::Result<u64> {
         let mut written = self.hand_over(turn, outlet)?;
         if self.lock().core.steps() > 0 {
-            self.cut_off(turn)?;
+            self.cut_off(turn, None)?;
             written += self.hand_over(turn, outlet)?;
         }
         Ok(written)
@@ -286,12 +294,12 @@ impl<M: Manager> Shared<M> {
 
     /// Hands the unwritten segment to the sink, if there is one. If that fails, it stays unwritten or is dropped. Returns the number of its
     /// entries.
-    fn hand_over(&self, turn: &mut Turn<'_, M>, outlet: &Outlet) -> io::Result<u64> {
+    pub fn hand_over(&self, turn: &mut Turn<'_, M>, outlet: &Outlet) -> io::Result<u64> {
         let Some(segment) = &turn.unwritten else {
             return Ok(0);
         };
         let entries = segment.entries;
-        let stored = outlet.store(segment, &self.settings_text);
+        let stored = outlet.store(segment);
         if stored.is_ok() || outlet.on_failure == SinkFailure::Drop {
             turn.unwritten = None;
         }
@@ -304,9 +312,22 @@ impl<M: Manager> Shared<M> {
         match state.journal.mode() {
             Mode::Off => false,
             Mode::Memory | Mode::Segments => {
-                let limit = self.settings.journal_limit.unsigned_abs();
-                state.core.room() < (limit / 4).max(self.settings.least_room())
+                let settings = &state.setup.settings;
+                let low = (settings.journal_limit.unsigned_abs() / 4).max(settings.least_room());
+                state.core.room() < low
             }
+        }
+    }
+}
+
+/// Returns until when a call waits for a thread that writes a segment.
+fn end_of_wait(limit: WaitLimit, max_wait_millis: i64) -> Option<Instant> {
+    match limit {
+        WaitLimit::None => Some(Instant::now()),
+        WaitLimit::Until(end) => Some(end),
+        WaitLimit::AsSet => {
+            let most = u64::try_from(max_wait_millis).ok()?;
+            Instant::now().checked_add(Duration::from_millis(most))
         }
     }
 }

@@ -17,7 +17,8 @@ use std::ptr::null_mut;
 use std::sync::{Arc, Mutex};
 use std::task::Poll;
 use zuphinka::{
-    Builder, Error, Failure, Get, Journal, Pool, Pooled, Segment, SegmentSink, Segments,
+    Builder, Error, Failure, Get, Journal, Pool, Pooled, ReconfigureError, Segment, SegmentSink,
+    Segments,
 };
 
 with_and_without_hooks! {
@@ -25,6 +26,7 @@ with_and_without_hooks! {
     a_borrow_of_an_idle_object_needs_no_memory_for_a_place
     a_segment_that_is_not_cut_is_cut_later
     a_cut_that_fails_changes_nothing
+    a_change_of_settings_that_fails_changes_nothing
     a_task_that_cannot_wait_leaves_the_others_their_turns
     a_thread_that_cannot_wait_leaves_the_others_their_turns
 }
@@ -206,6 +208,44 @@ fn a_cut_that_fails_changes_nothing<const HOOKS: bool>() {
     });
     assert!(failures > 3, "{failures} allocations failed");
     assert_eq!(pairs(&pool, 100), 0);
+}
+
+/// Settings are read first, and the program ends if there is no memory for that; then the entries are copied, and the core needs memory.
+fn a_change_of_settings_that_fails_changes_nothing<const HOOKS: bool>() {
+    const PAIRS: u64 = 20;
+    const MANY: u64 = 1 << 32;
+    let open = || {
+        let pool = kept().build(Numbers::<HOOKS>).unwrap();
+        pairs(&pool, PAIRS);
+        pool
+    };
+    let change = |pool: &Pool<Numbers<HOOKS>>| pool.reconfigure("maxTotal = 2\n");
+    let pool = open();
+    LEFT.set(Some(MANY));
+    let first = change(&pool);
+    let needed = MANY - LEFT.take().unwrap();
+    assert_eq!(first.unwrap(), 4 * PAIRS);
+
+    let pool = open();
+    let look = || {
+        (
+            pool.settings(),
+            pool.counts(),
+            pool.room(),
+            journal_of(&pool),
+        )
+    };
+    let before = look();
+    // Each line that is copied needs memory once.
+    for left in needed - 4 * PAIRS..needed {
+        let (has_failed, first) = failing(left, || change(&pool));
+        assert!(has_failed);
+        let error = first.unwrap_err();
+        assert!(matches!(error, ReconfigureError::OutOfMemory), "{error}");
+        assert_eq!(look(), before);
+    }
+    assert_eq!(change(&pool).unwrap(), 4 * PAIRS);
+    assert_eq!(pool.max_total(), Some(2));
 }
 
 /// A pool of one object, and its object.

@@ -1,7 +1,7 @@
 -- How many objects are present after legal entries that continue a base, and how many of them are to be destroyed.
 use Rattle.std.proofs.Common.{◌≡◌, ◌≢◌, ℕ, suc, ◌+◌, ◌<◌, ◌≤◌, Bool, true, false, cond, if◌then◌else◌, List, []}
-use Rattle.std.proofs.Common.{◌∷◌, ◌++◌, length, map, Option, Some, None, refl, ap, sym, ◌∙◌, subst, arith}
-use Rattle.std.specs.Prelude.{◌||◌, ◌-◌, not, count_by, filter, IsSome, ℤ, pos, negsuc}
+use Rattle.std.proofs.Common.{◌∷◌, ◌++◌, length, map, Option, Some, None, refl, ap, sym, ◌∙◌, subst, arith, inl, inr}
+use Rattle.std.specs.Prelude.{◌||◌, ◌-◌, not, count_by, filter, take, IsSome, ℤ, pos, negsuc}
 use Rattle.std.specs.List.{range_with_len}
 use Rattle.std.proofs.lemmas.Bool.{ltb-true}
 use Rattle.std.proofs.lemmas.List.Sums.{length-filter, count_by-le-length}
@@ -24,14 +24,14 @@ use Rattle.pool_journal.proofs.Pushed.{drawn_from-push}
 use Rattle.pool_journal.proofs.Segments.{records_from-none}
 use Rattle.pool_journal.proofs.Starting.{drawn_from-none}
 use Rattle.pool_settings.specs.declared.settings.Settings.{Settings}
-use Rattle.pool_core.specs.Laws.{IsWithin, AtMostMaxTotalFrom, ObjectsConservedFrom}
+use Rattle.pool_core.specs.Laws.{IsBelow, IsWithin, IsWithinOr, AtMostMaxTotalFrom, MadeBelowMaxTotal, ObjectsConservedFrom}
 use Rattle.pool_stats.specs.Counts.{counts_from}
 use Rattle.pool_core.specs.Legal.{IsLegalFrom}
 use Rattle.pool_core.specs.Openable.{is_destroying, CanContinue, AccountsForEvicted}
 use Rattle.pool_core.specs.Reply.{is_below, borrow_reply, add_reply, exhausted_reply, has_reached, borrow_candidate, has_min_idle, reply_from}
 use Rattle.pool_core.specs.Steps.{IsEnabled}
 use Rattle.pool_core.proofs.Counted.{one_if, count_cons, counted}
-use Rattle.pool_core.proofs.Fronts.{IsDueFrom, DueKeepsFrom, each_legal_from}
+use Rattle.pool_core.proofs.Fronts.{IsDueFrom, DueKeepsFrom, due_at_from, each_legal_from}
 use Rattle.pool_core.proofs.Lives.{Acts, Still, Makes, Brings, still, makes, brings, acts, finds_due, gives_up, phase_stays}
 use Rattle.pool_core.proofs.Lives.{phase_moved, phase_of_others}
 use Rattle.pool_core.proofs.Ranges.{count_push, count_range, count_last, same_count, one_changed}
@@ -148,25 +148,45 @@ one_more_within : (limit : ℤ) (n m : ℕ) → m ≤ n + 1 → is_below limit n
 one_more_within (pos limit) n m le is = let below : n < limit = ltb-true n limit is in omega (arith, le, below)
 one_more_within (negsuc _) n m le is = tt
 
+no_more_within_or : (limit : ℤ) (most n m : ℕ) → m ≤ n → IsWithinOr limit most n → IsWithinOr limit most m
+no_more_within_or limit most n m le (inl is) = inl (no_more_within limit n m le is)
+no_more_within_or limit most n m le (inr is) = inr (omega (arith, le, is))
+
 stays_within_from : (S : Settings) (b : Base) → DueKeepsFrom S b (AtMostMaxTotalFrom S b)
 stays_within_from S b J e due so_far = by_answer (is_make_answer e.answer) refl
   where
-    by_answer : (t : Bool) → is_make_answer e.answer ≡ t → IsWithin S.max_total (length (present_from b (J ++ e ∷ [])))
+    by_answer : (t : Bool) → is_make_answer e.answer ≡ t → AtMostMaxTotalFrom S b (J ++ e ∷ [])
     by_answer true is =
         let le : length (present_from b (J ++ e ∷ [])) ≤ length (present_from b J) + 1 = omega (arith, present_on_from S b J e due, ap one_if is) in
-        one_more_within S.max_total (length (present_from b J)) (length (present_from b (J ++ e ∷ []))) le (due_makes_below_from S b J e due is)
+        inl (one_more_within S.max_total (length (present_from b J)) (length (present_from b (J ++ e ∷ []))) le (due_makes_below_from S b J e due is))
     by_answer false is =
         let le : length (present_from b (J ++ e ∷ [])) ≤ length (present_from b J) = omega (arith, present_on_from S b J e due, ap one_if is) in
-        no_more_within S.max_total (length (present_from b J)) (length (present_from b (J ++ e ∷ []))) le so_far
+        no_more_within_or S.max_total (length b.records) (length (present_from b J)) (length (present_from b (J ++ e ∷ []))) le so_far
 
 -- before any entry the present objects are those that the base lists
 pub present_none : (b : Base) → IsWellFormed b → length (present_from b []) ≡ length b.records
 present_none b sound = sym (length-records_from b []) ∙ ap length (records_from-none b sound)
 
-pub at_most_max_total_from : (S : Settings) (b : Base) (J : List Entry) → CanContinue S b → IsLegalFrom S b J → AtMostMaxTotalFrom S b J
+pub at_most_max_total_from : (S : Settings) (b : Base) (J : List Entry) → CanContinue b → IsLegalFrom S b J → AtMostMaxTotalFrom S b J
 at_most_max_total_from S b J runs =
-    each_legal_from S b (AtMostMaxTotalFrom S b) runs.sound (subst (IsWithin S.max_total) (sym (present_none b runs.sound)) runs.within)
-    (stays_within_from S b) J
+    each_legal_from S b (AtMostMaxTotalFrom S b) runs.sound (inr (omega (arith, present_none b runs.sound))) (stays_within_from S b) J
+
+-- if the objects of the base are within the limit, so are those that are present later
+within_of : (limit : ℤ) (most n : ℕ) → IsWithin limit most → IsWithinOr limit most n → IsWithin limit n
+within_of limit most n base (inl is) = is
+within_of limit most n base (inr le) = no_more_within limit most n le base
+
+pub within_from : (S : Settings) (b : Base) (J : List Entry) → CanContinue b → IsWithin S.max_total (length b.records) → IsLegalFrom S b J
+    → IsWithin S.max_total (length (present_from b J))
+within_from S b J runs base legal = within_of S.max_total (length b.records) (length (present_from b J)) base (at_most_max_total_from S b J runs legal)
+
+is_below_limit : (limit : ℤ) (n : ℕ) → is_below limit n ≡ true → IsBelow limit n
+is_below_limit (pos limit) n is = ltb-true n limit is
+is_below_limit (negsuc _) n is = tt
+
+pub made_below_from : (S : Settings) (b : Base) (J : List Entry) → IsWellFormed b → IsLegalFrom S b J → MadeBelowMaxTotal S b J
+made_below_from S b J sound legal k e at_k made =
+    is_below_limit S.max_total (length (present_from b (take k J))) (due_makes_below_from S b (take k J) e (due_at_from S b J k e sound legal at_k) made)
 
 -- ---- the totals
 
@@ -200,18 +220,18 @@ none_drawn_or_gone b sound adds_up =
     let reclaimed : reclaimed_in [] ≡ 0 = refl in
     omega (arith, adds_up, present_none b sound, drawn_from-none b, freed, reclaimed)
 
-pub drawn_or_gone : (S : Settings) (b : Base) (J : List Entry) → CanContinue S b → IsLegalFrom S b J → DrawnOrGone b J
+pub drawn_or_gone : (S : Settings) (b : Base) (J : List Entry) → CanContinue b → IsLegalFrom S b J → DrawnOrGone b J
 drawn_or_gone S b J runs = each_legal_from S b (DrawnOrGone b) runs.sound (none_drawn_or_gone b runs.sound runs.adds_up) (stays_drawn_or_gone S b) J
 
-pub nothing_lost_from : (S : Settings) (b : Base) (J : List Entry) → CanContinue S b → IsLegalFrom S b J → ObjectsConservedFrom b J
+pub nothing_lost_from : (S : Settings) (b : Base) (J : List Entry) → CanContinue b → IsLegalFrom S b J → ObjectsConservedFrom b J
 nothing_lost_from S b J runs legal =
     omega (arith, drawn_or_gone S b J runs legal, length-records_from b J, counted (records_from b J) (each_present_from b J))
 
--- the objects idle, lent and reserved are within the limit
-pub places_within_from : (S : Settings) (b : Base) (J : List Entry) → CanContinue S b → IsLegalFrom S b J
-    → IsWithin S.max_total ((counts_from b J).idle + (counts_from b J).lent + (counts_from b J).reserved)
+-- the objects idle, lent and reserved are within the limit, or at most those of the base
+pub places_within_from : (S : Settings) (b : Base) (J : List Entry) → CanContinue b → IsLegalFrom S b J
+    → IsWithinOr S.max_total (length b.records) ((counts_from b J).idle + (counts_from b J).lent + (counts_from b J).reserved)
 places_within_from S b J runs legal =
-    subst (IsWithin S.max_total) (sym (length-records_from b J) ∙ sym (counted (records_from b J) (each_present_from b J))) (at_most_max_total_from S b J runs legal)
+    subst (IsWithinOr S.max_total (length b.records)) (sym (length-records_from b J) ∙ sym (counted (records_from b J) (each_present_from b J))) (at_most_max_total_from S b J runs legal)
 
 -- ---- the objects that are to be destroyed
 

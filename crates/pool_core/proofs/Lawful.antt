@@ -7,15 +7,16 @@ use Rattle.pool_settings.specs.declared.settings.Settings.{Settings}
 use Rattle.pool_core.specs.Laws.{SafetyPropertiesFrom, SafetyProperties}
 use Rattle.pool_core.specs.Legal.{IsLegalFrom, IsLegal}
 use Rattle.pool_core.specs.Openable.{CanContinue}
-use Rattle.pool_core.proofs.Counting.{at_most_max_total_from, nothing_lost_from}
+use Rattle.pool_core.proofs.Counting.{at_most_max_total_from, made_below_from, nothing_lost_from, within_from}
 use Rattle.pool_core.proofs.Lasting.{closed_parks_none_from, closed_base_parks_none, made_anew, made_and_gone_once_from}
 use Rattle.pool_core.proofs.Lending.{lent_in_turn_from}
 use Rattle.pool_core.proofs.Opening.{empty_is_openable}
 
-pub keeps_laws_from : (S : Settings) (b : Base) (J : List Entry) → CanContinue S b → IsLegalFrom S b J → SafetyPropertiesFrom S b J
+pub keeps_laws_from : (S : Settings) (b : Base) (J : List Entry) → CanContinue b → IsLegalFrom S b J → SafetyPropertiesFrom S b J
 keeps_laws_from S b J runs legal =
     record {
       at_most_max_total = at_most_max_total_from S b J runs legal;
+      made_below_max_total = made_below_from S b J runs.sound legal;
       closed_parks_none = closed_parks_none_from S b J runs.sound legal;
       closed_base_parks_none = closed_base_parks_none S b J runs.sound legal;
       made_and_gone_once = made_and_gone_once_from S b J runs.sound legal;
@@ -25,4 +26,9 @@ keeps_laws_from S b J runs legal =
     }
 
 pub keeps_laws : (S : Settings) (J : List Entry) → IsLegal S J → SafetyProperties S J
-keeps_laws S J = keeps_laws_from S empty_base J (empty_is_openable S).runnable
+keeps_laws S J legal =
+    let opens = empty_is_openable S in
+    record {
+      at_most_max_total = within_from S empty_base J opens.runnable opens.within legal;
+      from_empty = keeps_laws_from S empty_base J opens.runnable legal;
+    }

@@ -1,7 +1,7 @@
 -- The safety properties of legal entries after a base that a pool can continue from, and of whole legal journals.
-use Rattle.std.specs.Prelude.{◌≡◌, ◌≢◌, ℕ, ◌+◌, ◌<◌, ◌≤◌, true, List, take, slice_get, length, Some, ℤ, pos, negsuc, ⊤}
+use Rattle.std.specs.Prelude.{◌≡◌, ◌≢◌, ◌⊎◌, ℕ, ◌+◌, ◌<◌, ◌≤◌, true, List, take, slice_get, length, Some, ℤ, pos, negsuc, ⊤}
 use Rattle.pool_journal.specs.Base.{empty_base, phase_from, present_from}
-use Rattle.pool_journal.specs.Entries.{move_of_entry, lends, is_closing}
+use Rattle.pool_journal.specs.Entries.{move_of_entry, lends, is_closing, is_make_answer}
 use Rattle.pool_journal.specs.declared.base.Base.{Base}
 use Rattle.pool_journal.specs.declared.entry.Entry.{Entry}
 use Rattle.pool_journal.specs.declared.record.Phase.{Phase}
@@ -20,9 +20,23 @@ abbrev pub IsWithin : ℤ → ℕ → Type 0
 IsWithin (pos limit) n = n ≤ limit
 IsWithin (negsuc _) n = ⊤
 
--- the number of present objects is within the limit of the settings
+-- at most a limit, or at most another number
+abbrev pub IsWithinOr : ℤ → ℕ → ℕ → Type 0
+IsWithinOr limit most n = IsWithin limit n ⊎ (n ≤ most)
+
+-- fewer than a limit; a negative limit is no limit
+abbrev pub IsBelow : ℤ → ℕ → Type 0
+IsBelow (pos limit) n = n < limit
+IsBelow (negsuc _) n = ⊤
+
+-- the number of present objects is within the limit of the settings, or at most that of the base
 abbrev pub AtMostMaxTotalFrom : Settings → Base → List Entry → Type 0
-AtMostMaxTotalFrom S b J = IsWithin S.max_total (length (present_from b J))
+AtMostMaxTotalFrom S b J = IsWithinOr S.max_total (length b.records) (length (present_from b J))
+
+-- an object is made only while fewer are present than the limit of the settings
+abbrev pub MadeBelowMaxTotal : Settings → Base → List Entry → Type 0
+MadeBelowMaxTotal S b J =
+    (k : ℕ) (e : Entry) → slice_get J k ≡ Some e → is_make_answer e.answer ≡ true → IsBelow S.max_total (length (present_from b (take k J)))
 
 -- after an entry that closes the pool, no entry moves an object to Idle
 abbrev pub NoneIdleAfterClose : List Entry → Type 0
@@ -64,6 +78,7 @@ ObjectsConservedFrom b J = AddsUp (counts_from b J)
 -- the safety properties of legal entries after a base
 pub record SafetyPropertiesFrom (S : Settings) (b : Base) (J : List Entry) : Type 0 where
   pub at_most_max_total : AtMostMaxTotalFrom S b J
+  pub made_below_max_total : MadeBelowMaxTotal S b J
   pub closed_parks_none : NoneIdleAfterClose J
   pub closed_base_parks_none : NoneIdleAfterClosedBase b J
   pub made_and_gone_once : IdsUsedOnce J
@@ -73,8 +88,9 @@ pub record SafetyPropertiesFrom (S : Settings) (b : Base) (J : List Entry) : Typ
 
 -- ---- of whole journals
 
+-- the number of present objects is within the limit of the settings
 abbrev pub AtMostMaxTotal : Settings → List Entry → Type 0
-AtMostMaxTotal S J = AtMostMaxTotalFrom S empty_base J
+AtMostMaxTotal S J = IsWithin S.max_total (length (present_from empty_base J))
 
 abbrev pub LeavesLent : List Entry → ℕ → ℕ → Type 0
 LeavesLent J i m = LeavesLentFrom empty_base J i m
@@ -85,5 +101,7 @@ ExclusiveLoans J = ExclusiveLoansFrom empty_base J
 abbrev pub ObjectsConserved : List Entry → Type 0
 ObjectsConserved J = ObjectsConservedFrom empty_base J
 
-abbrev pub SafetyProperties : Settings → List Entry → Type 0
-SafetyProperties S J = SafetyPropertiesFrom S empty_base J
+-- the safety properties of whole legal journals
+pub record SafetyProperties (S : Settings) (J : List Entry) : Type 0 where
+  pub at_most_max_total : AtMostMaxTotal S J
+  pub from_empty : SafetyPropertiesFrom S empty_base J

@@ -18,6 +18,7 @@ use Rattle.pool_core.specs.declared.step_fault.StepFault.TheVariants as faults
 use Rattle.pool_core.specs.Fits.{limit_from, owed_from}
 use Rattle.pool_core.specs.Legal.{entry_of}
 use Rattle.pool_core.specs.Pool.{CoreModel}
+use Rattle.pool_core.specs.Reconfigured.{reconfigured}
 use Rattle.pool_core.specs.Reply.{reply_from, takeable_from}
 use Rattle.pool_calls.specs.Operations.{HasCome, Follows, IsRight, Proceeds, began_of, fits, is_making, is_waiting, lacks_room, step_at}
 use Rattle.pool_calls.specs.Turns.{Turn, asks_room, step_of}
@@ -110,6 +111,10 @@ outcome_of (Err (faults.OutOfMemory v)) = Err failures.OutOfMemory
 -- the pool after a cut: its journal is empty, and goes on from the state after the entries
 abbrev pub cut_of : CoreModel ℕ → CoreModel ℕ
 cut_of c = record c { base = base_after c.base c.journal; journal = [] }
+
+-- the pool with these settings: the calls that begin now have this plan
+abbrev pub reconfigured_with : Settings → Hooks → DrivenModel → DrivenModel
+reconfigured_with s h d = record d { core = reconfigured s d.core; plan = plan_of s h }
 
 -- the pool after so many cuts
 abbrev pub cut_times : ℕ → CoreModel ℕ → CoreModel ℕ

@@ -64,8 +64,10 @@ impl DrivenPool {
         match u64::try_from(self.settings.max_total) {
             Ok(most) => {
                 let counts = self.core.counts();
-                let free = most - (counts.idle + counts.lent + counts.reserved);
-                self.core.takeable().saturating_add(free)
+                let present = counts.idle + counts.lent + counts.reserved;
+                self.core
+                    .takeable()
+                    .saturating_add(most.saturating_sub(present))
             }
             Err(_) => u64::MAX,
         }

@@ -4,8 +4,6 @@
 #[cfg(test)]
 mod cutting;
 #[cfg(test)]
-mod driving;
-#[cfg(test)]
 mod engines;
 #[cfg(test)]
 mod full;
@@ -17,6 +15,8 @@ mod judging;
 mod lives;
 #[cfg(test)]
 mod playing;
+#[cfg(test)]
+mod reconfiguring;
 #[cfg(test)]
 mod statistics;
 #[cfg(test)]

@@ -3,19 +3,11 @@
 #![tactic(auto)]
 
 #[cfg(test)]
-mod add_calls;
-#[cfg(test)]
 mod calls;
 #[cfg(test)]
 mod checks;
 #[cfg(test)]
-mod clear_calls;
-#[cfg(test)]
-mod evict_calls;
-#[cfg(test)]
 mod journal;
-#[cfg(test)]
-mod maintain_calls;
 #[cfg(test)]
 mod places;
 #[cfg(test)]

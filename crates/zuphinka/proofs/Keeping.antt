@@ -4,6 +4,7 @@ use Rattle.std.specs.Prelude.{IsSome}
 use Rattle.std.proofs.lemmas.Bool.{eqb-true, eq-eqb, ne_eqb}
 use Rattle.std.proofs.lemmas.Bool.Decides.{eqb_tells}
 use Rattle.pool_driver.specs.declared.call.Call.{Call}
+use Rattle.pool_driver.specs.declared.hooks.Hooks.{Hooks}
 use Rattle.pool_driver.specs.Driving.{DrivenModel, Begins}
 use Rattle.pool_driver.specs.declared.report.Report.{Report}
 use Rattle.pool_driver.specs.declared.report.Report.TheVariants as reports
@@ -50,11 +51,12 @@ others_kept old new place n over c sets none other m differs =
       | inr apart ↦ ap (numbered m) (sets.others other apart.1)
     ]
 
-keeps : (old new : OpenModel) (name : CallName) (over : Bool) (c : Call) → new.number ≡ old.number → name.pool ≡ old.number
+keeps : (old new : OpenModel) (name : CallName) (over : Bool) (c : Call) → new.number ≡ old.number → new.hooks ≡ old.hooks → name.pool ≡ old.number
     → Sets old.calls.slots new.calls.slots name.place (slot_of over name.number c)
     → ((m : ℕ) → m ≢ name.number → numbered m (slot_at old.calls.slots name.place) ≡ None) → Keeps old new name over c
-keeps old new name over c number pool sets none = record {
+keeps old new name over c number hooks pool sets none = record {
   number = number;
+  hooks = hooks;
   stored =
       ap (λ b. if b then call_in new.calls.slots name.place name.number else None) (eq-eqb name.pool new.number (pool ∙ sym number))
       ∙ ap (numbered name.number) sets.changed ∙ slot_own over name.number c;
@@ -77,16 +79,16 @@ found_at p name c is = by_test (eqb name.pool p.number) refl is
 pub is_there : (p : OpenModel) (name : CallName) (c : Call) → call_at p name ≡ Some c → IsSome (slot_at p.calls.slots name.place)
 is_there p name c is = found_there (slot_at p.calls.slots name.place) name.number c (found_at p name c is).1
 
-pub keeps_found : (old new : OpenModel) (name : CallName) (over : Bool) (before c : Call) → new.number ≡ old.number → call_at old name ≡ Some before
+pub keeps_found : (old new : OpenModel) (name : CallName) (over : Bool) (before c : Call) → new.number ≡ old.number → new.hooks ≡ old.hooks → call_at old name ≡ Some before
     → Sets old.calls.slots new.calls.slots name.place (slot_of over name.number c) → Keeps old new name over c
-keeps_found old new name over before c number is sets =
+keeps_found old new name over before c number hooks is sets =
     let found = found_at old name before is in
-    keeps old new name over c number found.0 sets (λ m differs. found_other (slot_at old.calls.slots name.place) name.number m before found.1 differs)
+    keeps old new name over c number hooks found.0 sets (λ m differs. found_other (slot_at old.calls.slots name.place) name.number m before found.1 differs)
 
 -- ---- a call that begins
-pub keeps_new : (old new : OpenModel) (name : CallName) (over : Bool) (c : Call) → new.number ≡ old.number → name.pool ≡ old.number
+pub keeps_new : (old new : OpenModel) (name : CallName) (over : Bool) (c : Call) → new.number ≡ old.number → new.hooks ≡ old.hooks → name.pool ≡ old.number
     → slot_at old.calls.slots name.place ≡ None → Sets old.calls.slots new.calls.slots name.place (slot_of over name.number c) → Keeps old new name over c
-keeps_new old new name over c number pool vacant sets = keeps old new name over c number pool sets (λ m differs. ap (numbered m) vacant)
+keeps_new old new name over c number hooks pool vacant sets = keeps old new name over c number hooks pool sets (λ m differs. ap (numbered m) vacant)
 
 pub is_free : (p : OpenModel) (name : CallName) → slot_at p.calls.slots name.place ≡ None → call_at p name ≡ None
 is_free p name vacant = by_test (eqb name.pool p.number)
@@ -110,22 +112,22 @@ without_spare start old new spare name out kind b = record {
   next = b.next;
   begun = b.begun;
   free = b.free;
-  keeps = record { number = b.keeps.number; stored = b.keeps.stored; others = b.keeps.others };
+  keeps = record { number = b.keeps.number; hooks = b.keeps.hooks; stored = b.keeps.stored; others = b.keeps.others };
 }
 
-module _ (driven driven2 : DrivenModel) (calls calls2 : TableModel) (number : ℕ) (name : CallName) (out : CallEffects) (call : Call) (over : Bool) where
+module _ (driven driven2 : DrivenModel) (calls calls2 : TableModel) (number : ℕ) (hooks : Hooks) (name : CallName) (out : CallEffects) (call : Call) (over : Bool) where
   abbrev before_it : OpenModel
-  before_it = record { driven = driven; calls = calls; number = number }
+  before_it = record { driven = driven; calls = calls; number = number; hooks = hooks }
 
   abbrev after_it : OpenModel
-  after_it = record { driven = driven2; calls = calls2; number = number }
+  after_it = record { driven = driven2; calls = calls2; number = number; hooks = hooks }
 
   pub has_begun : (start : CallStart) (old : OpenModel) (spare : ℕ) (kind : Kind) (first : Call)
-      → record { driven = driven; calls = calls; number = number } ≡ record old { calls = record old.calls { spare = spare } }
+      → record { driven = driven; calls = calls; number = number; hooks = hooks } ≡ record old { calls = record old.calls { spare = spare } }
       → Begins driven.plan first → IsKind start driven.last kind first
       → GoesOn start.caller start.at reports.GoOn driven driven2 first call out over → name.pool ≡ number → name.place ≡ calls.next
       → name.number ≡ calls.begun → slot_at calls.slots calls.next ≡ None → Sets calls.slots calls2.slots calls.next (slot_of over calls.begun call)
-      → calls2.begun ≡ calls.begun + 1 → Began start old (record { driven = driven2; calls = calls2; number = number }) name out kind
+      → calls2.begun ≡ calls.begun + 1 → Began start old (record { driven = driven2; calls = calls2; number = number; hooks = hooks }) name out kind
   has_begun start old spare kind first same begins is goes pool place numbered_so vacant sets begun =
       let P : ℕ → Type 0 = λ k. Sets calls.slots calls2.slots k (slot_of over calls.begun call) in
       let Q : ℕ → Type 0 = λ n. Sets calls.slots calls2.slots name.place (slot_of over n call) in
@@ -145,14 +147,14 @@ module _ (driven driven2 : DrivenModel) (calls calls2 : TableModel) (number : �
         next = numbered_so;
         begun = begun;
         free = is_free before_it name empty;
-        keeps = keeps_new before_it after_it name over call refl pool empty there;
+        keeps = keeps_new before_it after_it name over call refl refl pool empty there;
       }))
 
   pub has_advanced : (event : CallEvent) (old : OpenModel) (before : Call) (report : Report)
-      → record { driven = driven; calls = calls; number = number } ≡ old → call_at old name ≡ Some before → report_of event ≡ Some report
+      → record { driven = driven; calls = calls; number = number; hooks = hooks } ≡ old → call_at old name ≡ Some before → report_of event ≡ Some report
       → GoesOn event.caller event.at report driven driven2 before call out over
       → (IsSome (slot_at calls.slots name.place) → Sets calls.slots calls2.slots name.place (slot_of over name.number call)) → calls2.begun ≡ calls.begun
-      → Advanced event name old (record { driven = driven2; calls = calls2; number = number }) out before
+      → Advanced event name old (record { driven = driven2; calls = calls2; number = number; hooks = hooks }) out before
   has_advanced event old before report same found reported goes sets begun =
       let P : OpenModel → Type 0 = λ o. call_at o name ≡ Some before → Advanced event name o after_it out before in
       let here : P before_it =
@@ -163,6 +165,6 @@ module _ (driven driven2 : DrivenModel) (calls calls2 : TableModel) (number : �
         over = over;
         goes = goes;
         begun = begun;
-        keeps = keeps_found before_it after_it name over before call refl there (sets (is_there before_it name before there));
+        keeps = keeps_found before_it after_it name over before call refl refl there (sets (is_there before_it name before there));
       } in
       subst P same here found

@@ -157,6 +157,7 @@ SameButSpare old new = new ≡ record old { calls = record old.calls { spare = n
 -- the table has what became of a call, exactly if it is not over, and each call with another number as before
 pub record Keeps (old new : OpenModel) (name : CallName) (over : Bool) (call : Call) : Type 0 where
   pub number : new.number ≡ old.number
+  pub hooks : new.hooks ≡ old.hooks
   pub stored : call_at new name ≡ (if over then None else Some call)
   pub others : (other : CallName) → other.number ≢ name.number → call_at new other ≡ call_at old other
 

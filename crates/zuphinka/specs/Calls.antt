@@ -66,6 +66,7 @@ pub record OpenedWith (text : List ℕ) (options : PoolOptions) (pool : OpenMode
   pub read : settings_of_text text ≡ Ok settings
   pub driven : driver.Opened settings (options_of options) pool.driven
   pub number : pool.number ≡ options.pool
+  pub hooks : pool.hooks ≡ (options_of options).hooks
   pub calls : IsEmpty pool.calls
 
 -- the result of opening an empty handle with options

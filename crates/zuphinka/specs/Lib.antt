@@ -6,6 +6,7 @@ pub mod Counting
 pub mod Holding
 pub mod Lines
 pub mod Opening
+pub mod Reconfiguring
 pub mod Setting
 pub mod Status
 pub mod Tables

@@ -4,6 +4,7 @@ use Rattle.std.specs.Option.{option_map}
 use Rattle.pool_core.specs.Pool.{CoreModel}
 use Rattle.pool_driver.specs.Driving.{DrivenModel}
 use Rattle.pool_driver.specs.declared.call.Call.{Call}
+use Rattle.pool_driver.specs.declared.hooks.Hooks.{Hooks}
 use Rattle.pool_driver.specs.declared.options.Options.{Options}
 use Rattle.zuphinka.specs.declared.call_name.CallName.{CallName}
 use Rattle.zuphinka.specs.declared.pool_options.PoolOptions.{PoolOptions}
@@ -14,6 +15,7 @@ pub record OpenModel : Type 0 where
   pub driven : DrivenModel
   pub calls : TableModel
   pub number : ℕ  -- the host's number of the pool
+  pub hooks : Hooks  -- which calls its factory has
 
 -- the pool of steps, if there is one
 abbrev pub core_in : Option OpenModel → Option (CoreModel ℕ)

@@ -6,6 +6,7 @@ ghost use Rattle.zuphinka.specs.Calling.{AdvancesIn, BeginsIn, ChecksIn, LendsIn
 ghost use Rattle.zuphinka.specs.Calls.{Came, Opens, OpensWith, Steps, IsCompleting, Reads, TellsSteps, TellsRoom, Lines, BaseLines, Cuts};
 ghost use Rattle.zuphinka.specs.Counting.{ReportsCounts};
 ghost use Rattle.zuphinka.specs.Opening.{KeepsCalls, core_in, no_options};
+ghost use Rattle.zuphinka.specs.Reconfiguring.{Reconfigures};
 ghost use Rattle.zuphinka.specs.Setting.{SetsTo};
 ghost use Rattle.zuphinka.specs.Status.{status_code};
 ghost use Rattle.zuphinka.specs.declared.status.Status.TheVariants.{Done};
@@ -414,4 +415,18 @@ pub extern "C" fn zuphinka_is_lent(
     *is_lent = held.is_lent(id);
     pool.put(held);
     Status::Done.code()
+}
+
+/// Goes on with settings from a text, and cuts the journal, as `zuphinka_cut`. The objects stay, also if they are more than
+/// `maxTotal` then: none is made until fewer are present. Then the host wakes the calls of `zuphinka_next_wake`.
+#[unsafe(no_mangle)]
+pub extern "C" fn zuphinka_reconfigure(alloc: Global, pool: &mut Handle, settings: &[u8]) -> u32
+    ensures { Came result (Reconfigures settings.now pool.old.held pool.new.held) }
+{
+    let Some(mut held) = pool.take(alloc) else {
+        return Status::NotOpen.code();
+    };
+    let status = pool::reconfigure(alloc, &mut *held, settings);
+    pool.put(held);
+    status.code()
 }

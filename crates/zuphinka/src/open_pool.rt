@@ -17,7 +17,7 @@ use crate::status::Status;
 use crate::table::Table;
 use pool_calls::Action;
 use pool_core::Core;
-use pool_driver::{Call, DrivenPool, Effects, Report};
+use pool_driver::{Call, DrivenPool, Effects, Hooks, Report};
 use pool_journal::{Answer, Input};
 use pool_settings::Settings;
 use std::alloc::{AllocError, Global};
@@ -30,6 +30,8 @@ pub struct OpenPool {
     calls: Table,
     // The host's number of the pool.
     number: u64,
+    // Which calls its factory has.
+    pub(crate) hooks: Hooks,
 }
 
 impl Model for OpenPool {
@@ -41,6 +43,7 @@ impl Model for OpenPool {
       driven = p.driven;
       calls = p.calls;
       number = p.number;
+      hooks = p.hooks;
     } };
 }
 
@@ -93,12 +96,14 @@ impl OpenPool {
         ensures driven { IfOk result
             (λ p. Opened settings (options_of options.now) p.driven) }
         ensures number { IfOk result (λ p. p.number ≡ options.now.pool) }
+        ensures hooks { IfOk result (λ p. p.hooks ≡ (options_of options.now).hooks) }
         ensures calls { IfOk result (λ p. IsEmpty p.calls) }
     {
         Ok(OpenPool {
             driven: DrivenPool::open(alloc, settings, options.options())?,
             calls: Table::open(alloc)?,
             number: options.pool,
+            hooks: options.options().hooks,
         })
     }
 

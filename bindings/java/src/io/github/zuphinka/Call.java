@@ -1,6 +1,5 @@
 package io.github.zuphinka;
 
-import java.util.concurrent.TimeUnit;
 import org.apache.commons.pool2.DestroyMode;
 
 /** A call of a thread, from its beginning to its end: what it does next, and what came of it. Its thread alone uses it, but for {@link #isWoken}. */
@@ -10,7 +9,8 @@ final class Call<T> {
     int caller;
     /** When it began, by {@link System#nanoTime}. */
     long first;
-    /** For how many nanoseconds it waits at most, besides what the core says; and by how many milliseconds it may wait longer than the settings say. */
+    /** For how many nanoseconds it waits at most, besides what the core says; and by how many milliseconds it may wait longer than the settings say.
+     * They are no less than any time of the settings if the limit is its own. */
     long limitNanos;
     long moreMillis;
     /** How its object is destroyed. */
@@ -24,9 +24,12 @@ final class Call<T> {
     int end;
     /** The object that it is for; null if it has none. */
     Member<T> member;
+    /** The settings by which it goes on, or has the object that an eviction run examines; and whether new objects are tested, when it began. */
+    CoreSettings<T> settings;
+    boolean testsOnCreate;
     /** How many objects were idle when an eviction run took its object, if the user has an eviction policy. */
     long idle;
-    /** Whether that was activated for the call. */
+    /** Whether that was activated for the call; or is to be lent without that, once a new one passed its test of testOnCreate. */
     boolean isActivated;
     /** Whether the core knows that the call is given up. */
     boolean isGivenUp;
@@ -81,6 +84,7 @@ final class Call<T> {
     /** Forgets what another call must not find. */
     void clear() {
         member = null;
+        settings = null;
         fault = null;
         destroyFault = null;
         error = null;
@@ -96,20 +100,17 @@ final class Call<T> {
         return nanos == Long.MAX_VALUE ? nanos : Math.max(0, nanos - (System.nanoTime() - first));
     }
 
-    /** Waits no longer than some nanoseconds, in place of the time that the settings allow, which may be shorter; if they are negative, that time. */
-    void limitTo(long nanos, CoreSettings settings) {
-        if (nanos < 0 || nanos <= settings.maxWaitNanos) {
-            limitNanos = nanos < 0 ? Long.MAX_VALUE : nanos;
-            return;
+    /** Waits no longer than some nanoseconds, in place of the time that any settings allow; if they are negative, that time. */
+    void limitTo(long nanos) {
+        if (nanos >= 0) {
+            limitNanos = nanos;
+            moreMillis = CoreSettings.MOST_MILLIS;
         }
-        long longest = nanos == Long.MAX_VALUE ? CoreSettings.MOST_MILLIS : TimeUnit.NANOSECONDS.toMillis(nanos - 1) + 1;
-        moreMillis = longest - TimeUnit.NANOSECONDS.toMillis(settings.maxWaitNanos);
     }
 
-    /** Returns for how many nanoseconds it may wait yet for room in the journal. */
-    long leftForRoom(CoreSettings settings) {
-        long set = moreMillis == 0 ? settings.maxWaitNanos : settings.maxWaitNanos + TimeUnit.MILLISECONDS.toNanos(moreMillis);
-        return left(Math.min(limitNanos, set));
+    /** Returns for how many nanoseconds it may wait yet for room in the journal, by these settings. */
+    long leftForRoom(CoreSettings<?> some) {
+        return left(moreMillis > 0 ? limitNanos : Math.min(limitNanos, some.maxWaitNanos));
     }
 
     /** Keeps the first error; returns whether it is this failure. */

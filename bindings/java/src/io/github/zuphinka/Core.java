@@ -126,6 +126,9 @@ final class Core {
     /** Opens a core by the text of its settings, and returns its handle, or a negative status. Waiters are overtaken at most so often. */
     static native long open(byte[] settings, int flags, long overtakes);
 
+    /** Goes on with the text of other settings and other {@link #RECLAIMS}, and cuts the journal. Returns 0, or a negative status: nothing changed. */
+    static native int reconfigure(long core, byte[] settings, int flags);
+
     /** Frees a core. */
     static native void drop(long core);
 

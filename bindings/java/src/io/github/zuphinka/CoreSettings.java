@@ -1,12 +1,14 @@
 package io.github.zuphinka;
 
+import java.nio.charset.StandardCharsets;
 import java.time.Duration;
 import java.util.concurrent.TimeUnit;
+import java.util.function.Consumer;
 import org.apache.commons.pool2.impl.AbandonedConfig;
 import org.apache.commons.pool2.impl.GenericObjectPoolConfig;
 
-/** The settings of a pool: a copy of its configurations, and their text for the core. */
-final class CoreSettings {
+/** The settings of a pool at a time: copies of its configurations, which do not change, and their text for the core. */
+final class CoreSettings<T> {
     /** The longest time that the core takes, in milliseconds: some 285,000 years. */
     static final long MOST_MILLIS = 1L << 53;
     /** How often a waiter is overtaken at most, unless the pool is told otherwise. */
@@ -14,22 +16,23 @@ final class CoreSettings {
     /** The most entries that a journal stores. */
     static final long MOST_ENTRIES = 1L << 32;
 
+    final GenericObjectPoolConfig<T> config;
+    /** Null: objects cannot be abandoned. */
+    final AbandonedConfig abandoned;
+    /** The user's eviction policy, with the idle times that it gets; null: that of the core. With it the core evicts by no time, and tests each object. */
+    final UserPolicy<T> policy;
+    private final long journalLimit;
     final boolean testOnBorrow;
-    final boolean testOnCreate;
     final boolean testOnReturn;
     final boolean testWhileIdle;
-    /** Whether the user has an eviction policy. The core then evicts by no time, and tests each object that a run examines. */
-    private final boolean hasUserPolicy;
-    final boolean isAbandonedRemoved;
     final boolean reclaimsOnBorrow;
     final boolean reclaimsOnMaintenance;
     final boolean isUsageTracked;
-    final boolean isFair;
     final int maxTotal;
     private final long maxWaitMillis;
     /** How long a borrow waits at most, in nanoseconds; {@link Long#MAX_VALUE} without a limit. */
     final long maxWaitNanos;
-    /** After how many nanoseconds without a use a lent object is abandoned, if {@link #isAbandonedRemoved}. */
+    /** After how many nanoseconds without a use a lent object is abandoned, if objects can be. */
     final long abandonedNanos;
     private final String text;
 
@@ -38,45 +41,67 @@ final class CoreSettings {
      *
      * @throws IllegalArgumentException if they ask for what the pool does not have, with the name of the property
      */
-    CoreSettings(GenericObjectPoolConfig<?> config, boolean hasUserPolicy, AbandonedConfig abandoned, long journalLimit) {
+    CoreSettings(GenericObjectPoolConfig<T> config, AbandonedConfig abandoned, long journalLimit) {
         if (journalLimit < 1 || journalLimit > MOST_ENTRIES) {
             throw new IllegalArgumentException("journal limit: " + journalLimit + " is not from 1 to " + MOST_ENTRIES);
         }
+        this.config = config.clone();
+        this.abandoned = AbandonedConfig.copy(abandoned);
+        this.journalLimit = journalLimit;
+        policy = UserPolicy.of(this.config);
+        if (policy != null) {
+            this.config.setEvictionPolicy(policy.policy); // a copy with other values has the same one, and makes none of its name
+        }
         testOnBorrow = config.getTestOnBorrow();
-        testOnCreate = config.getTestOnCreate();
         testOnReturn = config.getTestOnReturn();
         testWhileIdle = config.getTestWhileIdle();
-        this.hasUserPolicy = hasUserPolicy;
-        isAbandonedRemoved = abandoned != null;
-        reclaimsOnBorrow = isAbandonedRemoved && abandoned.getRemoveAbandonedOnBorrow();
-        reclaimsOnMaintenance = isAbandonedRemoved && abandoned.getRemoveAbandonedOnMaintenance();
-        isUsageTracked = isAbandonedRemoved && abandoned.getUseUsageTracking();
-        isFair = config.getFairness();
+        reclaimsOnBorrow = canBeAbandoned() && abandoned.getRemoveAbandonedOnBorrow();
+        reclaimsOnMaintenance = canBeAbandoned() && abandoned.getRemoveAbandonedOnMaintenance();
+        isUsageTracked = canBeAbandoned() && abandoned.getUseUsageTracking();
         maxTotal = config.getMaxTotal();
         maxWaitMillis = millis(config.getMaxWaitDuration(), -1);
         maxWaitNanos = maxWaitMillis < 0 ? Long.MAX_VALUE : TimeUnit.MILLISECONDS.toNanos(maxWaitMillis);
-        abandonedNanos = isAbandonedRemoved ? TimeUnit.MILLISECONDS.toNanos(millis(abandoned.getRemoveAbandonedTimeoutDuration(), 0)) : 0;
-        text = textOf(config, journalLimit) + (isAbandonedRemoved ? textOf(abandoned) : "");
+        abandonedNanos = canBeAbandoned() ? TimeUnit.MILLISECONDS.toNanos(millis(abandoned.getRemoveAbandonedTimeoutDuration(), 0)) : 0;
+        text = textOfConfig() + (canBeAbandoned() ? textOfAbandoned() : "");
     }
 
-    private String textOf(GenericObjectPoolConfig<?> config, long journalLimit) {
+    /** Returns these settings with other values of some properties. */
+    CoreSettings<T> with(Consumer<GenericObjectPoolConfig<T>> change) {
+        GenericObjectPoolConfig<T> changed = config.clone();
+        change.accept(changed);
+        return with(changed, abandoned);
+    }
+
+    /** Returns the settings of other configurations for the same pool, whose fairness stays. */
+    CoreSettings<T> with(GenericObjectPoolConfig<T> otherConfig, AbandonedConfig otherAbandoned) {
+        GenericObjectPoolConfig<T> copied = otherConfig.clone();
+        copied.setFairness(config.getFairness());
+        return new CoreSettings<>(copied, otherAbandoned, journalLimit);
+    }
+
+    /** Returns whether objects can be abandoned. */
+    boolean canBeAbandoned() {
+        return abandoned != null;
+    }
+
+    private String textOfConfig() {
         return key("blockWhenExhausted", config.getBlockWhenExhausted())
                 + key("journalLimit", journalLimit)
                 + key("lifo", config.getLifo())
                 + key("maxIdle", config.getMaxIdle())
                 + key("maxTotal", maxTotal)
                 + key("maxWaitMillis", maxWaitMillis)
-                + key("minEvictableIdleMillis", hasUserPolicy ? -1 : millis(config.getMinEvictableIdleDuration(), -1))
+                + key("minEvictableIdleMillis", policy == null ? millis(config.getMinEvictableIdleDuration(), -1) : -1)
                 + key("minIdle", Math.max(0, config.getMinIdle()))
                 + key("numTestsPerEvictionRun", config.getNumTestsPerEvictionRun())
-                + key("softMinEvictableIdleMillis", hasUserPolicy ? -1 : millis(config.getSoftMinEvictableIdleDuration(), -1))
+                + key("softMinEvictableIdleMillis", policy == null ? millis(config.getSoftMinEvictableIdleDuration(), -1) : -1)
                 + key("testOnBorrow", testOnBorrow)
-                + key("testOnCreate", testOnCreate)
+                + key("testOnCreate", config.getTestOnCreate())
                 + key("testOnReturn", testOnReturn)
-                + key("testWhileIdle", testWhileIdle || hasUserPolicy);
+                + key("testWhileIdle", testWhileIdle || policy != null);
     }
 
-    private String textOf(AbandonedConfig abandoned) {
+    private String textOfAbandoned() {
         return "[abandoned]\n"
                 + key("removeAbandonedOnBorrow", reclaimsOnBorrow)
                 + key("removeAbandonedOnMaintenance", reclaimsOnMaintenance)
@@ -98,5 +123,20 @@ final class CoreSettings {
     /** Returns the settings as a TOML document, as {@code pool check} reads it. */
     String text() {
         return text;
+    }
+
+    /** Returns the bytes of the text. */
+    byte[] bytes() {
+        return text.getBytes(StandardCharsets.UTF_8);
+    }
+
+    /** Returns the flags of {@link Core#reconfigure}. */
+    int flags() {
+        return canBeAbandoned() ? Core.RECLAIMS : 0;
+    }
+
+    /** Returns the exception for settings that the core rejects with a status. */
+    IllegalArgumentException rejected(long status) {
+        return new IllegalArgumentException("zuphinka: the core rejects the settings, with status " + -status + ":\n" + text);
     }
 }

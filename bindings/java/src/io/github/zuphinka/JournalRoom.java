@@ -2,20 +2,19 @@ package io.github.zuphinka;
 
 import java.nio.ByteBuffer;
 import java.nio.ByteOrder;
-import java.nio.charset.StandardCharsets;
 
 /** How many objects a journal has room for, by a core that lends one. */
 final class JournalRoom {
     private JournalRoom() {}
 
-    /** Opens a core by a text and the flags of {@link Core#open}, and returns its handle. */
-    static long open(String settings, int flags, long overtakes) {
-        long opened = Core.open(settings.getBytes(StandardCharsets.UTF_8), flags, overtakes);
+    /** Opens a core by settings and the flags of {@link Core#open}, and returns its handle. */
+    static long open(CoreSettings<?> settings, int flags, long overtakes) {
+        long opened = Core.open(settings.bytes(), flags, overtakes);
         if (opened == Core.STATUS_OUT_OF_MEMORY) {
             throw new OutOfMemoryError("zuphinka: no memory for a pool");
         }
         if (opened <= 0) {
-            throw new IllegalArgumentException("zuphinka: the core rejects the settings, with status " + -opened + ":\n" + settings);
+            throw settings.rejected(opened);
         }
         return opened;
     }
@@ -25,7 +24,7 @@ final class JournalRoom {
      *
      * @throws IllegalArgumentException if they cannot
      */
-    static void require(CoreSettings settings, Journal journal) {
+    static void require(CoreSettings<?> settings, Journal journal) {
         long wanted = settings.maxTotal < 0 ? 1 : settings.maxTotal;
         boolean isLimited = journal.limit < CoreSettings.MOST_ENTRIES && wanted > 0;
         if (isLimited && mostLent(settings, journal.sink != null || journal.isDropped) < wanted) {
@@ -35,8 +34,8 @@ final class JournalRoom {
     }
 
     /** Returns how many objects of any number can be lent. The entries of each loan may be cut off before the next. */
-    private static long mostLent(CoreSettings settings, boolean isCut) {
-        long core = open(settings.text(), 0, 0);
+    private static long mostLent(CoreSettings<?> settings, boolean isCut) {
+        long core = open(settings, 0, 0);
         try {
             long room = roomOf(core);
             if (!lendsOne(core)) {

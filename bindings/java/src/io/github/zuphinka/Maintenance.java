@@ -11,12 +11,14 @@ import java.util.concurrent.locks.LockSupport;
  */
 final class Maintenance implements Runnable {
     private final WeakReference<ZuphinkaPool<?>> pool;
+    final Duration pause;
     private final long pauseNanos;
     private final Thread thread;
     private volatile boolean isStopped;
 
     private Maintenance(ZuphinkaPool<?> pool, Duration pause) {
         this.pool = new WeakReference<>(pool);
+        this.pause = pause;
         pauseNanos = pause.getSeconds() >= TimeUnit.DAYS.toSeconds(10_000) ? Long.MAX_VALUE : Math.max(1, pause.toNanos());
         thread = new Thread(this, "zuphinka-maintenance");
         thread.setDaemon(true);
@@ -61,10 +63,14 @@ final class Maintenance implements Runnable {
         return true;
     }
 
-    /** Ends the thread after the round in which it is, and waits for that up to a time, and a day at most. */
-    void stop(Duration longest) {
+    /** Ends the thread after the round in which it is. */
+    void stop() {
         isStopped = true;
         LockSupport.unpark(thread);
+    }
+
+    /** Waits for its end up to a time, and a day at most. */
+    void await(Duration longest) {
         if (thread == Thread.currentThread()) {
             return;
         }

@@ -11,7 +11,7 @@ final class Member<T> {
     final long id;
     /** Its wrapper; null until it is made. */
     PooledObject<T> pooled;
-    /** Whether its wrapper is told of each loan; and whether it is told of the loan that there is. */
+    /** Whether its wrapper is told of each loan whatever the settings are; and whether it is told of the loan that there is. */
     boolean isWrapperTold;
     boolean isLoanTold;
     /** The last use of which the core knows, besides the loans; null if there was none. */

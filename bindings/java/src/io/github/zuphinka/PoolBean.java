@@ -12,7 +12,6 @@ import javax.management.MalformedObjectNameException;
 import javax.management.NotCompliantMBeanException;
 import javax.management.ObjectName;
 import javax.management.StandardMBean;
-import org.apache.commons.pool2.impl.AbandonedConfig;
 import org.apache.commons.pool2.impl.BaseObjectPoolConfig;
 import org.apache.commons.pool2.impl.DefaultPooledObjectInfo;
 import org.apache.commons.pool2.impl.GenericObjectPoolConfig;
@@ -21,18 +20,13 @@ import org.apache.commons.pool2.impl.GenericObjectPoolConfig;
 final class PoolBean extends StandardMBean implements ZuphinkaPoolMXBean {
     private static final String BASE = "org.apache.commons.pool2:type=GenericObjectPool,name=";
     private final WeakReference<ZuphinkaPool<?>> pool;
-    private final GenericObjectPoolConfig<?> config;
-    private final AbandonedConfig abandoned;
     private final String factoryType;
     /** As text, since a stored exception keeps the classes of its stack from being unloaded. */
     private final String creationStackTrace;
 
-    private PoolBean(ZuphinkaPool<?> pool, GenericObjectPoolConfig<?> config, AbandonedConfig abandoned, String factoryType)
-            throws NotCompliantMBeanException {
+    private PoolBean(ZuphinkaPool<?> pool, String factoryType) throws NotCompliantMBeanException {
         super(ZuphinkaPoolMXBean.class, true);
         this.pool = new WeakReference<>(pool);
-        this.config = config;
-        this.abandoned = abandoned;
         this.factoryType = factoryType;
         StringWriter text = new StringWriter();
         new Exception("The pool was made").printStackTrace(new PrintWriter(text));
@@ -43,10 +37,10 @@ final class PoolBean extends StandardMBean implements ZuphinkaPoolMXBean {
      * Registers an MBean by the name that the configuration gives, or by the first free one with a number after it; by the default name if that
      * is none. Returns the name; null if the MBean cannot be registered.
      */
-    static ObjectName register(ZuphinkaPool<?> pool, GenericObjectPoolConfig<?> config, AbandonedConfig abandoned, String factoryType) {
+    static ObjectName register(ZuphinkaPool<?> pool, GenericObjectPoolConfig<?> config, String factoryType) {
         String base = config.getJmxNameBase() == null ? BASE : config.getJmxNameBase();
         try {
-            PoolBean bean = new PoolBean(pool, config, abandoned, factoryType);
+            PoolBean bean = new PoolBean(pool, factoryType);
             try {
                 return registerAs(bean, base + config.getJmxNamePrefix());
             } catch (MalformedObjectNameException e) {
@@ -87,12 +81,12 @@ final class PoolBean extends StandardMBean implements ZuphinkaPoolMXBean {
 
     @Override
     public boolean getBlockWhenExhausted() {
-        return config.getBlockWhenExhausted();
+        return ask(ZuphinkaPool::getBlockWhenExhausted);
     }
 
     @Override
     public boolean getLifo() {
-        return config.getLifo();
+        return ask(ZuphinkaPool::getLifo);
     }
 
     @Override
@@ -102,58 +96,57 @@ final class PoolBean extends StandardMBean implements ZuphinkaPoolMXBean {
 
     @Override
     public int getMaxIdle() {
-        return config.getMaxIdle();
+        return ask(ZuphinkaPool::getMaxIdle);
     }
 
     @Override
     public int getMinIdle() {
-        int most = config.getMaxIdle();
-        return most >= 0 ? Math.min(config.getMinIdle(), most) : config.getMinIdle();
+        return ask(ZuphinkaPool::getMinIdle);
     }
 
     @Override
     public int getMaxTotal() {
-        return config.getMaxTotal();
+        return ask(ZuphinkaPool::getMaxTotal);
     }
 
     @Override
     public long getMaxWaitMillis() {
-        return config.getMaxWaitDuration().toMillis();
+        return ask(ZuphinkaPool::getMaxWaitDuration).toMillis();
     }
 
     @Override
     public long getMinEvictableIdleTimeMillis() {
-        return config.getMinEvictableIdleDuration().toMillis();
+        return ask(ZuphinkaPool::getMinEvictableIdleDuration).toMillis();
     }
 
     @Override
     public int getNumTestsPerEvictionRun() {
-        return config.getNumTestsPerEvictionRun();
+        return ask(ZuphinkaPool::getNumTestsPerEvictionRun);
     }
 
     @Override
     public boolean getTestOnCreate() {
-        return config.getTestOnCreate();
+        return ask(ZuphinkaPool::getTestOnCreate);
     }
 
     @Override
     public boolean getTestOnBorrow() {
-        return config.getTestOnBorrow();
+        return ask(ZuphinkaPool::getTestOnBorrow);
     }
 
     @Override
     public boolean getTestOnReturn() {
-        return config.getTestOnReturn();
+        return ask(ZuphinkaPool::getTestOnReturn);
     }
 
     @Override
     public boolean getTestWhileIdle() {
-        return config.getTestWhileIdle();
+        return ask(ZuphinkaPool::getTestWhileIdle);
     }
 
     @Override
     public long getTimeBetweenEvictionRunsMillis() {
-        return config.getDurationBetweenEvictionRuns().toMillis();
+        return ask(ZuphinkaPool::getDurationBetweenEvictionRuns).toMillis();
     }
 
     @Override
@@ -219,27 +212,27 @@ final class PoolBean extends StandardMBean implements ZuphinkaPoolMXBean {
 
     @Override
     public boolean isAbandonedConfig() {
-        return abandoned != null;
+        return ask(ZuphinkaPool::isAbandonedConfig);
     }
 
     @Override
     public boolean getLogAbandoned() {
-        return abandoned != null && abandoned.getLogAbandoned();
+        return ask(ZuphinkaPool::getLogAbandoned);
     }
 
     @Override
     public boolean getRemoveAbandonedOnBorrow() {
-        return abandoned != null && abandoned.getRemoveAbandonedOnBorrow();
+        return ask(ZuphinkaPool::getRemoveAbandonedOnBorrow);
     }
 
     @Override
     public boolean getRemoveAbandonedOnMaintenance() {
-        return abandoned != null && abandoned.getRemoveAbandonedOnMaintenance();
+        return ask(ZuphinkaPool::getRemoveAbandonedOnMaintenance);
     }
 
     @Override
     public int getRemoveAbandonedTimeout() {
-        return abandoned == null ? Integer.MAX_VALUE : (int) abandoned.getRemoveAbandonedTimeoutDuration().getSeconds();
+        return (int) ask(ZuphinkaPool::getRemoveAbandonedTimeoutDuration).getSeconds();
     }
 
     @Override

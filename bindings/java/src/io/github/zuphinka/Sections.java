@@ -20,8 +20,10 @@ final class Sections<T> {
     private static final Cleaner CLEANER = Cleaner.create();
     private static final long NANOS_OF_MILLI = 1_000_000;
 
-    private final CoreSettings settings;
     private final Work<T> work;
+    private final boolean isFair;
+    /** They change with the lock. */
+    private volatile CoreSettings<T> settings;
     private final long start = System.nanoTime();
     private final ReentrantLock lock = new ReentrantLock();
     private final BooleanSupplier isTaken = () -> lock.isLocked() || !lock.tryLock();
@@ -57,18 +59,19 @@ final class Sections<T> {
     /** How long the loans were that ended, except those of objects that were taken from their holders. */
     private final Histogram loans = new Histogram();
 
-    Sections(CoreSettings settings, Journal journal, Work<T> work) {
+    Sections(CoreSettings<T> settings, Journal journal, Work<T> work) {
         this.settings = settings;
         this.work = work;
+        isFair = settings.config.getFairness();
         JournalRoom.require(settings, journal);
         Callers.load();
-        maxOvertakes = settings.isFair ? 0 : CoreSettings.DEFAULT_OVERTAKES;
+        maxOvertakes = isFair ? 0 : CoreSettings.DEFAULT_OVERTAKES;
         overtakes = maxOvertakes;
-        long opened = JournalRoom.open(settings.text(), work.flags() | (settings.isAbandonedRemoved ? Core.RECLAIMS : 0), maxOvertakes);
+        long opened = JournalRoom.open(settings, work.flags() | settings.flags(), maxOvertakes);
         core = opened;
         CLEANER.register(this, () -> Core.drop(opened));
         details = JournalRoom.detailsOf(opened);
-        this.journal = new StoredJournal(core, journal, settings.text());
+        this.journal = new StoredJournal(core, journal, settings);
     }
 
     // The lock.
@@ -178,8 +181,8 @@ final class Sections<T> {
     }
 
     /** Makes an object ready that was taken, and lends it to a borrow that began at this time. If that fails, it is destroyed, and this returns false. */
-    private boolean isReadied(Member<T> member, long first, int caller) {
-        int outcome = work.makeReady(member);
+    private boolean isReadied(Member<T> member, CoreSettings<T> of, long first, int caller) {
+        int outcome = work.makeReady(member, of);
         long now = System.nanoTime();
         acquire();
         try {
@@ -207,8 +210,8 @@ final class Sections<T> {
     }
 
     /** Tests and passivates an object that was taken back. It is idle then, or destroyed. */
-    private void putAway(Member<T> member, int caller) {
-        int outcome = work.putAway(member);
+    private void putAway(Member<T> member, CoreSettings<T> of, int caller) {
+        int outcome = work.putAway(member, of);
         acquire();
         try {
             if (complete(Core.INPUT_PARK, member, outcome, System.nanoTime(), caller) == Core.ANSWER_PARKED) {
@@ -268,6 +271,8 @@ final class Sections<T> {
     /** Begins a call in a section that has the lock. */
     private void beginCall(Call<T> call) {
         Member<T> member = call.member;
+        call.settings = settings;
+        call.testsOnCreate = settings.config.getTestOnCreate();
         long id = member == null ? call.moreMillis : member.id;
         long reply = Core.begin(core, timeOf(call.first), id, member == null ? 0 : member.slot, call.caller, call.kind);
         if (reply == Core.STATUS_OUT_OF_MEMORY) {
@@ -368,6 +373,7 @@ final class Sections<T> {
             case Core.ACTION_VALIDATE:
                 boolean isOfBorrow = call.kind == Core.KIND_BORROW && call.isActivated;
                 failedOnBorrow += isOfBorrow && report != Core.REPORT_SUCCEEDED ? 1 : 0;
+                call.isActivated |= !work.activates;
                 break;
             case Core.ACTION_DESTROY:
                 if (report != Core.REPORT_GIVEN_UP) {
@@ -413,12 +419,11 @@ final class Sections<T> {
         }
         call.action = Core.action(reply);
         call.end = Core.end(reply);
-        if (Core.hasUntil(reply)) {
-            call.untilMillis = details.getLong(Core.UNTIL);
-            call.untilNanos = nanosUntil(call.untilMillis, call);
+        if (call.action == Core.ACTION_SLEEP) {
+            limitSleep(call, reply);
         }
         journal.noteEntries(details.getLong(Core.ENTRIES));
-        if (settings.isAbandonedRemoved && details.getLong(Core.RECLAIMED) > reclaimed) {
+        if (details.getLong(Core.RECLAIMED) > reclaimed) {
             takeReclaimed(call);
         }
         prepare(call, reply);
@@ -437,6 +442,9 @@ final class Sections<T> {
 
     /** Has what the next action needs. */
     private void prepare(Call<T> call, long reply) {
+        if (call.kind != Core.KIND_EVICT || call.action == work.firstOfTest()) {
+            call.settings = settings; // an idle test ends by those by which it began
+        }
         switch (call.action) {
             case Core.ACTION_MAKE_ROOM:
                 call.cuts = journal.cuts();
@@ -444,7 +452,7 @@ final class Sections<T> {
                 break;
             case Core.ACTION_MAKE:
                 call.member = members.add(details.getLong(Core.OBJECT));
-                call.isActivated = false;
+                call.isActivated = !work.activates && !call.testsOnCreate;
                 break;
             case Core.ACTION_SLEEP:
                 call.ticket = details.getLong(Core.TICKET);
@@ -456,13 +464,20 @@ final class Sections<T> {
             case Core.ACTION_PASSIVATE:
             case Core.ACTION_DESTROY:
                 takeObject(call, Core.token(reply));
-                call.idle = work.hasPolicy() && call.kind == Core.KIND_EVICT ? journal.counts().idle() : 0;
+                call.idle = call.settings.policy != null && call.kind == Core.KIND_EVICT ? journal.counts().idle() : 0;
                 break;
             default:
                 if (call.end == Core.END_LENT) {
                     takeObject(call, Core.token(reply));
                 }
         }
+    }
+
+    /** Has the time at which the wait of a call is over by the settings of the moment. */
+    private void limitSleep(Call<T> call, long reply) {
+        boolean hasUntil = Core.hasUntil(reply);
+        call.untilMillis = hasUntil ? details.getLong(Core.UNTIL) : Long.MAX_VALUE;
+        call.untilNanos = hasUntil ? nanosUntil(call.untilMillis, call) : Long.MAX_VALUE;
     }
 
     /** Returns how many nanoseconds after the beginning of a call a time of the core is. */
@@ -474,7 +489,7 @@ final class Sections<T> {
     private void takeObject(Call<T> call, int token) {
         if (call.kind != Core.KIND_RETURN && call.kind != Core.KIND_INVALIDATE) {
             Member<T> member = members.at(token);
-            call.isActivated &= member == call.member;
+            call.isActivated = member == call.member ? call.isActivated : !work.activates;
             call.member = member;
         }
     }
@@ -546,7 +561,7 @@ final class Sections<T> {
 
     /** Wakes a call, in a fair pool once those that were to be woken before it have gone on: so each has the object that came free for it. */
     private void wake(long ticket) {
-        if (!settings.isFair || waiters.queue(ticket)) {
+        if (!isFair || waiters.queue(ticket)) {
             unpark(waiters.wake(ticket));
         }
     }
@@ -645,18 +660,22 @@ final class Sections<T> {
     Member<T> borrow(long first, long longestNanos) throws Exception {
         int caller;
         Member<T> member;
+        boolean isBare;
+        CoreSettings<T> of;
         Call<T> call = null;
         begin();
         try {
             caller = Callers.number();
-            member = work.isBorrowedBare ? lendAtOnce(first, caller) : takeIdle(first, caller);
+            of = settings;
+            isBare = work.isBorrowedBare(of);
+            member = isBare ? lendAtOnce(first, caller) : takeIdle(first, caller);
             if (member == null) {
                 call = begun(first, longestNanos);
             }
         } finally {
             release();
         }
-        if (call == null && (work.isBorrowedBare || isReadied(member, first, caller))) {
+        if (call == null && (isBare || isReadied(member, of, first, caller))) {
             return member;
         }
         return lentBy(call == null ? begunLater(first, longestNanos) : call);
@@ -665,7 +684,7 @@ final class Sections<T> {
     /** Begins a borrow in a section that has the lock. */
     private Call<T> begun(long first, long longestNanos) {
         Call<T> call = call(Core.KIND_BORROW, first, null);
-        call.limitTo(longestNanos, settings);
+        call.limitTo(longestNanos);
         beginCall(call);
         return call;
     }
@@ -674,7 +693,9 @@ final class Sections<T> {
     private Call<T> begunLater(long first, long longestNanos) {
         acquire();
         try {
-            return begun(first, longestNanos < 0 ? settings.maxWaitNanos : longestNanos);
+            Call<T> call = begun(first, longestNanos);
+            call.limitNanos = longestNanos < 0 ? settings.maxWaitNanos : longestNanos; // the core counts from now on
+            return call;
         } finally {
             release();
         }
@@ -685,22 +706,31 @@ final class Sections<T> {
         follow(call);
         Member<T> member = call.member;
         if (call.end == Core.END_LENT && call.error != null) {
-            giveBack(member);
+            while (!isGivenBack(member, settings)) {
+                // Other settings came between.
+            }
         }
         Ends.check(call);
         leave(call);
         return member;
     }
 
-    /** Returns an object. */
-    void giveBack(Member<T> member) {
+    /**
+     * Returns an object, if the pool still has these settings, and returns whether it had. Its wrapper was told before if the return has no work by
+     * them.
+     */
+    boolean isGivenBack(Member<T> member, CoreSettings<T> of) {
+        boolean isBare = work.isReturnedBare(of);
         int caller;
         long now = System.nanoTime();
         Call<T> call = null;
         begin();
         try {
+            if (settings != of) {
+                return false;
+            }
             caller = Callers.number();
-            boolean isBegun = work.isReturnedBare ? takeBackAtOnce(member, now, caller) : isTaken(member, now, caller);
+            boolean isBegun = isBare ? takeBackAtOnce(member, now, caller) : isTaken(member, now, caller);
             if (!isBegun) {
                 call = call(Core.KIND_RETURN, now, member);
                 beginCall(call);
@@ -712,9 +742,10 @@ final class Sections<T> {
             follow(call);
             Ends.checkUnchecked(call);
             leave(call);
-        } else if (!work.isReturnedBare) {
-            putAway(member, caller);
+        } else if (!isBare) {
+            putAway(member, of, caller);
         }
+        return true;
     }
 
     /** Makes another call, which is for no object if that is null, and destroys objects in a mode. A second close has no effect. */
@@ -757,7 +788,7 @@ final class Sections<T> {
     /** Notes that the holder of an object last used it so many nanoseconds ago, for a borrow with a limit or another call. */
     void noteUse(Member<T> member, long nanosAgo, int kind, long first, long longestNanos) throws Exception {
         Call<T> call = call(kind, first, null);
-        call.limitTo(longestNanos, settings);
+        call.limitTo(longestNanos);
         long used = System.nanoTime() - nanosAgo;
         while (!hasNoted(member, Math.max(used, start), call)) {
             if (makeRoom(call) != Core.REPORT_ROOM_MADE) {
@@ -787,6 +818,40 @@ final class Sections<T> {
         } finally {
             release();
         }
+    }
+
+    // The settings.
+
+    /** Returns the settings of the moment. It takes no lock. */
+    CoreSettings<T> settings() {
+        return settings;
+    }
+
+    /**
+     * Goes on with other settings, if the pool still has those that they were made of, and returns whether it had. The journal is cut if they have
+     * another text.
+     */
+    boolean isReconfigured(CoreSettings<T> known, CoreSettings<T> next) {
+        boolean isOther = !next.text().equals(known.text());
+        if (isOther) {
+            journal.require(next);
+        }
+        return locked(() -> {
+            boolean isSame = settings == known;
+            if (isSame) {
+                use(next, isOther);
+            }
+            return isSame;
+        });
+    }
+
+    private void use(CoreSettings<T> next, boolean isOther) {
+        if (isOther) {
+            journal.reconfigure(next);
+        }
+        settings = next;
+        work.use(next);
+        wakeMore();
     }
 
     // The journal.
@@ -836,6 +901,13 @@ final class Sections<T> {
             journal.storeDue();
         } catch (Throwable e) {
             work.swallow(e);
+        }
+    }
+
+    /** Stores the segments that wait, without the lock, also if that failed before, once no other thread stores one. */
+    void storeWaiting() {
+        if (journal.isPending()) {
+            storePending();
         }
     }
 

@@ -15,6 +15,8 @@ public final class Segment {
     /** Its text, in order. No part is empty. */
     final List<byte[]> parts;
     private final String settings;
+    /** The next one of {@link Segments}. */
+    Segment next;
 
     Segment(long position, long entries, List<byte[]> parts, String settings) {
         this.position = position;
@@ -82,9 +84,9 @@ public final class Segment {
     }
 
     /**
-     * Returns the settings of the pool, as a file in TOML. All its segments have the same.
+     * Returns the settings that the pool had for all entries of the segment, as a file in TOML. The next segment may have others.
      *
-     * @return the text that {@link ZuphinkaPool#getSettingsText} returns
+     * @return the text that {@link ZuphinkaPool#getSettingsText} returned then
      */
     public String settings() {
         return settings;

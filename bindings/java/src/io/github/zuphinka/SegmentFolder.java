@@ -17,7 +17,8 @@ import java.util.stream.Stream;
 
 /**
  * Stores the segments of one pool in a folder: each in a file {@code segment-POSITION}, whose position has 20 digits, and the settings in
- * {@code settings.toml}. After a crash a file is complete or absent: it is written under another name, synced and renamed, and the folder is
+ * {@code settings.toml}. Other settings are in {@code settings-POSITION.toml}, with the position of the first segment that has them, and are stored
+ * before that. After a crash a file is complete or absent: it is written under another name, synced and renamed, and the folder is
  * synced. So is the folder above each new folder.
  *
  * <p>The settings come first, as a hard link, which fails if another pool has stored its settings there. So no two pools store segments in one
@@ -33,6 +34,8 @@ final class SegmentFolder implements SegmentSink {
     private final Path unfinished;
     /** Whether the folder has got the settings of this pool. */
     private boolean isOwn;
+    /** The settings that were stored last. */
+    private String settings;
 
     /**
      * Makes the folder, if it is not there.
@@ -68,7 +71,7 @@ final class SegmentFolder implements SegmentSink {
 
     private static boolean isOfJournal(Path file) {
         String name = file.getFileName().toString();
-        return name.equals(SETTINGS) || name.startsWith("segment-");
+        return name.equals(SETTINGS) || name.startsWith("segment-") || name.startsWith("settings-");
     }
 
     /** Stores a segment, again if an interrupt ended that: the thread is interrupted for another cause, and stays so. */
@@ -95,19 +98,31 @@ final class SegmentFolder implements SegmentSink {
     private void storeOnce(Segment segment) throws IOException {
         if (!isOwn || Files.notExists(folder.resolve(SETTINGS))) {
             claim(segment.settings());
+        } else if (!segment.settings().equals(settings)) {
+            storeAs("settings-%020d.toml", segment.position(), partsOf(segment.settings()));
         }
-        writeUnfinished(segment.parts);
-        Files.move(unfinished, folder.resolve(String.format(Locale.ROOT, "segment-%020d", segment.position())), StandardCopyOption.ATOMIC_MOVE);
+        settings = segment.settings();
+        storeAs("segment-%020d", segment.position(), segment.parts);
+    }
+
+    /** Stores a file by a name with a position. */
+    private void storeAs(String name, long position, List<byte[]> parts) throws IOException {
+        writeUnfinished(parts);
+        Files.move(unfinished, folder.resolve(String.format(Locale.ROOT, name, position)), StandardCopyOption.ATOMIC_MOVE);
         sync(folder);
     }
 
+    private static List<byte[]> partsOf(String text) {
+        return List.of(text.getBytes(StandardCharsets.UTF_8));
+    }
+
     /** Makes the folder this pool's: stores the settings, unless another pool did. A folder that was removed is made again. */
-    private void claim(String settings) throws IOException {
+    private void claim(String first) throws IOException {
         create(folder);
         if (!isOwn) {
             requireFree();
         }
-        writeUnfinished(List.of(settings.getBytes(StandardCharsets.UTF_8)));
+        writeUnfinished(partsOf(first));
         try {
             Files.createLink(folder.resolve(SETTINGS), unfinished);
             isOwn = true;

@@ -15,21 +15,21 @@ final class StoredJournal {
 
     private final long core;
     private final Journal journal;
-    private final String settings;
+    private CoreSettings<?> settings;
     /** How many entries are stored. */
     private long entries;
     /** How often it was cut. */
     private long cuts;
     /** At how many entries it is looked at again. */
     private long threshold;
-    /** A segment that is cut and not yet stored. */
-    private volatile Segment pending;
-    /** Whether the next call stores that segment. After a failure it is due again once half of the room that was left is used up. */
+    /** The segments that are cut and not yet stored, or not yet returned by {@link #cutNow} if the journal is kept. More than one: settings changed. */
+    private final Segments pending = new Segments();
+    /** Whether the next call stores these segments. After a failure it is due again once half of the room that was left is used up. */
     private volatile boolean isDue;
     /** Held while a segment is stored, so that segments are stored one at a time. The lock of the pool is not held meanwhile. */
     private final ReentrantLock storing = new ReentrantLock();
 
-    StoredJournal(long core, Journal journal, String settings) {
+    StoredJournal(long core, Journal journal, CoreSettings<?> settings) {
         this.core = core;
         this.journal = journal;
         this.settings = settings;
@@ -66,8 +66,8 @@ final class StoredJournal {
         if (entries < threshold) {
             return;
         }
-        isDue |= pending != null;
-        if (pending != null || !cut()) {
+        isDue |= isPending();
+        if (isPending() || !cut()) {
             threshold = entries + Math.max(1, Math.min(entries, (journal.limit - entries) / 2));
         }
     }
@@ -86,7 +86,7 @@ final class StoredJournal {
         if (segment == null || !cutCore()) {
             return false;
         }
-        pending = segment;
+        pending.add(segment);
         isDue = true;
         return true;
     }
@@ -95,10 +95,46 @@ final class StoredJournal {
         if (Core.cut(core) != 0) {
             return false;
         }
+        noteCut();
+        return true;
+    }
+
+    private void noteCut() {
         entries = 0;
         cuts++;
         threshold = enough(0);
-        return true;
+    }
+
+    /** Looks whether it has room for the objects of other settings, as {@link JournalRoom#require}. The caller needs no lock. */
+    void require(CoreSettings<?> next) {
+        JournalRoom.require(next, journal);
+    }
+
+    /**
+     * Goes on with other settings, and cuts the journal: what it stored is a segment with the old ones, unless it is dropped.
+     *
+     * @throws IllegalStateException if it has no room for the entries that complete what is in progress. Nothing changes
+     * @throws OutOfMemoryError if there is no memory. Nothing changes
+     */
+    void reconfigure(CoreSettings<?> next) {
+        Segment segment = journal.isDropped ? null : segment();
+        boolean isCopied = journal.isDropped || segment != null;
+        int status = isCopied ? Core.reconfigure(core, next.bytes(), next.flags()) : Core.STATUS_OUT_OF_MEMORY;
+        if (status == Core.STATUS_OUT_OF_MEMORY) {
+            throw new OutOfMemoryError("zuphinka: no memory for other settings");
+        }
+        if (status == Core.STATUS_JOURNAL_FULL) {
+            throw new IllegalStateException("Journal full");
+        }
+        if (status < 0) {
+            throw next.rejected(status);
+        }
+        noteCut();
+        settings = next;
+        if (segment != null && segment.entries() > 0) {
+            pending.add(segment);
+            isDue = journal.sink != null;
+        }
     }
 
     /** Returns the journal since it was last cut; null if there is no memory. */
@@ -114,7 +150,7 @@ final class StoredJournal {
             return null;
         }
         Counts counts = counts();
-        return new Segment(counts.steps() - counts.entries(), counts.entries(), parts, settings);
+        return new Segment(counts.steps() - counts.entries(), counts.entries(), parts, settings.text());
     }
 
     Counts counts() {
@@ -123,8 +159,12 @@ final class StoredJournal {
         return new Counts(numbers);
     }
 
-    /** Cuts the journal, and returns what was cut. */
+    /** Returns what a change of the settings has cut off of a kept journal, the oldest first; or cuts the journal, and returns what was cut. */
     Segment cutNow() {
+        Segment earlier = isKept() ? pending.removeFirst() : null;
+        if (earlier != null) {
+            return earlier;
+        }
         Segment segment = segment();
         if (segment == null || !cutCore()) {
             throw new OutOfMemoryError("zuphinka: no memory to cut the journal");
@@ -133,7 +173,7 @@ final class StoredJournal {
     }
 
     /**
-     * Cuts a full journal. No segment waits to be stored.
+     * Cuts a full journal, of which no segment waits to be stored, except those of changed settings.
      *
      * @throws IllegalStateException if there is nothing to cut
      */
@@ -158,7 +198,7 @@ final class StoredJournal {
 
     /** Returns whether a segment waits to be stored. The caller needs no lock. */
     boolean isPending() {
-        return pending != null;
+        return journal.sink != null && pending.first() != null;
     }
 
     /**
@@ -196,10 +236,9 @@ final class StoredJournal {
     private void storeAndUnlock() throws IOException {
         try {
             isDue = false;
-            Segment segment = pending;
-            if (segment != null) {
-                journal.sink.store(segment);
-                pending = null;
+            while (isPending()) {
+                journal.sink.store(pending.first());
+                pending.removeFirst();
             }
         } catch (Error e) {
             throw new IllegalStateException("The sink failed", e);
@@ -210,7 +249,7 @@ final class StoredJournal {
 
     /** Cuts the rest of a journal that is stored, and returns true; or false if a segment waits to be stored before. */
     boolean isRestCut() {
-        if (pending != null) {
+        if (isPending()) {
             return false;
         }
         if (journal.sink != null && counts().entries() > 0 && !cut()) {

@@ -9,7 +9,7 @@ import org.apache.commons.pool2.impl.GenericObjectPoolConfig;
 
 /** An eviction policy of the user's own, and the settings that it is asked with. */
 final class UserPolicy<T> {
-    private final EvictionPolicy<T> policy;
+    final EvictionPolicy<T> policy;
     private final EvictionConfig config;
 
     private UserPolicy(EvictionPolicy<T> policy, EvictionConfig config) {

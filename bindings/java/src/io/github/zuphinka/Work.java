@@ -16,16 +16,18 @@ final class Work<T> {
     static final Exception INVALID = new InvalidObject();
 
     private final PooledObjectFactory<T> factory;
-    /** Null: the policy is the core's. */
-    private final UserPolicy<T> policy;
-    private final AbandonedConfig abandoned;
     private final Objects<T> objects;
     private final Consumer<Throwable> swallowing;
-    /** Whether an idle object is lent, and a returned one is idle, without any work. */
-    final boolean isBorrowedBare;
-    final boolean isReturnedBare;
+    /** Whether the factory has work to activate and to passivate an object. */
+    final boolean activates;
+    private final boolean passivates;
+    /** Whether it has work to test and to destroy one. */
+    private final boolean validates;
+    private final boolean destroys;
+    /** The settings of the moment. They change with the lock of the pool. */
+    private volatile CoreSettings<T> settings;
     /** Whether no method of the factory sees a wrapper after the object's first loan. */
-    private final boolean isWrapperUnseen;
+    private volatile boolean isWrapperUnseen;
     /** Whether some object says itself when it was last used. */
     private volatile boolean hasTracked;
 
@@ -37,25 +39,32 @@ final class Work<T> {
         }
     }
 
-    private final boolean testsOnBorrow;
-    private final boolean testsOnReturn;
-    private final boolean testsWhileIdle;
-
-    Work(PooledObjectFactory<T> factory, UserPolicy<T> policy, CoreSettings settings, AbandonedConfig abandoned, Objects<T> objects,
-            Consumer<Throwable> swallowing) {
+    Work(PooledObjectFactory<T> factory, CoreSettings<T> settings, Objects<T> objects, Consumer<Throwable> swallowing) {
         this.factory = factory;
-        this.policy = policy;
-        this.abandoned = abandoned;
         this.objects = objects;
         this.swallowing = swallowing;
-        testsOnBorrow = settings.testOnBorrow;
-        testsOnReturn = settings.testOnReturn;
-        testsWhileIdle = settings.testWhileIdle;
-        isBorrowedBare = !settings.testOnBorrow && inherits("activateObject", PooledObject.class);
-        isReturnedBare = !settings.testOnReturn && inherits("passivateObject", PooledObject.class);
-        isWrapperUnseen = isBorrowedBare && isReturnedBare && abandoned == null && policy == null
-                && (!settings.testWhileIdle || inherits("validateObject", PooledObject.class))
-                && inherits("destroyObject", PooledObject.class) && inherits("destroyObject", PooledObject.class, DestroyMode.class);
+        activates = !inherits("activateObject", PooledObject.class);
+        passivates = !inherits("passivateObject", PooledObject.class);
+        validates = !inherits("validateObject", PooledObject.class);
+        destroys = !inherits("destroyObject", PooledObject.class) || !inherits("destroyObject", PooledObject.class, DestroyMode.class);
+        use(settings);
+    }
+
+    /** Goes on with other settings. */
+    void use(CoreSettings<T> next) {
+        isWrapperUnseen = isBorrowedBare(next) && isReturnedBare(next) && !next.canBeAbandoned() && next.policy == null
+                && !(next.testWhileIdle && validates) && !destroys;
+        settings = next;
+    }
+
+    /** Returns whether an idle object is lent without any work. */
+    boolean isBorrowedBare(CoreSettings<T> some) {
+        return !activates && !some.testOnBorrow;
+    }
+
+    /** Returns whether a returned object is idle without any work. */
+    boolean isReturnedBare(CoreSettings<T> some) {
+        return !passivates && !some.testOnReturn;
     }
 
     /** Returns whether a method of the factory is the one of {@link BasePooledObjectFactory}, which does nothing. */
@@ -73,14 +82,14 @@ final class Work<T> {
         return hasTracked;
     }
 
-    /** Returns whether the user has an eviction policy. */
-    boolean hasPolicy() {
-        return policy != null;
+    /** Returns the action with which an idle test begins. */
+    int firstOfTest() {
+        return activates ? Core.ACTION_ACTIVATE : Core.ACTION_VALIDATE;
     }
 
     /** Returns the flags by which the core asks for this work. */
     int flags() {
-        return Core.VALIDATES | (isBorrowedBare ? 0 : Core.ACTIVATES) | (isReturnedBare ? 0 : Core.PASSIVATES);
+        return Core.VALIDATES | (activates ? Core.ACTIVATES : 0) | (passivates ? Core.PASSIVATES : 0);
     }
 
     /** Tells a failure that no call throws, if it is one. */
@@ -93,7 +102,7 @@ final class Work<T> {
     /** Does what a call is asked for. Returns the report. */
     int act(Call<T> call) {
         try {
-            boolean isOfPolicy = policy != null && call.kind == Core.KIND_EVICT && call.action != Core.ACTION_DESTROY;
+            boolean isOfPolicy = call.settings.policy != null && call.kind == Core.KIND_EVICT && call.action != Core.ACTION_DESTROY;
             return isOfPolicy ? examine(call) : actOnObject(call);
         } catch (Throwable e) {
             return failed(call, e);
@@ -124,17 +133,16 @@ final class Work<T> {
      * wants gone fails its test. Any other is tested if the user wants tests, and passes otherwise. Returns the report.
      */
     private int examine(Call<T> call) throws Exception {
-        int first = isBorrowedBare ? Core.ACTION_VALIDATE : Core.ACTION_ACTIVATE;
-        if (call.action == first && isEvicted(call)) {
+        if (call.action == firstOfTest() && isEvicted(call)) {
             return Core.REPORT_FAILED;
         }
-        return testsWhileIdle ? actOnObject(call) : Core.REPORT_SUCCEEDED;
+        return call.settings.testWhileIdle ? actOnObject(call) : Core.REPORT_SUCCEEDED;
     }
 
     /** Asks the policy for an object. One for which it throws stays. */
     private boolean isEvicted(Call<T> call) {
         try {
-            return policy.evicts(call.member.pooled, call.idle);
+            return call.settings.policy.evicts(call.member.pooled, call.idle);
         } catch (Throwable e) {
             if (!call.keepsError(e)) {
                 swallow(e);
@@ -171,25 +179,25 @@ final class Work<T> {
 
     // Pairs of two steps.
 
-    /** Activates and tests an idle object that a borrow took. Returns the outcome, and notes what failed. */
-    int makeReady(Member<T> member) {
+    /** Activates and tests an idle object that a borrow took by these settings. Returns the outcome, and notes what failed. */
+    int makeReady(Member<T> member, CoreSettings<T> of) {
         int failed = Core.OUTCOME_ACTIVATE_FAILED;
         try {
             tellLoan(member);
             factory.activateObject(member.pooled);
             failed = Core.OUTCOME_TEST_FAILED;
-            return !testsOnBorrow || isValid(member) ? Core.OUTCOME_GOOD : failed;
+            return !of.testOnBorrow || isValid(member) ? Core.OUTCOME_GOOD : failed;
         } catch (Throwable e) {
             member.fault = e;
             return failed;
         }
     }
 
-    /** Tests and passivates an object that is returned. Returns the outcome, and notes what failed. */
-    int putAway(Member<T> member) {
+    /** Tests and passivates an object that is returned by these settings. Returns the outcome, and notes what failed. */
+    int putAway(Member<T> member, CoreSettings<T> of) {
         int failed = Core.OUTCOME_TEST_FAILED;
         try {
-            if (testsOnReturn && !isValid(member)) {
+            if (of.testOnReturn && !isValid(member)) {
                 return failed;
             }
             failed = Core.OUTCOME_PASSIVATE_FAILED;
@@ -227,8 +235,8 @@ final class Work<T> {
         }
         boolean isAdded;
         try {
-            isAdded = hasAdded(member);
-            if (isAdded && call.kind == Core.KIND_BORROW && isBorrowedBare) {
+            isAdded = hasAdded(member, call.settings.abandoned);
+            if (isAdded && call.kind == Core.KIND_BORROW && !activates) {
                 tellNew(member);
             }
         } catch (Throwable e) {
@@ -241,15 +249,14 @@ final class Work<T> {
     }
 
     /** Adds a new object to those of the pool, and returns whether it was not there. */
-    private boolean hasAdded(Member<T> member) {
+    private boolean hasAdded(Member<T> member, AbandonedConfig abandoned) {
+        boolean isTracked = member.pooled.getObject() instanceof TrackedUse;
         if (abandoned != null && abandoned.getLogAbandoned()) {
             member.pooled.setLogAbandoned(true);
             member.pooled.setRequireFullStackTrace(abandoned.getRequireFullStackTrace());
         }
-        member.isWrapperTold = !isWrapperUnseen || member.pooled.getClass() != DefaultPooledObject.class;
-        if (member.pooled.getObject() instanceof TrackedUse) {
-            hasTracked = true;
-        }
+        member.isWrapperTold = !isWrapperUnseen || isTracked || member.pooled.getClass() != DefaultPooledObject.class;
+        hasTracked |= isTracked;
         return objects.add(member);
     }
 
@@ -279,11 +286,17 @@ final class Work<T> {
     }
 
     private int validate(Call<T> call) {
-        if (isValid(call.member)) {
-            return Core.REPORT_SUCCEEDED;
+        if (call.kind == Core.KIND_BORROW && call.isActivated) {
+            tellLoan(call.member);
         }
-        call.fault = INVALID;
-        return Core.REPORT_FAILED;
+        if (!isValid(call.member)) {
+            call.fault = INVALID;
+            return Core.REPORT_FAILED;
+        }
+        if (call.kind == Core.KIND_RETURN && !passivates) {
+            tellReturn(call.member);
+        }
+        return Core.REPORT_SUCCEEDED;
     }
 
     private void passivate(Call<T> call) throws Exception {
@@ -293,15 +306,17 @@ final class Work<T> {
         }
     }
 
+    /** Tells a wrapper that its object is lent, unless it was told, or none need be. */
     void tellLoan(Member<T> member) {
-        if (member.isWrapperTold && !member.isLoanTold) {
+        if (!member.isLoanTold && (member.isWrapperTold || !isWrapperUnseen)) {
             member.isLoanTold = true;
             member.pooled.allocate();
         }
     }
 
+    /** Tells a wrapper that its object is returned, if it was told that it is lent. */
     void tellReturn(Member<T> member) {
-        if (member.isWrapperTold) {
+        if (member.isLoanTold) {
             member.isLoanTold = false;
             member.pooled.deallocate();
         }
@@ -348,8 +363,9 @@ final class Work<T> {
     }
 
     private void discardAbandoned(Member<T> member) throws Exception {
+        AbandonedConfig abandoned = settings.abandoned;
         try {
-            if (abandoned.getLogAbandoned()) {
+            if (abandoned != null && abandoned.getLogAbandoned()) {
                 member.pooled.printStackTrace(abandoned.getLogWriter());
             }
         } finally {

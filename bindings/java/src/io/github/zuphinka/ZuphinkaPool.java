@@ -7,6 +7,7 @@ import java.util.NoSuchElementException;
 import java.util.Set;
 import java.util.concurrent.ConcurrentHashMap;
 import java.util.concurrent.TimeUnit;
+import java.util.function.UnaryOperator;
 import java.util.stream.Collectors;
 import javax.management.ObjectName;
 import org.apache.commons.pool2.DestroyMode;
@@ -28,7 +29,8 @@ import org.apache.commons.pool2.impl.GenericObjectPoolConfig;
  * is woken. Tested, not proved, is this class: its lock, the sleep of its threads, and what a call with activation, passivation or tests does between
  * its two steps. The factory's methods run without the lock.
  *
- * <p>The configurations are copied, and later changes to them have no effect. Any number of threads may use a pool.
+ * <p>The configurations are copied, and later changes to them have no effect. {@link #reconfigure} and the setters change the settings of a pool while
+ * it is used. Any number of threads may use a pool.
  *
  * <p>Each call that takes a step may throw three exceptions that it does not list. They leave the pool as it was before the step:
  * <ul>
@@ -46,17 +48,19 @@ import org.apache.commons.pool2.impl.GenericObjectPoolConfig;
  *
  * @param <T> the type of the objects
  */
-public class ZuphinkaPool<T> implements ObjectPool<T>, UsageTracking<T> {
-    private final CoreSettings settings;
+public class ZuphinkaPool<T> extends ConfiguredPool<T> implements ObjectPool<T>, UsageTracking<T> {
     private final Objects<T> objects = new Objects<>();
     private final Work<T> work;
     private final Sections<T> sections;
-    private final Duration evictorShutdown;
     private final Construction construction = new Construction(this, ZuphinkaPool.class);
     /** The threads that are in {@link #swallowed}. */
     private final Set<Thread> reporting = ConcurrentHashMap.newKeySet();
-    private final Maintenance maintenance;
     private final ObjectName beanName;
+    /** Protects what follows. */
+    private final Object upkeep = new Object();
+    /** Null: the settings have none, or the pool is closed. */
+    private Maintenance maintenance;
+    private boolean isEnded;
 
     /**
      * Makes a pool with the default configuration, whose journal is dropped.
@@ -109,24 +113,51 @@ public class ZuphinkaPool<T> implements ObjectPool<T>, UsageTracking<T> {
         if (factory == null) {
             throw new IllegalArgumentException("Factory may not be null");
         }
-        AbandonedConfig copied = AbandonedConfig.copy(abandoned);
-        UserPolicy<T> policy = UserPolicy.of(config);
-        settings = new CoreSettings(config, policy != null, copied, journal.limit);
-        work = new Work<>(factory, policy, settings, copied, objects, this::swallow);
+        CoreSettings<T> settings = new CoreSettings<>(config, abandoned, journal.limit);
+        work = new Work<>(factory, settings, objects, this::swallow);
         sections = open(settings, journal, work);
-        evictorShutdown = config.getEvictorShutdownTimeoutDuration();
-        Duration pause = config.getDurationBetweenEvictionRuns();
-        beanName = config.getJmxEnabled() ? PoolBean.register(this, config.clone(), copied, factory.getClass().getName()) : null;
-        maintenance = pause.isNegative() || pause.isZero() ? null : Maintenance.start(this, pause);
+        beanName = config.getJmxEnabled() ? PoolBean.register(this, config, factory.getClass().getName()) : null;
+        startMaintenance();
     }
 
-    private static <T> Sections<T> open(CoreSettings settings, Journal journal, Work<T> work) {
+    private static <T> Sections<T> open(CoreSettings<T> settings, Journal journal, Work<T> work) {
         journal.take();
         try {
             return new Sections<>(settings, journal, work);
         } catch (Throwable e) {
             journal.leave();
             throw e;
+        }
+    }
+
+    // Settings.
+
+    @Override
+    final CoreSettings<T> settings() {
+        return sections.settings();
+    }
+
+    @Override
+    final void change(UnaryOperator<CoreSettings<T>> change) {
+        CoreSettings<T> known;
+        do {
+            known = settings();
+        } while (!sections.isReconfigured(known, change.apply(known)));
+        startMaintenance();
+        sections.storeWaiting();
+    }
+
+    /** Has a maintenance thread with the pause of the settings, or none, in place of one with another pause. */
+    private void startMaintenance() {
+        synchronized (upkeep) {
+            Duration pause = getDurationBetweenEvictionRuns();
+            if (maintenance != null && !maintenance.pause.equals(pause)) {
+                maintenance.stop();
+                maintenance = null;
+            }
+            if (maintenance == null && !isEnded && !pause.isNegative() && !pause.isZero()) {
+                maintenance = Maintenance.start(this, pause);
+            }
         }
     }
 
@@ -241,13 +272,13 @@ public class ZuphinkaPool<T> implements ObjectPool<T>, UsageTracking<T> {
 
     private T borrow(long longestNanos) throws Exception {
         long first = System.nanoTime();
-        if (settings.reclaimsOnBorrow) {
+        if (settings().reclaimsOnBorrow) {
             noteTrackedUses(Core.KIND_BORROW, first, longestNanos);
         }
         for (;;) {
             Member<T> member = sections.borrow(first, longestNanos);
             sections.storeDue();
-            if (!work.isBorrowedBare || isTold(member)) {
+            if (isTold(member)) {
                 return member.pooled.getObject();
             }
         }
@@ -297,10 +328,16 @@ public class ZuphinkaPool<T> implements ObjectPool<T>, UsageTracking<T> {
             missing("Returned object not currently part of this pool");
             return;
         }
-        if (!work.isReturnedBare || isToldOfReturn(member)) {
-            sections.giveBack(member);
+        while (!isReturned(member, settings())) {
+            // Other settings came between.
         }
         sections.storeDue();
+    }
+
+    /** Returns an object by these settings, if the pool still has them. Returns whether it had; or true if the object is destroyed. */
+    private boolean isReturned(Member<T> member, CoreSettings<T> of) {
+        boolean isDestroyed = work.isReturnedBare(of) && !isToldOfReturn(member);
+        return isDestroyed || sections.isGivenBack(member, of);
     }
 
     /** Tells the wrapper of an object that it is returned, before another thread may have it. If that fails it is destroyed, and this returns false. */
@@ -317,7 +354,7 @@ public class ZuphinkaPool<T> implements ObjectPool<T>, UsageTracking<T> {
     }
 
     private void missing(String message) {
-        if (!settings.isAbandonedRemoved) {
+        if (!settings().canBeAbandoned()) {
             throw new IllegalStateException(message);
         }
     }
@@ -354,7 +391,7 @@ public class ZuphinkaPool<T> implements ObjectPool<T>, UsageTracking<T> {
      */
     @Override
     public void use(T object) {
-        Member<T> member = settings.isUsageTracked ? objects.find(object) : null;
+        Member<T> member = settings().isUsageTracked ? objects.find(object) : null;
         if (member == null) {
             return;
         }
@@ -418,6 +455,7 @@ public class ZuphinkaPool<T> implements ObjectPool<T>, UsageTracking<T> {
      */
     public void evict() throws Exception {
         sections.make(Core.KIND_EVICT, null);
+        CoreSettings<T> settings = settings();
         if (settings.reclaimsOnMaintenance) {
             noteTrackedUses(Core.KIND_RECLAIM, System.nanoTime(), -1);
             sections.make(Core.KIND_RECLAIM, null);
@@ -472,8 +510,15 @@ public class ZuphinkaPool<T> implements ObjectPool<T>, UsageTracking<T> {
 
     /** Ends what a pool has besides its objects. */
     private void end() {
-        if (maintenance != null) {
-            maintenance.stop(evictorShutdown);
+        Maintenance last;
+        synchronized (upkeep) {
+            isEnded = true;
+            last = maintenance;
+            maintenance = null;
+        }
+        if (last != null) {
+            last.stop();
+            last.await(settings().config.getEvictorShutdownTimeoutDuration());
         }
         if (beanName != null) {
             PoolBean.unregister(beanName);
@@ -662,16 +707,16 @@ public class ZuphinkaPool<T> implements ObjectPool<T>, UsageTracking<T> {
     }
 
     /**
-     * Returns the settings as a file in TOML, by which {@code pool check} checks the journal.
+     * Returns the settings as a file in TOML, by which {@code pool check} checks the journal since they last changed.
      *
-     * @return the text, always the same
+     * @return the text, which is the same until the settings change
      */
     public String getSettingsText() {
-        return settings.text();
+        return settings().text();
     }
 
     /**
-     * Returns the journal since it was last cut. The pool is unchanged.
+     * Returns the journal since it was last cut, or the settings changed. The pool is unchanged.
      *
      * @return the entries, with the base that they continue
      * @throws OutOfMemoryError if there is no memory for the text
@@ -683,6 +728,9 @@ public class ZuphinkaPool<T> implements ObjectPool<T>, UsageTracking<T> {
     /**
      * Cuts a journal that is kept, and returns what was cut. Objects, waits and counts are unchanged. Entries of a journal that is stored would be
      * missing from its segments.
+     *
+     * <p>If the settings changed since the last cut, this first returns the entries before the change, with the settings that they had, and cuts nothing.
+     * The next call returns those after it.
      *
      * @return the entries since the last cut, with the base that they continue
      * @throws OutOfMemoryError if there is no memory; then nothing is cut

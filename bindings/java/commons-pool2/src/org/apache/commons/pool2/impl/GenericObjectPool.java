@@ -3,8 +3,6 @@ package org.apache.commons.pool2.impl;
 import java.time.Duration;
 import java.util.NoSuchElementException;
 import java.util.Set;
-import java.util.concurrent.TimeUnit;
-import java.util.concurrent.locks.StampedLock;
 import org.apache.commons.pool2.DestroyMode;
 import org.apache.commons.pool2.ObjectPool;
 import org.apache.commons.pool2.PooledObject;
@@ -17,28 +15,20 @@ import org.apache.commons.pool2.UsageTracking;
  *
  * <p>The settings, the eviction timer, the MBean and the statistics are those of the library's base class.
  *
- * <p>These may be set at any time: {@code maxWait}, the time between eviction runs, the timeout of their end, the listener of swallowed exceptions,
- * and the statistics in messages. All others are fixed while the pool has objects or threads that wait. Once one of them is set to another value, each
- * call that borrows, adds or evicts objects throws an {@link UnsupportedOperationException}, until the value is set back, or the pool has no objects:
- * when all are returned and {@link #clear} is called. Then the new values hold. Returns, invalidations and {@link #close} always work.
+ * <p>{@link #setConfig} holds at once, and as one change. The library's base class has most other setters, and they are final: what they set holds from
+ * the next call on that borrows, returns, invalidates, adds, evicts or destroys objects, which also wakes threads that wait if there are more places.
+ * Settings that a pool cannot have are thrown by each call that borrows, adds or evicts, as an {@link IllegalArgumentException}; all others go on with the
+ * settings before.
  *
- * <p>If the property {@value PoolInForce#JOURNALS} names a folder, each pool stores its journal in a folder of its own there.
+ * <p>If the property {@value ProvedPool#JOURNALS} names a folder, each pool stores its journal in a folder of its own there.
  *
  * @param <T> the type of the objects
  */
 public class GenericObjectPool<T> extends BaseGenericObjectPool<T> implements ObjectPool<T>, GenericObjectPoolMXBean, UsageTracking<T> {
     private static final String BEAN_BASE = "org.apache.commons.pool2:type=GenericObjectPool,name=";
-    /** For how many seconds a call that finds other settings waits for calls that are about to end. */
-    private static final long LONGEST_CALL = 1;
-
     private final PooledObjectFactory<T> factory;
     private final CountedFactory<T> counted;
-    /** Held for reading by the calls that need the pool in force, and for writing while another one takes its place. */
-    private final StampedLock calls = new StampedLock();
-    /** Held while a pool is opened or closed. */
-    private final Object opening = new Object();
-    /** Null until the first call that needs a pool. */
-    private volatile PoolInForce<T> inForce;
+    private final ProvedPool<T> pool;
     private volatile int maxIdle = GenericObjectPoolConfig.DEFAULT_MAX_IDLE;
     private volatile int minIdle = GenericObjectPoolConfig.DEFAULT_MIN_IDLE;
     private volatile String factoryType;
@@ -68,6 +58,7 @@ public class GenericObjectPool<T> extends BaseGenericObjectPool<T> implements Ob
         }
         this.factory = factory;
         counted = CountedFactory.of(factory, this);
+        pool = new ProvedPool<>(this, counted);
         setConfig(config);
     }
 
@@ -84,60 +75,6 @@ public class GenericObjectPool<T> extends BaseGenericObjectPool<T> implements Ob
         setAbandonedConfig(abandonedConfig);
     }
 
-    // The pool in force.
-
-    /** Begins a call of the pool with the settings of this moment. Returns the stamp by which {@link #calls} is to be unlocked. */
-    private long begin() throws InterruptedException {
-        for (;;) {
-            assertOpen();
-            long stamp = calls.readLock();
-            PoolInForce<T> last = inForce;
-            if (last != null && last.hasSettingsOf(this)) {
-                return stamp;
-            }
-            calls.unlockRead(stamp);
-            replace(last);
-        }
-    }
-
-    /** Opens a pool with the settings of this moment in place of one that has other settings and no objects, or of none. */
-    private void replace(PoolInForce<T> last) throws InterruptedException {
-        requireUnused(last);
-        long stamp = calls.tryWriteLock(LONGEST_CALL, TimeUnit.SECONDS);
-        if (stamp == 0) {
-            throw inUse(last);
-        }
-        try {
-            synchronized (opening) {
-                assertOpen();
-                if (inForce == last) {
-                    requireUnused(last);
-                    inForce = new PoolInForce<>(this, counted);
-                    closeEmpty(last);
-                }
-            }
-        } finally {
-            calls.unlockWrite(stamp);
-        }
-    }
-
-    private void requireUnused(PoolInForce<T> last) {
-        if (last != null && last.isUsed()) {
-            throw inUse(last);
-        }
-    }
-
-    private UnsupportedOperationException inUse(PoolInForce<T> last) {
-        return new UnsupportedOperationException("The settings of a pool that has objects or is waited for were changed. They were "
-                + last.settings() + ", and are " + PoolInForce.settingsOf(this) + " " + abandonedConfig);
-    }
-
-    private static void closeEmpty(PoolInForce<?> last) {
-        if (last != null) {
-            last.close();
-        }
-    }
-
     // Borrows.
 
     /**
@@ -148,7 +85,6 @@ public class GenericObjectPool<T> extends BaseGenericObjectPool<T> implements Ob
      *     its activation or its test
      * @throws IllegalStateException if the pool is closed
      * @throws InterruptedException if the thread is interrupted, or the pool is closed, while it waits
-     * @throws UnsupportedOperationException if settings were changed that are fixed now
      * @throws Exception if the factory fails to make an object; the same exception
      */
     @Override
@@ -165,10 +101,10 @@ public class GenericObjectPool<T> extends BaseGenericObjectPool<T> implements Ob
      */
     public T borrowObject(Duration borrowMaxWaitDuration) throws Exception {
         long first = System.nanoTime();
-        long stamp = begin();
-        PoolInForce<T> pool = inForce;
+        assertOpen();
+        pool.update();
         try {
-            T object = pool.borrow(borrowMaxWaitDuration);
+            T object = pool.borrowObject(borrowMaxWaitDuration);
             noteLoan(pool.wrapperOf(object), System.nanoTime() - first);
             return object;
         } catch (NoSuchElementException e) {
@@ -176,8 +112,7 @@ public class GenericObjectPool<T> extends BaseGenericObjectPool<T> implements Ob
         } catch (IllegalStateException e) {
             throw isClosed() ? closedMeanwhile(e) : e;
         } finally {
-            calls.unlockRead(stamp);
-            pool.showCounts(this);
+            pool.showCounts();
         }
     }
 
@@ -225,13 +160,13 @@ public class GenericObjectPool<T> extends BaseGenericObjectPool<T> implements Ob
      */
     @Override
     public void returnObject(T obj) {
-        PoolInForce<T> pool = inForce;
         PooledObject<T> pooled = getPooledObject(obj);
         if (pooled == null) {
             missing("Returned object not currently part of this pool");
             return;
         }
         Duration active = pooled.getActiveDuration();
+        pool.updateQuietly();
         pool.returnObject(obj);
         updateStatsReturn(active);
     }
@@ -257,11 +192,11 @@ public class GenericObjectPool<T> extends BaseGenericObjectPool<T> implements Ob
     /** Does the same, and passes a mode on to the factory. */
     @Override
     public void invalidateObject(T obj, DestroyMode destroyMode) throws Exception {
-        PoolInForce<T> pool = inForce;
         if (getPooledObject(obj) == null) {
             missing("Invalidated object not currently part of this pool");
             return;
         }
+        pool.updateQuietly();
         pool.invalidateObject(obj, destroyMode);
     }
 
@@ -272,10 +207,8 @@ public class GenericObjectPool<T> extends BaseGenericObjectPool<T> implements Ob
      */
     @Override
     public void use(T pooledObject) {
-        PoolInForce<T> pool = inForce;
-        if (pool != null) {
-            pool.use(pooledObject);
-        }
+        pool.updateQuietly();
+        pool.use(pooledObject);
     }
 
     // Upkeep.
@@ -284,17 +217,13 @@ public class GenericObjectPool<T> extends BaseGenericObjectPool<T> implements Ob
      * Makes one more idle object, if there is a free place. One that fails its test is destroyed, without an exception.
      *
      * @throws IllegalStateException if the pool is closed
-     * @throws UnsupportedOperationException if settings were changed that are fixed now
      * @throws Exception if the factory fails to make or to passivate it, or its test throws; the same exception. Its place is free
      */
     @Override
     public void addObject() throws Exception {
-        long stamp = begin();
-        try {
-            inForce.addObject();
-        } finally {
-            calls.unlockRead(stamp);
-        }
+        assertOpen();
+        pool.update();
+        pool.addObject();
     }
 
     @Override
@@ -302,12 +231,8 @@ public class GenericObjectPool<T> extends BaseGenericObjectPool<T> implements Ob
         if (getMinIdle() < 1 || isClosed()) {
             return;
         }
-        long stamp = begin();
-        try {
-            inForce.preparePool();
-        } finally {
-            calls.unlockRead(stamp);
-        }
+        pool.update();
+        pool.preparePool();
     }
 
     /**
@@ -324,32 +249,24 @@ public class GenericObjectPool<T> extends BaseGenericObjectPool<T> implements Ob
      * takes abandoned objects from their holders, if the settings say so. The eviction timer calls it.
      *
      * @throws IllegalStateException if the pool is closed
-     * @throws UnsupportedOperationException if settings were changed that are fixed now
      * @throws Exception what a test or a destruction threw first, once the run is over
      */
     @Override
     public void evict() throws Exception {
         assertOpen();
-        if (inForce == null) {
-            return;
-        }
-        long stamp = begin();
-        PoolInForce<T> pool = inForce;
+        pool.update();
         try {
             pool.evict();
         } finally {
-            calls.unlockRead(stamp);
-            pool.showCounts(this);
+            pool.showCounts();
         }
     }
 
     /** Destroys all idle objects, except those under an idle test. What the factory throws is passed to the listener of swallowed exceptions. */
     @Override
     public void clear() {
-        PoolInForce<T> pool = inForce;
-        if (pool != null) {
-            pool.clear();
-        }
+        pool.updateQuietly();
+        pool.clear();
     }
 
     /**
@@ -363,12 +280,8 @@ public class GenericObjectPool<T> extends BaseGenericObjectPool<T> implements Ob
                 return;
             }
             stopEvictor();
-            PoolInForce<T> last;
-            synchronized (opening) {
-                closed = true;
-                last = inForce;
-            }
-            closeEmpty(last);
+            closed = true;
+            pool.close();
             jmxUnregister();
         }
     }
@@ -376,7 +289,7 @@ public class GenericObjectPool<T> extends BaseGenericObjectPool<T> implements Ob
     // Settings.
 
     /**
-     * Sets all settings.
+     * Sets all settings, as one change. If the pool cannot have them, the next call throws that.
      *
      * @param conf the settings; not null. They are copied
      */
@@ -385,6 +298,7 @@ public class GenericObjectPool<T> extends BaseGenericObjectPool<T> implements Ob
         setMaxIdle(conf.getMaxIdle());
         setMinIdle(conf.getMinIdle());
         setMaxTotal(conf.getMaxTotal());
+        pool.updateQuietly();
     }
 
     /**
@@ -457,8 +371,7 @@ public class GenericObjectPool<T> extends BaseGenericObjectPool<T> implements Ob
      */
     @Override
     public int getNumActive() {
-        PoolInForce<T> pool = inForce;
-        return pool == null ? 0 : pool.getNumActive();
+        return pool.getNumActive();
     }
 
     /**
@@ -468,8 +381,7 @@ public class GenericObjectPool<T> extends BaseGenericObjectPool<T> implements Ob
      */
     @Override
     public int getNumIdle() {
-        PoolInForce<T> pool = inForce;
-        return pool == null ? 0 : pool.getNumIdle();
+        return pool.getNumIdle();
     }
 
     /**
@@ -479,8 +391,7 @@ public class GenericObjectPool<T> extends BaseGenericObjectPool<T> implements Ob
      */
     @Override
     public int getNumWaiters() {
-        PoolInForce<T> pool = inForce;
-        return pool == null ? 0 : pool.getNumWaiters();
+        return pool.getNumWaiters();
     }
 
     /**
@@ -490,14 +401,12 @@ public class GenericObjectPool<T> extends BaseGenericObjectPool<T> implements Ob
      */
     @Override
     public Set<DefaultPooledObjectInfo> listAllObjects() {
-        PoolInForce<T> pool = inForce;
-        return pool == null ? Set.of() : pool.listAllObjects();
+        return pool.listAllObjects();
     }
 
     /** Returns the wrapper of an object; null if it is not of this pool. */
     PooledObject<T> getPooledObject(T obj) {
-        PoolInForce<T> pool = inForce;
-        return pool == null ? null : pool.wrapperOf(obj);
+        return pool.wrapperOf(obj);
     }
 
     @Override

@@ -1,0 +1,139 @@
+package org.apache.commons.pool2.impl;
+
+import io.github.zuphinka.Journal;
+import io.github.zuphinka.ZuphinkaPool;
+import java.io.IOException;
+import java.io.UncheckedIOException;
+import java.nio.file.Files;
+import java.nio.file.Path;
+import org.apache.commons.pool2.PooledObject;
+
+/** The pool with the objects of a {@link GenericObjectPool}. It has the settings that this had at the last call which took them over. */
+final class ProvedPool<T> extends ZuphinkaPool<T> {
+    /** The property that names the folder for the journals of all pools. */
+    static final String JOURNALS = "zuphinka.journals";
+
+    private final GenericObjectPool<T> owner;
+    private final CountedFactory<T> factory;
+    /** That of the owner when its settings were last taken over. It has another one each time that it is set. */
+    private volatile AbandonedConfig abandoned;
+    /** How many objects were destroyed when the owner was last shown for what. */
+    private volatile long shownDestroyed;
+
+    ProvedPool(GenericObjectPool<T> owner, CountedFactory<T> factory) {
+        super(factory, settingsOf(owner), null, journal());
+        this.owner = owner;
+        this.factory = factory;
+    }
+
+    private static Journal journal() {
+        String parent = System.getProperty(JOURNALS);
+        if (parent == null) {
+            return Journal.dropped();
+        }
+        try {
+            return Journal.inFolder(Files.createTempDirectory(Files.createDirectories(Path.of(parent)), "pool-"));
+        } catch (IOException e) {
+            throw new UncheckedIOException(e);
+        }
+    }
+
+    /** Returns the settings of a pool, except those of its base class alone: of its timer, its MBean and its messages. */
+    private static <T> GenericObjectPoolConfig<T> settingsOf(GenericObjectPool<T> pool) {
+        GenericObjectPoolConfig<T> config = new GenericObjectPoolConfig<>();
+        config.setJmxEnabled(false);
+        config.setBlockWhenExhausted(pool.getBlockWhenExhausted());
+        config.setEvictionPolicy(pool.getEvictionPolicy());
+        config.setFairness(pool.getFairness());
+        config.setLifo(pool.getLifo());
+        config.setMaxIdle(pool.getMaxIdle());
+        config.setMaxTotal(pool.getMaxTotal());
+        config.setMaxWait(pool.getMaxWaitDuration());
+        config.setMinEvictableIdleTime(pool.getMinEvictableIdleDuration());
+        config.setMinIdle(pool.getMinIdle());
+        config.setNumTestsPerEvictionRun(pool.getNumTestsPerEvictionRun());
+        config.setSoftMinEvictableIdleTime(pool.getSoftMinEvictableIdleDuration());
+        config.setTestOnBorrow(pool.getTestOnBorrow());
+        config.setTestOnCreate(pool.getTestOnCreate());
+        config.setTestOnReturn(pool.getTestOnReturn());
+        config.setTestWhileIdle(pool.getTestWhileIdle());
+        return config;
+    }
+
+    private boolean isUpToDate() {
+        return hasLimitsOfOwner() && hasTestsOfOwner()
+                && getBlockWhenExhausted() == owner.getBlockWhenExhausted()
+                && getLifo() == owner.getLifo()
+                && abandoned == owner.abandonedConfig;
+    }
+
+    private boolean hasLimitsOfOwner() {
+        return getMaxIdle() == owner.getMaxIdle()
+                && getMaxTotal() == owner.getMaxTotal()
+                && getMinIdle() == owner.getMinIdle()
+                && getMaxWaitDuration().equals(owner.getMaxWaitDuration())
+                && getMinEvictableIdleDuration().equals(owner.getMinEvictableIdleDuration())
+                && getSoftMinEvictableIdleDuration().equals(owner.getSoftMinEvictableIdleDuration());
+    }
+
+    private boolean hasTestsOfOwner() {
+        return getTestOnBorrow() == owner.getTestOnBorrow()
+                && getTestOnCreate() == owner.getTestOnCreate()
+                && getTestOnReturn() == owner.getTestOnReturn()
+                && getTestWhileIdle() == owner.getTestWhileIdle()
+                && getNumTestsPerEvictionRun() == owner.getNumTestsPerEvictionRun()
+                && getEvictionPolicy() == owner.getEvictionPolicy();
+    }
+
+    /** Takes the settings of the owner over, if they changed. */
+    void update() {
+        if (!isUpToDate()) {
+            takeOver();
+        }
+    }
+
+    private synchronized void takeOver() {
+        AbandonedConfig latest = owner.abandonedConfig;
+        reconfigure(settingsOf(owner), latest);
+        abandoned = latest;
+    }
+
+    /** Does the same for a call that is not to fail. Settings that the pool cannot have are thrown by the next call of {@link #update}. */
+    void updateQuietly() {
+        try {
+            update();
+        } catch (RuntimeException | OutOfMemoryError e) {
+            // It goes on with the settings that it has.
+        }
+    }
+
+    @Override
+    public PooledObject<T> wrapperOf(T object) {
+        return super.wrapperOf(object);
+    }
+
+    @Override
+    public void evict() throws Exception {
+        factory.evict(super::evict);
+    }
+
+    @Override
+    protected void swallowed(Exception failure) {
+        if (!factory.isToBeThrown(failure)) {
+            owner.swallowException(failure);
+        }
+    }
+
+    /** Shows the owner how many objects were destroyed by eviction runs and for failed tests of borrows, if any were since this was last done. */
+    void showCounts() {
+        if (owner.destroyedCount.get() != shownDestroyed) {
+            showChangedCounts();
+        }
+    }
+
+    private synchronized void showChangedCounts() {
+        shownDestroyed = owner.destroyedCount.get();
+        owner.destroyedByEvictorCount.set(getDestroyedByEvictorCount());
+        owner.destroyedByBorrowValidationCount.set(getDestroyedByBorrowValidationCount());
+    }
+}
