@@ -1,11 +1,12 @@
 #!/usr/bin/env python3
 """Builds the Rust crate in bindings/rust, and sees that its tests pass and its examples do what they say.
 
-    check_rust.py POOL
+    check_rust.py POOL [JUDGE]
 
-POOL is the program. The crate's tests are cargo's: those in its files, in tests/ and in its pages. The segments that the examples `first_loan` and
+POOL and JUDGE are the programs `pool` and `judge`; without JUDGE, tests/pool_model.py judges. The crate's tests are cargo's: those in its files, in tests/ and in its pages. The segments that the examples `first_loan` and
 `servers` store are judged by the program; what the example `settings` writes of a file must be what Python reads there; the example `pairs` must make
-as many entries as its rounds are, whatever becomes of its journal, and the segments that it stores are judged too; the metrics that a test writes must
+as many entries as its rounds are, whatever becomes of its journal, and the segments that it stores are judged too; the segments of pools whose
+settings change, which a test stores, are legal with the settings that each has; the metrics that a test writes must
 be in the format and agree with each other (tests/openmetrics.py); and the codes, the fields and the functions of `src/sys.rs` must be those of
 `bindings/c/include/zuphinka.h`. The tests under tokio run where Debian has its source; everywhere the files that they name must be there. What cannot
 be tested is skipped, with the reason: all of it if no cargo runs.
@@ -22,6 +23,7 @@ import sys
 import tempfile
 import tomllib
 
+import changed_settings
 import openmetrics
 from case_files import CASES, unpacked
 from skipping import NO_CARGO, has, skip
@@ -196,16 +198,25 @@ def check_metrics(file):
     yield openmetrics.fault_of(openmetrics.check_course, texts, MEASURED) or (None if len(texts) > 2 else f"{len(texts)} texts of metrics")
 
 
-def main(pool):
+def check_changes(judge, folder):
+    """The journals that a test stores of pools whose settings change."""
+    journals = sorted(folder.iterdir()) if folder.is_dir() else []
+    yield None if journals else "no journals of pools whose settings change"
+    for journal in journals:
+        fault, _ = changed_settings.judged(judge, journal)
+        yield fault and f"{journal.name}: {fault}"
+
+
+def main(pool, judge=None):
     if not runs_cargo():
         skip("bindings/rust", NO_CARGO)
         print("0 passed, 0 failed")
         return 0
     environment = os.environ | {"ZUPHINKA_POOL": str(pathlib.Path(pool).resolve())}
     with tempfile.TemporaryDirectory() as folder:
-        metrics = pathlib.Path(folder) / "metrics"
-        tested = run_tests(environment | {"ZUPHINKA_METRICS": str(metrics)})
-        faults = list(check_metrics(metrics))
+        metrics, changes = pathlib.Path(folder) / "metrics", pathlib.Path(folder) / "changes"
+        tested = run_tests(environment | {"ZUPHINKA_METRICS": str(metrics), "ZUPHINKA_CHANGES": str(changes)})
+        faults = [*check_metrics(metrics), *check_changes(judge, changes)]
     passed, failed = (sum(column) for column in zip(tested, run_trial(environment)))
     examples = built_examples(environment)
     stored = [check_stored(examples / name, printed, pool) for name, printed in STORING.items()]

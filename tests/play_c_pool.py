@@ -32,6 +32,7 @@ import subprocess
 import sys
 import tempfile
 
+import changed_settings
 import openmetrics
 from play_library import EXAMPLES, FLAGS, INCLUDE, TOP, VALGRIND, compiler, header_runs, heap, run
 from playing import differing, side_by_side, tell
@@ -46,7 +47,6 @@ MEASURED = 400_000
 # Under valgrind and ThreadSanitizer, and while allocations fail.
 FEW_SEEDS, FEW_CALLS, MORE_THREADS = 6, 400, 8
 REFUSE_OF = 20
-EMPTY_BASE = b"pool-journal 2 0 0 open none 0 0 0 0\n"
 LENT = re.compile(rb"^(\d+) \d+ ready \d+ good = lent$", re.MULTILINE)
 ANSWER = re.compile(rb" = (\w+)")
 ANSWERS = set(
@@ -92,22 +92,9 @@ class Runs:
         if not steps:
             return journal, [f"{name}: segments of a journal that is dropped"] if paths else []
         if any(folder.glob("settings-*")):
-            return journal, self.judged_by_each(name, folder, paths, steps)
+            fault, found = changed_settings.judged(self.judge, folder)
+            return journal, [f"{name}: {fault or found} of {steps} entries"] * (found != steps)
         return journal, differing(f"{name}, judged", (b"legal %d\n" % steps, b"", 0), run(self.pool, "check", folder / "settings", *paths))
-
-    def judged_by_each(self, name, folder, paths, steps):
-        """What differs where each segment is judged with the settings that it had."""
-        changes = {int(path.name.removeprefix("settings-")): path for path in folder.glob("settings-*")} | {-1: folder / "settings"}
-        found, due = [], EMPTY_BASE
-        for path in paths:
-            text = path.read_bytes()
-            settings = changes[max(first for first in changes if first <= int(path.name))]
-            found += [f"{name}: {path.name} does not begin where the one before it ended"] * (not text.startswith(due))
-            reached = run(self.judge, settings, path)
-            found += differing(f"{name}, {path.name} with {settings.name}", (reached.stdout, b"", 0), reached)
-            due = reached.stdout
-        is_whole = due.split()[2:3] == [b"%d" % steps]
-        return found + [f"{name}: the last segment does not end at {steps}"] * (not is_whole)
 
     def told(self, name, *words):
         """Runs the program over a folder: what it printed, as pairs of words and a number, the journal, and what differs."""

@@ -30,6 +30,7 @@ import tempfile
 import zipfile
 
 import openmetrics
+from changed_settings import files_of, judged
 from check_picture import differences
 from playing import play_checks
 from preloading import preloaded
@@ -62,8 +63,6 @@ EXAMPLE_JARS = {"commons-dbcp2": "libcommons-dbcp2-java", "h2": "libh2-java"}
 # What that prints: 16 of its connections break, and others take their places.
 BANK = r"1000 transfers, \d+ a second, 0 failed\n2000 euros in all\ncreated (1[7-9]|[2-9]\d), destroyed \1, idle 0, lent 0\n"
 # A run that takes longer hangs, in seconds.
-# The base before all entries.
-EMPTY_BASE = b"pool-journal 2 0 0 open none 0 0 0 0\n"
 LONGEST = 120
 
 
@@ -101,36 +100,10 @@ def legal(pool, settings, *journals):
     return "legal", done.stdout.partition(" ")[0] or done.stderr
 
 
-def position_of(path):
-    """The position in the name of a segment, or of its settings; that of the first settings is 0."""
-    return int(path.stem.partition("-")[2] or 0)
-
-
-def with_settings(folder):
-    """Each segment in a folder, in their order, with the settings that it has."""
-    settings = {position_of(path): path for path in folder.glob("settings*.toml")}
-    for segment in sorted(folder.glob("segment-*")):
-        yield settings[max(position for position in settings if position <= position_of(segment))], segment
-
-
-def chained(judge, folder):
-    """What is wanted of the segments in a folder, and what they are: each is legal by its settings, and begins at the base that the one before it
-    reached."""
-    reached = None
-    for settings, segment in with_settings(folder):
-        done, text = subprocess.run([judge, settings, segment], capture_output=True), segment.read_bytes()
-        begins = text.startswith(reached) if reached else not text.startswith(b"pool-journal") or text.startswith(EMPTY_BASE)
-        if done.returncode or not begins:
-            return "legal", f"{segment.name}: {done.stderr.decode() or 'another base'}"
-        reached = done.stdout
-    return "legal", "legal" if reached else "no segments"
-
-
 def legal_in(folder, pool, judge):
     """What is wanted of the journal in a folder, and what came of it: segments with several settings are judged one by one."""
-    if len([*folder.glob("settings*.toml")]) > 1:
-        return chained(judge, folder)
-    return legal(pool, folder / "settings.toml", *sorted(folder.glob("segment-*")))
+    settings, segments = files_of(folder)
+    return ("legal", judged(judge, folder)[0] or "legal") if len(settings) > 1 else legal(pool, *settings, *segments)
 
 
 def falls(*segments):

@@ -39,7 +39,7 @@ PARTS = (
     Part("work", "reads, writes and allocations of the program and of a cut", "python3 tests/count_work.py {pool} {test_counts}"),
     Part("sizes", "journals and settings of all sizes", "python3 tests/play_sizes.py {pool}"),
     Part("judge", "segments that are checked independently and joined", "python3 tests/play_judge.py {judge} {pool} tests/cases"),
-    Part("rust", "the Rust crate: its tests, its examples, its binding", "python3 tests/check_rust.py {pool}", ("zuphinka",), folders=CARGO),
+    Part("rust", "the Rust crate: its tests, its examples, its binding", "python3 tests/check_rust.py {pool} {judge}", ("zuphinka",), folders=CARGO),
     Part("java",
          "the pool for Java: its calls, also with failing allocations, eight threads that call at random, its journals, examples and documentation",
          "python3 tests/play_java.py {zuphinka} {pool} {journal_picture} {judge}"),
