@@ -1,4 +1,4 @@
-//! Tests of the core, of the calls over it, and of the engines.
+//! Tests of the core and of the engines.
 #![tactic(auto)]
 
 #[cfg(test)]
