@@ -104,7 +104,7 @@ FEWER = (1, 0)
 
 def of_changes(judge, cases):
     for number, (case, _, _) in enumerate(segmented(cases)):
-        if is_legal(case):
+        if is_legal(case) and sum(text.count(b" = ") for text in texts_of(case)) > 1:
             yield of_change, judge, case, FEWER[number % 2]
 
 
@@ -115,14 +115,18 @@ def of_change(judge, case, places):
     middle = len(requests) // 2
     before = EMPTY + answered(pool, requests[:middle])
     pool.settings = pool.settings | {"maxTotal": places}
-    due = b"".join(pool.base())
+    due, position = b"".join(pool.base()), pool.position
     after = due + answered(pool, requests[middle:])
-    changed = re.sub(rb"^maxTotal = .*$", b"", case.settings, flags=re.MULTILINE)
-    with tempfile.TemporaryDirectory() as room:
-        files = {"old.toml": case.settings, "new.toml": b"maxTotal = %d\n" % places + changed, "before": before, "after": after}
-        old, new, first, second = write_files(room, files)
-        found = differing(f"{case.name}, before a change", (due, b"", 0), playing.run(judge, old, first))
-        return found + differing(f"{case.name}, after a change", (b"".join(pool.base()), b"", 0), playing.run(judge, new, second))
+    changed = b"maxTotal = %d\n" % places + re.sub(rb"^maxTotal = .*$", b"", case.settings, flags=re.MULTILINE)
+    first, second = "segment-" + "0" * 20, f"segment-{position:020}"
+    with tempfile.TemporaryDirectory() as name:
+        room = pathlib.Path(name)
+        write_files(name, {"settings.toml": case.settings, f"settings-{position:020}.toml": changed, first: before, second: after})
+        (room / "reached").mkdir()
+        (room / "judge").symlink_to(pathlib.Path(judge).resolve())
+        found = differing(f"{case.name}, whose settings change", (b"", b"", 0), playing.run("sh", "-c", f"cd {name}; PATH=.:$PATH; {shell_of_page()[-1]}"))
+        reached = [(room / "reached" / segment).read_bytes() for segment in (first, second)]
+    return found + [f"{case.name}, whose settings change: reached {reached}"] * (reached != [due, b"".join(pool.base())])
 
 
 def answered(pool, requests):
@@ -138,12 +142,17 @@ def answered(pool, requests):
     return b"".join(lines)
 
 
+def shell_of_page():
+    """The shell commands that the page shows for other programs: for GNU parallel, for a cluster, and for a folder whose settings changed."""
+    return re.findall(r"^```sh\n(.*?)^```$", (TOP / "docs/guide/audits.md").read_text(), flags=re.MULTILINE | re.DOTALL)
+
+
 def scripts_of_page():
     """The page's ways to check all segments, each with its join: by processes, by the command for GNU parallel, and by the array job; and that job."""
     page = TOP / "docs/guide/audits.md"
     shown = [command for block in blocks(page) for command in commands(block)]
     made, processes, *join = shown[shown.index("mkdir reached") :]
-    parallel, job = re.findall(r"^```sh\n(.*?)^```$", page.read_text(), flags=re.MULTILINE | re.DOTALL)
+    parallel, job, _ = shell_of_page()
     there = parallel.split("'")[1].replace("{/}", "${segment##*/}").replace("{}", "$segment")
     task = "SLURM_ARRAY_TASK_ID=$((task += 1)) sh judge.job"
     by_parallel = [f"for segment in archived/segment-*; do {there}; done"]
