@@ -2231,7 +2231,7 @@ static void test_overtakes_by_halves(void) {
   zuphinka_drop(&pool);
 }
 
-/* The same with many objects, which are idle at once and lent at once. */
+/* The same with many objects, which are idle at once and lent at once; between, the settings change. */
 static void test_many_loans_at_once(void) {
   const char *settings = "maxTotal = -1\nmaxIdle = -1\njournalLimit = 10000000\n";
   struct zuphinka pool = {.at = NULL};
@@ -2247,6 +2247,7 @@ static void test_many_loans_at_once(void) {
   for (int turn = 0; turn < 2; turn++) {
     for (loan.id = 0; loan.id < MANY_LOANS; loan.id++) check(zuphinka_take_back(&pool, 0, 1, &loan) == ZUPHINKA_STATUS_DONE);
     check(zuphinka_counts(&pool, &counts) == ZUPHINKA_STATUS_DONE && counts.idle == MANY_LOANS && counts.lent == 0);
+    check(zuphinka_reconfigure(&pool, settings, strlen(settings)) == ZUPHINKA_STATUS_DONE);
     for (uint64_t n = MANY_LOANS; n-- > 0;) check(zuphinka_lend(&pool, 0, 1, &loan) == ZUPHINKA_STATUS_DONE && loan.id == n);
     check(zuphinka_counts(&pool, &counts) == ZUPHINKA_STATUS_DONE && counts.idle == 0 && counts.lent == MANY_LOANS);
   }

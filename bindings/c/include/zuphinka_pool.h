@@ -22,7 +22,7 @@
  *     fails reports its reason to the host itself, in its context or in a variable of the thread.
  *   - Pointers point to memory of their types. A pointer may be null only if its description says so.
  *
- * No more than maxTotal objects exist at once, except for those that were reclaimed from their holders: the pool destroys an object before it
+ * No object is made while maxTotal others exist, not counting those that were reclaimed from their holders: the pool destroys an object before it
  * frees the object's place. A call that fails leaves no object without an owner and no place taken.
  *
  * The journal

@@ -1,7 +1,7 @@
 //! An object pool for threads and tasks, over the proved core of Zuphinka.
 //!
 //! **Proved** is each step of the core: its answer, the entry that it appends to the journal, and that a completing step never fails. In every
-//! legal journal no more than `maxTotal` objects are present, none is lent to two at once, and none that was made is lost. Proved is also what a
+//! legal journal no object is made beyond `maxTotal`, none is lent to two at once, and none that was made is lost. Proved is also what a
 //! call asks for next, of the core and of the manager, and which of the calls that wait is woken. **Tested, not proved** is this crate: its lock,
 //! the sleep of threads and tasks, the values of the objects, their ages ([`Builder::max_lifetime`]), and the binding of the C library. So is the
 //! order of two steps of the core and the calls of the manager between them, where an idle object is activated or tested for a borrow while none
