@@ -198,13 +198,15 @@ def check_metrics(file):
     yield openmetrics.fault_of(openmetrics.check_course, texts, MEASURED) or (None if len(texts) > 2 else f"{len(texts)} texts of metrics")
 
 
-def check_changes(judge, folder):
-    """The journals that a test stores of pools whose settings change."""
+def check_changes(judge, pool, folder):
+    """The journals that a test stores of pools whose settings change: each segment alone, and all of them by one check."""
     journals = sorted(folder.iterdir()) if folder.is_dir() else []
     yield None if journals else "no journals of pools whose settings change"
     for journal in journals:
         fault, _ = changed_settings.judged(judge, journal)
         yield fault and f"{journal.name}: {fault}"
+        verdict, entries = judged(pool, journal)
+        yield None if verdict == f"legal {entries}\n" else f"{journal.name}: {entries} entries, {verdict!r}"
 
 
 def main(pool, judge=None):
@@ -216,7 +218,7 @@ def main(pool, judge=None):
     with tempfile.TemporaryDirectory() as folder:
         metrics, changes = pathlib.Path(folder) / "metrics", pathlib.Path(folder) / "changes"
         tested = run_tests(environment | {"ZUPHINKA_METRICS": str(metrics), "ZUPHINKA_CHANGES": str(changes)})
-        faults = [*check_metrics(metrics), *check_changes(judge, changes)]
+        faults = [*check_metrics(metrics), *check_changes(judge, pool, changes)]
     passed, failed = (sum(column) for column in zip(tested, run_trial(environment)))
     examples = built_examples(environment)
     stored = [check_stored(examples / name, printed, pool) for name, printed in STORING.items()]

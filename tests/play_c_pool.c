@@ -1604,26 +1604,52 @@ static void test_no_thread_starves(void) {
   }
 }
 
+/* Returns whether the only object is returned and borrowed again, while a thread that waits for it sleeps. */
+static bool overtakes(struct zuphinka_pool *pool, const struct waiter *waiter, struct zuphinka_pool_loan *loan) {
+  atomic_store(&maker.held, waiter->caller + 1);
+  check_error(zuphinka_pool_give_back(pool, loan), ZUPHINKA_POOL_ERROR_NONE);
+  bool is_lent = zuphinka_pool_try_get(pool, loan) == ZUPHINKA_POOL_ERROR_NONE;
+  atomic_store(&maker.held, 0);
+  sleep_for(2); /* in which it looks, sooner or later */
+  return is_lent;
+}
+
+/* Opens a pool of one object, borrows it, and starts a thread that waits for it. */
+static struct zuphinka_pool *open_overtaken(uint32_t most, struct waiter *waiter, struct zuphinka_pool_loan *loan) {
+  maker.max_overtakes = most;
+  struct zuphinka_pool *pool = open_kept("maxTotal = 1\n", 1);
+  check_error(zuphinka_pool_get(pool, loan), ZUPHINKA_POOL_ERROR_NONE);
+  start(waiter, 1, pool, borrow_and_return);
+  return pool;
+}
+
 /* Once the thread that has waited longest was woken and found nothing, it is not overtaken again, however often a host allows it. */
 static void test_woken_for_nothing_once(void) {
   struct waiter waiter;
   struct zuphinka_pool_loan loan;
   int64_t began = milliseconds_now();
-  maker.max_overtakes = UINT32_MAX;
-  struct zuphinka_pool *pool = open_kept("maxTotal = 1\n", 1);
-  check_error(zuphinka_pool_get(pool, &loan), ZUPHINKA_POOL_ERROR_NONE);
-  start(&waiter, 1, pool, borrow_and_return);
+  struct zuphinka_pool *pool = open_overtaken(INT32_MAX - 1, &waiter, &loan);
   bool is_overtaken = true;
-  while (is_overtaken && milliseconds_now() - began < LONG) {
-    atomic_store(&maker.held, waiter.caller + 1);
-    check_error(zuphinka_pool_give_back(pool, &loan), ZUPHINKA_POOL_ERROR_NONE);
-    is_overtaken = zuphinka_pool_try_get(pool, &loan) == ZUPHINKA_POOL_ERROR_NONE;
-    atomic_store(&maker.held, 0);
-    sleep_for(2); /* in which it looks, sooner or later */
-  }
+  while (is_overtaken && milliseconds_now() - began < LONG) is_overtaken = overtakes(pool, &waiter, &loan);
   check(!is_overtaken);
   join(&waiter, 1, ZUPHINKA_POOL_ERROR_NONE);
   end_pool(pool);
+}
+
+enum { OVERTAKES = 100 };
+
+/* Without a limit it is, however often that happened. */
+static void test_overtaken_without_limit(void) {
+  const uint32_t unlimited[] = {INT32_MAX, UINT32_MAX};
+  for (int choice = 0; choice < 2; choice++) {
+    struct waiter waiter;
+    struct zuphinka_pool_loan loan;
+    struct zuphinka_pool *pool = open_overtaken(unlimited[choice], &waiter, &loan);
+    for (int n = 0; n < OVERTAKES; n++) check(overtakes(pool, &waiter, &loan));
+    check_error(zuphinka_pool_give_back(pool, &loan), ZUPHINKA_POOL_ERROR_NONE);
+    join(&waiter, 1, ZUPHINKA_POOL_ERROR_NONE);
+    end_pool(pool);
+  }
 }
 
 /* Borrows that give up at once. */
@@ -2918,6 +2944,7 @@ static const struct {
     TEST(overtakes_are_bounded),
     TEST(no_thread_starves),
     TEST(woken_for_nothing_once),
+    TEST(overtaken_without_limit),
     TEST(served_in_order),
     TEST(threads_take_turns),
     TEST(something_is_left),

@@ -217,6 +217,7 @@ def reconfigures(jar, classes, native, pool, judge, folder):
     for journal in sorted(place.iterdir()):
         yield f"reconfigures: {journal.name}: files of settings", True, len([*journal.glob("settings-*.toml")]) > 0
         yield f"reconfigures: {journal.name}", *legal_in(journal, pool, judge)
+        yield f"reconfigures: {journal.name}: all segments", *legal(pool, journal / "settings.toml", *files_of(journal)[1])
 
 
 def policies(jar, classes, pool, folder):

@@ -12,7 +12,9 @@ with the lines that were written of the one before it.
 - Three segments are damaged: in each place a byte is changed, dropped or doubled. Joined, they must be legal exactly where those of
   tests/pool_model.py are, and where `POOL check` over all of them says so.
 - The inputs of each case with a legal verdict are answered anew by tests/pool_model.py, whose settings change in the middle: from there on there is one
-  place, or none, which the objects may exceed. Each segment must be legal with its own settings, and reach the next one's base.
+  place, or none, which the objects may exceed. Each segment must be legal with its own settings, and reach the next one's base. `POOL check` must find
+  them legal with the new settings beside the second, and answer as the model without them.
+- New settings that leave no room for outstanding entries, and a file beside a segment that is no settings file, have their lines.
 - The commands of docs/guide/audits.md that check segments and join them are run on these: they must find them legal where the verdict does.
   The command for GNU parallel is run here for each segment, and so is the array job for each of its tasks.
 - Other arguments, requests for help or the version, and files that cannot be opened, read or taken, must have the line, which names the file,
@@ -32,7 +34,7 @@ import tempfile
 
 import playing
 from argument_rules import version
-from case_files import unpacked
+from case_files import unpacked, wanted_of
 from play_commands import TOP, blocks, commands
 from play_damaged import Chance
 from play_segments import THREE, damaged_segments, play_trials, segmented
@@ -102,13 +104,13 @@ def of_case(judge, case, settings, paths, chance):
 FEWER = (1, 0)
 
 
-def of_changes(judge, cases):
+def of_changes(judge, program, cases):
     for number, (case, _, _) in enumerate(segmented(cases)):
         if is_legal(case) and sum(text.count(b" = ") for text in texts_of(case)) > 1:
-            yield of_change, judge, case, FEWER[number % 2]
+            yield of_change, judge, program, case, FEWER[number % 2]
 
 
-def of_change(judge, case, places):
+def of_change(judge, program, case, places):
     """What differs where the settings change in the middle of a case."""
     pool = Pool(settings_of(case.settings.decode()))
     requests = [request for text in texts_of(case) for request in text.removeprefix(base_lines(text)).splitlines()]
@@ -126,7 +128,37 @@ def of_change(judge, case, places):
         (room / "judge").symlink_to(pathlib.Path(judge).resolve())
         found = differing(f"{case.name}, whose settings change", (b"", b"", 0), playing.run("sh", "-c", f"cd {name}; PATH=.:$PATH; {shell_of_page()[-1]}"))
         reached = [(room / "reached" / segment).read_bytes() for segment in (first, second)]
+        check = program, "check", *(f"{name}/{file}" for file in ("settings.toml", first, second))
+        found += differing(f"{case.name}, checked with both settings", (b"legal %d\n" % pool.position, b"", 0), playing.run(*check))
+        (room / f"settings-{position:020}.toml").unlink()
+        wanted = wanted_of(verdict_of_segments(settings_of(case.settings.decode()), [before, after]))
+        found += differing(f"{case.name}, checked with the first settings", wanted, playing.run(*check))
     return found + [f"{case.name}, whose settings change: reached {reached}"] * (reached != [due, b"".join(pool.base())])
+
+
+# Settings beside a second segment, before which an object is being made: what `check` writes, and what it tells of that segment.
+BESIDE = {
+    b"maxTotal = 0\n": (b"legal 2\n", "", 0),
+    b"journalLimit = 1\n": (b"", "pool: base: no room\n", 3),
+    b"maxTotal = many\n": (b"", "pool: settings: not TOML, beside {}\n", 3),
+    b"maxTotl = 8\n": (b"", "pool: settings: unknown key maxTotl, beside {}\n", 3),
+}
+
+
+def of_beside(program):
+    pool = Pool(settings_of(""))
+    first = EMPTY + answered(pool, [b"0 1 borrow 1 = make 0"])
+    second = b"".join(pool.base()) + answered(pool, [b"0 2 ready 0 good = lent"])
+    found = []
+    with tempfile.TemporaryDirectory() as name:
+        paths = [f"{name}/{file}" for file in ("settings.toml", "segment-0", "segment-1")]
+        for text, (output, told, status) in BESIDE.items():
+            write_files(name, {"settings.toml": b"", "segment-0": first, "segment-1": second, "settings-1.toml": text})
+            wanted = output, told.format(paths[-1]).encode(), status
+            found += differing(f"{text} beside a segment", wanted, playing.run(program, "check", *paths))
+        write_files(name, {"settings-0.toml": b"", "settings-1.toml": b"", "settings.toml": b"maxTotal = 0\n"})
+        found += differing("settings beside the first segment", (b"legal 2\n", b"", 0), playing.run(program, "check", *paths))
+    return found
 
 
 def answered(pool, requests):
@@ -276,7 +308,7 @@ def of_refused(command, wanted, library, mark):
 def main(judge, pool, *words):
     with tempfile.TemporaryDirectory() as room:
         cases, (defaults,) = unpacked(room, *words), write_files(room, {"defaults.toml": b""})
-        trials = [*of_cases(judge, cases), *of_changes(judge, cases), *of_page(judge, cases), *of_damage(judge, pool, defaults), (of_uses, judge, defaults)]
+        trials = [*of_cases(judge, cases), *of_changes(judge, pool, cases), (of_beside, pool), *of_page(judge, cases), *of_damage(judge, pool, defaults), (of_uses, judge, defaults)]
         return play_trials([*trials, *of_refusals(judge, cases, room)])
 
 

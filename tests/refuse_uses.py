@@ -7,7 +7,7 @@ POOL is the program. It is used with files and with standard input, with wrong a
 every EACH-th script of tests/cases. Each use is run once for each of its allocations, which is refused then (tests/refuse.c, built
 with the C compiler that CC names, or cc). It must then answer what it answers else; or end with status 3, after some whole lines
 from the front of that answer, and the line 'pool: out of memory', 'pool: no thread' where it starts threads, or 'pool: cannot open
-..' for one of its files. If the words are wrong, only status 3 with 'pool: out of memory' and no output may replace the answer.
+..' for one of its files, or for the settings beside one. If the words are wrong, only status 3 with 'pool: out of memory' and no output may replace the answer.
 
 Prints each run that is wrong, and in the end the line 'N passed, M failed'.
 """
@@ -35,7 +35,7 @@ FILES = {
     "key.toml": b"'a long key that no setting has' = 1\n", "table.toml": b"[abandoned]\nnone = 1\n", "type.toml": b"lifo = 1\n",
     "range.toml": b"minIdle = -1\n", "not.toml": b"maxTotal =", "bytes.toml": b"\xff", "long.toml": b"#".ljust(1_048_577, b"c"),
     "two.toml": b"journalLimit = 2\n", "seven.toml": b"journalLimit = 7\n", "script": script_of(PLAIN_LIFE), "journal": PLAIN_LIFE,
-    "illegal": PLAIN_LIFE.replace(b"check", b"gone"), "bad": b"0 1 borrow 01\n", "empty": b"",
+    "illegal": PLAIN_LIFE.replace(b"check", b"gone"), "bad": b"0 1 borrow 01\n", "empty": b"", "segment-0": PLAIN_LIFE, "settings-0.toml": b"lifo = true\n",
 }
 
 
@@ -60,6 +60,7 @@ GOOD = [
     ("check all.toml /dev/stdin", b"legal 4\n", PLAIN_LIFE), ("check /dev/stdin journal", b"legal 4\n", FILES["a.toml"]), ("run a.toml empty", b""),
     ("stats journal", STATISTICS), ("stats /dev/stdin", STATISTICS, PLAIN_LIFE), ("load a.toml 1 1", LOAD),
     ("load /dev/stdin 1 1", LOAD, FILES["all.toml"]), ("check a.toml empty -- journal", b"legal 4\n"), ("stats journal --", STATISTICS),
+    ("check two.toml segment-0", b"legal 4\n"),
 ]
 # Words that name no task.
 WRONG_WORDS = [
@@ -67,6 +68,8 @@ WRONG_WORDS = [
     "check a.toml", "check a.toml journal journal -x", "stats", "load a.toml 1", "load a.toml 1 x", "load a.toml 1 01",
     "help", "--help", "-h", "run --help", "check a.toml journal -h", "--version", "-V",
 ]
+# What is told of the settings beside a segment.
+BESIDE = b"the settings beside "
 # What is told of the other settings.
 SETTINGS_FAULTS = {
     "key.toml": "unknown key a long key that no setting has", "table.toml": "unknown key abandoned.none", "type.toml": "wrong type lifo",
@@ -131,7 +134,7 @@ def is_refused(use, answer):
     if not use.is_task:
         return answer == (b"", b"pool: out of memory\n", 3)
     output, error, status = answer
-    lines = {b"pool: out of memory\n"} | {b"pool: cannot open %s\n" % path.encode() for path in use.arguments[1:]}
+    lines = {b"pool: out of memory\n"} | {b"pool: cannot open %s%s\n" % (what, path.encode()) for path in use.arguments[1:] for what in (b"", BESIDE)}
     if use.arguments[:1] == ["load"]:
         lines.add(b"pool: no thread\n")
     return status == 3 and error in lines and output[-1:] in (b"", b"\n") and use.answer[0].startswith(output)

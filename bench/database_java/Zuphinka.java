@@ -19,6 +19,7 @@ final class Zuphinka implements Opener {
         config.setTestOnBorrow(true);
         config.setMaxWait(Duration.ofMillis(LONGEST_WAIT));
         ZuphinkaPool<PoolableConnection> pool = new ZuphinkaPool<>(factory, config);
+        pool.setMaxOvertakes(Integer.MAX_VALUE);
         factory.setPool(pool);
         return new PoolingDataSource<>(pool);
     }

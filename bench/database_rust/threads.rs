@@ -75,6 +75,7 @@ pub fn over_crate(server: &Config, turn: &Turn) -> Result<Report, Failure> {
         .max_total(CONNECTIONS)
         .max_wait(LONGEST_WAIT)
         .test_on_borrow(true)
+        .max_overtakes(u32::MAX)
         .build(Connector(server.clone()))?;
     run(turn, || Ok(pool.get()?))
 }

@@ -115,7 +115,8 @@ struct zuphinka_pool_host {
   /* How many borrows may overtake a thread that waits: 1 to 4,294,967,295; 0 stands for 64. Threads that wait queue in the order of arrival. A
    * borrow overtakes them if it begins later and takes an object or a place that they could have had; each thread counts from the beginning of its
    * wait. Once so many have overtaken the first one, further borrows queue too, and `zuphinka_pool_try_get` finds nothing. They also do so once any
-   * thread that waits was woken and found nothing, until one leaves the queue. */
+   * thread that waits was woken and found nothing, until one leaves the queue. From 2,147,483,647 on there is no limit, and no borrow queues while
+   * there is an object or a place: more loans per second, and no bound to a wait. */
   uint32_t max_overtakes;
 
   /* Whether no borrow overtakes a thread that waits, whatever `max_overtakes` says. */

@@ -182,6 +182,8 @@ impl<M: Manager> Builder<M> {
     /// overtaken so often, or one was woken and found nothing, later borrows queue behind those who wait, until one has its object or leaves. A
     /// borrow that does not wait then fails as if nothing were there.
     ///
+    /// From 2^31 - 1 on there is no limit, as in Commons Pool 2, and no borrow queues while there is an object or a place.
+    ///
     /// Overtaking costs no sleep, so a high number lends more objects per second where many wait. A low one makes the longest wait shorter.
     pub fn max_overtakes(mut self, times: u32) -> Builder<M> {
         self.max_overtakes = times;

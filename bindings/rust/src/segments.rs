@@ -128,8 +128,7 @@ const SETTINGS: &str = "settings.toml";
 /// the first segment that has them, and before that segment. So the settings of a segment are in the last of these files whose position is not
 /// above its own, or else in `settings.toml`.
 ///
-/// `pool check FOLDER/settings.toml FOLDER/segment-*` checks the segments if the settings never changed. Otherwise `judge SETTINGS SEGMENT` checks
-/// each with its own settings (`docs/guide/audits.md`).
+/// `pool check FOLDER/settings.toml FOLDER/segment-*` checks the segments, each with its settings (`docs/guide/audits.md`).
 #[derive(Debug)]
 pub struct SegmentFolder {
     /// From the root.

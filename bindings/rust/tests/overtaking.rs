@@ -299,7 +299,7 @@ fn most_overtakes(journal: &str, caller: u32) -> usize {
 
 /// Threads that borrow again and again wait in turns: each of them ends, and none is woken in vain for ever.
 fn threads_are_served_in_turns<const HOOKS: bool>() {
-    for (objects, overtakes) in [(1, 0), (1, 1), (2, 0), (2, 3), (3, 16)] {
+    for (objects, overtakes) in [(1, 0), (1, 1), (2, 0), (2, 3), (3, 16), (1, u32::MAX)] {
         let pool = pool::<HOOKS>(objects, |builder| builder.max_overtakes(overtakes));
         thread::scope(|scope| {
             for number in 0..6_u32 {

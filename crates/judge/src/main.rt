@@ -68,8 +68,8 @@ fn settings_in<'a>(rt: &HostRuntime, path: &'a str) -> Result<Settings, Fault<'a
 
 /// Returns the lines of the base after the segment in the file at this path.
 fn reached_by(rt: &HostRuntime, settings: Settings, path: &str) -> Result<Vec<u8>, SegmentFault> {
-    let segment = OneSegment { rt, path };
-    let judged = judge_segment(rt.alloc(), settings, &segment, 0)?;
+    let segment = OneSegment { rt, path, settings };
+    let judged = judge_segment(rt.alloc(), &segment, 0)?;
     let mut text = Vec::new(rt.alloc());
     match print_base(&judged.reached, &mut text) {
         Ok(()) => Ok(text),

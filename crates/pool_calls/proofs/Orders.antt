@@ -1,6 +1,6 @@
 -- The places of both lines, in one order, and the waiters that they are seen as.
-use Rattle.std.proofs.Common.{◌≡◌, ℕ, ◌+◌, ◌-◌, ◌<◌, ◌≤◌, eqb, Bool, true, false, not, ◌&&◌, ◌||◌, cond, if◌then◌else◌, List, [], ◌∷◌, ◌++◌, length, take, Some, None, refl, sym, ap, ◌∙◌, subst, arith, append_assoc, append-nil, length-append}
-use Rattle.std.specs.Prelude.{map, filter, slice_get, nat_lt}
+use Rattle.std.proofs.Common.{◌≡◌, ℕ, ◌+◌, ◌-◌, ◌<◌, ◌≤◌, eqb, Bool, true, false, not, ◌&&◌, ◌||◌, cond, if◌then◌else◌, List, [], ◌∷◌, ◌++◌, length, take, Some, None, Result, Ok, Err, OnOk, refl, sym, ap, ◌∙◌, subst, arith, append_assoc, append-nil, length-append}
+use Rattle.std.specs.Prelude.{map, min, filter, slice_get, nat_lt}
 use Rattle.std.specs.List.{AllByRecursion}
 use Rattle.std.specs.Option.{option_map}
 use Rattle.std.proofs.Math.Seq.{take-append_seam, get_or-append_seam}
@@ -279,3 +279,12 @@ pub left_fewer : (t : ℕ) (ps qs rs ss : List Place) → rs ≡ without_place t
 left_fewer t ps qs rs ss r s =
     let test : Place → Bool = λ p. not (eqb t p.ticket) in
     omega (arith, length-append rs ss, length-append ps qs, fewer test ps, fewer test qs, ap (length {A = Place}) r, ap (length {A = Place}) s)
+
+-- both lines have memory for so many more
+pub reserved : {A E : Type 0} (r : Result A E) (count all o : ℕ) (s a s2 a2 : Line) → all ≡ length (map (waiter_of o) (s.places ++ a.places)) + count → s2.places ≡ s.places → a2.places ≡ a.places → all ≤ s2.capacity → OnOk r (all ≤ a2.capacity) → OnOk r (count ≤ min s2.capacity a2.capacity - length (s2.places ++ a2.places))
+reserved (Ok x) count all o s a s2 a2 is s_same a_same s_room a_room =
+    let long : length (s2.places ++ a2.places) ≡ length (s.places ++ a.places) =
+    ap (λ ps. length (ps ++ a2.places)) s_same ∙ ap (λ qs. length (s.places ++ qs)) a_same
+    in
+    omega (arith, is, long, length-map (s.places ++ a.places) (waiter_of o), s_room, a_room)
+reserved (Err e) count all o s a s2 a2 is s_same a_same s_room a_room = tt

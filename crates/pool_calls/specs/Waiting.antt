@@ -70,6 +70,10 @@ can_pass overtakes most (w ∷ ws) = nat_lt w.overtaken most && nat_lt overtakes
 abbrev pub may_lend : ℕ → Queue → Bool
 may_lend available q = nat_lt (length q.waiting) available || can_pass q.overtakes q.most q.waiting
 
+-- there is a limit to how often a waiter is overtaken
+abbrev pub is_limited : Queue → Bool
+is_limited q = nat_lt q.most (2 ^ 31 - 1)
+
 -- a newcomer that takes one of these objects and places overtakes the waiters
 abbrev pub takes_from_waiters : ℕ → Queue → Bool
 takes_from_waiters available q = nat_lt 0 (length q.waiting) && nat_le available (length q.waiting)

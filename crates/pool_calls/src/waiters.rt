@@ -11,6 +11,9 @@ use crate::place::Place;
 use std::alloc::{AllocError, Global};
 use std::marker::Model;
 
+/// The smallest number of overtakes that counts as any number: it fits into a signed number of 32 bits, as hosts have.
+const UNLIMITED: u64 = 2_147_483_647;
+
 /// The tickets of the borrows that wait, in the order of arrival.
 ///
 /// The first of them are signalled: one for each idle object and each free place. A host wakes the borrows whose
@@ -229,6 +232,13 @@ impl Waiters {
                 self.overtakes - place.before < self.max_overtakes && self.overtakes < u64::MAX
             }
         }
+    }
+
+    /// Returns whether there is a limit to how often a ticket is overtaken: `max_overtakes` below 2^31 - 1.
+    pub fn is_limited(&self) -> bool
+        ensures { result ≡ spec.is_limited self.now }
+    {
+        self.max_overtakes < UNLIMITED
     }
 
     /// Notes that a borrow without a ticket took one of `available` idle objects and free places. It overtook all

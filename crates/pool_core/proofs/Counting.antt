@@ -26,12 +26,12 @@ use Rattle.pool_journal.proofs.Starting.{drawn_from-none}
 use Rattle.pool_settings.specs.declared.settings.Settings.{Settings}
 use Rattle.pool_core.specs.Laws.{IsBelow, IsWithin, IsWithinOr, AtMostMaxTotalFrom, MadeBelowMaxTotal, ObjectsConservedFrom}
 use Rattle.pool_stats.specs.Counts.{counts_from}
-use Rattle.pool_core.specs.Legal.{IsLegalFrom}
+use Rattle.pool_core.specs.Legal.{IsLegalFrom, IsLegalBySome}
 use Rattle.pool_core.specs.Openable.{is_destroying, CanContinue, AccountsForEvicted}
 use Rattle.pool_core.specs.Reply.{is_below, borrow_reply, add_reply, exhausted_reply, has_reached, borrow_candidate, has_min_idle, reply_from}
 use Rattle.pool_core.specs.Steps.{IsEnabled}
 use Rattle.pool_core.proofs.Counted.{one_if, count_cons, counted}
-use Rattle.pool_core.proofs.Fronts.{IsDueFrom, DueKeepsFrom, due_at_from, each_legal_from}
+use Rattle.pool_core.proofs.Fronts.{IsDueFrom, IsDueBySome, DueKeepsFrom, SomeKeepsFrom, due_by_some, due_at_from, each_legal_from, each_legal_by_some}
 use Rattle.pool_core.proofs.Lives.{Acts, Still, Makes, Brings, still, makes, brings, acts, finds_due, gives_up, phase_stays}
 use Rattle.pool_core.proofs.Lives.{phase_moved, phase_of_others}
 use Rattle.pool_core.proofs.Ranges.{count_push, count_range, count_last, same_count, one_changed}
@@ -87,9 +87,9 @@ begun_is_there true = refl
 begun_is_there false = refl
 
 -- one more is present if the entry makes an object, and one fewer if it frees a place
-pub present_on_from : (S : Settings) (b : Base) (J : List Entry) (e : Entry) → IsDueFrom S b J e
+pub present_on_from : (b : Base) (J : List Entry) (e : Entry) → IsDueBySome b J e
     → length (present_from b (J ++ e ∷ [])) + one_if (gives_up e.answer) ≡ length (present_from b J) + one_if (is_make_answer e.answer)
-present_on_from S b J e due = omega (arith, count_present_from b J, count_present_from b (J ++ e ∷ []), by_act (acts S b J e due))
+present_on_from b J e due = omega (arith, count_present_from b J, count_present_from b (J ++ e ∷ []), by_act (acts b J e due))
   where
     by_act : Acts b J e → passing is_present b (J ++ e ∷ []) + one_if (gives_up e.answer) ≡ passing is_present b J + one_if (is_make_answer e.answer)
     by_act (still s) = omega (arith, still_passing is_present b J e s, ap one_if s.no_make, ap one_if s.stays)
@@ -155,12 +155,15 @@ no_more_within_or limit most n m le (inr is) = inr (omega (arith, le, is))
 stays_within_from : (S : Settings) (b : Base) → DueKeepsFrom S b (AtMostMaxTotalFrom S b)
 stays_within_from S b J e due so_far = by_answer (is_make_answer e.answer) refl
   where
+    on : length (present_from b (J ++ e ∷ [])) + one_if (gives_up e.answer) ≡ length (present_from b J) + one_if (is_make_answer e.answer)
+    on = present_on_from b J e (due_by_some S b J e due)
+
     by_answer : (t : Bool) → is_make_answer e.answer ≡ t → AtMostMaxTotalFrom S b (J ++ e ∷ [])
     by_answer true is =
-        let le : length (present_from b (J ++ e ∷ [])) ≤ length (present_from b J) + 1 = omega (arith, present_on_from S b J e due, ap one_if is) in
+        let le : length (present_from b (J ++ e ∷ [])) ≤ length (present_from b J) + 1 = omega (arith, on, ap one_if is) in
         inl (one_more_within S.max_total (length (present_from b J)) (length (present_from b (J ++ e ∷ []))) le (due_makes_below_from S b J e due is))
     by_answer false is =
-        let le : length (present_from b (J ++ e ∷ [])) ≤ length (present_from b J) = omega (arith, present_on_from S b J e due, ap one_if is) in
+        let le : length (present_from b (J ++ e ∷ [])) ≤ length (present_from b J) = omega (arith, on, ap one_if is) in
         no_more_within_or S.max_total (length b.records) (length (present_from b J)) (length (present_from b (J ++ e ∷ []))) le so_far
 
 -- before any entry the present objects are those that the base lists
@@ -208,11 +211,11 @@ evicted_in J = count_by (λ e. is_evicting e.answer e.input) J
 abbrev pub DrawnOrGone : Base → List Entry → Type 0
 DrawnOrGone b J = (b.destroyed + freed_in J) + (b.reclaimed + reclaimed_in J) + length (present_from b J) ≡ drawn_from b J
 
-stays_drawn_or_gone : (S : Settings) (b : Base) → DueKeepsFrom S b (DrawnOrGone b)
-stays_drawn_or_gone S b J e due so_far =
+stays_drawn_or_gone : (b : Base) → SomeKeepsFrom b (DrawnOrGone b)
+stays_drawn_or_gone b J e due so_far =
     let freed = count_push (λ (x : Entry). is_freed x.answer) J e in
     let reclaimed = count_push (λ (x : Entry). is_reclaimed x.answer) J e in
-    omega (arith, so_far, drawn_from-push b J e, present_on_from S b J e due, freed_or_reclaimed e.answer, freed, reclaimed)
+    omega (arith, so_far, drawn_from-push b J e, present_on_from b J e due, freed_or_reclaimed e.answer, freed, reclaimed)
 
 none_drawn_or_gone : (b : Base) → IsWellFormed b → b.destroyed + b.reclaimed + length b.records ≡ b.drawn → DrawnOrGone b []
 none_drawn_or_gone b sound adds_up =
@@ -220,12 +223,12 @@ none_drawn_or_gone b sound adds_up =
     let reclaimed : reclaimed_in [] ≡ 0 = refl in
     omega (arith, adds_up, present_none b sound, drawn_from-none b, freed, reclaimed)
 
-pub drawn_or_gone : (S : Settings) (b : Base) (J : List Entry) → CanContinue b → IsLegalFrom S b J → DrawnOrGone b J
-drawn_or_gone S b J runs = each_legal_from S b (DrawnOrGone b) runs.sound (none_drawn_or_gone b runs.sound runs.adds_up) (stays_drawn_or_gone S b) J
+pub drawn_or_gone : (b : Base) (J : List Entry) → CanContinue b → IsLegalBySome b J → DrawnOrGone b J
+drawn_or_gone b J runs = each_legal_by_some b (DrawnOrGone b) runs.sound (none_drawn_or_gone b runs.sound runs.adds_up) (stays_drawn_or_gone b) J
 
-pub nothing_lost_from : (S : Settings) (b : Base) (J : List Entry) → CanContinue b → IsLegalFrom S b J → ObjectsConservedFrom b J
-nothing_lost_from S b J runs legal =
-    omega (arith, drawn_or_gone S b J runs legal, length-records_from b J, counted (records_from b J) (each_present_from b J))
+pub nothing_lost_from : (b : Base) (J : List Entry) → CanContinue b → IsLegalBySome b J → ObjectsConservedFrom b J
+nothing_lost_from b J runs legal =
+    omega (arith, drawn_or_gone b J runs legal, length-records_from b J, counted (records_from b J) (each_present_from b J))
 
 -- the objects idle, lent and reserved are within the limit, or at most those of the base
 pub places_within_from : (S : Settings) (b : Base) (J : List Entry) → CanContinue b → IsLegalFrom S b J
@@ -261,8 +264,8 @@ count_destroying b J =
 abbrev EvictedEnds : Base → List Entry → Type 0
 EvictedEnds b J = b.evicted + evicted_in J ≤ (b.destroyed + freed_in J) + passing is_destroying b J
 
-stays_evicted : (S : Settings) (b : Base) → DueKeepsFrom S b (EvictedEnds b)
-stays_evicted S b J e due so_far = by_act (acts S b J e due)
+stays_evicted : (b : Base) → SomeKeepsFrom b (EvictedEnds b)
+stays_evicted b J e due so_far = by_act (acts b J e due)
   where
     freed : freed_in (J ++ e ∷ []) ≡ freed_in J + one_if (is_freed e.answer)
     freed = count_push (λ (x : Entry). is_freed x.answer) J e
@@ -282,9 +285,9 @@ none_evicted b sound ends =
     let listed = ap (count_by (λ (r : Record). is_destroying r.phase)) (records_from-none b sound) in
     omega (arith, ends, freed, evicted, count_destroying b [], listed)
 
-pub ends_evicted : (S : Settings) (b : Base) (J : List Entry) → IsWellFormed b → AccountsForEvicted b → IsLegalFrom S b J → AccountsForEvicted (base_after b J)
-ends_evicted S b J sound ends legal =
-    let along = each_legal_from S b (EvictedEnds b) sound (none_evicted b sound ends) (stays_evicted S b) J legal in
+pub ends_evicted : (b : Base) (J : List Entry) → IsWellFormed b → AccountsForEvicted b → IsLegalBySome b J → AccountsForEvicted (base_after b J)
+ends_evicted b J sound ends legal =
+    let along = each_legal_by_some b (EvictedEnds b) sound (none_evicted b sound ends) (stays_evicted b) J legal in
     omega (arith, along, count_destroying b J)
 
 pub count_destroying_le : (rs : List Record) → count_by (λ r. is_destroying r.phase) rs ≤ length rs

@@ -17,12 +17,11 @@ use Rattle.pool_journal.specs.declared.answer.Answer.{Answer}
 use Rattle.pool_journal.specs.declared.answer.Answer.TheVariants as answers
 use Rattle.pool_journal.proofs.Found.{found_from}
 use Rattle.pool_places.specs.Overdue.{is_lent}
-use Rattle.pool_settings.specs.declared.settings.Settings.{Settings}
 use Rattle.pool_core.specs.Laws.{LeavesLentFrom, ExclusiveLoansFrom}
-use Rattle.pool_core.specs.Legal.{IsLegalFrom}
+use Rattle.pool_core.specs.Legal.{IsLegalBySome}
 use Rattle.pool_core.specs.Steps.{IsEnabled, comes_from}
-use Rattle.pool_core.proofs.Fronts.{front_with, due_at_from}
-use Rattle.pool_core.proofs.Lives.{finds_due, move, phase_moved}
+use Rattle.pool_core.proofs.Fronts.{front_with, some_due_at}
+use Rattle.pool_core.proofs.Lives.{some_finds, move, phase_moved}
 
 -- the index at which a test changes from true to false
 record Turns (test : ℕ → Bool) (a b : ℕ) : Type 0 where
@@ -96,11 +95,11 @@ lent_is_not p other is = absurd (cc (sym other ∙ ap is_lent is))
 abbrev lent_at_from : Base → List Entry → ℕ → ℕ → Bool
 lent_at_from b J i m = is_lent (phase_from b i (take m J))
 
-pub lent_in_turn_from : (S : Settings) (b : Base) (J : List Entry) → IsWellFormed b → IsLegalFrom S b J → ExclusiveLoansFrom b J
-lent_in_turn_from S b J sound legal i k l e f before at_k at_l first second =
+pub lent_in_turn_from : (b : Base) (J : List Entry) → IsWellFormed b → IsLegalBySome b J → ExclusiveLoansFrom b J
+lent_in_turn_from b J sound legal i k l e f before at_k at_l first second =
     let to = phase_moved b (take k J) e i phases.Lent (lends_to e.answer e.input i first) in
     let lent_then : lent_at_from b J i (k + 1) ≡ true = ap (λ K. is_lent (phase_from b i K)) (front_with J k e at_k) ∙ ap is_lent to in
-    let finds = finds_due S b (take l J) f (due_at_from S b J l f sound legal at_l) in
+    let finds = some_finds b (take l J) f (some_due_at b J l f sound legal at_l) in
     let not_at_last : lent_at_from b J i l ≡ false = was_not_lent_from b (take l J) f.answer f.input i second finds in
     let t = turns (lent_at_from b J i) (l - (k + 1)) (k + 1) l (omega (arith, before)) lent_then not_at_last in
     let leaves : LeavesLentFrom b J i t.m = record {

@@ -27,7 +27,7 @@ use Rattle.pool_core.specs.Openable.{is_begun, is_destroying}
 use Rattle.pool_core.specs.Steps.{MovesInputObject, IsEnabled, comes_from}
 use Rattle.pool_core.proofs.Counted.{one_if}
 use Rattle.pool_core.proofs.Finding.{finds_of}
-use Rattle.pool_core.proofs.Fronts.{IsDueFrom}
+use Rattle.pool_core.proofs.Fronts.{IsDueFrom, IsDueBySome, due_by_some}
 
 abbrev pub move : ℕ → Phase → Option Move
 move i p = Some (i, p)
@@ -310,13 +310,16 @@ acts_of b J c at input answers.Freed finds =
 acts_of b J c at input _ finds = still (record { none = refl; no_make = refl; stays = refl; evicts_none = refl; parks_none = λ i. refl })
 
 -- an expected entry finds what it concerns
+pub some_finds : (b : Base) (J : List Entry) (e : Entry) → IsDueBySome b J e → IsEnabled e.input e.answer (records_from b J) (drawn_from b J)
+some_finds b J e due =
+    finds_of due.settings (records_from b J) (drawn_from b J) (closed_from b J) (cursor_from b J) e.at e.input e.answer (each_found_from b J) due.is
+
 pub finds_due : (S : Settings) (b : Base) (J : List Entry) (e : Entry) → IsDueFrom S b J e → IsEnabled e.input e.answer (records_from b J) (drawn_from b J)
-finds_due S b J e due =
-    finds_of S (records_from b J) (drawn_from b J) (closed_from b J) (cursor_from b J) e.at e.input e.answer (each_found_from b J) due.is
+finds_due S b J e due = some_finds b J e (due_by_some S b J e due)
 
 -- an expected entry moves no object, makes the next one, or moves one that is present
-pub acts : (S : Settings) (b : Base) (J : List Entry) (e : Entry) → IsDueFrom S b J e → Acts b J e
-acts S b J e due = acts_of b J e.caller e.at e.input e.answer (finds_due S b J e due)
+pub acts : (b : Base) (J : List Entry) (e : Entry) → IsDueBySome b J e → Acts b J e
+acts b J e due = acts_of b J e.caller e.at e.input e.answer (some_finds b J e due)
 
 pub phase_stays : (b : Base) (J : List Entry) (e : Entry) → move_of_entry e ≡ None → (j : ℕ) → phase_from b j (J ++ e ∷ []) ≡ phase_from b j J
 phase_stays b J e none j = phase_from-push b j J e ∙ ap (λ (m : Option Move). unwrap_or (phase_after_move j m) (phase_from b j J)) none

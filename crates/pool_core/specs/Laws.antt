@@ -75,6 +75,15 @@ AddsUp c = c.created ≡ c.idle + c.lent + c.reserved + c.destroyed + c.reclaime
 abbrev pub ObjectsConservedFrom : Base → List Entry → Type 0
 ObjectsConservedFrom b J = AddsUp (counts_from b J)
 
+-- the safety properties of entries after a base, whatever the settings of each were
+pub record LastingPropertiesFrom (b : Base) (J : List Entry) : Type 0 where
+  pub closed_parks_none : NoneIdleAfterClose J
+  pub closed_base_parks_none : NoneIdleAfterClosedBase b J
+  pub made_and_gone_once : IdsUsedOnce J
+  pub made_anew : MadeAnew b J
+  pub lent_in_turn : ExclusiveLoansFrom b J
+  pub nothing_lost : ObjectsConservedFrom b J
+
 -- the safety properties of legal entries after a base
 pub record SafetyPropertiesFrom (S : Settings) (b : Base) (J : List Entry) : Type 0 where
   pub at_most_max_total : AtMostMaxTotalFrom S b J

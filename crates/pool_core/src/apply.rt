@@ -46,7 +46,7 @@ impl<T> State<T> {
 
     // Moves the object that the input names to the phase of the answer, without a value.
     #[inline(always)]
-    fn bring(&mut self, now: StepContext, input: Input, answer: Answer)
+    fn move_named(&mut self, now: StepContext, input: Input, answer: Answer)
         requires before { IsBefore now.position (records_in self.old.places.objects) self.old.next }
         requires moves { MovesInputObject input answer (records_in self.old.places.objects) }
         requires bare { keeps_value answer ≡ false }
@@ -69,7 +69,7 @@ impl<T> State<T> {
     // Makes the object that the input names idle, with its value: after an idle test at its position in the queue,
     // otherwise at the end.
     #[inline(always)]
-    fn keep(&mut self, now: StepContext, input: Input, answer: Answer, value: T)
+    fn make_idle(&mut self, now: StepContext, input: Input, answer: Answer, value: T)
         requires before { IsBefore now.position (records_in self.old.places.objects) self.old.next }
         requires moves { MovesInputObject input answer (records_in self.old.places.objects) }
         requires keeps { keeps_value answer ≡ true }
@@ -115,11 +115,11 @@ impl<T> State<T> {
                 value
             }
             Answer::Parked | Answer::Kept => {
-                self.keep(now, input, answer, value.unwrap());
+                self.make_idle(now, input, answer, value.unwrap());
                 None
             }
             Answer::Lent | Answer::Noted | Answer::Check | Answer::Destroy | Answer::Freed => {
-                self.bring(now, input, answer);
+                self.move_named(now, input, answer);
                 value
             }
             Answer::Reclaimed(id) => {

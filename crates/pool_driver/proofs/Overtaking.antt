@@ -9,7 +9,7 @@ use Rattle.pool_journal.specs.declared.input.Input.TheVariants as inputs
 use Rattle.pool_calls.specs.BorrowRules as borrows
 use Rattle.pool_calls.specs.Operations.{is_waiting, step_at}
 use Rattle.pool_calls.specs.Turns.{Turn}
-use Rattle.pool_calls.specs.Waiting.{Queue, Waiter, can_pass, is_in, may_lend, newest, takes_from_waiters, without}
+use Rattle.pool_calls.specs.Waiting.{Queue, Waiter, can_pass, is_in, is_limited, may_lend, newest, takes_from_waiters, without}
 use Rattle.pool_calls.specs.declared.borrowing.BorrowState.{BorrowState}
 use Rattle.pool_calls.specs.declared.borrowing.BorrowState.TheVariants as states
 use Rattle.pool_calls.specs.declared.operation.Operation.{Operation}
@@ -185,13 +185,13 @@ takes_alone available q none = ap (λ n. nat_lt 0 n && nat_le available n) none
 
 pub may_come_alone : (available : ℕ) (d : DrivenModel) → length d.queue.waiting ≡ 0 → may_come_in available d ≡ true
 may_come_alone available d none =
-    by_test d.holds_back (nat_lt 0 (length d.queue.waiting)) (nat_le available (length d.queue.waiting)) (ap (nat_lt 0) none) (may_alone available d.queue none)
+    by_test d.holds_back (is_limited d.queue) (nat_lt 0 (length d.queue.waiting)) (nat_le available (length d.queue.waiting)) (ap (nat_lt 0) none) (may_alone available d.queue none)
   where
-    by_test : (held waits few : Bool) → waits ≡ false → may_lend available d.queue ≡ true → (if held && waits && few then false else may_lend available d.queue) ≡ true
-    by_test true true few is may = absurd (cc is)
-    by_test false true few is may = absurd (cc is)
-    by_test true false few is may = may
-    by_test false false few is may = may
+    by_test : (held limited waits few : Bool) → waits ≡ false → may_lend available d.queue ≡ true → (if held && limited && waits && few then false else may_lend available d.queue) ≡ true
+    by_test held limited true few is may = absurd (cc is)
+    by_test true true false few is may = may
+    by_test true false false few is may = may
+    by_test false limited false few is may = may
 
 may_of : (held may : Bool) → (if held then false else may) ≡ true → may ≡ true
 may_of true may is = absurd (cc is)

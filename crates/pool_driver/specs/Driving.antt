@@ -22,7 +22,7 @@ use Rattle.pool_core.specs.Reconfigured.{reconfigured}
 use Rattle.pool_core.specs.Reply.{reply_from, takeable_from}
 use Rattle.pool_calls.specs.Operations.{HasCome, Follows, IsRight, Proceeds, began_of, fits, is_making, is_waiting, lacks_room, step_at}
 use Rattle.pool_calls.specs.Turns.{Turn, asks_room, step_of}
-use Rattle.pool_calls.specs.Waiting.{Queue, Waiter, is_in, may_lend, overtaken_once, signalled_of, takes_from_waiters}
+use Rattle.pool_calls.specs.Waiting.{Queue, Waiter, is_in, is_limited, may_lend, overtaken_once, signalled_of, takes_from_waiters}
 use Rattle.pool_calls.specs.declared.action.Action.{Action}
 use Rattle.pool_calls.specs.declared.action.Action.TheVariants as actions
 use Rattle.pool_calls.specs.declared.action.Event.TheVariants as events
@@ -261,10 +261,11 @@ abbrev pub has_waited : ℤ → ℕ → ℕ → Bool
 has_waited (pos most) longer waited = nat_le (most + longer) waited
 has_waited (negsuc n) longer waited = false
 
--- a borrow that comes later may ask: not for what those that wait can take, once one of them was woken and found nothing
+-- A borrow that comes later may ask: not for what those that wait can take, once one of them was woken and found nothing, if there
+-- is a limit to overtakes.
 abbrev pub may_come_in : ℕ → DrivenModel → Bool
 may_come_in available d =
-    if d.holds_back && nat_lt 0 (length d.queue.waiting) && nat_le available (length d.queue.waiting) then false
+    if d.holds_back && is_limited d.queue && nat_lt 0 (length d.queue.waiting) && nat_le available (length d.queue.waiting) then false
     else may_lend available d.queue
 
 -- the entries that still fit besides the outstanding ones are fewer than a quarter of the limit

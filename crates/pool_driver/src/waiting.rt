@@ -347,7 +347,7 @@ impl DrivenPool {
     }
 
     // Whether a borrow that comes later may ask: there is more than those that wait can take, or it may overtake them.
-    // It may not once one of them was woken and found nothing.
+    // It may not once one of them was woken and found nothing, if there is a limit to overtakes.
     pub(crate) fn may_come(&mut self, available: u64) -> bool
         ensures value { result ≡ may_come_in available self.old }
         ensures kept { self.new ≡ self.old }
@@ -356,7 +356,7 @@ impl DrivenPool {
         if waiting == 0 {
             return true;
         }
-        if self.holds_back && available <= waiting {
+        if self.holds_back && self.waiters.is_limited() && available <= waiting {
             return false;
         }
         self.waiters.may_lend(available)

@@ -10,6 +10,9 @@ pub enum CheckFault {
     /// The file of this number can't be opened.
     #[error("pool: cannot open file {0}")]
     Unopened(u64),
+    /// The settings of the file of this number leave no room for the entries that are outstanding before it.
+    #[error("pool: base: no room")]
+    NoRoom(u64),
     /// The file of this number isn't checked to its end.
     #[error("{1}")]
     File(u64, EngineFault),

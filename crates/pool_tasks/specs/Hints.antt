@@ -46,6 +46,7 @@ is_of_journal _ = true
 -- the file with the error, unless the line of the error names it
 abbrev pub path_of : Fault → Option (List ℕ)
 path_of (faults.Settings path fault) = if is_of_file fault then Some path.now else None
+path_of (faults.NoRoom path) = Some path.now
 path_of (faults.Engine path fault) = if is_of_journal fault then option_map (λ text. text.now) path else None
 path_of _ = None
 
@@ -76,6 +77,7 @@ advice_of faults.WrongNumbers _ = Some (codes "WORKERS is 1 to 1023, and ROUNDS 
 advice_of (faults.Settings _ fault) kind = settings_advice fault kind
 advice_of (faults.Engine _ (engines.Line _ fault)) kind = line_advice fault kind
 advice_of (faults.Engine _ (engines.Full _)) _ = Some (codes "a larger journalLimit in the settings makes room")
+advice_of (faults.NoRoom _) _ = Some (codes "a larger journalLimit in the settings makes room")
 advice_of (faults.Load loads.JournalFull) _ = Some (codes "a larger journalLimit in the settings makes room")
 advice_of _ _ = None
 

@@ -7,7 +7,7 @@ use Rattle.pool_engines.specs.declared.check_fault.CheckFault.{CheckFault}
 use Rattle.pool_engines.specs.declared.engine_fault.EngineFault.{EngineFault}
 use Rattle.pool_engines.specs.declared.check_fault.CheckFault.TheVariants as checks
 use Rattle.pool_tasks.specs.declared.fault.Fault.{Fault}
-use Rattle.pool_tasks.specs.declared.fault.Fault.TheVariants.{WrongArguments, Asked, WrongNumbers, Unopened, OutOfMemory, Settings, Engine, Load}
+use Rattle.pool_tasks.specs.declared.fault.Fault.TheVariants.{WrongArguments, Asked, WrongNumbers, Unopened, OutOfMemory, Settings, UnopenedBeside, Beside, NoRoom, Engine, Load}
 
 -- The line without its line feed. Those of engines and loads have no key and no path, and are not defined here.
 abbrev pub text_of : Fault → Option (List ℕ)
@@ -17,6 +17,9 @@ text_of WrongNumbers = Some (codes "pool: wrong arguments")
 text_of (Unopened path) = Some (codes "pool: cannot open " ++ escaped path.now)
 text_of OutOfMemory = Some (codes "pool: out of memory")
 text_of (Settings _ fault) = Some (file_text fault)
+text_of (UnopenedBeside path) = Some (codes "pool: cannot open the settings beside " ++ escaped path.now)
+text_of (Beside path fault) = Some (file_text fault ++ (codes ", beside " ++ escaped path.now))
+text_of (NoRoom _) = Some (codes "pool: base: no room")
 text_of (Engine _ _) = None
 text_of (Load _) = None
 
@@ -26,15 +29,17 @@ status_of Asked = 2
 status_of WrongNumbers = 2
 status_of _ = 3
 
--- the path of the file that could not be opened, or was not read to its end
+-- the path of the file that could not be opened, whose settings have no room, or that was not read to its end
 abbrev pub file_of : Fault → Option (List ℕ)
 file_of (Unopened path) = Some path.now
+file_of (NoRoom path) = Some path.now
 file_of (Engine path _) = option_map (λ text. text.now) path
 file_of _ = None
 
 -- the path of the file that an error of a check has the number of
 abbrev pub numbered_file : List (List ℕ) → CheckFault → Option (List ℕ)
 numbered_file paths (checks.Unopened number) = slice_get paths number
+numbered_file paths (checks.NoRoom number) = slice_get paths number
 numbered_file paths (checks.File number _) = slice_get paths number
 numbered_file paths (checks.Untold _) = None
 
@@ -46,5 +51,6 @@ cause_of _ = None
 -- the error of the engine that stopped a check
 abbrev pub check_cause : CheckFault → Option EngineFault
 check_cause (checks.Unopened _) = None
+check_cause (checks.NoRoom _) = None
 check_cause (checks.File _ fault) = Some fault
 check_cause (checks.Untold fault) = Some fault

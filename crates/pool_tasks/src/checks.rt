@@ -3,12 +3,14 @@ ghost use Rattle.std.specs.Prelude.{◌≡◌, length, map};
 ghost use Rattle.pool_engines.specs.SideBySide.{IsNumbered};
 ghost use Rattle.pool_tasks.specs.Messages.{cause_of, check_cause, file_of, numbered_file};
 
+use crate::changes::settings_of_each;
 use crate::fault::Fault;
 use crate::files::{Files, is_regular, open_all};
 use crate::progress::{Progress, Wiped};
 use crate::runs::settings_in;
 use pool_engines::{CheckFault, check_side_by_side};
 use pool_settings::Settings;
+use std::path::Path;
 use std::process::ExitCode;
 use std::thread;
 use std::thread::Threads;
@@ -20,16 +22,18 @@ const ILLEGAL: u8 = 1;
 /// longest file.
 const FILES_PER_PROCESSOR: usize = 4;
 
-/// Checks the journal in these files, in their order. The status is 1 if it is not legal.
+/// Checks the journal in these files, in their order, with these settings until a file has others beside it. The status
+/// is 1 if it is not legal.
 pub fn check_journal<'a, R: Threads + Sync>(
     rt: &HostRuntime,
     threads: &R,
     settings: &'a str,
     journals: &[&'a str],
 ) -> Result<ExitCode, Fault<'a>> {
-    let settings = settings_in(rt, settings)?;
+    let first = settings_in(rt, settings)?;
+    let settings = settings_of_each(rt, first, journals)?;
     let width = width(threads, rt, journals);
-    if check_files(rt, threads, settings, journals, width)? {
+    if check_files(rt, threads, &settings, journals, width)? {
         Ok(ExitCode::SUCCESS)
     } else {
         Ok(ExitCode::from(ILLEGAL))
@@ -47,18 +51,18 @@ fn width<R: Threads>(threads: &R, rt: &HostRuntime, paths: &[&str]) -> usize {
         return 0;
     }
     for path in paths {
-        if !is_regular(rt, path) {
+        if !is_regular(rt, Path::new(path)) {
             return 0;
         }
     }
     processors.get().saturating_mul(FILES_PER_PROCESSOR)
 }
 
-/// Checks files, `width` of them at a time, or in turn if that is 0.
+/// Checks files, each with its settings, `width` of them at a time, or in turn if that is 0.
 fn check_files<'a, R: Threads + Sync>(
     rt: &HostRuntime,
     threads: &R,
-    settings: Settings,
+    settings: &[Settings],
     paths: &[&'a str],
     width: usize,
 ) -> Result<bool, Fault<'a>> {
@@ -67,6 +71,7 @@ fn check_files<'a, R: Threads + Sync>(
     let files = Files {
         rt,
         paths,
+        settings,
         opened: &opened,
         are_regular: width > 0,
         progress: &progress,
@@ -75,7 +80,7 @@ fn check_files<'a, R: Threads + Sync>(
         out: rt.stdout(),
         progress: &progress,
     };
-    let judged = check_side_by_side(threads, rt.alloc(), settings, &files, width, &mut out);
+    let judged = check_side_by_side(threads, rt.alloc(), &files, width, &mut out);
     progress.wipe();
     match judged {
         Ok(is_legal) => Ok(is_legal),
@@ -91,6 +96,7 @@ fn fault_of<'a>(paths: &[&'a str], fault: CheckFault) -> Fault<'a>
 {
     match fault {
         CheckFault::Unopened(number) => Fault::Unopened(paths[number as usize]),
+        CheckFault::NoRoom(number) => Fault::NoRoom(paths[number as usize]),
         CheckFault::File(number, fault) => Fault::Engine(Some(paths[number as usize]), fault),
         CheckFault::Untold(fault) => Fault::Engine(None, fault),
     }

@@ -1,13 +1,17 @@
 //! The files of a check.
-ghost use Rattle.std.specs.Prelude.{map, None};
+ghost use Rattle.std.specs.List.{slice_get};
+ghost use Rattle.std.specs.Prelude.{map, None, unwrap_or};
+ghost use Rattle.pool_settings.specs.Defaults.{defaults};
 
 use crate::fault::Fault;
 use crate::progress::Progress;
 use crate::runs::open;
 use crate::watched::{Reading, Watched};
 use pool_engines::Segments;
+use pool_settings::Settings;
 use std::fs::File;
 use std::io::ErrorKind;
+use std::path::Path;
 use std::{fs, io};
 
 /// The most files that stay open until the check ends.
@@ -18,6 +22,8 @@ const MOST_OPEN: usize = 500;
 pub(crate) struct Files<'a, 'w, 'o, 'p, 'r> {
     pub rt: &'r HostRuntime,
     pub paths: &'w [&'a str],
+    /// The settings of each.
+    pub settings: &'w [Settings],
     /// The first of them, which are open. Each of the others is opened whenever it is read.
     pub opened: &'o [File],
     /// Whether they are regular. Files that are not may be read only once.
@@ -39,8 +45,17 @@ impl<'o> Files<'_, '_, 'o, '_, '_> {
 impl<'a, 'w, 'o, 'p, 'r> Segments<Watched<'o, 'p, 'r>> for Files<'a, 'w, 'o, 'p, 'r> {
     ghost files = { λ files. map (λ path. None) files.paths.now };
 
+    ghost rules = { λ files. λ number. unwrap_or (slice_get files.settings.now number) defaults };
+
     fn count(&self) -> usize {
         self.paths.len()
+    }
+
+    fn settings(&self, number: usize) -> Settings {
+        match self.settings.get(number) {
+            Some(settings) => *settings,
+            None => Settings::default(),
+        }
     }
 
     fn open(&self, number: usize) -> io::Result<Watched<'o, 'p, 'r>> {
@@ -74,7 +89,7 @@ pub(crate) fn open_all<'a>(
 }
 
 /// Returns whether there is a regular file at this path.
-pub(crate) fn is_regular(rt: &HostRuntime, path: &str) -> bool {
+pub(crate) fn is_regular(rt: &HostRuntime, path: Path<'_>) -> bool {
     match fs::metadata(rt, path) {
         Ok(metadata) => metadata.is_file(),
         Err(_) => false,

@@ -9,6 +9,7 @@ use pool_settings::SettingsFault;
 use std::fs;
 use std::fs::File;
 use std::io::{BufRead, BufReader};
+use std::path::Path;
 
 /// The findings at the position of an error.
 #[derive(Clone, Copy, Debug)]
@@ -41,7 +42,7 @@ pub(crate) fn look(rt: &HostRuntime, fault: &Fault<'_>) -> Found {
 
 /// Finds the line at which a file stops being TOML.
 fn look_at_settings(rt: &HostRuntime, path: &str) -> Option<Found> {
-    if !is_regular(rt, path) {
+    if !is_regular(rt, Path::new(path)) {
         return None;
     }
     let text = fs::read_to_string(rt, path).ok()?;
@@ -66,7 +67,7 @@ fn line_number(text: &[u8], index: usize) -> u64 {
 
 /// Returns the line of this number, from 1, in the file at this path.
 fn line_of(rt: &HostRuntime, path: &str, number: u64) -> Option<Vec<u8>> {
-    if !is_regular(rt, path) {
+    if !is_regular(rt, Path::new(path)) {
         return None;
     }
     let file = File::open(rt, path).ok()?;

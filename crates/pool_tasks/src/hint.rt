@@ -81,12 +81,13 @@ fn path_of<'a>(fault: &Fault<'a>) -> Option<&'a str>
     match fault {
         Fault::Settings(path, fault) if is_of_file(fault) => Some(*path),
         Fault::Engine(path, fault) if is_of_journal(fault) => *path,
+        Fault::NoRoom(path) => Some(*path),
         _ => None,
     }
 }
 
 /// Returns whether an error is one of the settings file, and not of memory.
-fn is_of_file(fault: &FileFault) -> bool
+pub(crate) fn is_of_file(fault: &FileFault) -> bool
     ensures { result ≡ Spec.is_of_file fault.now }
 {
     !matches!(
@@ -110,7 +111,7 @@ fn advice_of(fault: &Fault<'_>, kind: Option<LineKind>) -> Option<&'static str>
         Fault::WrongNumbers => Some("WORKERS is 1 to 1023, and ROUNDS is 1 to 1000000"),
         Fault::Settings(_, fault) => settings_advice(fault, kind),
         Fault::Engine(_, EngineFault::Line(_, fault)) => line_advice(fault, kind),
-        Fault::Engine(_, EngineFault::Full(_)) => Some(FULL),
+        Fault::Engine(_, EngineFault::Full(_)) | Fault::NoRoom(_) => Some(FULL),
         Fault::Load(LoadFault::JournalFull) => Some(FULL),
         _ => None,
     }

@@ -2,6 +2,7 @@
 //! with hints at a terminal, and help.
 #![tactic(auto)]
 
+mod changes;
 mod checks;
 mod fault;
 mod files;

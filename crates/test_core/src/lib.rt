@@ -10,9 +10,9 @@ mod full;
 #[cfg(test)]
 mod going_on;
 #[cfg(test)]
-mod judging;
-#[cfg(test)]
 mod lives;
+#[cfg(test)]
+mod openings;
 #[cfg(test)]
 mod playing;
 #[cfg(test)]

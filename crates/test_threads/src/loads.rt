@@ -5,7 +5,6 @@ use crate::openings::settings_of;
 use crate::turns::TURNS;
 use pool_load::{Gate, LoadFault, LoadReport, load};
 use pool_settings::Settings;
-use pool_stats::Statistics;
 use std::alloc::Global;
 use std::process::Abort;
 use std::sync::Wait;
@@ -104,53 +103,11 @@ fn report_of<G: Gate, R: Threads + Wait + Abort + Sync>(
 }
 
 #[test]
-fn one_round(rt: HostRuntime) {
-    let stats = Statistics {
-        borrowed: 1,
-        returned: 1,
-        created: 1,
-        destroyed: 1,
-        evicted: 0,
-        borrow_test_failed: 0,
-        reclaimed: 0,
-        longest: 1,
-        total: 1,
-    };
-    let passed = (Ok(LoadReport { refused: 0, stats }), 1);
-    let alloc = rt.alloc();
-    expect_equal(&rt, answer(&rt, alloc, "", 1, 1), passed);
-    expect_equal(&rt, answer(&rt, alloc, "journalLimit = 7", 1, 1), passed);
-}
-
-#[test]
 fn no_room(rt: HostRuntime) {
     let full = Err(LoadFault::JournalFull);
     let alloc = rt.alloc();
     expect_equal(&rt, answer(&rt, alloc, "journalLimit = 7", 1, 2), (full, 1));
     expect_equal(&rt, answer(&rt, alloc, "journalLimit = 6", 1, 1), (full, 0));
-}
-
-#[test]
-fn numbers_out_of_range(rt: HostRuntime) {
-    let workers = (Err(LoadFault::WorkerCount), 0);
-    let rounds = (Err(LoadFault::RoundCount), 0);
-    let alloc = rt.alloc();
-    expect_equal(&rt, answer(&rt, alloc, "", 0, 1), workers);
-    expect_equal(&rt, answer(&rt, alloc, "", 1_024, 1), workers);
-    expect_equal(&rt, answer(&rt, alloc, "", u32::MAX, 0), workers);
-    expect_equal(&rt, answer(&rt, alloc, "", 1, 0), rounds);
-    expect_equal(&rt, answer(&rt, alloc, "", 1_023, 1_000_001), rounds);
-    expect_equal(&rt, answer(&rt, alloc, "", 1, u64::MAX), rounds);
-}
-
-#[test]
-fn four_workers(rt: HostRuntime) {
-    let (report, passed) = answer(&rt, rt.alloc(), "maxTotal = 4", 4, 10);
-    let LoadReport { refused, stats } = report.expect(&rt, "a report");
-    expect_equal(&rt, (refused, passed), (0, 40));
-    expect_equal(&rt, (stats.borrowed, stats.returned), (40, 40));
-    assert!(rt; 1 <= stats.created && stats.created <= 4);
-    expect_equal(&rt, stats.destroyed, stats.created);
 }
 
 #[test]
@@ -197,29 +154,4 @@ fn counted_from_0(rt: HostRuntime) {
     let _report = report_of(&rt, rt.alloc(), Settings::default(), 3, 4, &gate);
     expect_equal(&rt, gate.workers.load(Ordering::SeqCst), 12);
     expect_equal(&rt, gate.rounds.load(Ordering::SeqCst), 18);
-}
-
-fn has_words(rt: &impl Abort, alloc: Global, fault: LoadFault, words: &str) {
-    let text = format!(in alloc; "{fault}").expect(rt, "memory");
-    expect_equal(rt, text.as_str(), words);
-}
-
-#[test]
-fn words_of_faults(rt: HostRuntime) {
-    let alloc = rt.alloc();
-    has_words(&rt, alloc, LoadFault::JournalFull, "pool: journal full");
-    has_words(&rt, alloc, LoadFault::OutOfMemory, "pool: out of memory");
-    has_words(&rt, alloc, LoadFault::NoThread, "pool: no thread");
-    has_words(
-        &rt,
-        alloc,
-        LoadFault::WorkerCount,
-        "pool: wrong number of workers",
-    );
-    has_words(
-        &rt,
-        alloc,
-        LoadFault::RoundCount,
-        "pool: wrong number of rounds",
-    );
 }

@@ -61,7 +61,7 @@ public final class Journal {
      * checks it. After a crash each file is complete or absent. It makes the folder if there is none, now and if the folder is removed later.
      *
      * <p>If the settings of the pool change, the new ones are in {@code settings-POSITION.toml}, with the position of the first segment that has them,
-     * and {@code judge SETTINGS SEGMENT} checks each segment with its own.
+     * and the check takes them from there on.
      *
      * <p>The file of the settings is the first, and is made as a hard link, which only one pool can make. If another pool, also of another process,
      * has stored its settings in the folder by then, this pool stores nothing there: the failure is passed to {@link ZuphinkaPool#swallowed}.

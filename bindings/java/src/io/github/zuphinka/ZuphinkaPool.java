@@ -240,6 +240,8 @@ public class ZuphinkaPool<T> extends ConfiguredPool<T> implements ObjectPool<T>,
      * overtaken so often, or was woken and found nothing, later borrows queue behind it until it has its object or leaves. A borrow that does not
      * wait then fails as if nothing were there.
      *
+     * <p>With {@link Integer#MAX_VALUE} there is no limit, as in {@code GenericObjectPool}, and no borrow queues while there is an object or a place.
+     *
      * <p>Overtaking costs no sleep, so a high number lends more objects per second where many wait. A low one makes the longest wait shorter.
      *
      * @param times a number from 0

@@ -17,6 +17,9 @@ pub returns-in-Err-clause-empty : goal.returns-in-Err-clause-empty
 returns-in-Err-clause-empty c = λ empty.
     absurd (c.in-Err.ensures.memory (c.is_memory.ensures.0 c.if-is_memory.true) (rw empty empty_is_blank))
 
+pub returns-in-Err-clause-answer : goal.returns-in-Err-clause-answer
+returns-in-Err-clause-answer c = λ other. absurd (other refl)
+
 pub returns-clause-in_range : goal.returns-clause-in_range
 unfolding settings_of
 returns-clause-in_range c =
