@@ -214,13 +214,16 @@ static void open_all(const struct kind *kind) {
   for (int n = 0; n < CONNECTIONS; n++) kind->give_back(&lent[n]);
 }
 
-static void start(struct turn *turn, struct worker *workers) {
+/* Starts the workers of a turn. Returns when it began, before any of them asks. */
+static uint64_t start(struct turn *turn, struct worker *workers) {
   if (pthread_barrier_init(&turn->start, NULL, turn->workers + 1)) fail("no barrier");
   for (unsigned n = 0; n < turn->workers; n++) {
     workers[n] = (struct worker){.turn = turn, .number = n};
     if (pthread_create(&workers[n].thread, NULL, work, &workers[n])) fail("no thread");
   }
+  uint64_t began = now();
   pthread_barrier_wait(&turn->start);
+  return began;
 }
 
 /* Plays a turn, and prints its line. */
@@ -228,8 +231,7 @@ static void play(struct turn *turn) {
   struct worker workers[MOST_WORKERS];
   uint64_t made = 0, longest = 0;
   open_all(turn->kind);
-  start(turn, workers);
-  uint64_t began = now();
+  uint64_t began = start(turn, workers);
   for (unsigned n = 0; n < turn->workers; n++) {
     pthread_join(workers[n].thread, NULL);
     made += workers[n].made;

@@ -326,7 +326,7 @@ def transfers():
     yield "its ratios", [ours] * bool(ours), [table[0][1:] for table in ratios]
     short = short_rows(done)
     last = f"{len(DATABASE_ROWS) * bool(ours)} rows, {len(short)} short"
-    yield "its end", ([last], bool(short), True), (*ended(done)[:2], short <= set(DATABASE_ROWS))
+    yield "its end", ([last], bool(short), "", True), (*ended(done)[:2], done.stderr, short <= set(DATABASE_ROWS))
 
 
 def checks(pool):

@@ -144,8 +144,8 @@ async fn run(turn: &Turn, pool: impl Lender) -> Result<Report, Failure> {
     let start = Arc::new(Barrier::new(turn.workers + 1));
     let begin = |worker| tokio::spawn(work(*turn, worker, start.clone(), pool.clone()));
     let tasks: Vec<_> = (0..turn.workers).map(begin).collect();
-    start.wait().await;
     let (began, mut works) = (Instant::now(), Vec::new());
+    start.wait().await;
     for task in tasks {
         works.push(task.await??);
     }

@@ -100,8 +100,8 @@ fn run<G: DerefMut<Target = Connection>>(
     thread::scope(|scope| {
         let begin = |worker| scope.spawn(move || work(turn, worker, start, borrow));
         let workers: Vec<_> = (0..turn.workers).map(begin).collect();
-        start.wait();
         let began = Instant::now();
+        start.wait();
         let ended = workers.into_iter().map(|worker| worker.join());
         let works: Result<Vec<Work>, Failure> =
             ended.map(|work| work.expect("no thread panics")).collect();

@@ -26,6 +26,29 @@ pub struct Life {
     limit: u64,
     drawn: u64,
     closed: bool,
+    /// Whether it ended early, since there was no memory to open its pool again.
+    short_of_memory: bool,
+}
+
+/// How two lives of one kind ended.
+#[derive(Drop, Clone, Copy)]
+pub enum Verdict {
+    Same,
+    Different,
+    Unfinished,
+    OutOfMemory,
+}
+
+impl Verdict {
+    /// Returns the words of the line that reports it.
+    pub fn text(self) -> &'static str {
+        match self {
+            Verdict::Same => "finished, the same twice",
+            Verdict::Different => "the two differ",
+            Verdict::Unfinished => "something is left",
+            Verdict::OutOfMemory => "out of memory",
+        }
+    }
 }
 
 /// Returns the value that an input carries.
@@ -42,41 +65,62 @@ fn open(alloc: Global, settings: Settings) -> Result<Core<u64>, AllocError> {
     }
 }
 
+/// Returns the settings of a pool whose journal has room for `limit` entries.
+fn settings_of(limit: u64) -> Settings {
+    Settings {
+        journal_limit: limit,
+        max_total: 5,
+        max_idle: 3,
+        min_idle: 2,
+        min_evictable_idle_millis: 20,
+        test_while_idle: true,
+        abandoned: true,
+        remove_abandoned_on_borrow: true,
+        remove_abandoned_on_maintenance: true,
+        remove_abandoned_timeout_millis: 30,
+        ..Settings::default()
+    }
+}
+
 impl Life {
-    /// Runs a life from its start to its end, with a journal of at most `limit` entries.
-    pub fn lived(alloc: Global, limit: u64) -> Result<Life, AllocError> {
-        let settings = Settings {
-            journal_limit: limit,
-            max_total: 5,
-            max_idle: 3,
-            min_idle: 2,
-            min_evictable_idle_millis: 20,
-            test_while_idle: true,
-            abandoned: true,
-            remove_abandoned_on_borrow: true,
-            remove_abandoned_on_maintenance: true,
-            remove_abandoned_timeout_millis: 30,
-            ..Settings::default()
-        };
-        let mut life = Life {
+    /// Begins a life, with a journal of at most `limit` entries.
+    pub fn begun(alloc: Global, limit: u64) -> Result<Life, AllocError> {
+        Ok(Life {
             before: None,
-            core: open(alloc, settings)?,
+            core: open(alloc, settings_of(limit))?,
             limit,
             drawn: 0,
             closed: false,
-        };
-        let mut dice = Dice::new(limit);
-        life.try_steps(&mut dice, 0);
-        life.open_anew(alloc, settings)?;
-        life.try_steps(&mut dice, HALF);
-        life.finish_objects();
-        life.close();
-        life.clear();
-        Ok(life)
+            short_of_memory: false,
+        })
+    }
+
+    /// Runs a life that was begun to its end.
+    pub fn run(&mut self, alloc: Global) {
+        let mut dice = Dice::new(self.limit);
+        self.try_steps(&mut dice, 0);
+        self.short_of_memory = self.open_anew(alloc).is_err();
+        self.try_steps(&mut dice, HALF);
+        self.finish_objects();
+        self.close();
+        self.clear();
+    }
+
+    /// Returns how this life and another one ended.
+    pub fn verdict(&self, other: &Life) -> Verdict {
+        if self.short_of_memory || other.short_of_memory {
+            Verdict::OutOfMemory
+        } else if !self.is_finished() || !other.is_finished() {
+            Verdict::Unfinished
+        } else if self.is_same(other) {
+            Verdict::Same
+        } else {
+            Verdict::Different
+        }
     }
 
     /// Returns whether another life has the same entries, before and after its pool was opened again.
-    pub fn is_same(&self, other: &Life) -> bool {
+    fn is_same(&self, other: &Life) -> bool {
         self.entries_before() == other.entries_before()
             && self.core.journal() == other.core.journal()
     }
@@ -89,7 +133,7 @@ impl Life {
     }
 
     /// Returns whether the pool is closed, and no entry is outstanding: each place is free.
-    pub fn is_finished(&self) -> bool {
+    fn is_finished(&self) -> bool {
         let used = self.core.journal().len() as u64;
         self.closed && self.core.room() == self.limit.saturating_sub(used)
     }
@@ -117,9 +161,9 @@ impl Life {
     }
 
     /// Cuts the journal, and continues with a pool that is opened from the state after it.
-    fn open_anew(&mut self, alloc: Global, settings: Settings) -> Result<(), AllocError> {
+    fn open_anew(&mut self, alloc: Global) -> Result<(), AllocError> {
         self.before = Some(cut_again(alloc, &mut self.core)?);
-        self.core = opened_again(alloc, settings, &self.core)?;
+        self.core = opened_again(alloc, settings_of(self.limit), &self.core)?;
         Ok(())
     }
 

@@ -10,35 +10,31 @@ mod dice;
 mod life;
 mod reopening;
 
-use crate::life::Life;
-use std::alloc::AllocError;
+use crate::life::{Life, Verdict};
+use std::alloc::{AllocError, Global};
 use std::process::ExitCode;
 
 /// The limits of the journals.
 const LIMITS: [u64; 4] = [1, 8, 16, 30];
 
-/// Returns how two lives of one kind ended.
-fn reported(one: &Life, other: &Life) -> &'static str {
-    if !one.is_finished() || !other.is_finished() {
-        "something is left"
-    } else if !one.is_same(other) {
-        "the two differ"
-    } else {
-        "finished, the same twice"
-    }
+/// Runs a life beside one that has ended, and returns how the two ended.
+fn compared(alloc: Global, limit: u64, one: &Life) -> Result<Verdict, AllocError> {
+    let mut other = Life::begun(alloc, limit)?;
+    other.run(alloc);
+    Ok(one.verdict(&other))
 }
 
 /// Runs two lives of one kind, and returns how they ended.
-fn verdict(rt: &HostRuntime, limit: u64) -> Result<&'static str, AllocError> {
-    let one = Life::lived(rt.alloc(), limit)?;
-    let other = Life::lived(rt.alloc(), limit)?;
-    Ok(reported(&one, &other))
+fn verdict(alloc: Global, limit: u64) -> Result<Verdict, AllocError> {
+    let mut one = Life::begun(alloc, limit)?;
+    one.run(alloc);
+    compared(alloc, limit, &one)
 }
 
 fn main(rt: HostRuntime) -> ExitCode {
     for limit in LIMITS {
-        let found = verdict(&rt, limit).unwrap_or("out of memory");
-        let _ = println!(rt; "journalLimit {limit}: {found}");
+        let found = verdict(rt.alloc(), limit).unwrap_or(Verdict::OutOfMemory);
+        let _ = println!(rt; "journalLimit {limit}: {}", found.text());
     }
     ExitCode::SUCCESS
 }
