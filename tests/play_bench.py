@@ -96,7 +96,7 @@ def peers(*words):
 
 
 def database_run(*words):
-    return run("database", "--rounds", "1", "--seconds", "0.1", *words)
+    return run("database", "--rounds", "1", "--seconds", "0.1", "--tries", "1", *words)
 
 
 def tables(done):

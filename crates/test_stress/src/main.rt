@@ -43,6 +43,14 @@ const CUTS: usize = 8_000;
 /// The number of times that a call that must succeed is tried if it fails for lack of memory.
 const TRIES: u32 = 10_000;
 
+/// What a pool and its callers are to do.
+#[derive(Clone, Copy)]
+struct Round {
+    settings: Settings,
+    seed: u64,
+    manner: Manner,
+}
+
 /// Returns the settings of a pool in which a borrow fails if there is no object for it.
 fn refusing() -> Settings {
     Settings {
@@ -133,47 +141,72 @@ fn play_on<B: Room + Send + Sync, R: Threads + Wait + Sync>(
     pool.finish(rt, back).map_err(|_| Fault::CallerMissing)
 }
 
-// Runs all callers on one pool. If an allocation of the opening fails, no caller runs.
-fn play<B: Room + Send + Sync, R: Threads + Wait + Sync>(
+// Opens a pool, runs all callers on it, collects their work, and ends it. If an allocation of the opening fails, no
+// caller runs.
+fn play_all<B: Room + Send + Sync, R: Threads + Wait + Sync>(
     rt: &R,
     alloc: Global,
     site: Site,
-    settings: Settings,
-    seed: u64,
-    manner: Manner,
+    round: &Round,
     tally: &Tally,
+    segments: &Segments,
+    all: &mut Vec<Played>,
     refusals: &mut Refusals,
-) -> Result<Verdict, Fault>
-    requires { (site ≡ B.table) × (settings ≡ B.settings) × (4 ≡ B.callers) }
+) -> Result<Core<Thing>, Fault>
+    requires { (site ≡ B.table) × (round.now.settings ≡ B.settings) × (4 ≡ B.callers) }
 {
-    let segments: Segments = Mutex::new(Vec::with_capacity(alloc, CUTS)?);
     let back = Vec::with_capacity(alloc, CALLERS as usize)?;
-    let mut all = Vec::with_capacity(alloc, CALLERS as usize)?;
-    let things = Fickle { tally, seed };
+    let things = Fickle {
+        tally,
+        seed: round.seed,
+    };
     let clock = Ticking::new();
-    let opened = Pool::<B>::open(rt, alloc, site, settings, seed, CALLERS, things, clock);
+    let opened = Pool::<B>::open(
+        rt,
+        alloc,
+        site,
+        round.settings,
+        round.seed,
+        CALLERS,
+        things,
+        clock,
+    );
     if let Err(OpenFault::OutOfMemory) = &opened {
         refusals.note(Call::Open);
     }
     let (pool, callers) = opened?;
-    let players = players_of(alloc, callers, seed, manner, &segments)?;
-    let core = play_on(rt, pool, players, back, &mut all, refusals)?;
+    let players = players_of(alloc, callers, round.seed, round.manner, segments)?;
+    play_on(rt, pool, players, back, all, refusals)
+}
+
+// Runs all callers on one pool, and checks it once it has ended.
+fn play<B: Room + Send + Sync, R: Threads + Wait + Sync>(
+    rt: &R,
+    alloc: Global,
+    site: Site,
+    round: &Round,
+    tally: &Tally,
+    refusals: &mut Refusals,
+) -> Result<Verdict, Fault>
+    requires { (site ≡ B.table) × (round.now.settings ≡ B.settings) × (4 ≡ B.callers) }
+{
+    let segments: Segments = Mutex::new(Vec::with_capacity(alloc, CUTS)?);
+    let mut all = Vec::with_capacity(alloc, CALLERS as usize)?;
+    let core = play_all::<B, R>(rt, alloc, site, round, tally, &segments, &mut all, refusals)?;
     let segments = segments.into_inner();
-    judge(alloc, settings, &segments, &core, all.as_slice(), tally)
+    judge(alloc, round.settings, &segments, &core, all.as_slice(), tally)
 }
 
 // Runs all callers on one pool, on a new cell.
 fn play_anew<R: Threads + Wait + Sync>(
     rt: &R,
     alloc: Global,
-    settings: Settings,
-    seed: u64,
-    manner: Manner,
+    round: &Round,
     refusals: &mut Refusals,
 ) -> Result<Verdict, Fault> {
     let site = Site::new(alloc)?;
     let tally = Tally::new();
-    play::<Brand, R>(rt, alloc, site, settings, seed, manner, &tally, refusals)
+    play::<Brand, R>(rt, alloc, site, round, &tally, refusals)
 }
 
 // Runs a seed. In one of three the callers wait.
@@ -188,8 +221,13 @@ fn try_seed<R: Threads + Wait + Sync>(
     } else {
         (refusing(), Manner::Refused)
     };
+    let round = Round {
+        settings,
+        seed,
+        manner,
+    };
     for _ in 0..TRIES {
-        match play_anew(rt, alloc, settings, seed, manner, refusals) {
+        match play_anew(rt, alloc, &round, refusals) {
             Err(Fault::OutOfMemory) => {}
             found => return found,
         }
