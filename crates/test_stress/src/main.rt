@@ -194,7 +194,14 @@ fn play<B: Room + Send + Sync, R: Threads + Wait + Sync>(
     let mut all = Vec::with_capacity(alloc, CALLERS as usize)?;
     let core = play_all::<B, R>(rt, alloc, site, round, tally, &segments, &mut all, refusals)?;
     let segments = segments.into_inner();
-    judge(alloc, round.settings, &segments, &core, all.as_slice(), tally)
+    judge(
+        alloc,
+        round.settings,
+        &segments,
+        &core,
+        all.as_slice(),
+        tally,
+    )
 }
 
 // Runs all callers on one pool, on a new cell.
