@@ -6,15 +6,16 @@ from contest import TOP, Contest, built_by_cargo, built_c, version_of_jdk
 from entrants import C, JAVA, R2D2
 from postgres_server import PROGRAMS, ROLE
 
-CRATE, TASKS, SEMAPHORE, DBCP, HIKARI, LIST = "crate", "crate, tasks", "semaphore, tasks", "DBCP2", "HikariCP", "list in C"
-# Each pool of ours, and the others in its language.
-PEERS = {CRATE: [R2D2], TASKS: [SEMAPHORE], JAVA: [DBCP, HIKARI], C: [LIST]}
-COLUMNS = [column for our, others in PEERS.items() for column in (our, *others)]
+CRATE, TASKS, SEMAPHORE, LIST = "crate", "crate, tasks", "semaphore, tasks", "list in C"
+HIKARI, DBCP, UNDER_DBCP = "HikariCP", "DBCP2", "Java, DBCP2"
+# Each pool of ours, and the others in its language. Under DBCP2 it has the connections of DBCP2, which do more than those of HikariCP.
+PEERS = {CRATE: [R2D2], TASKS: [SEMAPHORE], JAVA: [HIKARI, DBCP], UNDER_DBCP: [DBCP], C: [LIST]}
+COLUMNS = [*dict.fromkeys(column for our, others in PEERS.items() for column in (our, *others))]
 # How many transfers of the best other pool ours is to make at least.
 LEAST = 0.97
 # The words of the programs for their pools.
 RUST_KINDS = {CRATE: "crate", R2D2: "r2d2", TASKS: "crate-tasks", SEMAPHORE: "semaphore-tasks"}
-JAVA_KINDS = {JAVA: "Zuphinka", DBCP: "Dbcp", HIKARI: "Hikari"}
+JAVA_KINDS = {JAVA: "Leases", HIKARI: "Hikari", DBCP: "Dbcp", UNDER_DBCP: "Under"}
 C_KINDS = {C: "zuphinka", LIST: "list"}
 # Where the server is, as a program in Rust or C reads it, and one in Java.
 OF_LIBPQ = f"host=127.0.0.1 port={{port}} user={ROLE} dbname={ROLE}"
@@ -25,8 +26,9 @@ CRATES = {"tokio-postgres": "librust-tokio-postgres-dev", "r2d2": "librust-r2d2-
 DRIVER = {"postgresql": "libpostgresql-jdbc-java"}
 COMMONS = ("dbcp2", "pool2", "logging")
 JARS_OF_DBCP = DRIVER | {f"commons-{name}": f"libcommons-{name}-java" for name in COMMONS}
+JARS_OF_OURS = DRIVER | {"commons-pool2": "libcommons-pool2-java"}
 JARS_OF_HIKARI = DRIVER | {"HikariCP": "libhikaricp-java", "slf4j-api": "libslf4j-java", "slf4j-nop": "libslf4j-java"}
-JARS = {JAVA: JARS_OF_DBCP, DBCP: JARS_OF_DBCP, HIKARI: JARS_OF_HIKARI}
+JARS = {JAVA: JARS_OF_OURS, HIKARI: JARS_OF_HIKARI, DBCP: JARS_OF_DBCP, UNDER_DBCP: JARS_OF_DBCP}
 LIBPQ = "/usr/include/postgresql"
 
 
@@ -76,13 +78,14 @@ class Programs(Contest):
         columns, jdk = [], version_of_jdk()
         for column in JAVA_KINDS:
             jars = [((self.jars / f"{name}.jar").exists(), f"{package} ({self.jars}/{name}.jar)") for name, package in JARS[column].items()]
-            columns += self.wanted_of([column], (jdk, "JDK"), *jars, *(self.of_ours() if column == JAVA else ()))
+            columns += self.wanted_of([column], (jdk, "JDK"), *jars, *(self.of_ours() if column in PEERS else ()))
         if columns:
             jars = [self.jars / f"{name}.jar" for name in dict.fromkeys(name for column in columns for name in JARS[column])]
             self.note_jars(*jars)
             self.note(jdk)
-            names = ["Transfers", "Opener", *(JAVA_KINDS[column] for column in columns)]
-            self.enter(columns, JAVA_KINDS, self.built_java(TOP / "bench/database_java", names, jars, JAVA in columns), OF_JDBC)
+            names = ["Transfers", "Opener", "Lender", *(JAVA_KINDS[column] for column in columns)]
+            has_ours = not PEERS.keys().isdisjoint(columns)
+            self.enter(columns, JAVA_KINDS, self.built_java(TOP / "bench/database_java", names, jars, has_ours), OF_JDBC)
 
     def enter_c(self):
         """Enters the pools in C, which are both in one program."""

@@ -1,9 +1,12 @@
 """The turns of `bench/database`: how a program plays one, and how it is checked."""
 
+import contextlib
 import dataclasses
+import os
 import re
 import signal
 import subprocess
+import sys
 import threading
 import time
 
@@ -29,6 +32,25 @@ CHECKPOINT;
 FOUND = """SELECT (SELECT count(*) FROM transfer), (SELECT count(*) FROM account WHERE euros <> 100
   + (SELECT coalesce(sum(transfer.euros), 0) FROM transfer WHERE target = account.id)
   - (SELECT coalesce(sum(transfer.euros), 0) FROM transfer WHERE source = account.id))"""
+
+
+def run_when_idle():
+    """Has this process run only while nothing else does."""
+    end_with_parent(signal.SIGKILL)
+    os.sched_setscheduler(0, os.SCHED_IDLE, os.sched_param(0))
+
+
+@contextlib.contextmanager
+def awake():
+    """Keeps the processors awake, by a process for each that runs only while nothing else does."""
+    words = sys.executable, "-c", "while True: pass"
+    spinners = [subprocess.Popen(words, preexec_fn=run_when_idle) for _ in os.sched_getaffinity(0)]
+    try:
+        yield
+    finally:
+        for spinner in spinners:
+            spinner.kill()
+            spinner.wait()
 
 
 @dataclasses.dataclass

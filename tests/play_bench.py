@@ -79,7 +79,8 @@ DATABASE_ROWS = ["4 workers", "16 workers", "64 workers"]
 OVER_DBCP = "default-jdk-headless", "libpostgresql-jdbc-java", "libcommons-dbcp2-java", "libcommons-pool2-java"
 OVER_POSTGRES = {
     **dict.fromkeys(database.RUST_KINDS, ("librust-tokio-postgres-dev", "librust-r2d2-dev")),
-    **{database.JAVA: OVER_DBCP, database.DBCP: OVER_DBCP},
+    database.JAVA: ("default-jdk-headless", "libpostgresql-jdbc-java", "libcommons-pool2-java"),
+    **{database.DBCP: OVER_DBCP, database.UNDER_DBCP: OVER_DBCP},
     database.HIKARI: ("default-jdk-headless", "libpostgresql-jdbc-java", "libhikaricp-java", "libslf4j-java"),
     **dict.fromkeys(database.C_KINDS, ("libpq-dev",)),
 }

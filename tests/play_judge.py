@@ -158,6 +158,11 @@ def of_beside(program):
             found += differing(f"{text} beside a segment", wanted, playing.run(program, "check", *paths))
         write_files(name, {"settings-0.toml": b"", "settings-1.toml": b"", "settings.toml": b"maxTotal = 0\n"})
         found += differing("settings beside the first segment", (b"legal 2\n", b"", 0), playing.run(program, "check", *paths))
+        loop = pathlib.Path(name, "settings-1.toml")
+        loop.unlink()
+        loop.symlink_to(loop.name)
+        wanted = b"", f"pool: cannot open the settings beside {paths[-1]}\n".encode(), 3
+        found += differing("a file beside a segment that leads to itself", wanted, playing.run(program, "check", *paths))
     return found
 
 

@@ -1,10 +1,9 @@
-import javax.sql.DataSource;
 import org.apache.commons.dbcp2.BasicDataSource;
 
 /** DBCP2's {@code BasicDataSource}, which is over a {@code GenericObjectPool}. */
 final class Dbcp implements Opener {
     @Override
-    public DataSource open(String url) {
+    public Lender open(String url) {
         BasicDataSource source = new BasicDataSource();
         source.setUrl(url);
         source.setDefaultAutoCommit(false);
@@ -12,6 +11,6 @@ final class Dbcp implements Opener {
         source.setMaxIdle(CONNECTIONS);
         source.setTestOnBorrow(true);
         source.setMaxWaitMillis(LONGEST_WAIT);
-        return source;
+        return Lender.of(source, source::close);
     }
 }

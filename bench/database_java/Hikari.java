@@ -1,5 +1,4 @@
 import com.zaxxer.hikari.HikariDataSource;
-import javax.sql.DataSource;
 
 /** HikariCP's {@code HikariDataSource}. */
 final class Hikari implements Opener {
@@ -9,12 +8,12 @@ final class Hikari implements Opener {
     }
 
     @Override
-    public DataSource open(String url) {
+    public Lender open(String url) {
         HikariDataSource source = new HikariDataSource();
         source.setJdbcUrl(url);
         source.setAutoCommit(false);
         source.setMaximumPoolSize(CONNECTIONS);
         source.setConnectionTimeout(LONGEST_WAIT);
-        return source;
+        return Lender.of(source, source::close);
     }
 }

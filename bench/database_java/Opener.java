@@ -1,5 +1,4 @@
 import java.util.concurrent.TimeUnit;
-import javax.sql.DataSource;
 
 /** Opens a kind of pool of connections. Its connections do not commit by themselves, and each is tested before it is lent. */
 interface Opener {
@@ -8,6 +7,6 @@ interface Opener {
     /** No worker waits as long for a connection, in milliseconds. */
     long LONGEST_WAIT = TimeUnit.SECONDS.toMillis(60);
 
-    /** Opens a pool over a database. It is {@code AutoCloseable}. */
-    DataSource open(String url) throws Exception;
+    /** Opens a pool over a database. */
+    Lender open(String url) throws Exception;
 }

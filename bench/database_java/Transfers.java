@@ -12,13 +12,12 @@ import java.util.concurrent.Future;
 import java.util.concurrent.TimeUnit;
 import java.util.regex.Matcher;
 import java.util.regex.Pattern;
-import javax.sql.DataSource;
 
 /**
  * Threads that transfer money between accounts in PostgreSQL over a pool of four connections, for {@code bench/database}.
  *
- * <p>{@code Transfers OPENER URL}, where OPENER is the class that opens the pool: {@code Zuphinka}, {@code Dbcp} or {@code Hikari}. The standard
- * input has a line for each turn: its workers, and its milliseconds. Each turn has a pool of its own, which has all its connections when the turn
+ * <p>{@code Transfers OPENER URL}, where OPENER is the class that opens the pool: {@code Leases}, {@code Under}, {@code Dbcp} or {@code Hikari}. The
+ * standard input has a line for each turn: its workers, and its milliseconds. Each turn has a pool of its own, which has all its connections when the turn
  * begins. Prints a line for each turn, when its pool is closed: its transfers, its time, and the longest wait for a connection. Ends with an error
  * as soon as a transfer fails.
  */
@@ -33,13 +32,13 @@ public final class Transfers {
         long longestNanos;
     }
 
-    private final DataSource source;
+    private final Lender lender;
     private final int workers;
     private final long nanos;
     private volatile long began;
 
-    private Transfers(DataSource source, int workers, long nanos) {
-        this.source = source;
+    private Transfers(Lender lender, int workers, long nanos) {
+        this.lender = lender;
         this.workers = workers;
         this.nanos = nanos;
     }
@@ -72,9 +71,9 @@ public final class Transfers {
         start.await();
         long end = System.nanoTime() + nanos;
         for (long asked = System.nanoTime(); asked - end < 0; asked = System.nanoTime()) {
-            try (Connection connection = source.getConnection()) {
+            try (Lender.Loan loan = lender.borrow()) {
                 work.longestNanos = Math.max(work.longestNanos, System.nanoTime() - asked);
-                transfer(connection, worker, worker + workers * work.made);
+                transfer(loan.connection, worker, worker + workers * work.made);
             }
             work.made++;
         }
@@ -82,13 +81,13 @@ public final class Transfers {
     }
 
     /** Has the pool open all its connections. */
-    private void openAll() throws SQLException {
-        List<Connection> held = new ArrayList<>();
+    private void openAll() throws Exception {
+        List<Lender.Loan> held = new ArrayList<>();
         for (int place = 0; place < Opener.CONNECTIONS; place++) {
-            held.add(source.getConnection());
+            held.add(lender.borrow());
         }
-        for (Connection connection : held) {
-            connection.close();
+        for (Lender.Loan loan : held) {
+            loan.close();
         }
     }
 
@@ -118,11 +117,11 @@ public final class Transfers {
         if (!turn.matches()) {
             throw new IllegalArgumentException(USAGE);
         }
-        DataSource source = opener.open(url);
+        Lender lender = opener.open(url);
         try {
-            return new Transfers(source, Integer.parseInt(turn.group(1)), TimeUnit.MILLISECONDS.toNanos(Long.parseLong(turn.group(2)))).play();
+            return new Transfers(lender, Integer.parseInt(turn.group(1)), TimeUnit.MILLISECONDS.toNanos(Long.parseLong(turn.group(2)))).play();
         } finally {
-            ((AutoCloseable) source).close();
+            lender.close();
         }
     }
 

@@ -1,6 +1,5 @@
 import io.github.zuphinka.ZuphinkaPool;
 import java.time.Duration;
-import javax.sql.DataSource;
 import org.apache.commons.dbcp2.DriverManagerConnectionFactory;
 import org.apache.commons.dbcp2.PoolableConnection;
 import org.apache.commons.dbcp2.PoolableConnectionFactory;
@@ -8,9 +7,9 @@ import org.apache.commons.dbcp2.PoolingDataSource;
 import org.apache.commons.pool2.impl.GenericObjectPoolConfig;
 
 /** DBCP2's {@code PoolingDataSource} over a {@code ZuphinkaPool}. */
-final class Zuphinka implements Opener {
+final class Under implements Opener {
     @Override
-    public DataSource open(String url) {
+    public Lender open(String url) {
         PoolableConnectionFactory factory = new PoolableConnectionFactory(new DriverManagerConnectionFactory(url), null);
         factory.setDefaultAutoCommit(false);
         GenericObjectPoolConfig<PoolableConnection> config = new GenericObjectPoolConfig<>();
@@ -21,6 +20,7 @@ final class Zuphinka implements Opener {
         ZuphinkaPool<PoolableConnection> pool = new ZuphinkaPool<>(factory, config);
         pool.setMaxOvertakes(Integer.MAX_VALUE);
         factory.setPool(pool);
-        return new PoolingDataSource<>(pool);
+        PoolingDataSource<PoolableConnection> source = new PoolingDataSource<>(pool);
+        return Lender.of(source, source::close);
     }
 }
