@@ -35,9 +35,11 @@ FOUND = """SELECT (SELECT count(*) FROM transfer), (SELECT count(*) FROM account
 
 
 def run_when_idle():
-    """Has this process run only while nothing else does."""
+    """Has this process run only while nothing else does, or, where the system does not have that, with the lowest priority."""
     end_with_parent(signal.SIGKILL)
-    os.sched_setscheduler(0, os.SCHED_IDLE, os.sched_param(0))
+    os.nice(19)
+    with contextlib.suppress(OSError):
+        os.sched_setscheduler(0, os.SCHED_IDLE, os.sched_param(0))
 
 
 @contextlib.contextmanager
