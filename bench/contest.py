@@ -103,15 +103,18 @@ class Contest:
     def sources_of_c_pool(self):
         return POOL, self.library, heap_of_kit()
 
-    def built_java(self, folder, names, jars, has_ours):
-        """Compiles classes of a folder over jars, and the pool for Java if they need it. Returns the command that runs the first class."""
+    def built_java(self, folder, names, jars, has_ours, in_place=False):
+        """Compiles classes of a folder over jars, with the pool for Java if they need it, and with our class in place of Commons Pool's. Returns the
+        command that runs the first class."""
         native, files = self.folder / "libzuphinka_jni.so", [folder / f"{name}.java" for name in names]
         if has_ours:
             java.compile_native(self.library, heap_of_kit(), native)
             files += (java.JAVA / "src").rglob("*.java")
+        if in_place:
+            files += (java.DROP_IN / "src").rglob("*.java")
         java.compile_classes(files, self.folder, *jars)
-        path = os.pathsep.join(map(str, [*jars, self.folder]))
-        return ["java", "-XX:-UsePerfData", f"-Dzuphinka.library={native}", "-cp", path, names[0]]
+        path = [self.folder, *jars] if in_place else [*jars, self.folder]
+        return ["java", "-XX:-UsePerfData", f"-Dzuphinka.library={native}", "-cp", os.pathsep.join(map(str, path)), names[0]]
 
 
 def parser_of(description):

@@ -15,11 +15,13 @@ HIKARI_JAR = pathlib.Path("/usr/share/java/HikariCP.jar")
 COMMONS, R2D2, PLAIN = "Commons Pool 2", "r2d2", "plain Rust"
 COMMONS_HOOKS = "Commons Pool 2, hooks"
 JAVA, JAVA_HOOKS = "Java", "Java, hooks"
+IN_PLACE, IN_PLACE_HOOKS = "Java, in place", "Java, in place, hooks"
 HIKARI = "HikariCP bag"
 COUNTER, CLOCK, HOOKS = "crate, counter", "crate, clock", "crate, clock, hooks"
 C = "C"
 LOAD, THREADS_OF_LOAD = "load", "load, threads alone"
-COLUMNS = [COMMONS, JAVA, COMMONS_HOOKS, JAVA_HOOKS, HIKARI, R2D2, PLAIN, COUNTER, CLOCK, HOOKS, C, LOAD, THREADS_OF_LOAD]
+OF_JAVA = [COMMONS, JAVA, COMMONS_HOOKS, JAVA_HOOKS, IN_PLACE, IN_PLACE_HOOKS]
+COLUMNS = [*OF_JAVA, HIKARI, R2D2, PLAIN, COUNTER, CLOCK, HOOKS, C, LOAD, THREADS_OF_LOAD]
 # The words of the crate's example for each of its columns.
 PAIRS_WORDS = {COUNTER: [], CLOCK: ["instant"], HOOKS: ["instant", "hooks"]}
 JOURNAL_LIMIT = 1 << 32
@@ -113,8 +115,19 @@ class Entrants(Contest):
         super().__init__(folder, asked, COLUMNS)
         self.pool, self.jar, self.hikari = asked.pool, asked.jar, asked.hikari
         self.programs = []
-        for enter in self.enter_java, self.enter_hikari, self.enter_r2d2, self.enter_plain, self.enter_crate, self.enter_c, self.enter_load:
+        of_java = self.enter_java, self.enter_in_place, self.enter_hikari
+        for enter in *of_java, self.enter_r2d2, self.enter_plain, self.enter_crate, self.enter_c, self.enter_load:
             enter()
+
+    def built_contest(self, kinds, has_ours, in_place=False):
+        """Builds the contestants that use Commons Pool 2, of these kinds."""
+        self.note_jars(self.jar)
+        self.note(version_of_jdk())
+        return self.built_java(CONTESTANTS, ["Bench", "Contestant", "Holders", *kinds], [self.jar], has_ours, in_place)
+
+    def of_commons(self):
+        """What all need that use Commons Pool 2."""
+        return (version_of_jdk(), "JDK"), (self.jar.exists(), f"libcommons-pool2-java ({self.jar})")
 
     def enter_java(self):
         """Enters Commons Pool 2 and the pool for Java, which take turns in one virtual machine; and both once more with hooks."""
@@ -122,16 +135,21 @@ class Entrants(Contest):
         factories = {factory: columns for factory, columns in factories.items() if self.wants(*columns)}
         if not factories:
             return
-        needs = (version_of_jdk(), "JDK"), (self.jar.exists(), f"libcommons-pool2-java ({self.jar})")
-        has_commons, has_java = self.has([COMMONS], *needs), self.has([JAVA], *needs, *self.of_ours())
+        has_commons, has_java = self.has([COMMONS], *self.of_commons()), self.has([JAVA], *self.of_commons(), *self.of_ours())
         if not has_commons:
             return
-        self.note_jars(self.jar)
-        self.note(version_of_jdk())
         kinds = ["Commons", "Zuphinka"] if has_java else ["Commons"]
-        program = self.built_java(CONTESTANTS, ["Bench", "Contestant", "Holders", *kinds], [self.jar], has_java)
+        program = self.built_contest(kinds, has_java)
         for factory, columns in factories.items():
             self.enter_contestants(program, factory, dict(zip(kinds, columns)))
+
+    def enter_in_place(self):
+        """Enters our class with the name of Commons Pool's, which comes first on the class path of a virtual machine of its own."""
+        factories = {factory: column for factory, column in {"bare": IN_PLACE, "hooked": IN_PLACE_HOOKS}.items() if self.wants(column)}
+        if factories and self.has([IN_PLACE], *self.of_commons(), *self.of_ours()):
+            program = self.built_contest(["Commons"], True, in_place=True)
+            for factory, column in factories.items():
+                self.enter_contestants(program, factory, {"Commons": column})
 
     def enter_hikari(self):
         """Enters HikariCP's bag of objects, in a virtual machine of its own. It loads only with the interface of its logger."""

@@ -30,7 +30,8 @@ import database_programs as database
 import database_turns
 from contest import JAR, LIBRARY, LONGEST, REGISTRY, Miscounted, runs_cargo
 from entrants import (
-    C, CLOCK, COMMONS, COMMONS_HOOKS, COUNTER, HIKARI, HIKARI_JAR, HOOKS, JAVA, JAVA_HOOKS, LOAD, PLAIN, R2D2, Row, is_right_contestant,
+    C, CLOCK, COMMONS, COMMONS_HOOKS, COUNTER, HIKARI, HIKARI_JAR, HOOKS, IN_PLACE, JAVA, JAVA_HOOKS, LOAD, OF_JAVA, PLAIN, R2D2, Row,
+    is_right_contestant,
 )
 from playing import play_checks
 from postgres_server import Server
@@ -142,12 +143,12 @@ def missed_targets(done, our, peer, targets):
 
 
 def missing_peers(pool):
-    """Without the packages four pools are named and left out, and no row has a target."""
+    """Without the packages five pools are named and left out, and no row has a target."""
     done = peers("--pool", pool, *ABSENT, *NO_BAG)
-    yield "what is left out", [], [column for column in (COMMONS, JAVA, HIKARI, R2D2) if f"left out: {column}: no " not in done.stdout]
+    yield "what is left out", [], [column for column in (COMMONS, JAVA, IN_PLACE, HIKARI, R2D2) if f"left out: {column}: no " not in done.stdout]
     yield from tables_of_peers("without packages", done, [PLAIN, COUNTER, CLOCK, HOOKS, C, LOAD], [PLAIN])
     heads = {title for head, *_ in tables(done) for title in head}
-    yield "columns that are left out", set(), heads & {COMMONS, COMMONS_HOOKS, JAVA, JAVA_HOOKS, HIKARI, R2D2}
+    yield "columns that are left out", set(), heads & {*OF_JAVA, HIKARI, R2D2}
     yield "the end without packages", (["0 rows, 0 short"], 0, ""), ended(done)
 
 
@@ -161,7 +162,7 @@ def present_peers(pool):
         skip("the column r2d2 of bench/peers", "not installed: Debian's librust-r2d2-dev")
     others = [R2D2, PLAIN] if has_r2d2 else [PLAIN]
     done, bag = peers("--pool", pool), [HIKARI] if has_bag() else []
-    columns = [COMMONS, JAVA, COMMONS_HOOKS, JAVA_HOOKS, *bag, *others, COUNTER, CLOCK, HOOKS, C, LOAD]
+    columns = [*OF_JAVA, *bag, *others, COUNTER, CLOCK, HOOKS, C, LOAD]
     yield from tables_of_peers("with all packages", done, columns, [COMMONS, COMMONS_HOOKS, *others])
     for (our, peer), least in TARGETS.items():
         if has_r2d2 or peer != R2D2:
