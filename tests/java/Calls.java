@@ -371,10 +371,10 @@ public final class Calls extends Expectations {
         config.setMaxTotal(1);
         config.setMaxWait(Duration.ofMillis(100));
         Texts texts = new Texts();
-        texts.makeMillis = 50;
+        texts.makeMillis = 300;
         Noting pool = new Noting(texts, config, null);
         String lent = pool.borrowObject();
-        expect("a make counts", true, pool.getMaxBorrowWaitTimeMillis() >= 50 && pool.getMeanBorrowWaitTimeMillis() >= 50);
+        expect("a make counts", true, pool.getMaxBorrowWaitTimeMillis() >= 300 && pool.getMeanBorrowWaitTimeMillis() >= 300);
         long mean = pool.getMeanBorrowWaitTimeMillis();
         pool.returnObject(lent);
         pool.borrowObject();
@@ -836,7 +836,7 @@ public final class Calls extends Expectations {
         config.setBlockWhenExhausted(false);
         AbandonedConfig abandoned = new AbandonedConfig();
         abandoned.setRemoveAbandonedOnBorrow(true);
-        abandoned.setRemoveAbandonedTimeout(Duration.ofMillis(300));
+        abandoned.setRemoveAbandonedTimeout(Duration.ofSeconds(1));
         BasePooledObjectFactory<Tracked> factory = new BasePooledObjectFactory<>() {
             @Override
             public Tracked create() {
@@ -850,10 +850,10 @@ public final class Calls extends Expectations {
         };
         ZuphinkaPool<Tracked> pool = new ZuphinkaPool<>(factory, config, abandoned, Journal.kept());
         Tracked tracked = pool.borrowObject();
-        Thread.sleep(350);
+        Thread.sleep(1_050);
         tracked.used = Instant.now();
         expect("an object that was used", "NoSuchElementException: Pool exhausted", result(pool::borrowObject));
-        Thread.sleep(350);
+        Thread.sleep(1_050);
         expect("it is abandoned later", false, pool.borrowObject() == tracked);
         pool.close();
         write(pool);

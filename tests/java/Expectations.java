@@ -70,6 +70,14 @@ abstract class Expectations {
                 + pool.getDestroyedCount() + " destroyed";
     }
 
+    /** Waits until something is so, or would hang. */
+    static void until(Callable<Boolean> isSo) throws Exception {
+        long begun = System.nanoTime();
+        while (!isSo.call() && System.nanoTime() - begun < TimeUnit.MILLISECONDS.toNanos(LONGEST_MILLIS)) {
+            Thread.sleep(1);
+        }
+    }
+
     /** Acts while threads wait for an object, and returns what they get, as {@link #result}. */
     static List<Object> whileWaiting(ZuphinkaPool<?> pool, int number, Callable<?> borrow, Act act) throws Exception {
         List<Object> got = Collections.synchronizedList(new ArrayList<>());
@@ -80,7 +88,7 @@ abstract class Expectations {
             waiter.start();
             waiters.add(waiter);
         }
-        while (pool.getNumWaiters() < number) {
+        while (pool.getNumWaiters() < number && waiters.stream().allMatch(Thread::isAlive)) {
             Thread.sleep(1);
         }
         act.run();

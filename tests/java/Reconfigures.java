@@ -319,10 +319,10 @@ public final class Reconfigures extends Expectations {
     private static void waits() throws Exception {
         ZuphinkaPool<Item> pool = pool(new Bare(), 1);
         Item lent = pool.borrowObject();
-        pool.setMaxWait(Duration.ofMillis(200));
+        pool.setMaxWait(Duration.ofSeconds(1));
         List<Object> got = whileWaiting(pool, 1, pool::borrowObject, () -> {
             pool.setMaxWait(Duration.ofSeconds(30));
-            Thread.sleep(400);
+            Thread.sleep(1_200);
             pool.returnObject(lent);
         });
         expect("a wait that became longer", List.of(lent), got);
@@ -337,10 +337,10 @@ public final class Reconfigures extends Expectations {
             pool.returnObject(lent);
         });
         expect("a wait without a limit", List.of(lent), longer);
-        pool.setMaxWait(Duration.ofMillis(50));
+        pool.setMaxWait(Duration.ofSeconds(1));
         List<Object> endless = whileWaiting(pool, 1, pool::borrowObject, () -> {
             pool.setMaxWait(Duration.ofMillis(-1));
-            Thread.sleep(100);
+            Thread.sleep(1_200);
             pool.returnObject(lent);
         });
         expect("a wait that has no limit any more", List.of(lent), endless);
@@ -410,25 +410,25 @@ public final class Reconfigures extends Expectations {
         pool.close();
     }
 
+    private static boolean isMaintained() {
+        return Thread.getAllStackTraces().keySet().stream().anyMatch(thread -> thread.getName().equals("zuphinka-maintenance"));
+    }
+
     /** The maintenance thread has the pause that was set last. */
     private static void maintenance() throws Exception {
         ZuphinkaPool<Item> pool = pool(new Bare(), 4);
         pool.setMinIdle(2);
         pool.setTimeBetweenEvictionRuns(Duration.ofMillis(2));
-        long begun = System.currentTimeMillis();
-        while (pool.getNumIdle() < 2 && System.currentTimeMillis() - begun < LONGEST_MILLIS) {
-            Thread.sleep(1);
-        }
+        until(() -> pool.getNumIdle() == 2);
         expect("a thread that was set later", 2, pool.getNumIdle());
         pool.setTimeBetweenEvictionRuns(Duration.ofMillis(-1));
-        Thread.sleep(50);
+        until(() -> !isMaintained());
         pool.clear();
         Thread.sleep(50);
         expect("no thread", 0, pool.getNumIdle());
         pool.close();
         pool.setTimeBetweenEvictionRuns(Duration.ofMillis(1));
-        expect("a closed one has none", false,
-                Thread.getAllStackTraces().keySet().stream().anyMatch(thread -> thread.getName().equals("zuphinka-maintenance")));
+        expect("a closed one has none", false, isMaintained());
     }
 
     // Journals.
