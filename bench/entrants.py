@@ -147,9 +147,9 @@ class Entrants(Contest):
         """Enters our class with the name of Commons Pool's, which comes first on the class path of a virtual machine of its own."""
         factories = {factory: column for factory, column in {"bare": IN_PLACE, "hooked": IN_PLACE_HOOKS}.items() if self.wants(column)}
         if factories and self.has([IN_PLACE], *self.of_commons(), *self.of_ours()):
-            program = self.built_contest(["Commons"], True, in_place=True)
+            program = self.built_contest(["Commons", "InPlace"], True, in_place=True)
             for factory, column in factories.items():
-                self.enter_contestants(program, factory, {"Commons": column})
+                self.enter_contestants(program, factory, {"InPlace": column})
 
     def enter_hikari(self):
         """Enters HikariCP's bag of objects, in a virtual machine of its own. It loads only with the interface of its logger."""

@@ -5,10 +5,10 @@ import java.util.concurrent.CyclicBarrier;
 /**
  * Threads that borrow from a pool for Java and return, for {@code bench/peers}.
  *
- * <p>{@code Bench OBJECTS THREADS ROUNDS bare|hooked CONTESTANT..} makes a pool of each kind: {@code Commons}, {@code Zuphinka}, {@code Hikari}. In
- * each round a thread borrows one object and returns it. The pools take turns of at most 20,000 rounds for each thread, until each had all rounds.
- * Before that they warm up in the same way, for 1.5 seconds each or ten times as many rounds, whichever is less: so the measured turns run compiled
- * code.
+ * <p>{@code Bench OBJECTS THREADS ROUNDS bare|hooked CONTESTANT..} makes a pool of each kind: {@code Commons}, {@code Zuphinka}, {@code InPlace},
+ * {@code Hikari}. In each round a thread borrows one object and returns it. The pools take turns of at most 20,000 rounds for each thread, until each
+ * had all rounds. Before that they warm up in the same way, for 1.5 seconds each or ten times as many rounds, whichever is less: so the measured turns
+ * run compiled code.
  *
  * <p>Prints for each kind the pairs of the measured turns as its pool or its objects counted them, the objects that were created or given in all, and
  * the nanoseconds of the measured turns.
