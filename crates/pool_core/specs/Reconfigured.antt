@@ -1,5 +1,5 @@
 -- A pool that goes on with other settings.
-use Rattle.std.specs.Prelude.{◌≡◌, [], IfOk, IfErr, OnErr, OnOk, Result}
+use Rattle.std.specs.Prelude.{[]}
 use Rattle.pool_journal.specs.Base.{base_after}
 use Rattle.pool_journal.specs.declared.base.Base.{Base}
 use Rattle.pool_settings.specs.declared.settings.Settings.{Settings}

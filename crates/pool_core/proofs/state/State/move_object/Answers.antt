@@ -1,4 +1,4 @@
-use Rattle.std.proofs.Common.{◌≡◌, ◌∙◌, refl, true}
+use Rattle.std.proofs.Common.{◌≡◌, ◌∙◌, refl, rules, true}
 use Rattle.pool_journal.specs.declared.answer.Answer.{Answer}
 use Rattle.pool_journal.specs.declared.answer.Answer.TheVariants as answers
 use Rattle.pool_places.specs.PlacesModel.{records_in}
@@ -13,6 +13,9 @@ returns-in-Take-clause-known g c =
     rw c.in-Take.is
     (c.take_value.ensures.records
     ∙ taken_known c.args.now s.next c.in-Take.id c.args.input (records_in s.places.objects) finds.1 c.requires.before.stay)
+
+pub returns-in-Take-clause-values : goal.returns-in-Take-clause-values
+returns-in-Take-clause-values g c = search rules
 
 pub returns-in-Test-clause-known : goal.returns-in-Test-clause-known
 returns-in-Test-clause-known g c =
