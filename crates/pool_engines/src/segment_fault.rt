@@ -21,3 +21,14 @@ pub enum SegmentFault {
     #[error("{0}")]
     Engine(EngineFault),
 }
+
+impl From<EngineFault> for SegmentFault {
+    ghost use Rattle.std.specs.Prelude.{◌≡◌};
+    ghost use Rattle.pool_engines.specs.declared.segment_fault.SegmentFault.TheVariants.{Engine};
+
+    ghost from_gives = { λ f e. e ≡ Engine f };
+
+    fn from(fault: EngineFault) -> SegmentFault {
+        SegmentFault::Engine(fault)
+    }
+}
