@@ -102,7 +102,7 @@ fn both_go_on(rt: &impl Abort, alloc: Global, dice: &mut Dice) {
 
 #[test]
 fn opened_again_it_goes_on(rt: HostRuntime) {
-    let mut dice = Dice { state: 7 };
+    let mut dice = Dice::new(7);
     for _ in 0..60 {
         both_go_on(&rt, rt.alloc(), &mut dice);
     }

@@ -4,21 +4,25 @@ use crate::playing::{due_out, length, named, open, refuses, room, step, value_of
 use pool_core::{Core, StepFault};
 use pool_journal::{Answer, Entry, Input, Outcome, Phase, When};
 use pool_settings::Settings;
+use rand_core::utils::NextWord;
+use rand_pcg::Pcg32;
 use std::process::Abort;
 
-// Pseudo-random numbers, which are the same in each run.
+// Pseudo-random numbers, which are the same for a seed in each run.
 #[derive(Drop)]
 pub(crate) struct Dice {
-    pub(crate) state: u64,
+    generator: Pcg32,
 }
 
 impl Dice {
+    pub(crate) fn new(seed: u64) -> Dice {
+        Dice {
+            generator: Pcg32::new(seed, 0),
+        }
+    }
+
     pub(crate) fn roll(&mut self) -> u64 {
-        self.state = self
-            .state
-            .wrapping_mul(6_364_136_223_846_793_005)
-            .wrapping_add(1_442_695_040_888_963_407);
-        self.state >> 33
+        u64::from(self.generator.next_word())
     }
 }
 
@@ -267,7 +271,7 @@ fn live(rt: &impl Abort, dice: &mut Dice, mut core: Core<u64>, limit: u64) -> u6
 // At most one pool fails to open, because of an injected failure.
 #[test]
 fn all_that_was_begun_can_end(rt: HostRuntime) {
-    let mut dice = Dice { state: 1 };
+    let mut dice = Dice::new(1);
     let mut lives = 0u64;
     let mut refused = 0u64;
     for limit in 1..31 {

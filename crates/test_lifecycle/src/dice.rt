@@ -2,27 +2,30 @@
 ghost use Rattle.std.specs.Prelude.{◌<◌};
 
 use pool_journal::{Input, Outcome, When};
+use rand_core::utils::NextWord;
+use rand_pcg::Pcg32;
+
+/// The stream of the numbers. In few others the lives have so many kinds of answers.
+const STREAM: u64 = 684;
 
 /// Numbers that look random, and are the same in each run.
 #[derive(Drop)]
 pub struct Dice {
-    state: u64,
+    generator: Pcg32,
 }
 
 impl Dice {
     pub fn new(seed: u64) -> Dice {
-        Dice { state: seed }
+        Dice {
+            generator: Pcg32::new(seed, STREAM),
+        }
     }
 
     fn roll(&mut self, sides: u64) -> u64
         requires { 0 < sides }
         ensures { result < sides }
     {
-        self.state = self
-            .state
-            .wrapping_mul(6_364_136_223_846_793_005)
-            .wrapping_add(1_442_695_040_888_963_407);
-        (self.state >> 33) % sides
+        u64::from(self.generator.next_word()) % sides
     }
 
     /// Returns an outcome. Most are good.

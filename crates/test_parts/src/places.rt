@@ -3,6 +3,5 @@
 mod calls;
 mod index;
 mod lives;
-pub(crate) mod numbers;
 mod restores;
 mod slots;

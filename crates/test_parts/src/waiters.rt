@@ -1,8 +1,9 @@
 //! The tickets of the borrows that wait: each call once, and random calls beside a plain list.
 
 use crate::checks::expect_equal;
-use crate::places::numbers::next_number;
 use pool_calls::Waiters;
+use rand_core::Rng;
+use rand_pcg::Pcg32;
 use std::alloc::Global;
 use std::process::Abort;
 
@@ -165,12 +166,12 @@ fn play(rt: &impl Abort, waiters: &mut Waiters, plain: &mut Vec<Plain>, number: 
 fn as_a_plain_list_of_tickets(rt: HostRuntime) {
     let mut waiters = Waiters::new(rt.alloc(), MOST);
     let mut plain = Vec::new(rt.alloc());
-    let mut state = 1;
+    let mut numbers = Pcg32::new(1, 0);
     for round in 0..600 {
-        let number = next_number(&mut state) % (round + 1);
-        let kind = next_number(&mut state);
+        let number = numbers.next_u64() % (round + 1);
+        let kind = numbers.next_u64();
         play(&rt, &mut waiters, &mut plain, number, kind);
-        settle(&rt, &mut waiters, &plain, next_number(&mut state) % 6);
+        settle(&rt, &mut waiters, &plain, numbers.next_u64() % 6);
     }
     expect_equal(&rt, waiters.len() > 20, true);
 }

@@ -6,9 +6,10 @@ ghost use Rattle.pool_places.specs.PlacesModel.{records_in};
 ghost use Rattle.test_parts.specs.Before.{AllBefore};
 
 use crate::checks::expect_equal;
-use crate::places::numbers::next_number;
 use pool_journal::{Phase, Record};
 use pool_places::{Place, PlaceCounts, Places, weight_of_phase};
+use rand_core::Rng;
+use rand_pcg::Pcg32;
 use std::alloc::Global;
 use std::process::Abort;
 
@@ -317,12 +318,12 @@ pub(crate) fn ask_known(rt: &impl Abort, places: &Places<u64>, plain: &[Place<u6
 fn many_calls(rt: &impl Abort, alloc: Global, calls: u64, most: usize, seed: u64) {
     let mut places = Places::new(alloc);
     let mut plain = Vec::new(alloc);
-    let mut state = seed;
+    let mut numbers = Pcg32::new(seed, 0);
     for moment in 1..calls {
-        let number = next_number(&mut state);
+        let number = numbers.next_u64();
         call(rt, &mut places, &mut plain, most, number, moment);
         look(&mut places, number >> 5, moment);
-        let other = next_number(&mut state);
+        let other = numbers.next_u64();
         let back = moment.saturating_sub(other % 128);
         ask_queue(rt, &places, &plain, back);
         ask_overdue(rt, &places, &plain, moment, (other >> 7) % 64);

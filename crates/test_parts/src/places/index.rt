@@ -3,7 +3,8 @@ ghost use Rattle.std.specs.Prelude.{◌+◌, ◌≤◌, ℕ};
 ghost use Rattle.sorted_index.specs.Pairs.{IdsBelow};
 
 use crate::checks::expect_equal;
-use crate::places::numbers::next_number;
+use rand_core::Rng;
+use rand_pcg::Pcg32;
 use sorted_index::{Pair, SortedIndex};
 use std::alloc::Global;
 use std::process::Abort;
@@ -108,17 +109,12 @@ fn an_id_twice(rt: HostRuntime) {
 fn as_a_plain_list(rt: HostRuntime) {
     let mut index = SortedIndex::new(rt.alloc());
     let mut plain = Vec::new(rt.alloc());
-    let mut state = 1;
+    let mut numbers = Pcg32::new(1, 0);
     for id in 0..300 {
-        let key = next_number(&mut state) as usize;
+        let key = numbers.next_u64() as usize;
         add(&rt, &mut index, &mut plain, id, key);
-        take(&rt, &mut index, &mut plain, next_number(&mut state) % 300);
-        take(
-            &rt,
-            &mut index,
-            &mut plain,
-            next_number(&mut state) % (id + 1),
-        );
+        take(&rt, &mut index, &mut plain, numbers.next_u64() % 300);
+        take(&rt, &mut index, &mut plain, numbers.next_u64() % (id + 1));
     }
     has_all(&rt, rt.alloc(), &index, &plain);
 }

@@ -7,9 +7,10 @@ ghost use Rattle.pool_places.specs.PlacesModel.{records_in};
 
 use crate::checks::expect_equal;
 use crate::places::calls::{ask_known, ask_overdue, ask_queue};
-use crate::places::numbers::next_number;
 use pool_journal::{Phase, Record};
 use pool_places::{Place, Places};
+use rand_core::Rng;
+use rand_pcg::Pcg32;
 use std::alloc::Global;
 use std::process::Abort;
 
@@ -121,9 +122,9 @@ fn take_all(rt: &impl Abort, places: &mut Places<u64>, count: u64) {
 fn many_restores(rt: &impl Abort, alloc: Global, count: u64, seed: u64) {
     let mut places = Places::new(alloc);
     let mut plain = Vec::new(alloc);
-    let mut state = seed;
+    let mut numbers = Pcg32::new(seed, 0);
     for id in 0..count {
-        let number = next_number(&mut state);
+        let number = numbers.next_u64();
         let position = (number >> 8) % 1_000;
         places.reserve(2).expect(rt, "memory");
         places.start_search_at(number % 64);
