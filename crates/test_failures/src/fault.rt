@@ -4,7 +4,7 @@ use std::fmt;
 use std::fmt::Display;
 
 /// The error of a life that failed its test.
-#[derive(Clone, Copy, Debug)]
+#[derive(Clone, Copy)]
 pub enum Fault {
     /// A call had an impossible result.
     WrongAnswer,

@@ -22,7 +22,7 @@ pub type Pool<'a, B> = SharedPool<Thing, (), Things, Hands<'a>, B>;
 pub const FULL: u64 = 16;
 
 /// The result of a call.
-#[derive(Clone, Copy, Debug)]
+#[derive(Clone, Copy)]
 enum Outcome {
     Done,
     WantsMemory,
@@ -31,7 +31,7 @@ enum Outcome {
 }
 
 /// The final result of a call.
-#[derive(Clone, Copy, Debug, PartialEq, Eq)]
+#[derive(Clone, Copy)]
 pub enum End {
     Done,
     /// The journal had no room for it.

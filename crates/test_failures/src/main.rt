@@ -62,7 +62,7 @@ const LATE: u64 = 1_000;
 const NUMBER: u64 = 1;
 
 /// The resource that a call lacks.
-#[derive(Clone, Copy, Debug, PartialEq, Eq)]
+#[derive(Clone, Copy)]
 enum Lack {
     Memory,
     Room,

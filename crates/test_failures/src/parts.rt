@@ -4,7 +4,7 @@ use std::fmt;
 use std::fmt::Display;
 
 /// A call of the libraries that can fail for lack of memory.
-#[derive(Clone, Copy, Debug, PartialEq, Eq)]
+#[derive(Clone, Copy, PartialEq, Eq)]
 pub enum Part {
     Site,
     Open,
