@@ -2,7 +2,7 @@
 //! A call that fails for lack of memory is made again, after the state that it left was checked.
 
 use crate::TRIES;
-use crate::fault::Fault;
+use crate::error::LifeError;
 use crate::parts::{Notes, Part};
 use crate::replay::counts_again;
 use crate::things::{Hands, Thing, Things};
@@ -222,25 +222,25 @@ impl<B: Room> Life<B> {
         alloc: Global,
         pool: &Pool<B>,
         notes: &mut Notes,
-    ) -> Result<Vec<Entry>, Fault> {
+    ) -> Result<Vec<Entry>, LifeError> {
         for _ in 0..TRIES {
             match pool.journal_copy(rt, alloc, &mut self.me) {
                 Ok(journal) => return Ok(journal),
                 Err(_) => notes.note(Part::JournalCopy),
             }
         }
-        Err(Fault::OutOfMemory)
+        Err(LifeError::OutOfMemory)
     }
 
     // Checks the state after a call: no object is half-processed, and each object that was lent is lent or was
     // reclaimed.
-    fn look<R: Wait>(&mut self, rt: &R, pool: &Pool<B>) -> Result<(), Fault> {
+    fn look<R: Wait>(&mut self, rt: &R, pool: &Pool<B>) -> Result<(), LifeError> {
         let counts = pool.counts(rt, &mut self.me);
         if counts.reserved != 0 {
-            return Err(Fault::LeftBehind);
+            return Err(LifeError::LeftBehind);
         }
         if counts.lent.saturating_add(counts.reclaimed) != self.loans {
-            return Err(Fault::TakenAway);
+            return Err(LifeError::TakenAway);
         }
         Ok(())
     }
@@ -253,13 +253,13 @@ impl<B: Room> Life<B> {
         pool: &Pool<B>,
         settings: Settings,
         notes: &mut Notes,
-    ) -> Result<(), Fault> {
+    ) -> Result<(), LifeError> {
         let stored = self.journal(rt, alloc, pool, notes)?;
         let counts = counts_again(alloc, settings, &self.segment, &stored, notes)?;
         if counts == pool.counts(rt, &mut self.me) {
             Ok(())
         } else {
-            Err(Fault::CountsDiffer)
+            Err(LifeError::CountsDiffer)
         }
     }
 
@@ -272,13 +272,13 @@ impl<B: Room> Life<B> {
         settings: Settings,
         part: Part,
         notes: &mut Notes,
-    ) -> Result<End, Fault> {
+    ) -> Result<End, LifeError> {
         for _ in 0..TRIES {
             let reported = self.ask(rt, alloc, pool, part);
             self.look(rt, pool)?;
             match reported {
                 Outcome::Done => return Ok(End::Done),
-                Outcome::Wrong => return Err(Fault::WrongAnswer),
+                Outcome::Wrong => return Err(LifeError::WrongAnswer),
                 Outcome::WantsRoom => {
                     self.look_back(rt, alloc, pool, settings, notes)?;
                     return Ok(End::Refused);
@@ -289,7 +289,7 @@ impl<B: Room> Life<B> {
                 }
             }
         }
-        Err(Fault::OutOfMemory)
+        Err(LifeError::OutOfMemory)
     }
 
     /// Appends entries until the journal, with the outstanding ones, has memory or room for only `spare` more.
@@ -302,7 +302,7 @@ impl<B: Room> Life<B> {
         is_closed: bool,
         spare: u64,
         notes: &mut Notes,
-    ) -> Result<(), Fault> {
+    ) -> Result<(), LifeError> {
         for _ in 0..FULL {
             let counts = pool.counts(rt, &mut self.me);
             let owed = u64::from(!is_closed)

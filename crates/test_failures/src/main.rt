@@ -9,13 +9,13 @@
 
 ghost use Rattle.std.specs.Prelude.{◌≡◌};
 
-mod fault;
+mod error;
 mod life;
 mod parts;
 mod replay;
 mod things;
 
-use fault::Fault;
+use error::LifeError;
 use life::{End, FULL, Life, Pool};
 use parts::{Notes, Part};
 use pool_core::Core;
@@ -104,7 +104,7 @@ fn prepare<B: Room, R: Wait>(
     spare: u64,
     moment: &AtomicU64,
     notes: &mut Notes,
-) -> Result<(), Fault> {
+) -> Result<(), LifeError> {
     match part {
         Part::Borrow | Part::Reclaim | Part::Maintain | Part::Touch | Part::JournalCopy => {
             life.call(rt, alloc, pool, settings, Part::Borrow, notes)?;
@@ -139,7 +139,7 @@ fn count_made(
     segment: &Option<Segment>,
     stored: &[Entry],
     notes: &mut Notes,
-) -> Result<u64, Fault> {
+) -> Result<u64, LifeError> {
     let behind = count(alloc, stored, notes)?.created;
     match segment {
         Some(before) => {
@@ -157,13 +157,13 @@ fn is_replayed(
     segment: &Option<Segment>,
     core: &Core<Thing>,
     notes: &mut Notes,
-) -> Result<(), Fault> {
+) -> Result<(), LifeError> {
     let again = replay(alloc, settings, segment, core.journal(), notes)?;
     if !is_same(again.base(), core.base()) {
-        return Err(Fault::BasesDiffer);
+        return Err(LifeError::BasesDiffer);
     }
     if again.counts() != core.counts() {
-        return Err(Fault::CountsDiffer);
+        return Err(LifeError::CountsDiffer);
     }
     Ok(())
 }
@@ -176,7 +176,7 @@ fn judge(
     segment: &Option<Segment>,
     core: &Core<Thing>,
     notes: &mut Notes,
-) -> Result<(), Fault> {
+) -> Result<(), LifeError> {
     is_replayed(alloc, settings, segment, core, notes)?;
     let counts = core.counts();
     let ended = counts.destroyed.saturating_add(counts.reclaimed);
@@ -184,7 +184,7 @@ fn judge(
     if ended == counts.created && made == counts.created {
         Ok(())
     } else {
-        Err(Fault::LeftBehind)
+        Err(LifeError::LeftBehind)
     }
 }
 
@@ -197,7 +197,7 @@ fn live<B: Room, R: Wait>(
     part: Part,
     spare: u64,
     notes: &mut Notes,
-) -> Result<Result<End, Fault>, OpenFault>
+) -> Result<Result<End, LifeError>, OpenFault>
     requires { (site ≡ B.table) × (settings ≡ B.settings) × (1 ≡ B.callers) }
 {
     let moment = AtomicU64::new(0);
@@ -219,15 +219,15 @@ fn live_with<B: Room, R: Wait>(
     spare: u64,
     moment: &AtomicU64,
     notes: &mut Notes,
-) -> Result<End, Fault> {
-    let me = callers.pop().ok_or(Fault::CallerMissing)?;
+) -> Result<End, LifeError> {
+    let me = callers.pop().ok_or(LifeError::CallerMissing)?;
     let mut life = Life::new(me);
     let end = make_calls(
         rt, alloc, &pool, settings, &mut life, part, spare, moment, notes,
     );
     let (me, segment) = life.leave();
     if callers.push(me).is_err() {
-        return Err(Fault::OutOfMemory);
+        return Err(LifeError::OutOfMemory);
     }
     finish(rt, alloc, pool, callers, settings, &segment, notes)?;
     end
@@ -242,10 +242,10 @@ fn finish<B: Room, R: Wait>(
     settings: Settings,
     segment: &Option<Segment>,
     notes: &mut Notes,
-) -> Result<(), Fault> {
+) -> Result<(), LifeError> {
     match pool.finish(rt, callers) {
         Ok(core) => judge(alloc, settings, segment, &core, notes),
-        Err(_) => Err(Fault::CallerMissing),
+        Err(_) => Err(LifeError::CallerMissing),
     }
 }
 
@@ -259,7 +259,7 @@ fn make_calls<B: Room, R: Wait>(
     spare: u64,
     moment: &AtomicU64,
     notes: &mut Notes,
-) -> Result<End, Fault> {
+) -> Result<End, LifeError> {
     prepare(rt, alloc, pool, settings, life, part, spare, moment, notes)?;
     let end = life.call(rt, alloc, pool, settings, part, notes)?;
     life.call(rt, alloc, pool, settings, Part::GiveBack, notes)?;
@@ -275,7 +275,7 @@ fn try_life<R: Wait>(
     part: Part,
     spare: u64,
     notes: &mut Notes,
-) -> Result<End, Fault> {
+) -> Result<End, LifeError> {
     for _ in 0..TRIES {
         let Ok(site) = Site::new(alloc) else {
             notes.note(Part::Site);
@@ -283,11 +283,11 @@ fn try_life<R: Wait>(
         };
         match live::<Brand, R>(rt, alloc, site, settings, part, spare, notes) {
             Ok(ended) => return ended,
-            Err(OpenFault::CallerCount) => return Err(Fault::WrongAnswer),
+            Err(OpenFault::CallerCount) => return Err(LifeError::WrongAnswer),
             Err(OpenFault::OutOfMemory) => notes.note(Part::Open),
         }
     }
-    Err(Fault::OutOfMemory)
+    Err(LifeError::OutOfMemory)
 }
 
 fn main(rt: HostRuntime) -> io::Result<()> {
@@ -297,7 +297,7 @@ fn main(rt: HostRuntime) -> io::Result<()> {
                 let mut notes = Notes { refused: None };
                 match try_life(&rt, rt.alloc(), settings_of(lack), part, spare, &mut notes) {
                     Ok(end) => println!(rt; "{part}, {lack} for {spare} more: {end}")?,
-                    Err(fault) => println!(rt; "{part}, {lack} for {spare} more: {fault}")?,
+                    Err(error) => println!(rt; "{part}, {lack} for {spare} more: {error}")?,
                 }
                 if let Some(refused) = notes.refused {
                     eprintln!(rt; "{refused}")?;

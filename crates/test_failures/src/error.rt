@@ -5,7 +5,7 @@ use std::fmt::Display;
 
 /// The error of a life that failed its test.
 #[derive(Clone, Copy)]
-pub enum Fault {
+pub enum LifeError {
     /// A call had an impossible result.
     WrongAnswer,
     /// A call left an object half-processed, or at the end an object is present.
@@ -22,17 +22,17 @@ pub enum Fault {
     OutOfMemory,
 }
 
-impl Display for Fault {
+impl Display for LifeError {
     fn fmt<W: fmt::Write>(&self, f: &mut fmt::Formatter<W>) -> fmt::Result {
         f.write_str(match self {
-            Fault::WrongAnswer => "a wrong answer",
-            Fault::LeftBehind => "an object is left behind",
-            Fault::TakenAway => "a lent object was taken away",
-            Fault::AnswersDiffer => "a new core answers otherwise",
-            Fault::BasesDiffer => "a new core comes to another base",
-            Fault::CountsDiffer => "a new core counts otherwise",
-            Fault::CallerMissing => "a caller is missing",
-            Fault::OutOfMemory => "out of memory",
+            LifeError::WrongAnswer => "a wrong answer",
+            LifeError::LeftBehind => "an object is left behind",
+            LifeError::TakenAway => "a lent object was taken away",
+            LifeError::AnswersDiffer => "a new core answers otherwise",
+            LifeError::BasesDiffer => "a new core comes to another base",
+            LifeError::CountsDiffer => "a new core counts otherwise",
+            LifeError::CallerMissing => "a caller is missing",
+            LifeError::OutOfMemory => "out of memory",
         })
     }
 }
