@@ -11,13 +11,13 @@ ghost use Rattle.std.specs.Prelude.{◌≡◌};
 mod archive;
 mod clock;
 mod connections;
-mod fault;
+mod error;
 mod working;
 
 use archive::Archive;
 use clock::Uptime;
 use connections::{Connection, Connector};
-use fault::Fault;
+use error::WorkError;
 use pool_core::Core;
 use pool_settings::Settings;
 use pool_shared::{Caller, Room, SharedPool, Site};
@@ -60,7 +60,7 @@ fn work_all<B: Room + Send + Sync, R: Threads + Wait + Sync>(
     pool: &Connections<B>,
     workers: Vec<Caller<B>>,
     back: &mut Vec<Caller<B>>,
-) -> Result<Tally, Fault> {
+) -> Result<Tally, WorkError> {
     let mut all = Tally {
         answered: 0,
         archived: 0,
@@ -80,8 +80,8 @@ fn close<B: Room, R: Wait>(
     archive: &Archive<'_>,
     pool: &Connections<B>,
     keeper: &mut Caller<B>,
-) -> Result<u64, Fault> {
-    pool.close(rt, keeper).map_err(|_| Fault::NotClosed)?;
+) -> Result<u64, WorkError> {
+    pool.close(rt, keeper).map_err(|_| WorkError::NotClosed)?;
     archive.take_in_below(rt, pool, keeper, u64::MAX)
 }
 
@@ -105,7 +105,7 @@ fn live<B: Room + Send + Sync, R: Threads + Wait + Sync>(
     settings: Settings,
     uptime: Uptime,
     archive: &Archive<'_>,
-) -> Result<Outcome, Fault>
+) -> Result<Outcome, WorkError>
     requires { (site ≡ B.table) × (settings ≡ B.settings) × (5 ≡ B.callers) }
 {
     let (pool, mut callers) = Connections::<B>::open(
@@ -118,23 +118,23 @@ fn live<B: Room + Send + Sync, R: Threads + Wait + Sync>(
         Connector,
         uptime,
     )
-    .map_err(|_| Fault::NotOpened)?;
-    let mut keeper = callers.pop().ok_or(Fault::CallerMissing)?;
+    .map_err(|_| WorkError::NotOpened)?;
+    let mut keeper = callers.pop().ok_or(WorkError::CallerMissing)?;
     let mut back = Vec::new(alloc);
     let tally = work_all(rt, archive, &pool, callers, &mut back)?;
     let rest = close(rt, archive, &pool, &mut keeper)?;
     back.push(keeper)?;
-    let core = pool.finish(rt, back).map_err(|_| Fault::CallerMissing)?;
+    let core = pool.finish(rt, back).map_err(|_| WorkError::CallerMissing)?;
     Ok(outcome_of(&core, tally, rest))
 }
 
-fn main(rt: HostRuntime) -> Result<(), Fault> {
-    let settings = Settings::from_text(rt.alloc(), SETTINGS).map_err(|_| Fault::Settings)?;
+fn main(rt: HostRuntime) -> Result<(), WorkError> {
+    let settings = Settings::from_text(rt.alloc(), SETTINGS).map_err(|_| WorkError::Settings)?;
     let words: Vec<String> = env::args(&rt)
-        .map_err(|_| Fault::NoFolder)?
+        .map_err(|_| WorkError::NoFolder)?
         .collect(rt.alloc())?;
     let [_, folder] = words.as_slice() else {
-        return Err(Fault::NoFolder);
+        return Err(WorkError::NoFolder);
     };
     let archive = Archive::new(&rt, folder.as_str());
     archive.write_new("archive.toml", SETTINGS.as_bytes())?;

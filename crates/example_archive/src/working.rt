@@ -3,7 +3,7 @@
 use crate::Connections;
 use crate::archive::Archive;
 use crate::connections::Connection;
-use crate::fault::Fault;
+use crate::error::WorkError;
 use pool_shared::{AddFault, BorrowFault, Caller, Lent, Room};
 use std::sync::Wait;
 
@@ -34,7 +34,7 @@ fn borrow<B: Room, R: Wait>(
     pool: &Connections<B>,
     me: &mut Caller<B>,
     tally: &mut Tally,
-) -> Result<Lent<Connection>, Fault> {
+) -> Result<Lent<Connection>, WorkError> {
     for _ in 0..TRIES {
         match pool.borrow(rt, me) {
             Ok(connection) => return Ok(connection),
@@ -42,10 +42,10 @@ fn borrow<B: Room, R: Wait>(
                 let count = archive.take_in_below(rt, pool, me, LEAST)?;
                 tally.archived = tally.archived.saturating_add(count);
             }
-            Err(_) => return Err(Fault::NotBorrowed),
+            Err(_) => return Err(WorkError::NotBorrowed),
         }
     }
-    Err(Fault::NotBorrowed)
+    Err(WorkError::NotBorrowed)
 }
 
 // Maintains the pool, and archives its journal if little room is left. Maintenance that finds no room is left to the
@@ -55,10 +55,10 @@ fn look_after<B: Room, R: Wait>(
     archive: &Archive<'_>,
     pool: &Connections<B>,
     me: &mut Caller<B>,
-) -> Result<u64, Fault> {
+) -> Result<u64, WorkError> {
     match pool.maintain(rt, me) {
         Ok(()) | Err(AddFault::JournalFull) => archive.take_in_below(rt, pool, me, LEAST),
-        Err(_) => Err(Fault::NotMaintained),
+        Err(_) => Err(WorkError::NotMaintained),
     }
 }
 
@@ -69,7 +69,7 @@ pub fn work<B: Room, R: Wait>(
     archive: &Archive<'_>,
     pool: &Connections<B>,
     me: Caller<B>,
-) -> Result<(Caller<B>, Tally), Fault> {
+) -> Result<(Caller<B>, Tally), WorkError> {
     let mut me = me;
     let mut tally = Tally {
         answered: 0,
@@ -84,7 +84,7 @@ pub fn work<B: Room, R: Wait>(
         connection.value_mut().ask();
         tally.answered = tally.answered.saturating_add(1);
         pool.give_back(rt, &mut me, connection)
-            .map_err(|_| Fault::NotTakenBack)?;
+            .map_err(|_| WorkError::NotTakenBack)?;
     }
     Ok((me, tally))
 }

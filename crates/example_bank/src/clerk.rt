@@ -3,7 +3,7 @@
 use crate::Bank;
 use crate::books::Order;
 use crate::connections::Connected;
-use crate::fault::Fault;
+use crate::error::DayError;
 use pool_shared::{Caller, Factory, Room};
 use sqlite::Error;
 use std::sync::Wait;
@@ -51,14 +51,14 @@ fn try_order<L: Connected, F: Factory<L, Error> + Drop, B: Room, R: Wait>(
     me: &mut Caller<B>,
     order: Order,
     mishap: Option<Mishap>,
-) -> Result<bool, Fault> {
-    let mut link = bank.borrow(rt, me).map_err(|_| Fault::NotBorrowed)?;
+) -> Result<bool, DayError> {
+    let mut link = bank.borrow(rt, me).map_err(|_| DayError::NotBorrowed)?;
     if mishap == Some(Mishap::BreaksBefore) {
         link.value_mut().break_down();
     }
     if link.value_mut().carry_out(order).is_err() {
         bank.invalidate(rt, me, link)
-            .map_err(|_| Fault::NotTakenBack)?;
+            .map_err(|_| DayError::NotTakenBack)?;
         return Ok(false);
     }
     if mishap == Some(Mishap::Forgets) {
@@ -69,7 +69,7 @@ fn try_order<L: Connected, F: Factory<L, Error> + Drop, B: Room, R: Wait>(
         link.value_mut().break_down();
     }
     bank.give_back(rt, me, link)
-        .map_err(|_| Fault::NotTakenBack)?;
+        .map_err(|_| DayError::NotTakenBack)?;
     Ok(true)
 }
 
@@ -79,7 +79,7 @@ pub fn work<L: Connected, F: Factory<L, Error> + Drop, B: Room, R: Wait>(
     rt: &R,
     bank: &Bank<L, F, B>,
     me: Caller<B>,
-) -> Result<Caller<B>, Fault> {
+) -> Result<Caller<B>, DayError> {
     let mut me = me;
     let clerk = me.number();
     let order = order_of(clerk);
@@ -87,7 +87,7 @@ pub fn work<L: Connected, F: Factory<L, Error> + Drop, B: Room, R: Wait>(
         if !try_order(rt, bank, &mut me, order, mishap_of(clerk, number))?
             && !try_order(rt, bank, &mut me, order, None)?
         {
-            return Err(Fault::NotCarriedOut);
+            return Err(DayError::NotCarriedOut);
         }
     }
     Ok(me)

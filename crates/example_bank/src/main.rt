@@ -16,13 +16,13 @@ mod books;
 mod clerk;
 mod clock;
 mod connections;
-mod fault;
+mod error;
 
 use books::{BOOKS, Book, Connect, Files};
 use clerk::work;
 use clock::OfficeClock;
 use connections::{Connected, Link, Opener};
-use fault::Fault;
+use error::DayError;
 use pool_core::Core;
 use pool_journal::print_entry;
 use pool_settings::Settings;
@@ -73,7 +73,7 @@ fn work_all<
     alloc: Global,
     bank: &Bank<L, F, B>,
     clerks: Vec<Caller<B>>,
-) -> Result<Vec<Caller<B>>, Fault> {
+) -> Result<Vec<Caller<B>>, DayError> {
     let mut back = Vec::new(alloc);
     for clerk in thread::map_vec(rt, clerks, &|me| work(rt, bank, me))? {
         back.push(clerk?)?;
@@ -94,14 +94,14 @@ fn keep_open<
     manager: &mut Caller<B>,
     clerks: Vec<Caller<B>>,
     clock: OfficeClock,
-) -> Result<Vec<Caller<B>>, Fault> {
+) -> Result<Vec<Caller<B>>, DayError> {
     bank.maintain(rt, manager)
-        .map_err(|_| Fault::NotMaintained)?;
+        .map_err(|_| DayError::NotMaintained)?;
     let back = work_all(rt, alloc, bank, clerks)?;
     clock.pass(PAUSE);
     bank.maintain(rt, manager)
-        .map_err(|_| Fault::NotMaintained)?;
-    bank.close(rt, manager).map_err(|_| Fault::NotClosed)?;
+        .map_err(|_| DayError::NotMaintained)?;
+    bank.close(rt, manager).map_err(|_| DayError::NotClosed)?;
     Ok(back)
 }
 
@@ -119,7 +119,7 @@ fn day<
     settings: Settings,
     opener: F,
     clock: OfficeClock,
-) -> Result<Core<L>, Fault>
+) -> Result<Core<L>, DayError>
     requires { (site ≡ B.table) × (settings ≡ B.settings) × (5 ≡ B.callers) }
 {
     let (bank, mut callers) = Bank::<L, F, B>::open(
@@ -131,18 +131,18 @@ fn day<
         CLERKS + 1,
         opener,
         clock,
-    ).map_err(|_| Fault::NotOpened)?;
-    let mut manager = callers.pop().ok_or(Fault::CallerMissing)?;
+    ).map_err(|_| DayError::NotOpened)?;
+    let mut manager = callers.pop().ok_or(DayError::CallerMissing)?;
     let mut back = keep_open(rt, alloc, &bank, &mut manager, callers, clock)?;
     back.push(manager)?;
-    bank.finish(rt, back).map_err(|_| Fault::CallerMissing)
+    bank.finish(rt, back).map_err(|_| DayError::CallerMissing)
 }
 
 // Makes new books, with the accounts in each.
 fn found<S: Alter + Drop, H: Connect<Connection<S>>>(
     rt: &HostRuntime,
     store: &H,
-) -> Result<(), Fault> {
+) -> Result<(), DayError> {
     for path in BOOKS {
         let log = format!(in rt.alloc(); "{path}-wal")?;
         let _ = fs::remove_file(rt, path);
@@ -158,7 +158,7 @@ fn found<S: Alter + Drop, H: Connect<Connection<S>>>(
 fn open_all<S: Alter + Drop, H: Connect<Connection<S>>>(
     rt: &HostRuntime,
     store: &H,
-) -> Result<Vec<Book<S>>, Fault> {
+) -> Result<Vec<Book<S>>, DayError> {
     let mut all = Vec::new(rt.alloc());
     for path in BOOKS {
         all.push(Book::open(store, path)?)?;
@@ -179,7 +179,7 @@ fn balance<S: Alter>(all: &mut [Book<S>], account: i64) -> Result<i64, Error> {
 fn report_accounts<S: Alter + Drop, H: Connect<Connection<S>>>(
     rt: &HostRuntime,
     store: &H,
-) -> Result<(), Fault> {
+) -> Result<(), DayError> {
     let mut all = open_all::<S, H>(rt, store)?;
     let mut total = 0i64;
     for account in 0..i64::from(CLERKS) {
@@ -192,7 +192,7 @@ fn report_accounts<S: Alter + Drop, H: Connect<Connection<S>>>(
 }
 
 // Prints the numbers of connections that the pool opened, that were forgotten, and that are still open.
-fn report_pool<L>(rt: &HostRuntime, core: &Core<L>) -> Result<(), Fault> {
+fn report_pool<L>(rt: &HostRuntime, core: &Core<L>) -> Result<(), DayError> {
     let counts = core.counts();
     let still_open = counts.idle + counts.lent + counts.reserved;
     println!(rt; "connections opened: {}", counts.created)?;
@@ -202,7 +202,7 @@ fn report_pool<L>(rt: &HostRuntime, core: &Core<L>) -> Result<(), Fault> {
 }
 
 // Writes the pool's journal.
-fn write_journal<L>(rt: &HostRuntime, core: &Core<L>) -> Result<(), Fault> {
+fn write_journal<L>(rt: &HostRuntime, core: &Core<L>) -> Result<(), DayError> {
     let mut text = Vec::new(rt.alloc());
     for entry in core.journal() {
         print_entry(entry, &mut text)?;
@@ -216,7 +216,7 @@ fn keep_books<
     S: Alter + Drop + Send,
     H: Connect<Connection<S>> + Copy + Send + Sync,
     R: Threads + Wait + Sync,
->(rt: &HostRuntime, threads: &R, settings: Settings, store: H) -> Result<(), Fault> {
+>(rt: &HostRuntime, threads: &R, settings: Settings, store: H) -> Result<(), DayError> {
     found::<S, H>(rt, &store)?;
     let site = Site::new(rt.alloc())?;
     let opener = Opener::new(&store);
@@ -234,7 +234,7 @@ fn keep_books<
     write_journal(rt, &core)
 }
 
-fn main(rt: HostRuntime) -> Result<(), Fault> {
-    let settings = Settings::from_text(rt.alloc(), SETTINGS).map_err(|_| Fault::Settings)?;
+fn main(rt: HostRuntime) -> Result<(), DayError> {
+    let settings = Settings::from_text(rt.alloc(), SETTINGS).map_err(|_| DayError::Settings)?;
     keep_books(&rt, &rt, settings, Files::new(&rt))
 }

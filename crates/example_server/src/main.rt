@@ -9,12 +9,12 @@
 ghost use Rattle.std.specs.Prelude.{◌≡◌};
 
 mod connections;
-mod fault;
+mod error;
 mod judging;
 mod serving;
 
 use connections::{Connection, Connector, Unreachable};
-use fault::Fault;
+use error::DayError;
 use judging::is_legal;
 use pool_core::Core;
 use pool_journal::{Entry, Input};
@@ -76,7 +76,7 @@ fn serve_all<B: Room + Send + Sync, R: Threads + Wait + Sync>(
     alloc: Global,
     pool: &Connections<B>,
     callers: Vec<Caller<B>>,
-) -> Result<(Vec<Caller<B>>, u64), Fault> {
+) -> Result<(Vec<Caller<B>>, u64), DayError> {
     let mut back = Vec::new(alloc);
     let mut answered = 0u64;
     for served in thread::map_vec(rt, callers, &|me| serve(rt, pool, me))? {
@@ -95,7 +95,7 @@ fn day<B: Room + Send + Sync, R: Threads + Wait + Sync>(
     site: Site,
     settings: Settings,
     moment: &AtomicU64,
-) -> Result<Evening, Fault>
+) -> Result<Evening, DayError>
     requires { (site ≡ B.table) × (settings ≡ B.settings) × (5 ≡ B.callers) }
 {
     let watch = Watch { moment };
@@ -109,7 +109,7 @@ fn day<B: Room + Send + Sync, R: Threads + Wait + Sync>(
         Connector,
         watch,
     )?;
-    let mut keeper = callers.pop().ok_or(Fault::CallerMissing)?;
+    let mut keeper = callers.pop().ok_or(DayError::CallerMissing)?;
 
     let (mut back, answered) = serve_all(rt, alloc, &pool, callers)?;
     moment.store(EVENING, Ordering::SeqCst);
@@ -129,7 +129,7 @@ fn broken(journal: &[Entry]) -> usize {
 }
 
 // Prints the results of the day, and whether its journal is legal.
-fn report(rt: &HostRuntime, settings: Settings, evening: &Evening) -> Result<(), Fault> {
+fn report(rt: &HostRuntime, settings: Settings, evening: &Evening) -> Result<(), DayError> {
     let journal = evening.core.journal();
     let counts = evening.core.counts();
     let still_open = counts.idle + counts.lent + counts.reserved;
@@ -146,7 +146,7 @@ fn report(rt: &HostRuntime, settings: Settings, evening: &Evening) -> Result<(),
     Ok(())
 }
 
-fn main(rt: HostRuntime) -> Result<(), Fault> {
+fn main(rt: HostRuntime) -> Result<(), DayError> {
     let site = Site::new(rt.alloc())?;
     let settings = Settings::from_text(rt.alloc(), SETTINGS)?;
     let moment = AtomicU64::new(MORNING);

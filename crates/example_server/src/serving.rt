@@ -2,7 +2,7 @@
 
 use crate::Connections;
 use crate::connections::Request;
-use crate::fault::Fault;
+use crate::error::DayError;
 use pool_shared::{Caller, Room};
 use std::sync::Wait;
 
@@ -28,7 +28,7 @@ pub fn serve<B: Room, R: Wait>(
     rt: &R,
     pool: &Connections<B>,
     me: Caller<B>,
-) -> Result<(Caller<B>, u64), Fault> {
+) -> Result<(Caller<B>, u64), DayError> {
     let mut me = me;
     let server = me.number();
     let mut answered = 0u64;

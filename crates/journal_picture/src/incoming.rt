@@ -1,7 +1,7 @@
 //! The lines of a stream.
 ghost use Rattle.std.specs.Prelude.{◌≡◌, ◌≤◌, length};
 
-use crate::fault::Cause;
+use crate::error::Cause;
 use std::alloc::{AllocError, Global};
 use std::io::{ErrorKind, Read};
 

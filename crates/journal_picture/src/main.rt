@@ -19,7 +19,7 @@ mod colours;
 mod counts;
 mod distribution;
 mod drawing;
-mod fault;
+mod error;
 mod help;
 mod history;
 mod incoming;
@@ -42,7 +42,7 @@ mod time_axis;
 use arguments::{Task, task_of};
 use canvas::Canvas;
 use drawing::draw;
-use fault::{Cause, Fault};
+use error::{Cause, PictureError};
 use help::{USES, VERSION};
 use journal::{Journal, Parts};
 use overview_drawing::draw_overview;
@@ -56,45 +56,45 @@ fn main(rt: HostRuntime) -> ExitCode {
     match arguments_of(&rt) {
         Ok(words) => match perform(&rt, &words) {
             Ok(()) => ExitCode::SUCCESS,
-            Err(fault) => refuse(&rt, &fault),
+            Err(error) => refuse(&rt, &error),
         },
-        Err(fault) => refuse(&rt, &fault),
+        Err(error) => refuse(&rt, &error),
     }
 }
 
 /// Reports an error on standard error.
-fn refuse(rt: &HostRuntime, fault: &Fault<'_>) -> ExitCode {
-    let _ = eprintln!(rt; "journal_picture: {fault}");
-    ExitCode::from(fault.status())
+fn refuse(rt: &HostRuntime, error: &PictureError<'_>) -> ExitCode {
+    let _ = eprintln!(rt; "journal_picture: {error}");
+    ExitCode::from(error.status())
 }
 
 /// Returns the name of the program and the words after it.
-fn arguments_of<'a>(rt: &HostRuntime) -> Result<Vec<String>, Fault<'a>> {
+fn arguments_of<'a>(rt: &HostRuntime) -> Result<Vec<String>, PictureError<'a>> {
     match env::args(rt) {
         Ok(words) => Ok(words.collect(rt.alloc())?),
-        Err(cause) => Err(Fault::of_arguments(&cause)),
+        Err(cause) => Err(PictureError::of_arguments(&cause)),
     }
 }
 
-fn perform<'a>(rt: &HostRuntime, words: &'a [String]) -> Result<(), Fault<'a>> {
+fn perform<'a>(rt: &HostRuntime, words: &'a [String]) -> Result<(), PictureError<'a>> {
     match task_of(words) {
         Some(Task::Help) => write_text(rt, USES),
         Some(Task::Version) => write_text(rt, VERSION),
         Some(Task::Draw(paths)) => picture(rt, paths),
-        None => Err(Fault::WrongArguments),
+        None => Err(PictureError::WrongArguments),
     }
 }
 
-fn write_text<'a>(rt: &HostRuntime, text: &str) -> Result<(), Fault<'a>> {
+fn write_text<'a>(rt: &HostRuntime, text: &str) -> Result<(), PictureError<'a>> {
     let mut out = rt.stdout();
     match out.write_all(text.as_bytes()) {
         Ok(()) => Ok(()),
-        Err(_) => Err(Fault::NotWritten),
+        Err(_) => Err(PictureError::NotWritten),
     }
 }
 
 /// Draws the journal in the files at these paths.
-fn picture<'a>(rt: &HostRuntime, paths: &'a [String]) -> Result<(), Fault<'a>> {
+fn picture<'a>(rt: &HostRuntime, paths: &'a [String]) -> Result<(), PictureError<'a>> {
     let mut journal = Journal::new(rt.alloc());
     read_paths(rt, &mut journal, paths)?;
     let parts = journal.into_parts(rt.alloc())?;
@@ -106,25 +106,25 @@ fn read_paths<'a>(
     rt: &HostRuntime,
     journal: &mut Journal,
     paths: &'a [String],
-) -> Result<(), Fault<'a>> {
+) -> Result<(), PictureError<'a>> {
     for path in paths {
         let path = path.as_str();
         if let Err(cause) = read_path(rt, journal, path) {
-            return Err(Fault::Journal(path, cause));
+            return Err(PictureError::Journal(path, cause));
         }
     }
     Ok(())
 }
 
 /// Writes the picture to standard output.
-fn write_parts<'a>(rt: &HostRuntime, parts: &Parts) -> Result<(), Fault<'a>> {
+fn write_parts<'a>(rt: &HostRuntime, parts: &Parts) -> Result<(), PictureError<'a>> {
     let mut out = match BufWriter::new(rt.alloc(), io::writer(rt)) {
         Ok(out) => out,
-        Err(_) => return Err(Fault::OutOfMemory),
+        Err(_) => return Err(PictureError::OutOfMemory),
     };
     match write_picture(&mut out, parts) {
         Ok(()) => Ok(()),
-        Err(_) => Err(Fault::NotWritten),
+        Err(_) => Err(PictureError::NotWritten),
     }
 }
 

@@ -13,8 +13,8 @@ use Rattle.pool_engines.specs.declared.engine_fault.EngineFault.{EngineFault}
 use Rattle.pool_engines.specs.declared.engine_fault.EngineFault.TheVariants as engines
 use Rattle.pool_engines.specs.declared.segment_fault.SegmentFault.{SegmentFault}
 use Rattle.pool_engines.specs.declared.segment_fault.SegmentFault.TheVariants as segments
-use Rattle.judge.specs.declared.fault.Fault.{Fault}
-use Rattle.judge.specs.declared.fault.Fault.TheVariants.{WrongArguments, Unopened, Settings, Segment, NotWritten, OutOfMemory}
+use Rattle.judge.specs.declared.error.JudgeError.{JudgeError}
+use Rattle.judge.specs.declared.error.JudgeError.TheVariants.{WrongArguments, Unopened, Settings, Segment, NotWritten, OutOfMemory}
 
 abbrev pub line_text : LineFault → List ℕ
 line_text lines.LineTooLong = codes "line too long"
@@ -52,7 +52,7 @@ settings_text files.NotUtf8 = codes "settings: not TOML"
 settings_text (files.Text fault) = settings.text_of (fault_of fault)
 
 -- the line without its line feed
-abbrev pub text_of : Fault → List ℕ
+abbrev pub text_of : JudgeError → List ℕ
 text_of WrongArguments = codes "judge: wrong arguments, try judge --help"
 text_of (Unopened path) = codes "judge: cannot open " ++ escaped path.now
 text_of (Settings path fault) = codes "judge: " ++ escaped path.now ++ codes ": " ++ settings_text fault
@@ -61,7 +61,7 @@ text_of NotWritten = codes "judge: write failed"
 text_of OutOfMemory = codes "judge: out of memory"
 
 -- 1 if the segment is not legal, 2 for wrong arguments, and 3 for every other error
-abbrev pub status_of : Fault → ℕ
+abbrev pub status_of : JudgeError → ℕ
 status_of WrongArguments = 2
 status_of (Segment _ (segments.Illegal _)) = 1
 status_of (Segment _ (segments.Base bases.NotABase)) = 1

@@ -10,11 +10,11 @@
 //! version.
 #![tactic(auto)]
 
-mod fault;
+mod error;
 mod help;
 mod segment;
 
-use fault::Fault;
+use error::JudgeError;
 use help::{USES, VERSION, asks_for_help, asks_for_version};
 use pool_engines::{EngineFault, SegmentFault, judge_segment, read_settings};
 use pool_journal::print_base;
@@ -29,41 +29,41 @@ fn main(rt: HostRuntime) -> ExitCode {
     match arguments_of(&rt) {
         Ok(arguments) => match perform(&rt, &arguments) {
             Ok(()) => ExitCode::SUCCESS,
-            Err(fault) => report(&rt, &fault),
+            Err(error) => report(&rt, &error),
         },
-        Err(fault) => report(&rt, &fault),
+        Err(error) => report(&rt, &error),
     }
 }
 
 /// Returns the name of the program and the words after it.
-fn arguments_of<'a>(rt: &HostRuntime) -> Result<Vec<String>, Fault<'a>> {
-    let words = env::args(rt).map_err(|cause| Fault::of_arguments(&cause))?;
+fn arguments_of<'a>(rt: &HostRuntime) -> Result<Vec<String>, JudgeError<'a>> {
+    let words = env::args(rt).map_err(|cause| JudgeError::of_arguments(&cause))?;
     Ok(words.collect(rt.alloc())?)
 }
 
 /// Does what the arguments ask for.
-fn perform<'a>(rt: &HostRuntime, arguments: &'a [String]) -> Result<(), Fault<'a>> {
+fn perform<'a>(rt: &HostRuntime, arguments: &'a [String]) -> Result<(), JudgeError<'a>> {
     match arguments {
         [_, word] if asks_for_help(word) => write(rt, USES.as_bytes()),
         [_, word] if asks_for_version(word) => write(rt, VERSION.as_bytes()),
         [_, settings, segment] => judge(rt, settings.as_str(), segment.as_str()),
-        _ => Err(Fault::WrongArguments),
+        _ => Err(JudgeError::WrongArguments),
     }
 }
 
 /// Checks the segment in a file, and prints the base after it.
-fn judge<'a>(rt: &HostRuntime, settings: &'a str, segment: &'a str) -> Result<(), Fault<'a>> {
+fn judge<'a>(rt: &HostRuntime, settings: &'a str, segment: &'a str) -> Result<(), JudgeError<'a>> {
     let settings = settings_in(rt, settings)?;
     match reached_by(rt, settings, segment) {
         Ok(text) => write(rt, &text),
-        Err(SegmentFault::Unopened) => Err(Fault::Unopened(segment)),
-        Err(fault) => Err(Fault::Segment(segment, fault)),
+        Err(SegmentFault::Unopened) => Err(JudgeError::Unopened(segment)),
+        Err(fault) => Err(JudgeError::Segment(segment, fault)),
     }
 }
 
-fn settings_in<'a>(rt: &HostRuntime, path: &'a str) -> Result<Settings, Fault<'a>> {
-    let mut file = File::open(rt, path).map_err(|_| Fault::Unopened(path))?;
-    read_settings(rt.alloc(), &mut file).map_err(|fault| Fault::Settings(path, fault))
+fn settings_in<'a>(rt: &HostRuntime, path: &'a str) -> Result<Settings, JudgeError<'a>> {
+    let mut file = File::open(rt, path).map_err(|_| JudgeError::Unopened(path))?;
+    read_settings(rt.alloc(), &mut file).map_err(|fault| JudgeError::Settings(path, fault))
 }
 
 /// Returns the lines of the base after the segment in the file at this path.
@@ -77,14 +77,14 @@ fn reached_by(rt: &HostRuntime, settings: Settings, path: &str) -> Result<Vec<u8
     }
 }
 
-fn write<'a>(rt: &HostRuntime, text: &[u8]) -> Result<(), Fault<'a>> {
+fn write<'a>(rt: &HostRuntime, text: &[u8]) -> Result<(), JudgeError<'a>> {
     let mut out = rt.stdout();
-    out.write_all(text).map_err(|_| Fault::NotWritten)?;
-    out.flush().map_err(|_| Fault::NotWritten)
+    out.write_all(text).map_err(|_| JudgeError::NotWritten)?;
+    out.flush().map_err(|_| JudgeError::NotWritten)
 }
 
 /// Prints the error on standard error. If that fails too, the status alone reports it.
-fn report(rt: &HostRuntime, fault: &Fault<'_>) -> ExitCode {
-    let _ = eprintln!(rt; "{fault}");
-    ExitCode::from(fault.status())
+fn report(rt: &HostRuntime, error: &JudgeError<'_>) -> ExitCode {
+    let _ = eprintln!(rt; "{error}");
+    ExitCode::from(error.status())
 }

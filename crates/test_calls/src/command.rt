@@ -1,6 +1,6 @@
 //! The commands of a script, and their words.
 
-use crate::fault::LineFault;
+use crate::error::LineError;
 use pool_driver::{Hooks, Options, Report};
 
 /// A command of a script.
@@ -43,7 +43,7 @@ pub(crate) enum Start {
 }
 
 /// Reads the words of a pool's line.
-pub(crate) fn options_of(words: &[&str]) -> Result<Options, LineFault> {
+pub(crate) fn options_of(words: &[&str]) -> Result<Options, LineError> {
     match *words {
         ["pool", overtakes, activates, validates, passivates, drops] => Ok(Options {
             max_overtakes: overtakes.parse()?,
@@ -54,21 +54,21 @@ pub(crate) fn options_of(words: &[&str]) -> Result<Options, LineFault> {
             },
             drops_journal: flag_of(drops)?,
         }),
-        _ => Err(LineFault::NotAPool),
+        _ => Err(LineError::NotAPool),
     }
 }
 
 /// Reads the word `yes` or `no`.
-fn flag_of(word: &str) -> Result<bool, LineFault> {
+fn flag_of(word: &str) -> Result<bool, LineError> {
     match word {
         "yes" => Ok(true),
         "no" => Ok(false),
-        _ => Err(LineFault::NotAPool),
+        _ => Err(LineError::NotAPool),
     }
 }
 
 /// Reads the words of a command.
-pub(crate) fn command_of(words: &[&str]) -> Result<Command, LineFault> {
+pub(crate) fn command_of(words: &[&str]) -> Result<Command, LineError> {
     match *words {
         ["report", slot, caller, at, report] => Ok(Command::Report(
             turn_of(slot, caller, at)?,
@@ -92,11 +92,11 @@ pub(crate) fn command_of(words: &[&str]) -> Result<Command, LineFault> {
         }
         ["cut"] => Ok(Command::Cut),
         ["journal"] => Ok(Command::Journal),
-        _ => Err(LineFault::NotACommand),
+        _ => Err(LineError::NotACommand),
     }
 }
 
-fn turn_of(slot: &str, caller: &str, at: &str) -> Result<Turn, LineFault> {
+fn turn_of(slot: &str, caller: &str, at: &str) -> Result<Turn, LineError> {
     Ok(Turn {
         slot: slot.parse()?,
         caller: caller.parse()?,
@@ -105,7 +105,7 @@ fn turn_of(slot: &str, caller: &str, at: &str) -> Result<Turn, LineFault> {
 }
 
 /// Reads the word of a call that is for no object.
-fn start_of(word: &str) -> Result<Start, LineFault> {
+fn start_of(word: &str) -> Result<Start, LineError> {
     match word {
         "borrow" => Ok(Start::Borrow),
         "add" => Ok(Start::Add),
@@ -115,22 +115,22 @@ fn start_of(word: &str) -> Result<Start, LineFault> {
         "maintain" => Ok(Start::Maintain),
         "clear" => Ok(Start::Clear),
         "close" => Ok(Start::Close),
-        _ => Err(LineFault::NotACommand),
+        _ => Err(LineError::NotACommand),
     }
 }
 
 /// Reads the word of a call for an object and its token.
-fn start_with_object(word: &str, id: u64, token: u64) -> Result<Start, LineFault> {
+fn start_with_object(word: &str, id: u64, token: u64) -> Result<Start, LineError> {
     match word {
         "return" => Ok(Start::Return { id, token }),
         "invalidate" => Ok(Start::Invalidate { id, token }),
         "detach" => Ok(Start::Detach { id, token }),
-        _ => Err(LineFault::NotACommand),
+        _ => Err(LineError::NotACommand),
     }
 }
 
 /// Reads a report of one word.
-fn report_of(word: &str) -> Result<Report, LineFault> {
+fn report_of(word: &str) -> Result<Report, LineError> {
     match word {
         "go-on" => Ok(Report::GoOn),
         "succeeded" => Ok(Report::Succeeded),
@@ -139,6 +139,6 @@ fn report_of(word: &str) -> Result<Report, LineFault> {
         "room-made" => Ok(Report::RoomMade),
         "no-room" => Ok(Report::NoRoom),
         "given-up" => Ok(Report::GivenUp),
-        _ => Err(LineFault::NotACommand),
+        _ => Err(LineError::NotACommand),
     }
 }

@@ -24,13 +24,13 @@
 #![tactic(auto)]
 
 mod command;
-mod fault;
+mod error;
 mod player;
 mod printing;
 mod script;
 
 use command::Command;
-use fault::Fault;
+use error::ScriptError;
 use player::Player;
 use printing::{write_counts, write_cut, write_journal, write_progress, write_wakes};
 use script::Script;
@@ -41,15 +41,15 @@ use std::process::ExitCode;
 fn main(rt: HostRuntime) -> ExitCode {
     match play(&rt) {
         Ok(()) => ExitCode::SUCCESS,
-        Err(fault) => {
-            let _ = eprintln!(rt; "test_calls: {fault}");
-            ExitCode::from(fault.status())
+        Err(error) => {
+            let _ = eprintln!(rt; "test_calls: {error}");
+            ExitCode::from(error.status())
         }
     }
 }
 
 /// Plays the script on standard input.
-fn play(rt: &HostRuntime) -> Result<(), Fault> {
+fn play(rt: &HostRuntime) -> Result<(), ScriptError> {
     let alloc = rt.alloc();
     let mut script = Script::new(alloc, rt.stdin())?;
     let mut player = open(alloc, &mut script)?;
@@ -58,7 +58,7 @@ fn play(rt: &HostRuntime) -> Result<(), Fault> {
 }
 
 /// Opens the pool of the first lines of a script.
-fn open<R: Read + Drop>(alloc: Global, script: &mut Script<R>) -> Result<Player, Fault> {
+fn open<R: Read + Drop>(alloc: Global, script: &mut Script<R>) -> Result<Player, ScriptError> {
     let settings = script.settings(alloc)?;
     let options = script.options(alloc)?;
     Ok(Player::open(alloc, settings, options)?)
@@ -70,7 +70,7 @@ fn play_commands<R: Read + Drop, W: Write>(
     script: &mut Script<R>,
     player: &mut Player,
     out: &mut W,
-) -> Result<(), Fault> {
+) -> Result<(), ScriptError> {
     for _ in 0..u64::MAX {
         let Some(command) = script.command(alloc)? else {
             break;
@@ -89,15 +89,15 @@ fn play_one<R: Read + Drop, W: Write>(
     player: &mut Player,
     command: Command,
     out: &mut W,
-) -> Result<(), Fault> {
+) -> Result<(), ScriptError> {
     match command {
         Command::Begin(turn, start) => match player.begin(&turn, &start) {
             Ok(progress) => write_progress(out, progress)?,
-            Err(fault) => return Err(script.fault(fault)),
+            Err(error) => return Err(script.error_of(error)),
         },
         Command::Report(turn, report) => match player.report(&turn, report) {
             Ok(progress) => write_progress(out, progress)?,
-            Err(fault) => return Err(script.fault(fault)),
+            Err(error) => return Err(script.error_of(error)),
         },
         Command::Cut => write_cut(out, player.cut(alloc)?)?,
         Command::Journal => write_journal(alloc, out, player.pool.core().journal())?,

@@ -1,7 +1,7 @@
 //! A pool, and the calls that a script plays.
 
 use crate::command::{Start, Turn};
-use crate::fault::LineFault;
+use crate::error::LineError;
 use pool_calls::{Action, Operation};
 use pool_driver::{Call, DrivenPool, Effects, Options, Report};
 use pool_settings::Settings;
@@ -48,7 +48,7 @@ impl Player {
         &mut self,
         turn: &Turn,
         start: &Start,
-    ) -> Result<Option<Progress>, LineFault> {
+    ) -> Result<Option<Progress>, LineError> {
         self.check_free(turn.slot)?;
         let call = self.call_of(turn, start);
         self.put(
@@ -80,13 +80,13 @@ impl Player {
     }
 
     /// Checks that there is such a slot, without a call that is not over.
-    fn check_free(&self, slot: usize) -> Result<(), LineFault> {
+    fn check_free(&self, slot: usize) -> Result<(), LineError> {
         let Some(place) = self.slots.get(slot) else {
-            return Err(LineFault::NoSlot);
+            return Err(LineError::NoSlot);
         };
         let before = *place;
         match before {
-            Some(begun) if !begun.is_over => Err(LineFault::SlotTaken),
+            Some(begun) if !begun.is_over => Err(LineError::SlotTaken),
             _ => Ok(()),
         }
     }
@@ -96,7 +96,7 @@ impl Player {
         &mut self,
         turn: &Turn,
         report: Report,
-    ) -> Result<Option<Progress>, LineFault> {
+    ) -> Result<Option<Progress>, LineError> {
         let mut begun = self.begun_in(turn.slot)?;
         let effects = self
             .pool
@@ -112,12 +112,12 @@ impl Player {
         }))
     }
 
-    fn begun_in(&self, slot: usize) -> Result<Begun, LineFault> {
+    fn begun_in(&self, slot: usize) -> Result<Begun, LineError> {
         let Some(place) = self.slots.get(slot) else {
-            return Err(LineFault::NoCall);
+            return Err(LineError::NoCall);
         };
         let begun = *place;
-        begun.ok_or(LineFault::NoCall)
+        begun.ok_or(LineError::NoCall)
     }
 
     fn put(&mut self, slot: usize, begun: Begun) {

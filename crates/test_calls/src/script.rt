@@ -1,7 +1,7 @@
 //! The lines of a script.
 
 use crate::command::{Command, command_of, options_of};
-use crate::fault::{Fault, LineFault};
+use crate::error::{LineError, ScriptError};
 use pool_driver::Options;
 use pool_settings::Settings;
 use std::alloc::Global;
@@ -17,7 +17,7 @@ pub(crate) struct Script<R: Read + Drop> {
 }
 
 impl<R: Read + Drop> Script<R> {
-    pub(crate) fn new(alloc: Global, reader: R) -> Result<Script<R>, Fault> {
+    pub(crate) fn new(alloc: Global, reader: R) -> Result<Script<R>, ScriptError> {
         Ok(Script {
             reader: BufReader::new(alloc, reader)?,
             line: String::new(alloc),
@@ -26,12 +26,12 @@ impl<R: Read + Drop> Script<R> {
     }
 
     /// Returns the error of the line that was read last.
-    pub(crate) fn fault(&self, fault: LineFault) -> Fault {
-        Fault::Line(self.number, fault)
+    pub(crate) fn error_of(&self, error: LineError) -> ScriptError {
+        ScriptError::Line(self.number, error)
     }
 
     /// Reads the next line. Returns whether there is one.
-    fn next_line(&mut self) -> Result<bool, Fault> {
+    fn next_line(&mut self) -> Result<bool, ScriptError> {
         self.line.clear();
         let count = self.reader.read_line(&mut self.line)?;
         self.number = self.number.saturating_add(1);
@@ -39,7 +39,7 @@ impl<R: Read + Drop> Script<R> {
     }
 
     /// Reads the settings, up to an empty line.
-    pub(crate) fn settings(&mut self, alloc: Global) -> Result<Settings, Fault> {
+    pub(crate) fn settings(&mut self, alloc: Global) -> Result<Settings, ScriptError> {
         let mut text = String::new(alloc);
         for _ in 0..u64::MAX {
             if !self.next_line()? || self.line.as_str() == "\n" {
@@ -51,24 +51,24 @@ impl<R: Read + Drop> Script<R> {
     }
 
     /// Reads the line of the pool.
-    pub(crate) fn options(&mut self, alloc: Global) -> Result<Options, Fault> {
+    pub(crate) fn options(&mut self, alloc: Global) -> Result<Options, ScriptError> {
         let _ = self.next_line()?;
         let words: Vec<&str> = self.line.as_str().split_whitespace().collect(alloc)?;
         match options_of(&words) {
             Ok(options) => Ok(options),
-            Err(fault) => Err(self.fault(fault)),
+            Err(error) => Err(self.error_of(error)),
         }
     }
 
     /// Reads the next command, if there is one.
-    pub(crate) fn command(&mut self, alloc: Global) -> Result<Option<Command>, Fault> {
+    pub(crate) fn command(&mut self, alloc: Global) -> Result<Option<Command>, ScriptError> {
         if !self.next_line()? {
             return Ok(None);
         }
         let words: Vec<&str> = self.line.as_str().split_whitespace().collect(alloc)?;
         match command_of(&words) {
             Ok(command) => Ok(Some(command)),
-            Err(fault) => Err(self.fault(fault)),
+            Err(error) => Err(self.error_of(error)),
         }
     }
 }

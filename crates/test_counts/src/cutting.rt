@@ -1,6 +1,6 @@
 //! The counts of a pool that is cut, and opened again from its base, after each entry.
 
-use crate::{Fault, value_of};
+use crate::{CountError, value_of};
 use pool_core::Core;
 use pool_journal::{Base, Entry, Head, Phase, Record, Segment};
 use pool_settings::Settings;
@@ -14,7 +14,11 @@ use std::alloc::{AllocError, Global};
 ///
 /// A step fails or has another answer than the entry, a cut returns more than the one entry after the base before it,
 /// or no pool opens from the base after it.
-pub fn cut_counts(alloc: Global, settings: Settings, entries: &[Entry]) -> Result<Counts, Fault> {
+pub fn cut_counts(
+    alloc: Global,
+    settings: Settings,
+    entries: &[Entry],
+) -> Result<Counts, CountError> {
     let mut core = Core::open(alloc, settings)?;
     for entry in entries {
         go_on(alloc, settings, &mut core, entry)?;
@@ -28,7 +32,7 @@ fn go_on(
     settings: Settings,
     core: &mut Core<u64>,
     entry: &Entry,
-) -> Result<(), Fault> {
+) -> Result<(), CountError> {
     cut_behind(alloc, core, entry)?;
     let base = reached(alloc, core)?;
     *core = opened_from(alloc, settings, base)?;
@@ -36,7 +40,7 @@ fn go_on(
 }
 
 // Takes the step of an entry, and cuts the journal: it has only this entry, after the base before it.
-fn cut_behind(alloc: Global, core: &mut Core<u64>, entry: &Entry) -> Result<(), Fault> {
+fn cut_behind(alloc: Global, core: &mut Core<u64>, entry: &Entry) -> Result<(), CountError> {
     let head = core.base().head();
     let records = Vec::from_slice(alloc, core.base().records.as_slice())?;
     take_step(core, entry)?;
@@ -44,17 +48,17 @@ fn cut_behind(alloc: Global, core: &mut Core<u64>, entry: &Entry) -> Result<(), 
     if is_one_entry(&segment, head, records.as_slice(), entry) {
         Ok(())
     } else {
-        Err(Fault::SegmentDiffers)
+        Err(CountError::SegmentDiffers)
     }
 }
 
 /// Takes the step of an entry, and compares the answer with the entry's.
-pub fn take_step(core: &mut Core<u64>, entry: &Entry) -> Result<(), Fault> {
+pub fn take_step(core: &mut Core<u64>, entry: &Entry) -> Result<(), CountError> {
     let value = value_of(entry.input);
     match core.step(entry.caller, entry.at, entry.input, value) {
         Ok((answer, _)) if answer == entry.answer => Ok(()),
-        Ok(_) => Err(Fault::AnswerDiffers),
-        Err(_) => Err(Fault::StepRefused),
+        Ok(_) => Err(CountError::AnswerDiffers),
+        Err(_) => Err(CountError::StepRefused),
     }
 }
 
@@ -66,17 +70,17 @@ fn is_one_entry(segment: &Segment, head: Head, records: &[Record], entry: &Entry
 }
 
 // Returns the base of a pool that was just cut, by another cut.
-fn reached(alloc: Global, core: &mut Core<u64>) -> Result<Base, Fault> {
+fn reached(alloc: Global, core: &mut Core<u64>) -> Result<Base, CountError> {
     let segment = core.cut(alloc)?;
     Ok(segment.base)
 }
 
 // Opens a pool from the base of another, with the values that it stores.
-fn opened_from(alloc: Global, settings: Settings, base: Base) -> Result<Core<u64>, Fault> {
+fn opened_from(alloc: Global, settings: Settings, base: Base) -> Result<Core<u64>, CountError> {
     let values = values_of(alloc, &base)?;
     match Core::from_base(alloc, settings, base, values) {
         Ok(opened) => Ok(opened),
-        Err(_) => Err(Fault::BaseRefused),
+        Err(_) => Err(CountError::BaseRefused),
     }
 }
 

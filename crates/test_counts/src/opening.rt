@@ -1,7 +1,7 @@
 //! Cuts a pool once and opens one from the base of a segment, up to the call that is asked for.
 
 use crate::cutting::{take_step, values_of};
-use crate::{Fault, entries_of};
+use crate::{CountError, entries_of};
 use pool_core::Core;
 use pool_journal::{Base, Entry, print_base, read_base};
 use pool_settings::Settings;
@@ -53,7 +53,7 @@ pub fn opened_counts(
     entries: &[Entry],
     text: &[u8],
     last: Call,
-) -> Result<Counts, Fault> {
+) -> Result<Counts, CountError> {
     let mut core = Core::open(alloc, settings)?;
     take_steps(&mut core, entries)?;
     if !matches!(last, Call::Step) {
@@ -72,7 +72,7 @@ fn counts_behind_cut(
     core: &Core<u64>,
     text: &[u8],
     last: Call,
-) -> Result<Counts, Fault> {
+) -> Result<Counts, CountError> {
     let (base, length) = read(alloc, core, text)?;
     if !matches!(last, Call::Read) {
         print(alloc, core, text, length)?;
@@ -87,7 +87,7 @@ fn counts_behind_cut(
     Ok(opened.counts())
 }
 
-fn take_steps(core: &mut Core<u64>, entries: &[Entry]) -> Result<(), Fault> {
+fn take_steps(core: &mut Core<u64>, entries: &[Entry]) -> Result<(), CountError> {
     for entry in entries {
         take_step(core, entry)?;
     }
@@ -95,50 +95,55 @@ fn take_steps(core: &mut Core<u64>, entries: &[Entry]) -> Result<(), Fault> {
 }
 
 // Cuts the journal, and compares the entries that are cut with these.
-fn take_cut(alloc: Global, core: &mut Core<u64>, entries: &[Entry]) -> Result<(), Fault> {
+fn take_cut(alloc: Global, core: &mut Core<u64>, entries: &[Entry]) -> Result<(), CountError> {
     let segment = core.cut(alloc)?;
     if segment.entries.as_slice() == entries {
         Ok(())
     } else {
-        Err(Fault::SegmentDiffers)
+        Err(CountError::SegmentDiffers)
     }
 }
 
 // Reads the base at the start of a text. Returns it with the length of its lines, if it is the base of the pool.
-fn read(alloc: Global, core: &Core<u64>, text: &[u8]) -> Result<(Base, usize), Fault> {
-    let (base, length) = read_base(alloc, text).map_err(|_| Fault::JournalUnread)?;
+fn read(alloc: Global, core: &Core<u64>, text: &[u8]) -> Result<(Base, usize), CountError> {
+    let (base, length) = read_base(alloc, text).map_err(|_| CountError::JournalUnread)?;
     let due = core.base();
     if base.head() == due.head() && base.records.as_slice() == due.records.as_slice() {
         Ok((base, length))
     } else {
-        Err(Fault::BaseDiffers)
+        Err(CountError::BaseDiffers)
     }
 }
 
 // Prints the base of a pool whose journal is empty, and compares it with the first `length` bytes of a text.
-fn print(alloc: Global, core: &Core<u64>, text: &[u8], length: usize) -> Result<(), Fault> {
+fn print(alloc: Global, core: &Core<u64>, text: &[u8], length: usize) -> Result<(), CountError> {
     if !core.journal().is_empty() {
-        return Err(Fault::SegmentDiffers);
+        return Err(CountError::SegmentDiffers);
     }
     let mut printed = Vec::new(alloc);
     print_base(core.base(), &mut printed)?;
     if text.get(..length) == Some(printed.as_slice()) {
         Ok(())
     } else {
-        Err(Fault::BaseDiffers)
+        Err(CountError::BaseDiffers)
     }
 }
 
 // Opens a pool from a base. The value of each idle object is its id.
-fn open(alloc: Global, settings: Settings, base: Base) -> Result<Core<u64>, Fault> {
+fn open(alloc: Global, settings: Settings, base: Base) -> Result<Core<u64>, CountError> {
     let values = values_of(alloc, &base)?;
-    Core::from_base(alloc, settings, base, values).map_err(|_| Fault::BaseRefused)
+    Core::from_base(alloc, settings, base, values).map_err(|_| CountError::BaseRefused)
 }
 
 // Takes the steps of the entries in a text after its first `length` bytes.
-fn go_on(alloc: Global, core: &mut Core<u64>, text: &[u8], length: usize) -> Result<(), Fault> {
+fn go_on(
+    alloc: Global,
+    core: &mut Core<u64>,
+    text: &[u8],
+    length: usize,
+) -> Result<(), CountError> {
     let Some(lines) = text.get(length..) else {
-        return Err(Fault::JournalUnread);
+        return Err(CountError::JournalUnread);
     };
     let entries = entries_of(alloc, lines)?;
     take_steps(core, &entries)

@@ -2,7 +2,7 @@
 
 use crate::TRIES;
 use crate::dice::Dice;
-use crate::fault::Fault;
+use crate::error::SeedError;
 use crate::judging::Played;
 use crate::marks::{Mark, reports};
 use crate::refusals::{Call, Refusals};
@@ -42,7 +42,7 @@ pub struct Player<'a, B: Room> {
     marks: Vec<Mark>,
     forgotten: u64,
     refusals: Refusals,
-    end: Result<(), Fault>,
+    end: Result<(), SeedError>,
     alloc: Global,
     dice: Dice,
     manner: Manner,
@@ -59,10 +59,7 @@ impl<'a, B: Room> Player<'a, B> {
         manner: Manner,
         segments: &'a Segments,
     ) -> Result<Player<'a, B>, AllocError> {
-        let dice = Dice::new(
-            seed.wrapping_mul(1_000)
-                .wrapping_add(u64::from(me.number())),
-        );
+        let dice = Dice::new(seed, u64::from(me.number()));
         let mut marks = Vec::new(alloc);
         marks.reserve(MARKS)?;
         let mut held = Vec::new(alloc);
@@ -81,19 +78,19 @@ impl<'a, B: Room> Player<'a, B> {
         })
     }
 
-    fn mark(&mut self, mark: Mark) -> Result<(), Fault> {
+    fn mark(&mut self, mark: Mark) -> Result<(), SeedError> {
         self.marks.push(mark)?;
         Ok(())
     }
 
-    fn copy<R: Wait>(&mut self, rt: &R, pool: &Pool<B>) -> Result<Vec<Entry>, Fault> {
+    fn copy<R: Wait>(&mut self, rt: &R, pool: &Pool<B>) -> Result<Vec<Entry>, SeedError> {
         for _ in 0..TRIES {
             if let Ok(journal) = pool.journal_copy(rt, self.alloc, &mut self.me) {
                 return Ok(journal);
             }
             self.refusals.note(Call::JournalCopy);
         }
-        Err(Fault::Starved)
+        Err(SeedError::Starved)
     }
 
     // Marks the first steps of a call that failed for lack of memory, as far as the journal has them.
@@ -102,7 +99,7 @@ impl<'a, B: Room> Player<'a, B> {
         segments: &[Segment],
         stored: &[Entry],
         begun: &[Mark],
-    ) -> Result<(), Fault> {
+    ) -> Result<(), SeedError> {
         let number = self.me.number();
         if reports(segments, stored, number, &self.marks) {
             return Ok(());
@@ -113,7 +110,7 @@ impl<'a, B: Room> Player<'a, B> {
                 return Ok(());
             }
         }
-        Err(Fault::Untold)
+        Err(SeedError::Untold)
     }
 
     // Checks the journal after a call that failed for lack of memory: it has all earlier calls, and of this call at
@@ -124,7 +121,7 @@ impl<'a, B: Room> Player<'a, B> {
         pool: &Pool<B>,
         call: Call,
         begun: &[Mark],
-    ) -> Result<(), Fault> {
+    ) -> Result<(), SeedError> {
         self.refusals.note(call);
         let segments = self.segments.lock(rt);
         let stored = self.copy(rt, pool)?;
@@ -141,7 +138,7 @@ impl<'a, B: Room> Player<'a, B> {
         Some(self.held.swap_remove(place))
     }
 
-    fn borrow<R: Wait>(&mut self, rt: &R, pool: &Pool<B>) -> Result<(), Fault> {
+    fn borrow<R: Wait>(&mut self, rt: &R, pool: &Pool<B>) -> Result<(), SeedError> {
         if self.manner == Manner::Waiting && !self.held.is_empty() {
             return Ok(());
         }
@@ -156,7 +153,7 @@ impl<'a, B: Room> Player<'a, B> {
                 self.mark(Mark::Borrows)?;
                 self.mark(Mark::Denied)
             }
-            Err(BorrowFault::JournalFull) => Err(Fault::Stopped),
+            Err(BorrowFault::JournalFull) => Err(SeedError::Stopped),
             Err(BorrowFault::OutOfMemory) => self.look_back(
                 rt,
                 pool,
@@ -175,14 +172,14 @@ impl<'a, B: Room> Player<'a, B> {
         call: Call,
         mark: Mark,
         ended: Result<Returned, (ReturnFault, Lent<Thing>)>,
-    ) -> Result<(), Fault> {
+    ) -> Result<(), SeedError> {
         match ended {
             Ok(_) => self.mark(mark),
             Err((ReturnFault::OutOfMemory, lent)) => {
                 self.held.push(lent)?;
                 self.look_back(rt, pool, call, &[])
             }
-            Err(_) => Err(Fault::Stopped),
+            Err(_) => Err(SeedError::Stopped),
         }
     }
 
@@ -191,7 +188,7 @@ impl<'a, B: Room> Player<'a, B> {
         rt: &R,
         pool: &Pool<B>,
         lent: Lent<Thing>,
-    ) -> Result<(), Fault> {
+    ) -> Result<(), SeedError> {
         let mark = Mark::GivesBack(lent.id());
         let ended = pool.give_back(rt, &mut self.me, lent);
         self.ended(rt, pool, Call::GiveBack, mark, ended)
@@ -202,24 +199,29 @@ impl<'a, B: Room> Player<'a, B> {
         rt: &R,
         pool: &Pool<B>,
         lent: Lent<Thing>,
-    ) -> Result<(), Fault> {
+    ) -> Result<(), SeedError> {
         let mark = Mark::Invalidates(lent.id());
         let ended = pool.invalidate(rt, &mut self.me, lent);
         self.ended(rt, pool, Call::Invalidate, mark, ended)
     }
 
-    fn touch<R: Wait>(&mut self, rt: &R, pool: &Pool<B>, lent: Lent<Thing>) -> Result<(), Fault> {
+    fn touch<R: Wait>(
+        &mut self,
+        rt: &R,
+        pool: &Pool<B>,
+        lent: Lent<Thing>,
+    ) -> Result<(), SeedError> {
         let mark = Mark::Uses(lent.id());
         let touched = pool.touch(rt, &mut self.me, &lent);
         self.held.push(lent)?;
         match touched {
             Ok(_) => self.mark(mark),
             Err(ReturnFault::OutOfMemory) => self.look_back(rt, pool, Call::Touch, &[]),
-            Err(_) => Err(Fault::Stopped),
+            Err(_) => Err(SeedError::Stopped),
         }
     }
 
-    fn forget(&mut self, lent: Lent<Thing>) -> Result<(), Fault> {
+    fn forget(&mut self, lent: Lent<Thing>) -> Result<(), SeedError> {
         if self.manner == Manner::Waiting {
             self.held.push(lent)?;
         } else {
@@ -229,33 +231,33 @@ impl<'a, B: Room> Player<'a, B> {
         Ok(())
     }
 
-    fn add<R: Wait>(&mut self, rt: &R, pool: &Pool<B>) -> Result<(), Fault> {
+    fn add<R: Wait>(&mut self, rt: &R, pool: &Pool<B>) -> Result<(), SeedError> {
         match pool.add(rt, &mut self.me) {
-            Err(AddFault::JournalFull) => Err(Fault::Stopped),
+            Err(AddFault::JournalFull) => Err(SeedError::Stopped),
             Err(AddFault::OutOfMemory) => self.look_back(rt, pool, Call::Add, &[]),
             _ => self.mark(Mark::Adds),
         }
     }
 
-    fn fill<R: Wait>(&mut self, rt: &R, pool: &Pool<B>) -> Result<(), Fault> {
+    fn fill<R: Wait>(&mut self, rt: &R, pool: &Pool<B>) -> Result<(), SeedError> {
         match pool.fill(rt, &mut self.me) {
             Ok(_) => self.mark(Mark::Filled),
-            Err(AddFault::JournalFull | AddFault::Closed) => Err(Fault::Stopped),
+            Err(AddFault::JournalFull | AddFault::Closed) => Err(SeedError::Stopped),
             Err(AddFault::OutOfMemory) => self.look_back(rt, pool, Call::Fill, &[]),
             Err(_) => Ok(()),
         }
     }
 
-    fn evict<R: Wait>(&mut self, rt: &R, pool: &Pool<B>) -> Result<(), Fault> {
+    fn evict<R: Wait>(&mut self, rt: &R, pool: &Pool<B>) -> Result<(), SeedError> {
         match pool.evict(rt, &mut self.me) {
             Ok(_) | Err(PoolFault::Closed) => self.mark(Mark::Evicts),
-            Err(PoolFault::JournalFull) => Err(Fault::Stopped),
+            Err(PoolFault::JournalFull) => Err(SeedError::Stopped),
             Err(PoolFault::OutOfMemory) => self.look_back(rt, pool, Call::Evict, &[Mark::Evicts]),
         }
     }
 
     // Maintains the pool: an eviction run, a reclaim and a fill.
-    fn maintain<R: Wait>(&mut self, rt: &R, pool: &Pool<B>) -> Result<(), Fault> {
+    fn maintain<R: Wait>(&mut self, rt: &R, pool: &Pool<B>) -> Result<(), SeedError> {
         match pool.maintain(rt, &mut self.me) {
             Ok(()) => {
                 self.mark(Mark::Evicts)?;
@@ -263,7 +265,7 @@ impl<'a, B: Room> Player<'a, B> {
                 self.mark(Mark::Filled)
             }
             Err(AddFault::Closed) => self.mark(Mark::Evicts),
-            Err(AddFault::JournalFull) => Err(Fault::Stopped),
+            Err(AddFault::JournalFull) => Err(SeedError::Stopped),
             Err(AddFault::OutOfMemory) => {
                 self.look_back(rt, pool, Call::Maintain, &[Mark::Evicts, Mark::Reclaims])
             }
@@ -282,34 +284,34 @@ impl<'a, B: Room> Player<'a, B> {
         call: Call,
         mark: Mark,
         swept: Result<u64, PoolFault>,
-    ) -> Result<(), Fault> {
+    ) -> Result<(), SeedError> {
         match swept {
             Ok(_) => self.mark(mark),
             Err(PoolFault::OutOfMemory) => self.look_back(rt, pool, call, &[mark]),
-            Err(_) => Err(Fault::Stopped),
+            Err(_) => Err(SeedError::Stopped),
         }
     }
 
-    fn reclaim<R: Wait>(&mut self, rt: &R, pool: &Pool<B>) -> Result<(), Fault> {
+    fn reclaim<R: Wait>(&mut self, rt: &R, pool: &Pool<B>) -> Result<(), SeedError> {
         let swept = pool.reclaim(rt, &mut self.me);
         self.sweep(rt, pool, Call::Reclaim, Mark::Reclaims, swept)
     }
 
-    fn clear<R: Wait>(&mut self, rt: &R, pool: &Pool<B>) -> Result<(), Fault> {
+    fn clear<R: Wait>(&mut self, rt: &R, pool: &Pool<B>) -> Result<(), SeedError> {
         let swept = pool.clear(rt, &mut self.me);
         self.sweep(rt, pool, Call::Clear, Mark::Clears, swept)
     }
 
-    fn close<R: Wait>(&mut self, rt: &R, pool: &Pool<B>) -> Result<(), Fault> {
+    fn close<R: Wait>(&mut self, rt: &R, pool: &Pool<B>) -> Result<(), SeedError> {
         match pool.close(rt, &mut self.me) {
             Ok(_) => self.mark(Mark::Closes),
             Err(PoolFault::OutOfMemory) => self.look_back(rt, pool, Call::Close, &[]),
-            Err(_) => Err(Fault::Stopped),
+            Err(_) => Err(SeedError::Stopped),
         }
     }
 
     // Cuts the journal, and stores the segment. Returns false if an allocation failed.
-    fn keep_cut<R: Wait>(&mut self, rt: &R, pool: &Pool<B>) -> Result<bool, Fault> {
+    fn keep_cut<R: Wait>(&mut self, rt: &R, pool: &Pool<B>) -> Result<bool, SeedError> {
         let mut segments = self.segments.lock(rt);
         match pool.cut(rt, self.alloc, &mut self.me) {
             Ok(segment) => {
@@ -320,7 +322,7 @@ impl<'a, B: Room> Player<'a, B> {
         }
     }
 
-    fn cut<R: Wait>(&mut self, rt: &R, pool: &Pool<B>) -> Result<(), Fault> {
+    fn cut<R: Wait>(&mut self, rt: &R, pool: &Pool<B>) -> Result<(), SeedError> {
         if self.keep_cut(rt, pool)? {
             Ok(())
         } else {
@@ -329,7 +331,7 @@ impl<'a, B: Room> Player<'a, B> {
     }
 
     // Makes a call with an object that it holds. If it holds none, it borrows one.
-    fn call_with_one<R: Wait>(&mut self, rt: &R, pool: &Pool<B>) -> Result<(), Fault> {
+    fn call_with_one<R: Wait>(&mut self, rt: &R, pool: &Pool<B>) -> Result<(), SeedError> {
         let Some(lent) = self.pick() else {
             return self.borrow(rt, pool);
         };
@@ -342,7 +344,7 @@ impl<'a, B: Room> Player<'a, B> {
     }
 
     // Makes a rare call. Now and then it closes the pool.
-    fn call_seldom<R: Wait>(&mut self, rt: &R, pool: &Pool<B>) -> Result<(), Fault> {
+    fn call_seldom<R: Wait>(&mut self, rt: &R, pool: &Pool<B>) -> Result<(), SeedError> {
         match self.dice.roll(3_000) {
             0 => self.close(rt, pool),
             1..=500 => self.clear(rt, pool),
@@ -354,7 +356,7 @@ impl<'a, B: Room> Player<'a, B> {
         }
     }
 
-    fn call<R: Wait>(&mut self, rt: &R, pool: &Pool<B>) -> Result<(), Fault> {
+    fn call<R: Wait>(&mut self, rt: &R, pool: &Pool<B>) -> Result<(), SeedError> {
         match self.dice.roll(24) {
             0..=7 => self.borrow(rt, pool),
             8..=16 => self.call_with_one(rt, pool),
@@ -368,7 +370,7 @@ impl<'a, B: Room> Player<'a, B> {
     }
 
     // Returns all objects that it holds to the pool.
-    fn give_all_back<R: Wait>(&mut self, rt: &R, pool: &Pool<B>) -> Result<(), Fault> {
+    fn give_all_back<R: Wait>(&mut self, rt: &R, pool: &Pool<B>) -> Result<(), SeedError> {
         for _ in 0..self.held.len().saturating_add(TRIES as usize) {
             match self.held.pop() {
                 Some(lent) => self.give_back(rt, pool, lent)?,
@@ -378,12 +380,12 @@ impl<'a, B: Room> Player<'a, B> {
         if self.held.is_empty() {
             Ok(())
         } else {
-            Err(Fault::Starved)
+            Err(SeedError::Starved)
         }
     }
 
     // Makes all its calls, closes the pool in one of four runs, and returns the objects that it holds.
-    fn make_calls<R: Wait>(&mut self, rt: &R, pool: &Pool<B>) -> Result<(), Fault> {
+    fn make_calls<R: Wait>(&mut self, rt: &R, pool: &Pool<B>) -> Result<(), SeedError> {
         for _ in 0..CALLS {
             self.call(rt, pool)?;
         }

@@ -1,15 +1,21 @@
 //! Pseudo-random numbers, the same for a seed in each run.
 ghost use Rattle.std.specs.Prelude.{◌<◌};
 
+use rand_core::utils::NextWord;
+use rand_pcg::Pcg32;
+
 /// Numbers that look random, and are the same in each run.
 #[derive(Drop)]
 pub struct Dice {
-    state: u64,
+    generator: Pcg32,
 }
 
 impl Dice {
-    pub fn new(seed: u64) -> Dice {
-        Dice { state: seed }
+    /// Makes the dice of one stream of a seed.
+    pub fn new(seed: u64, stream: u64) -> Dice {
+        Dice {
+            generator: Pcg32::new(seed, stream),
+        }
     }
 
     /// Returns a number below `sides`.
@@ -17,10 +23,6 @@ impl Dice {
         requires { 0 < sides }
         ensures { result < sides }
     {
-        self.state = self
-            .state
-            .wrapping_mul(6_364_136_223_846_793_005)
-            .wrapping_add(1_442_695_040_888_963_407);
-        (self.state >> 33) % sides
+        u64::from(self.generator.next_word()) % sides
     }
 }

@@ -2,7 +2,7 @@
 
 use crate::TRIES;
 use crate::again::continues;
-use crate::fault::Fault;
+use crate::error::SeedError;
 use crate::marks::{Mark, reports};
 use crate::refusals::Refusals;
 use crate::things::{Tally, Thing};
@@ -18,7 +18,7 @@ use std::fmt::Display;
 const VERDICT: usize = 256;
 
 /// The result of the check.
-#[derive(Clone, Copy, Debug)]
+#[derive(Clone, Copy)]
 pub enum Verdict {
     Legal,
     Illegal,
@@ -52,20 +52,20 @@ pub struct Played {
     pub marks: Vec<Mark>,
     pub forgotten: u64,
     pub refusals: Refusals,
-    pub end: Result<(), Fault>,
+    pub end: Result<(), SeedError>,
 }
 
 // Appends the line of an entry.
-fn print(entry: &Entry, text: &mut Vec<u8>) -> Result<(), Fault> {
+fn print(entry: &Entry, text: &mut Vec<u8>) -> Result<(), SeedError> {
     for _ in 0..TRIES {
         if print_entry(entry, text).is_ok() {
             return Ok(());
         }
     }
-    Err(Fault::Starved)
+    Err(SeedError::Starved)
 }
 
-fn print_all(entries: &[Entry], text: &mut Vec<u8>) -> Result<(), Fault> {
+fn print_all(entries: &[Entry], text: &mut Vec<u8>) -> Result<(), SeedError> {
     for entry in entries {
         print(entry, text)?;
     }
@@ -73,17 +73,17 @@ fn print_all(entries: &[Entry], text: &mut Vec<u8>) -> Result<(), Fault> {
 }
 
 // Returns the verdict of the engine of `pool check` on a journal's text.
-fn judge_text(alloc: Global, settings: Settings, text: &[u8]) -> Result<bool, Fault> {
+fn judge_text(alloc: Global, settings: Settings, text: &[u8]) -> Result<bool, SeedError> {
     let mut verdict = Vec::new(alloc);
     verdict.reserve(VERDICT)?;
     check(alloc, settings, &mut [text], &mut verdict).map_err(|fault| match fault {
-        EngineFault::OutOfMemory => Fault::OutOfMemory,
-        _ => Fault::NotJudged,
+        EngineFault::OutOfMemory => SeedError::OutOfMemory,
+        _ => SeedError::NotJudged,
     })
 }
 
 // Returns the text of a journal with these segments and these stored entries.
-fn text_of(alloc: Global, segments: &[Segment], stored: &[Entry]) -> Result<Vec<u8>, Fault> {
+fn text_of(alloc: Global, segments: &[Segment], stored: &[Entry]) -> Result<Vec<u8>, SeedError> {
     let mut text = Vec::new(alloc);
     for segment in segments {
         print_all(segment.entries.as_slice(), &mut text)?;
@@ -93,14 +93,14 @@ fn text_of(alloc: Global, segments: &[Segment], stored: &[Entry]) -> Result<Vec<
 }
 
 // Returns whether each answer in a journal's text is the expected one for a pool with these settings.
-fn is_legal(alloc: Global, settings: Settings, text: &[u8]) -> Result<bool, Fault> {
+fn is_legal(alloc: Global, settings: Settings, text: &[u8]) -> Result<bool, SeedError> {
     for _ in 0..TRIES {
         match judge_text(alloc, settings, text) {
-            Err(Fault::OutOfMemory) => {}
+            Err(SeedError::OutOfMemory) => {}
             judged => return judged,
         }
     }
-    Err(Fault::Starved)
+    Err(SeedError::Starved)
 }
 
 // Returns whether a journal has the calls of each caller, in its order.
@@ -116,7 +116,7 @@ pub fn judge(
     core: &Core<Thing>,
     all: &[Played],
     tally: &Tally,
-) -> Result<Verdict, Fault> {
+) -> Result<Verdict, SeedError> {
     let mut forgotten = 0u64;
     for played in all {
         played.end?;

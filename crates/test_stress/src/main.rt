@@ -13,14 +13,14 @@ ghost use Rattle.std.specs.Prelude.{◌≡◌};
 mod again;
 mod calling;
 mod dice;
-mod fault;
+mod error;
 mod judging;
 mod marks;
 mod refusals;
 mod things;
 
 use calling::{Manner, Player, Pool, Segments};
-use fault::Fault;
+use error::SeedError;
 use judging::{Played, Verdict, judge};
 use pool_core::Core;
 use pool_settings::Settings;
@@ -98,7 +98,7 @@ fn players_of<'a, B: Room>(
     seed: u64,
     manner: Manner,
     segments: &'a Segments,
-) -> Result<Vec<Player<'a, B>>, Fault> {
+) -> Result<Vec<Player<'a, B>>, SeedError> {
     let mut players = Vec::new(alloc);
     for me in callers {
         players.push(Player::new(alloc, me, seed, manner, segments)?)?;
@@ -112,12 +112,12 @@ fn leave_all<B: Room>(
     back: &mut Vec<Caller<B>>,
     all: &mut Vec<Played>,
     refusals: &mut Refusals,
-) -> Result<(), Fault> {
+) -> Result<(), SeedError> {
     for player in players {
         let (me, played) = player.leave();
         refusals.join(&played.refusals);
-        back.push(me).map_err(|_| Fault::Starved)?;
-        all.push(played).map_err(|_| Fault::Starved)?;
+        back.push(me).map_err(|_| SeedError::Starved)?;
+        all.push(played).map_err(|_| SeedError::Starved)?;
     }
     Ok(())
 }
@@ -130,7 +130,7 @@ fn play_on<B: Room + Send + Sync, R: Threads + Wait + Sync>(
     mut back: Vec<Caller<B>>,
     all: &mut Vec<Played>,
     refusals: &mut Refusals,
-) -> Result<Core<Thing>, Fault> {
+) -> Result<Core<Thing>, SeedError> {
     thread::for_each_mut(
         rt,
         players.as_mut_slice(),
@@ -138,7 +138,7 @@ fn play_on<B: Room + Send + Sync, R: Threads + Wait + Sync>(
         &|_, player| player.play(rt, &pool),
     );
     leave_all(players, &mut back, all, refusals)?;
-    pool.finish(rt, back).map_err(|_| Fault::CallerMissing)
+    pool.finish(rt, back).map_err(|_| SeedError::CallerMissing)
 }
 
 // Opens a pool, runs all callers on it, collects their work, and ends it. If an allocation of the opening fails, no
@@ -152,7 +152,7 @@ fn play_all<B: Room + Send + Sync, R: Threads + Wait + Sync>(
     segments: &Segments,
     all: &mut Vec<Played>,
     refusals: &mut Refusals,
-) -> Result<Core<Thing>, Fault>
+) -> Result<Core<Thing>, SeedError>
     requires { (site ≡ B.table) × (round.now.settings ≡ B.settings) × (4 ≡ B.callers) }
 {
     let back = Vec::with_capacity(alloc, CALLERS as usize)?;
@@ -187,7 +187,7 @@ fn play<B: Room + Send + Sync, R: Threads + Wait + Sync>(
     round: &Round,
     tally: &Tally,
     refusals: &mut Refusals,
-) -> Result<Verdict, Fault>
+) -> Result<Verdict, SeedError>
     requires { (site ≡ B.table) × (round.now.settings ≡ B.settings) × (4 ≡ B.callers) }
 {
     let segments: Segments = Mutex::new(Vec::with_capacity(alloc, CUTS)?);
@@ -210,7 +210,7 @@ fn play_anew<R: Threads + Wait + Sync>(
     alloc: Global,
     round: &Round,
     refusals: &mut Refusals,
-) -> Result<Verdict, Fault> {
+) -> Result<Verdict, SeedError> {
     let site = Site::new(alloc)?;
     let tally = Tally::new();
     play::<Brand, R>(rt, alloc, site, round, &tally, refusals)
@@ -222,7 +222,7 @@ fn try_seed<R: Threads + Wait + Sync>(
     alloc: Global,
     seed: u64,
     refusals: &mut Refusals,
-) -> Result<Verdict, Fault> {
+) -> Result<Verdict, SeedError> {
     let (settings, manner) = if seed % 3 == 0 {
         (waiting(), Manner::Waiting)
     } else {
@@ -235,11 +235,11 @@ fn try_seed<R: Threads + Wait + Sync>(
     };
     for _ in 0..TRIES {
         match play_anew(rt, alloc, &round, refusals) {
-            Err(Fault::OutOfMemory) => {}
+            Err(SeedError::OutOfMemory) => {}
             found => return found,
         }
     }
-    Err(Fault::Starved)
+    Err(SeedError::Starved)
 }
 
 fn main(rt: HostRuntime) -> io::Result<()> {
@@ -247,7 +247,7 @@ fn main(rt: HostRuntime) -> io::Result<()> {
     for seed in 1..=SEEDS {
         match try_seed(&rt, rt.alloc(), seed, &mut refusals) {
             Ok(verdict) => println!(rt; "seed {seed}: {verdict}")?,
-            Err(fault) => println!(rt; "seed {seed}: {fault:?}")?,
+            Err(error) => println!(rt; "seed {seed}: {error:?}")?,
         }
     }
     for call in CALLS {

@@ -4,7 +4,7 @@ use pool_journal::{Answer, Entry, Input, Outcome, Segment, When};
 use std::slice::Iter;
 
 /// A call that began, or its result.
-#[derive(Clone, Copy, Debug, PartialEq, Eq)]
+#[derive(Clone, Copy, PartialEq, Eq)]
 pub enum Mark {
     Borrows,
     /// A borrow lent this object.

@@ -1,11 +1,10 @@
 //! The numbers of calls that failed for lack of memory.
-ghost use Rattle.std.specs.Prelude.{◌<◌};
 
 use std::fmt;
 use std::fmt::Display;
 
 /// A call of the pool that can fail for lack of memory.
-#[derive(Clone, Copy, Debug)]
+#[derive(Clone, Copy)]
 pub enum Call {
     Open,
     Borrow,
@@ -23,7 +22,7 @@ pub enum Call {
     Cut,
 }
 
-/// All calls that can fail for lack of memory, each at its index.
+/// All calls that can fail for lack of memory.
 pub const CALLS: [Call; 14] = [
     Call::Open,
     Call::Borrow,
@@ -40,29 +39,6 @@ pub const CALLS: [Call; 14] = [
     Call::JournalCopy,
     Call::Cut,
 ];
-
-impl Call {
-    fn place(self) -> usize
-        ensures { result < 14 }
-    {
-        match self {
-            Call::Open => 0,
-            Call::Borrow => 1,
-            Call::GiveBack => 2,
-            Call::Invalidate => 3,
-            Call::Touch => 4,
-            Call::Add => 5,
-            Call::Fill => 6,
-            Call::Evict => 7,
-            Call::Reclaim => 8,
-            Call::Maintain => 9,
-            Call::Clear => 10,
-            Call::Close => 11,
-            Call::JournalCopy => 12,
-            Call::Cut => 13,
-        }
-    }
-}
 
 impl Display for Call {
     fn fmt<W: fmt::Write>(&self, f: &mut fmt::Formatter<W>) -> fmt::Result {
@@ -85,8 +61,8 @@ impl Display for Call {
     }
 }
 
-/// The number of times that each call failed for lack of memory.
-#[derive(Clone, Copy, Debug)]
+/// The number of times that each call failed for lack of memory, at the place of the call in the enum.
+#[derive(Clone, Copy)]
 pub struct Refusals {
     counts: [u64; 14],
 }
@@ -97,11 +73,11 @@ impl Refusals {
     }
 
     pub fn of(&self, call: Call) -> u64 {
-        self.counts[call.place()]
+        self.counts[call as usize]
     }
 
     fn add(&mut self, call: Call, count: u64) {
-        let place = call.place();
+        let place = call as usize;
         self.counts[place] = self.counts[place].saturating_add(count);
     }
 

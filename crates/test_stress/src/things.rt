@@ -53,7 +53,7 @@ impl Fickle<'_> {
     // Returns whether a call fails. Now and then other threads run first.
     fn fails(&self) -> bool {
         let call = self.tally.calls.fetch_add(1, Ordering::SeqCst);
-        let mut dice = Dice::new(self.seed.wrapping_add(call));
+        let mut dice = Dice::new(self.seed, call);
         if dice.roll(YIELDS_OF) == 0 {
             thread::yield_now();
         }

@@ -5,7 +5,7 @@ use std::alloc::{AllocError, AllocFailed};
 
 /// The error of a seed that has no verdict.
 #[derive(Clone, Copy, Debug)]
-pub enum Fault {
+pub enum SeedError {
     NotOpened,
     /// A call failed with an impossible error.
     Stopped,
@@ -19,23 +19,23 @@ pub enum Fault {
     OutOfMemory,
 }
 
-impl From<AllocError> for Fault {
-    fn from(_: AllocError) -> Fault {
-        Fault::OutOfMemory
+impl From<AllocError> for SeedError {
+    fn from(_: AllocError) -> SeedError {
+        SeedError::OutOfMemory
     }
 }
 
-impl<T: Drop> From<AllocFailed<T>> for Fault {
-    fn from(_: AllocFailed<T>) -> Fault {
-        Fault::OutOfMemory
+impl<T: Drop> From<AllocFailed<T>> for SeedError {
+    fn from(_: AllocFailed<T>) -> SeedError {
+        SeedError::OutOfMemory
     }
 }
 
-impl From<OpenFault> for Fault {
-    fn from(fault: OpenFault) -> Fault {
+impl From<OpenFault> for SeedError {
+    fn from(fault: OpenFault) -> SeedError {
         match fault {
-            OpenFault::CallerCount => Fault::NotOpened,
-            OpenFault::OutOfMemory => Fault::OutOfMemory,
+            OpenFault::CallerCount => SeedError::NotOpened,
+            OpenFault::OutOfMemory => SeedError::OutOfMemory,
         }
     }
 }

@@ -20,7 +20,7 @@ const FAULT: u8 = 3;
 
 /// Why the program printed no base. A path is that of the file with the error.
 #[derive(Debug, Drop)]
-pub(crate) enum Fault<'a> {
+pub(crate) enum JudgeError<'a> {
     WrongArguments,
     /// No file at this path can be opened.
     Unopened(&'a str),
@@ -30,12 +30,12 @@ pub(crate) enum Fault<'a> {
     OutOfMemory,
 }
 
-impl<'a> Fault<'a> {
+impl<'a> JudgeError<'a> {
     /// Returns the error for arguments that were not read: those that are not text name no file.
-    pub(crate) fn of_arguments(cause: &io::Error) -> Fault<'a> {
+    pub(crate) fn of_arguments(cause: &io::Error) -> JudgeError<'a> {
         match cause.kind() {
-            ErrorKind::OutOfMemory => Fault::OutOfMemory,
-            _ => Fault::WrongArguments,
+            ErrorKind::OutOfMemory => JudgeError::OutOfMemory,
+            _ => JudgeError::WrongArguments,
         }
     }
 
@@ -44,41 +44,41 @@ impl<'a> Fault<'a> {
         ensures { result ≡ Spec.status_of self.now }
     {
         match self {
-            Fault::WrongArguments => WRONG_ARGUMENTS,
-            Fault::Segment(_, SegmentFault::Illegal(_)) => ILLEGAL,
-            Fault::Segment(_, SegmentFault::Base(BaseFault::NotABase)) => ILLEGAL,
+            JudgeError::WrongArguments => WRONG_ARGUMENTS,
+            JudgeError::Segment(_, SegmentFault::Illegal(_)) => ILLEGAL,
+            JudgeError::Segment(_, SegmentFault::Base(BaseFault::NotABase)) => ILLEGAL,
             _ => FAULT,
         }
     }
 }
 
 /// The line without its line feed.
-impl fmt::Display for Fault<'_> {
+impl fmt::Display for JudgeError<'_> {
     ghost output = { λ fault. Some (Spec.text_of fault) };
 
     fn fmt<W: Write>(&self, f: &mut Formatter<W>) -> fmt::Result {
         match self {
-            Fault::WrongArguments => f.write_str("judge: wrong arguments, try judge --help"),
-            Fault::Unopened(path) => write!(f, "judge: cannot open {}", Escaped::new(path)),
-            Fault::Settings(path, fault) => {
+            JudgeError::WrongArguments => f.write_str("judge: wrong arguments, try judge --help"),
+            JudgeError::Unopened(path) => write!(f, "judge: cannot open {}", Escaped::new(path)),
+            JudgeError::Settings(path, fault) => {
                 write!(f, "judge: {}: ", Escaped::new(path))?;
                 write_settings_fault(f, fault)
             }
-            Fault::Segment(path, fault) => {
+            JudgeError::Segment(path, fault) => {
                 write!(f, "judge: {}: ", Escaped::new(path))?;
                 write_segment_fault(f, fault)
             }
-            Fault::NotWritten => f.write_str("judge: write failed"),
-            Fault::OutOfMemory => f.write_str("judge: out of memory"),
+            JudgeError::NotWritten => f.write_str("judge: write failed"),
+            JudgeError::OutOfMemory => f.write_str("judge: out of memory"),
         }
     }
 }
 
-impl std::error::Error for Fault<'_> {}
+impl std::error::Error for JudgeError<'_> {}
 
-impl<'a> From<AllocError> for Fault<'a> {
-    fn from(_: AllocError) -> Fault<'a> {
-        Fault::OutOfMemory
+impl<'a> From<AllocError> for JudgeError<'a> {
+    fn from(_: AllocError) -> JudgeError<'a> {
+        JudgeError::OutOfMemory
     }
 }
 

@@ -13,7 +13,7 @@ const FAULT: u8 = 3;
 
 /// Why a line of a script cannot be played.
 #[derive(Clone, Copy, Debug, Error)]
-pub(crate) enum LineFault {
+pub(crate) enum LineError {
     #[error("not a command")]
     NotACommand,
     #[error("not the line of a pool")]
@@ -29,54 +29,54 @@ pub(crate) enum LineFault {
     NoCall,
 }
 
-impl From<ParseIntError> for LineFault {
-    fn from(_: ParseIntError) -> LineFault {
-        LineFault::BadNumber
+impl From<ParseIntError> for LineError {
+    fn from(_: ParseIntError) -> LineError {
+        LineError::BadNumber
     }
 }
 
 /// Why a script was not played to its end.
 #[derive(Debug, Drop, Error)]
-pub(crate) enum Fault {
+pub(crate) enum ScriptError {
     #[error("{0}")]
     Settings(SettingsFault),
     /// The line with this number, from 1, cannot be played.
     #[error("line {0}: {1}")]
-    Line(u64, LineFault),
+    Line(u64, LineError),
     #[error("read or write failed")]
     Stream,
     #[error("out of memory")]
     OutOfMemory,
 }
 
-impl Fault {
+impl ScriptError {
     /// Returns the exit status of the program.
     pub(crate) fn status(&self) -> u8 {
         match self {
-            Fault::Settings(SettingsFault::OutOfMemory) => FAULT,
-            Fault::Settings(_) | Fault::Line(_, _) => WRONG_SCRIPT,
-            Fault::Stream | Fault::OutOfMemory => FAULT,
+            ScriptError::Settings(SettingsFault::OutOfMemory) => FAULT,
+            ScriptError::Settings(_) | ScriptError::Line(_, _) => WRONG_SCRIPT,
+            ScriptError::Stream | ScriptError::OutOfMemory => FAULT,
         }
     }
 }
 
-impl From<SettingsFault> for Fault {
-    fn from(fault: SettingsFault) -> Fault {
-        Fault::Settings(fault)
+impl From<SettingsFault> for ScriptError {
+    fn from(fault: SettingsFault) -> ScriptError {
+        ScriptError::Settings(fault)
     }
 }
 
-impl From<AllocError> for Fault {
-    fn from(_: AllocError) -> Fault {
-        Fault::OutOfMemory
+impl From<AllocError> for ScriptError {
+    fn from(_: AllocError) -> ScriptError {
+        ScriptError::OutOfMemory
     }
 }
 
-impl From<io::Error> for Fault {
-    fn from(cause: io::Error) -> Fault {
+impl From<io::Error> for ScriptError {
+    fn from(cause: io::Error) -> ScriptError {
         match cause.kind() {
-            ErrorKind::OutOfMemory => Fault::OutOfMemory,
-            _ => Fault::Stream,
+            ErrorKind::OutOfMemory => ScriptError::OutOfMemory,
+            _ => ScriptError::Stream,
         }
     }
 }

@@ -5,7 +5,7 @@ use std::io;
 
 /// An error that ends the work early.
 #[derive(Clone, Copy, Debug)]
-pub enum Fault {
+pub enum WorkError {
     /// The argument, the folder of the archive, is missing.
     NoFolder,
     Settings,
@@ -20,20 +20,20 @@ pub enum Fault {
     OutOfMemory,
 }
 
-impl From<io::Error> for Fault {
-    fn from(_: io::Error) -> Fault {
-        Fault::System
+impl From<io::Error> for WorkError {
+    fn from(_: io::Error) -> WorkError {
+        WorkError::System
     }
 }
 
-impl From<AllocError> for Fault {
-    fn from(_: AllocError) -> Fault {
-        Fault::OutOfMemory
+impl From<AllocError> for WorkError {
+    fn from(_: AllocError) -> WorkError {
+        WorkError::OutOfMemory
     }
 }
 
-impl<T: Drop> From<AllocFailed<T>> for Fault {
-    fn from(_: AllocFailed<T>) -> Fault {
-        Fault::OutOfMemory
+impl<T: Drop> From<AllocFailed<T>> for WorkError {
+    fn from(_: AllocFailed<T>) -> WorkError {
+        WorkError::OutOfMemory
     }
 }

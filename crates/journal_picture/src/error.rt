@@ -32,7 +32,7 @@ pub(crate) enum Cause {
 
 /// Why no picture was drawn.
 #[derive(Clone, Copy, Debug)]
-pub(crate) enum Fault<'a> {
+pub(crate) enum PictureError<'a> {
     WrongArguments,
     /// The file at this path was not read.
     Journal(&'a str, Cause),
@@ -40,40 +40,42 @@ pub(crate) enum Fault<'a> {
     OutOfMemory,
 }
 
-impl<'a> Fault<'a> {
+impl<'a> PictureError<'a> {
     /// Returns the error for arguments that were not read: those that are not text name no file.
-    pub(crate) fn of_arguments(cause: &io::Error) -> Fault<'a> {
+    pub(crate) fn of_arguments(cause: &io::Error) -> PictureError<'a> {
         match cause.kind() {
-            ErrorKind::OutOfMemory => Fault::OutOfMemory,
-            _ => Fault::WrongArguments,
+            ErrorKind::OutOfMemory => PictureError::OutOfMemory,
+            _ => PictureError::WrongArguments,
         }
     }
 
     /// Returns the exit status of the program.
     pub(crate) fn status(&self) -> u8 {
         match self {
-            Fault::WrongArguments => WRONG_ARGUMENTS,
+            PictureError::WrongArguments => WRONG_ARGUMENTS,
             _ => FAULT,
         }
     }
 }
 
-impl fmt::Display for Fault<'_> {
+impl fmt::Display for PictureError<'_> {
     fn fmt<W: fmt::Write>(&self, f: &mut Formatter<W>) -> fmt::Result {
         match self {
-            Fault::WrongArguments => f.write_str("wrong arguments; try journal_picture --help"),
-            Fault::Journal(path, cause) => write!(f, "{}: {cause}", Escaped::new(path)),
-            Fault::NotWritten => f.write_str("write failed"),
-            Fault::OutOfMemory => f.write_str("out of memory"),
+            PictureError::WrongArguments => f.write_str(
+                "wrong arguments; try journal_picture --help",
+            ),
+            PictureError::Journal(path, cause) => write!(f, "{}: {cause}", Escaped::new(path)),
+            PictureError::NotWritten => f.write_str("write failed"),
+            PictureError::OutOfMemory => f.write_str("out of memory"),
         }
     }
 }
 
-impl std::error::Error for Fault<'_> {}
+impl std::error::Error for PictureError<'_> {}
 
-impl<'a> From<AllocError> for Fault<'a> {
-    fn from(_: AllocError) -> Fault<'a> {
-        Fault::OutOfMemory
+impl<'a> From<AllocError> for PictureError<'a> {
+    fn from(_: AllocError) -> PictureError<'a> {
+        PictureError::OutOfMemory
     }
 }
 

@@ -10,7 +10,7 @@ use thiserror::Error;
 
 /// An error that ends the day early, with its cause.
 #[derive(Debug, Drop, Error)]
-pub enum Fault {
+pub enum DayError {
     #[error("{0}")]
     Settings(#[from] SettingsFault),
     #[error("the pool was not opened: {0}")]
@@ -36,29 +36,29 @@ pub enum Fault {
 }
 
 /// A return that failed, with the object.
-impl<T: Drop> From<(ReturnFault, Lent<T>)> for Fault {
-    fn from(failed: (ReturnFault, Lent<T>)) -> Fault {
+impl<T: Drop> From<(ReturnFault, Lent<T>)> for DayError {
+    fn from(failed: (ReturnFault, Lent<T>)) -> DayError {
         let (fault, _) = failed;
-        Fault::NotTakenBack(fault)
+        DayError::NotTakenBack(fault)
     }
 }
 
 /// A pool that was not ended, with the pool and its callers.
-impl<P: Drop, C: Drop> From<(FinishFault, P, C)> for Fault {
-    fn from(failed: (FinishFault, P, C)) -> Fault {
+impl<P: Drop, C: Drop> From<(FinishFault, P, C)> for DayError {
+    fn from(failed: (FinishFault, P, C)) -> DayError {
         let (fault, _, _) = failed;
-        Fault::NotEnded(fault)
+        DayError::NotEnded(fault)
     }
 }
 
-impl From<AllocError> for Fault {
-    fn from(_: AllocError) -> Fault {
-        Fault::OutOfMemory
+impl From<AllocError> for DayError {
+    fn from(_: AllocError) -> DayError {
+        DayError::OutOfMemory
     }
 }
 
-impl<T: Drop> From<AllocFailed<T>> for Fault {
-    fn from(_: AllocFailed<T>) -> Fault {
-        Fault::OutOfMemory
+impl<T: Drop> From<AllocFailed<T>> for DayError {
+    fn from(_: AllocFailed<T>) -> DayError {
+        DayError::OutOfMemory
     }
 }
