@@ -44,7 +44,7 @@ fn is_same(one: &Base, other: &Base) -> bool {
 /// Ends the test unless the base is that of the text.
 pub fn is_base(rt: &impl Abort, alloc: Global, found: &Base, text: &str) {
     let wanted = base_of(rt, alloc, text);
-    assert!(rt; is_same(found, &wanted), "{found:?}");
+    assert!(rt; is_same(found, &wanted));
 }
 
 fn are_same(some: &[Entry], others: &[Entry]) -> bool {

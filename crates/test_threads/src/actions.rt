@@ -15,7 +15,7 @@ use std::sync::Wait;
 
 /// A call of a pool, a query of one of its counts, or an action in parallel with others. A borrowed object is held
 /// until it is returned.
-#[derive(Clone, Copy, Debug)]
+#[derive(Clone, Copy)]
 pub enum Action {
     Borrow,
     Touch,
@@ -338,11 +338,11 @@ pub fn does<B: Room, R: Wait>(
 }
 
 /// Compares the result of an action with the expected one.
-pub fn expects(rt: &impl Abort, action: Action, reported: Reply, wanted: Reply) {
+pub fn expects(rt: &impl Abort, reported: Reply, wanted: Reply) {
     let (word, number) = reported;
     assert!(rt;
         word == wanted.0 && number == wanted.1,
-        "{action:?} came to {word} {number}"
+        "it came to {word} {number}"
     );
 }
 
@@ -361,6 +361,6 @@ pub fn goes_through<B: Room, R: Wait + Abort>(
 ) {
     for (action, word, number) in rows {
         let reported = does(rt, pool, me, held, *action);
-        expects(rt, *action, reported, (word, *number));
+        expects(rt, reported, (word, *number));
     }
 }

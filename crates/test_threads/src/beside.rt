@@ -198,7 +198,7 @@ fn takes_part<B: Room, R: Wait + Abort>(
             &mut segments,
             *action,
         );
-        expects(rt, *action, reported, (word, *number));
+        expects(rt, reported, (word, *number));
     }
     (caller, segments)
 }

@@ -142,7 +142,7 @@ fn cut_again(rt: &impl Abort, alloc: Global, core: &mut Core<u64>) -> Segment {
 fn cuts_again(rt: &impl Abort, alloc: Global, core: &mut Core<u64>, segment: &Segment) {
     answers_again(rt, core, segment.entries.as_slice());
     let again = cut_again(rt, alloc, core);
-    assert!(rt; is_same(&again.base, &segment.base), "{again:?}");
+    assert!(rt; is_same(&again.base, &segment.base));
 }
 
 // Takes the steps of all segments, with cuts at the same positions, and then those of the entries stored at the end.

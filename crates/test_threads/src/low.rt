@@ -101,7 +101,7 @@ fn goes_through_cuts<B: Room, R: Wait + Abort>(
     let mut held = None;
     for &(action, word, number) in rows {
         let reported = comes_to(rt, alloc, pool, me, &mut held, &mut segments, action);
-        expects(rt, action, reported, (word, number));
+        expects(rt, reported, (word, number));
     }
     segments
 }
