@@ -13,9 +13,8 @@ import random
 import re
 
 from case_model import STATISTICS
-from playing import run
+from playing import TOP, run
 
-TOP = pathlib.Path(__file__).resolve().parent.parent
 
 THERE = "there"
 

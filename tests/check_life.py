@@ -5,16 +5,13 @@ check_life.py CASES..  Each move that a journal makes stands in the table, each 
 docs/pictures/life.svg is what docs/pictures/draw_life.py draws. The last line is 'N passed, M failed'.
 """
 
-import pathlib
 import subprocess
 import sys
 
 import picture_model
 from case_files import read_cases
-from playing import tell
+from playing import TOP, tell
 
-TOP = pathlib.Path(__file__).resolve().parent.parent
-sys.path.insert(0, str(TOP / "docs/pictures"))
 import draw_life
 
 

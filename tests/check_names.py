@@ -15,9 +15,8 @@ import pathlib
 import re
 import sys
 
-from playing import play_checks
+from playing import TOP, play_checks
 
-TOP = pathlib.Path(__file__).resolve().parent.parent
 PAGES = [TOP / "README.md", *sorted((TOP / "docs").rglob("*.md"))]
 # Names of other libraries and of the prover's modules, some by their beginnings; and what a page names because it is not there.
 FOREIGN = re.compile(

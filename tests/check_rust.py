@@ -26,9 +26,8 @@ import tomllib
 import changed_settings
 import openmetrics
 from case_files import CASES, unpacked
-from skipping import NO_CARGO, has, skip
+from playing import NO_CARGO, TOP, has, skip_all
 
-TOP = pathlib.Path(__file__).resolve().parent.parent
 CRATE = TOP / "bindings/rust"
 # The tests under tokio, and where Debian has its source.
 TRIAL, REGISTRY = TOP / "tests/tokio_trial", pathlib.Path("/usr/share/cargo/registry")
@@ -167,15 +166,6 @@ def check_binding():
         yield None if counts[0].get(name) == counts[1].get(name) else f"{name} has other parameters than in the header, or is missing"
 
 
-def check_version():
-    """The version of the crate is that of the header, as a text and in numbers."""
-    header = (TOP / "bindings/c/include/zuphinka.h").read_text()
-    crate = tomllib.loads((CRATE / "Cargo.toml").read_text())["package"]["version"]
-    text = re.findall(r'^#define ZUPHINKA_VERSION "(.*)"$', header, flags=re.MULTILINE)
-    numbers = re.findall(r"^#define ZUPHINKA_VERSION_(?:MAJOR|MINOR|PATCH) (\d+)$", header, flags=re.MULTILINE)
-    yield None if text == [crate] == [".".join(numbers)] else f"the crate has version {crate}, the header {text} and {numbers}"
-
-
 def check_pairs(pairs, pool):
     """Four entries a round where nobody waits, and two more for each object and one for the close in the end."""
     with tempfile.TemporaryDirectory() as folder:
@@ -211,9 +201,7 @@ def check_changes(judge, pool, folder):
 
 def main(pool, judge=None):
     if not runs_cargo():
-        skip("bindings/rust", NO_CARGO)
-        print("0 passed, 0 failed")
-        return 0
+        return skip_all("bindings/rust", NO_CARGO)
     environment = os.environ | {"ZUPHINKA_POOL": str(pathlib.Path(pool).resolve())}
     with tempfile.TemporaryDirectory() as folder:
         metrics, changes = pathlib.Path(folder) / "metrics", pathlib.Path(folder) / "changes"
@@ -223,7 +211,7 @@ def main(pool, judge=None):
     examples = built_examples(environment)
     stored = [check_stored(examples / name, printed, pool) for name, printed in STORING.items()]
     checks = [faults, *stored, check_settings(examples / "settings"), check_pairs(examples / "pairs", pool)]
-    checks += [check_examples(), check_trial(), check_binding(), check_version()]
+    checks += [check_examples(), check_trial(), check_binding()]
     found = [fault for check in checks for fault in check]
     for fault in filter(None, found):
         print(fault)

@@ -23,11 +23,10 @@ from check_names import PAGES, TOP, backquoted, rows_in, sources, tables
 from play_mutants import function_at, replacements
 from playing import play_checks
 
-sys.path += [str(TOP / "docs/pictures"), str(TOP / "tools")]
-import draw_crates  # noqa: E402
-import install  # noqa: E402
-import java  # noqa: E402
-from sources import MISTAKES  # noqa: E402
+import draw_crates
+import install
+import java
+from sources import MISTAKES
 
 DEFINITIONS = TOP / "docs/proof/definitions.md"
 EDITS = TOP / "docs/proof/edits.md"

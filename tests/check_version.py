@@ -14,9 +14,8 @@ import subprocess
 import sys
 import tomllib
 
-from playing import play_checks
+from playing import TOP, play_checks
 
-TOP = pathlib.Path(__file__).resolve().parent.parent
 PROGRAMS = ["journal_picture", "judge", "pool"]
 HEADER = "bindings/c/include/zuphinka.h"
 # The contract and the body of the library's function, which has the number twice.

@@ -24,16 +24,12 @@ import tempfile
 import typing
 
 from check_names import tables
-from playing import play_checks
-from skipping import skip
-
-TOP = pathlib.Path(__file__).resolve().parent.parent
-sys.path.append(str(TOP / "tools"))
+from play_java import COUNT, play_with_java
+from play_java_random import commons_pool_version
+from playing import TOP
 
 import java
 from install import heap_of_kit
-from play_java import COUNT
-from play_java_random import commons_pool_version
 
 PAGE = TOP / "docs/guide/differences.md"
 PROGRAM = TOP / "tests/commons_random"
@@ -148,13 +144,7 @@ def arguments():
 
 def main():
     given = arguments()
-    try:
-        java.jdk(), java.commons_pool()
-    except java.Missing as missing:
-        skip("random calls of the pool for Java and of Commons Pool 2", missing)
-        print("0 passed, 0 failed")
-        return 0
-    return play_checks(checks(given.library, given.seed, given.runs))
+    return play_with_java("random calls of the pool for Java and of Commons Pool 2", checks(given.library, given.seed, given.runs))
 
 
 if __name__ == "__main__":

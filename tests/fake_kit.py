@@ -1,12 +1,12 @@
 """A small repository, with a kit that proves nothing and notes what it was asked to build, for tests of the tools that build by the kit."""
 
 import os
-import pathlib
 import shutil
 import subprocess
 import sys
 
-TOP = pathlib.Path(__file__).resolve().parent.parent
+from playing import TOP
+
 TOOLS = ("tools/build.py", "tools/kit.py", "tools/sources.py")
 # A run that takes longer hangs, in seconds.
 LONGEST = 60

@@ -2,7 +2,6 @@
 
 import bisect
 import dataclasses
-import re
 
 TAKEN = {"take": "Readying", "test": "Testing", "destroyidle": "Destroying", "reclaimed": "Gone"}
 OF_INPUT = {"lent": "Lent", "check": "Returning", "parked": "Idle", "kept": "Idle", "destroy": "Destroying", "freed": "Gone"}

@@ -21,10 +21,8 @@ import subprocess
 import sys
 import tempfile
 
-from skipping import NO_CARGO, has, skip
-
-TOP = pathlib.Path(__file__).resolve().parent.parent
-sys.path.append(str(TOP / "bench"))
+from playing import NO_CARGO, TOP, has, play_checks, skip
+from postgres_server import Server
 
 import database_programs as database
 import database_turns
@@ -33,8 +31,6 @@ from entrants import (
     C, CLOCK, COMMONS, COMMONS_HOOKS, COUNTER, HIKARI, HIKARI_JAR, HOOKS, IN_PLACE, JAVA, JAVA_HOOKS, LOAD, OF_JAVA, PLAIN, R2D2, Row,
     is_right_contestant,
 )
-from playing import play_checks
-from postgres_server import Server
 from soaking import ROUNDS, THREADS, Length, fault_of_load, faults_of
 from waiting import TASKS, THREADS as THREAD_WAITS, looked_at, waited, waits_of
 

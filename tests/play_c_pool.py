@@ -35,9 +35,8 @@ import tempfile
 import changed_settings
 import openmetrics
 from play_library import EXAMPLES, FLAGS, INCLUDE, TOP, VALGRIND, compiler, header_runs, heap, run
-from playing import differing, side_by_side, tell
+from playing import differing, has, side_by_side, skip, tell
 from preloading import preloaded
-from skipping import has, skip
 
 POOL = TOP / "bindings/c/src/zuphinka_pool.c"
 POOL_FLAGS = [*FLAGS, "-pthread", "-I", INCLUDE]

@@ -21,8 +21,6 @@ import time
 from fake_kit import LONGEST, TOP, Repository, write
 from playing import play_checks
 
-sys.path.append(str(TOP / "tools"))
-
 import sources
 from parts import PACKAGES, PARTS, PROOFS, QUICK, QUICK_ALONE
 

@@ -20,10 +20,8 @@ import sys
 import tempfile
 
 from check_rust import runs_cargo
-from playing import play_checks
-from skipping import NO_CARGO, has, skip
+from playing import NO_CARGO, TOP, has, play_checks, skip
 
-TOP = pathlib.Path(__file__).resolve().parent.parent
 # Commands that this does not run, since they run it.
 OWN = ("./check", "./check --install")
 COMMAND = re.compile(

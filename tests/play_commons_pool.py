@@ -36,12 +36,8 @@ import urllib.request
 import zipfile
 
 from check_names import backquoted, tables
-from play_java import legal_in
-from playing import play_checks
-from skipping import skip
-
-TOP = pathlib.Path(__file__).resolve().parent.parent
-sys.path.append(str(TOP / "tools"))
+from play_java import legal_in, play_with_java
+from playing import TOP
 
 import java
 from install import heap_of_kit
@@ -327,13 +323,7 @@ def main():
         return fetch()
     if given.source and not (given.source / "src/test/java").is_dir():
         sys.exit(f"{given.source}/src/test/java: no such folder\n0 passed, 1 failed")
-    try:
-        java.jdk(), jars(), require_version()
-        return play_checks(checks(given.library, given.pool, given.judge, given.source))
-    except java.Missing as missing:
-        skip("the tests of Commons Pool 2", missing)
-        print("0 passed, 0 failed")
-        return 0
+    return play_with_java("the tests of Commons Pool 2", checks(given.library, given.pool, given.judge, given.source), jars, require_version)
 
 
 if __name__ == "__main__":

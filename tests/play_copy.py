@@ -18,10 +18,7 @@ import subprocess
 import sys
 import tempfile
 
-from playing import play_checks
-
-TOP = pathlib.Path(__file__).resolve().parent.parent
-sys.path.append(str(TOP / "tools"))
+from playing import TOP, play_checks
 
 import sources
 

@@ -18,12 +18,8 @@ import subprocess
 import sys
 import tempfile
 
-from play_java import LONGEST, legal_in, program
-from playing import play_checks
-from skipping import has, skip
-
-TOP = pathlib.Path(__file__).resolve().parent.parent
-sys.path.append(str(TOP / "tools"))
+from play_java import LONGEST, legal_in, play_with_java, program
+from playing import TOP, has
 
 import java
 from install import heap_of_kit
@@ -97,17 +93,5 @@ def checks(library, pool, judge):
             yield from data_sources(classes, jars, pool, judge, folder / "of-data-sources")
 
 
-def main():
-    if len(sys.argv) != 4:
-        sys.exit(__doc__)
-    try:
-        java.jdk(), java.commons_pool()
-    except java.Missing as missing:
-        skip("the pool for Java in place of Commons Pool 2", missing)
-        print("0 passed, 0 failed")
-        return 0
-    return play_checks(checks(*map(pathlib.Path, sys.argv[1:])))
-
-
 if __name__ == "__main__":
-    sys.exit(main())
+    sys.exit(play_with_java("the pool for Java in place of Commons Pool 2", checks(*map(pathlib.Path, sys.argv[1:]))))

@@ -12,10 +12,9 @@ import subprocess
 import sys
 import tempfile
 
-from playing import play_checks
+from playing import TOP, play_checks
 from sample_journal import Sample
 
-TOP = pathlib.Path(__file__).resolve().parent.parent
 PICTURES = TOP / "docs/pictures"
 
 

@@ -25,8 +25,7 @@ import sys
 import tempfile
 
 from play_library import EXAMPLES, FLAGS, INCLUDE, PLAIN_LIFE, TOP, compiler
-from playing import play_checks
-from skipping import has
+from playing import has, play_checks
 
 SOURCES = TOP / "bindings/c/src"
 # The installed files by their paths, each with its source.

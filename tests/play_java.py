@@ -32,12 +32,8 @@ import zipfile
 import openmetrics
 from changed_settings import files_of, judged
 from check_picture import differences
-from playing import play_checks
+from playing import TOP, has, play_checks, skip, skip_all
 from preloading import preloaded
-from skipping import has, skip
-
-TOP = pathlib.Path(__file__).resolve().parent.parent
-sys.path.append(str(TOP / "tools"))
 
 import java
 from install import heap_of_kit, version
@@ -64,6 +60,16 @@ EXAMPLE_JARS = {"commons-dbcp2": "libcommons-dbcp2-java", "h2": "libh2-java"}
 BANK = r"1000 transfers, \d+ a second, 0 failed\n2000 euros in all\ncreated (1[7-9]|[2-9]\d), destroyed \1, idle 0, lent 0\n"
 # A run that takes longer hangs, in seconds.
 LONGEST = 120
+
+
+def play_with_java(what, found, *needs):
+    """Tells of checks in Java, or skips all of them if the JDK, Commons Pool 2, or what else a call needs is missing. Gives the status to end with."""
+    try:
+        for need in (java.jdk, java.commons_pool, *needs):
+            need()
+        return play_checks(found)
+    except java.Missing as missing:
+        return skip_all(what, missing)
 
 
 def run(jar, classes, *words, options=(), variables={}):
@@ -326,17 +332,5 @@ def checks(library, pool, picture, judge):
             yield f"stress {seed}: times that fall", [], falls(*segments)
 
 
-def main():
-    if len(sys.argv) != 5:
-        sys.exit(__doc__)
-    try:
-        java.jdk(), java.commons_pool()
-    except java.Missing as missing:
-        skip("the pool for Java", missing)
-        print("0 passed, 0 failed")
-        return 0
-    return play_checks(checks(*map(pathlib.Path, sys.argv[1:])))
-
-
 if __name__ == "__main__":
-    sys.exit(main())
+    sys.exit(play_with_java("the pool for Java", checks(*map(pathlib.Path, sys.argv[1:]))))

@@ -17,15 +17,11 @@ import sys
 import tempfile
 import zipfile
 
-from playing import play_checks
-
-TOP = pathlib.Path(__file__).resolve().parent.parent
-sys.path.append(str(TOP / "tools"))
+from play_java import COUNT, play_with_java
+from playing import TOP
 
 import java
 from install import heap_of_kit
-from play_java import COUNT
-from skipping import skip
 
 SOURCES = [TOP / f"tests/java/{name}.java" for name in ("Promises", "EitherPool", "Expectations")]
 # How many runs each pool gets, and for how many milliseconds each run calls.
@@ -67,17 +63,5 @@ def checks(library):
     yield "runs", RUNS, passed + failed
 
 
-def main():
-    if len(sys.argv) != 2:
-        sys.exit(__doc__)
-    try:
-        java.jdk(), java.commons_pool()
-    except java.Missing as missing:
-        skip("random calls of the pool for Java", missing)
-        print("0 passed, 0 failed")
-        return 0
-    return play_checks(checks(pathlib.Path(sys.argv[1])))
-
-
 if __name__ == "__main__":
-    sys.exit(main())
+    sys.exit(play_with_java("random calls of the pool for Java", checks(*map(pathlib.Path, sys.argv[1:]))))

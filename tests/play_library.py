@@ -46,11 +46,9 @@ import playing
 from case_files import script_of
 from many_objects import segments_of
 from play_cases import wanted_of_script, wanted_of_settings
-from playing import differing, play_unpacked, tell, write_files
+from playing import TOP, differing, has, play_unpacked, skip, tell, write_files
 from pool_model import cut_at, settings_of
-from skipping import has, skip
 
-TOP = pathlib.Path(__file__).resolve().parent.parent
 INCLUDE, EXAMPLES = TOP / "bindings/c/include", TOP / "bindings/c/examples"
 PLAIN_LIFE = b"0 10 borrow 10 = make 0\n0 11 ready 0 good = lent\n0 15 return 0 = check\n0 16 park 0 good = parked\n"
 FLAGS = ["-std=c11", "-O2", "-Wall", "-Wextra", "-Werror"]

@@ -20,11 +20,8 @@ import sys
 import tempfile
 import zipfile
 
-from playing import play_checks
-from skipping import NAMED, has, skip
-
-TOP = pathlib.Path(__file__).resolve().parent.parent
-sys.path.append(str(TOP / "tools"))
+from play_java import play_with_java
+from playing import NAMED, TOP, has
 
 import java
 from install import heap_of_kit, version
@@ -146,18 +143,8 @@ def checks(library):
 
 
 def main():
-    if len(sys.argv) != 2:
-        sys.exit(__doc__)
-    try:
-        java.jdk(), java.commons_pool()
-    except java.Missing as missing:
-        skip("the build with Maven", missing)
-        print("0 passed, 0 failed")
-        return 0
-    if not has("the build with Maven", *NEEDED):
-        print("0 passed, 0 failed")
-        return 0
-    return play_checks(checks(pathlib.Path(sys.argv[1])))
+    what = "the build with Maven"
+    return play_with_java(what, checks(*map(pathlib.Path, sys.argv[1:])) if has(what, *NEEDED) else ())
 
 
 if __name__ == "__main__":

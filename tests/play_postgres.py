@@ -32,15 +32,10 @@ import time
 import urllib.request
 
 import openmetrics
-import postgres_server
 from check_rust import CRATE, REGISTRY, runs_cargo
-from playing import play_checks
+from playing import NO_CARGO, TOP, has, play_checks, skip
 from play_library import EXAMPLES, FLAGS, INCLUDE, compiler, heap
 from postgres_server import ROLE, SHARED, Server, end_with_parent, free_port, sessions_of
-from skipping import NO_CARGO, has, skip
-
-TOP = pathlib.Path(__file__).resolve().parent.parent
-sys.path.append(str(TOP / "tools"))
 
 import java
 from install import POOL, heap_of_kit
@@ -411,17 +406,12 @@ def end(number, _):
     sys.exit(f"ended by {signal.Signals(number).name}\n0 passed, 1 failed")
 
 
-def main():
-    if len(sys.argv) != 3:
-        sys.exit(__doc__)
-    if not has("the examples over PostgreSQL", "postgresql"):
-        print("0 passed, 0 failed")
-        return 0
+def main(library, pool):
     for number in signal.SIGTERM, signal.SIGHUP, signal.SIGALRM:
         signal.signal(number, end)
     signal.alarm(LONGEST)
-    return play_checks(checks(*map(pathlib.Path, sys.argv[1:])))
+    return play_checks(checks(pathlib.Path(library), pathlib.Path(pool)) if has("the examples over PostgreSQL", "postgresql") else ())
 
 
 if __name__ == "__main__":
-    sys.exit(main())
+    sys.exit(main(*sys.argv[1:]))

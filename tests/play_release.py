@@ -27,8 +27,7 @@ import tempfile
 from check_rust import runs_cargo
 from play_java import BANK, EXAMPLE_JARS, java, portable
 from play_library import PLAIN_LIFE, TOP
-from playing import play_checks
-from skipping import NO_CARGO, has, skip
+from playing import NO_CARGO, has, play_checks, skip
 
 # The examples in Rust and Java: four servers with fifty requests each, of which each tenth breaks its connection.
 ANSWERED = 4 * 50 * 9 // 10

@@ -14,10 +14,8 @@ import subprocess
 import sys
 import tempfile
 
-from playing import play_checks
-from skipping import skip
+from playing import TOP, play_checks, skip
 
-TOP = pathlib.Path(__file__).resolve().parent.parent
 TRY = TOP / "try"
 RT = """#!/bin/sh
 printf '%s\\n' "$PWD" "$@"

@@ -19,10 +19,8 @@ import tempfile
 
 from case_files import unpacked
 from play_cases import TEXT, plays
-from playing import play_checks
-from skipping import skip
+from playing import TOP, play_checks, skip_all
 
-TOP = pathlib.Path(__file__).resolve().parent.parent
 CASE = re.compile(r"^case=(\S+) run=(\S+)(?: status=(\d+))?.*? output=(\S+) proved=no$", flags=re.MULTILINE)
 # What `rt try` says of a run that ended and wrote what is wanted.
 RIGHT = "ended", "expected"
@@ -70,9 +68,7 @@ def checks(paths):
 
 def main(paths):
     if not shutil.which("rt"):
-        skip("the cases without proofs", "the Rattle kit's command rt is not on the PATH")
-        print("0 passed, 0 failed")
-        return 0
+        return skip_all("the cases without proofs", "the Rattle kit's command rt is not on the PATH")
     return play_checks(checks(paths))
 
 

@@ -1,13 +1,21 @@
-"""What the scripts share that run programs, and compare what they do with what is wanted."""
+"""What the scripts share that run programs, compare what they do with what is wanted, and say what they skip. They import modules of the other folders
+with scripts too, once this is imported."""
 
 import concurrent.futures
 import os
 import pathlib
 import subprocess
+import sys
 import tempfile
 
-from case_files import script_of, unpacked
+from case_files import TOP, script_of, unpacked
 
+sys.path += [str(TOP / folder) for folder in ("tools", "bench", "docs/pictures")]
+
+from parts import PACKAGES
+
+NAMED = {package.name: package for package in PACKAGES}
+NO_CARGO = "no cargo runs here: rustup.rs has one, and so has Debian's package cargo-web"
 KINDS = ("output", "standard error", "status")
 # How much of a difference is printed, and how much of what is the same before it, in characters.
 MOST_PRINTED, BEFORE = 2_000, 100
@@ -17,6 +25,25 @@ def run(*words, **options):
     """Runs a program to its end, with nothing on standard input if none is given. A run that takes longer than a minute hangs."""
     streams = dict.fromkeys(("stdout", "stderr"), subprocess.PIPE) | ({} if "input" in options else {"stdin": subprocess.DEVNULL})
     return subprocess.run(words, **{**streams, "timeout": 60, **options})
+
+
+def skip(what, reason):
+    """Says that something is not tested, and why, in a line that ./check counts, and shows before its last one."""
+    print(f"skipped: {what}: {reason}", flush=True)
+
+
+def has(what, *names):
+    """Returns whether the packages of these names are there. If not, says that what needs them is skipped."""
+    missing = [name for name in names if not NAMED[name].is_there()]
+    if missing:
+        skip(what, f"not installed: Debian's {' '.join(missing)}")
+    return not missing
+
+
+def skip_all(what, reason):
+    """The same of all that a script tests. Gives the status to end with."""
+    skip(what, reason)
+    return tell((), 0)
 
 
 def write_files(folder, texts):

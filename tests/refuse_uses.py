@@ -18,7 +18,7 @@ import pathlib
 import sys
 import tempfile
 
-from argument_rules import USES, found, refusal, statistics
+from argument_rules import found, refusal, statistics
 from case_files import CASES, script_of, unpacked, wanted_of
 from play_program import PLAIN_LIFE, fault, load_lines, told
 from playing import side_by_side, write_files
