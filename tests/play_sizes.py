@@ -1,11 +1,12 @@
 #!/usr/bin/env python3
-"""Plays the program on journals, pools, bases, settings texts, keys and loads of all sizes, and sees that it gives up on none.
+"""Plays the program on journals, pools, evictions, clears, bases, settings texts, keys and loads of all sizes, and sees that it gives up on none.
 
     play_sizes.py POOL
 
 POOL is the program. Sizes are spread from 1 to the limit, or to 1,200,000 lines, 100,000 objects, and 300,000 rounds of a load, with the
 numbers about each power of 2 for texts and keys. What must be answered is known for each size without playing. Bases are those of
-tests/pool_model.py.
+tests/pool_model.py. Evictions must examine idle objects in the order in which they were parked, round after round, each run going on where the last
+one stopped; clears must destroy them in that order, each once.
 
 Prints each case that differs, and in the end the line 'N passed, M failed'.
 """
@@ -25,6 +26,13 @@ LONGEST_TEXT = 1_048_576
 LINES = [1, 2, 10, 100, 1_000, 4_096, 10_000, 65_535, 65_536, 65_537, 100_001, 300_000, 1_048_577, 1_200_000]
 
 OBJECTS = [1, 2, 9, 100, 1_023, 1_025, 2_001, 4_097, 10_000, 32_769, 65_537, 100_000]
+
+# So many objects are examined in turn, until so many are, for each number of tests of a run: of -n the n-th part, rounded up; of n that many, but no
+# more than there are.
+EVICTED, EXAMINED = 1_000, 2_500
+TESTS_OF_A_RUN = {1: 1, 7: 7, -1: 1_000, -3: 334, 2_147_483_647: 1_000, -2_147_483_648: 1}
+
+CLEARED = [1_000, 100_000]
 
 # The objects of a base.
 RECORDS = [2, 9, 1_025, 10_000, 100_000]
@@ -47,8 +55,13 @@ def lengths(limit):
 # What a part plays, in a folder of its own: functions that yield the name of a run, its words and its answer, once its files are there.
 
 
-def with_limit(folder, limit):
-    write_files(folder, {"limits.toml": NO_LIMITS.replace("4294967296", str(limit)).encode()})
+def with_limit(folder, limit, others=""):
+    write_files(folder, {"limits.toml": (NO_LIMITS.replace("4294967296", str(limit)) + others).encode()})
+
+
+def parked(objects):
+    """The entries that park so many objects."""
+    return [entry for i in range(objects) for entry in (f"0 0 add = make {i}", f"0 1 added {i} good = parked")]
 
 
 def journal_runs(folder, name, entries):
@@ -72,10 +85,27 @@ def lines(folder):
 def objects(folder):
     with_limit(folder, 2**32)
     for count in OBJECTS:
-        entries = [line for i in range(count) for line in (f"0 0 add = make {i}", f"0 1 added {i} good = parked")]
-        entries += [f"0 2 borrow 2 = take {count - 1}", f"0 3 ready {count - 1} good = lent"]
+        entries = [*parked(count), f"0 2 borrow 2 = take {count - 1}", f"0 3 ready {count - 1} good = lent"]
         yield from journal_runs(folder, f"{count} objects", entries)
         yield f"stats: {count} objects", ["stats", "journal"], (statistics(1, 0, count, *[0] * 6), b"", 0)
+
+
+def evictions(folder):
+    for number, tests in TESTS_OF_A_RUN.items():
+        with_limit(folder, 2**32, f"numTestsPerEvictionRun = {number}\n")
+        entries = parked(EVICTED)
+        for first in range(0, EXAMINED, tests):
+            entries += [f"1 1 evict = count {tests}", *(f"1 1 evictnext = keptidle {i % EVICTED}" for i in range(first, first + tests))]
+        yield from journal_runs(folder, f"evictions with {number} tests of a run", entries)
+
+
+def clears(folder):
+    """Pools that are cleared, in which a place is freed then, and one more object is made. Ids are never used again."""
+    with_limit(folder, 2**32)
+    for count in CLEARED:
+        entries = [*parked(count), f"0 1 clear = count {count}", *(f"0 1 clearnext = destroyidle {i}" for i in range(count))]
+        entries += ["0 1 clearnext = nothing", f"0 2 destroyed {count // 2} = freed", f"0 2 add = make {count}"]
+        yield from journal_runs(folder, f"a clear of {count} objects", entries)
 
 
 def bases(folder):
@@ -142,7 +172,7 @@ def load_differences(pool, workers, rounds):
 
 def main(pool):
     pool = pathlib.Path(pool).resolve()
-    found = [found for part in side_by_side(lambda part: played(pool, part), [lines, objects, bases, texts, keys]) for found in part]
+    found = [found for part in side_by_side(lambda part: played(pool, part), [lines, objects, evictions, clears, bases, texts, keys]) for found in part]
     return tell([*found, *(load_differences(pool, *load) for load in LOADS)])
 
 

@@ -8,7 +8,7 @@ import subprocess
 import sys
 import tempfile
 
-from case_files import TOP, script_of, unpacked
+from case_files import TOP, unpacked
 
 sys.path += [str(TOP / folder) for folder in ("tools", "bench", "docs/pictures")]
 
@@ -98,23 +98,3 @@ def play_unpacked(paths, plays, differences):
     with tempfile.TemporaryDirectory() as room:
         found = ([*side_by_side(differences, plays(unpacked(room, path)))] or [[f"{path}: no case"]] for path in paths)
         return tell(lines for of_path in found for lines in of_path)
-
-
-def play_journals(pool, cases):
-    """Plays the scripts of journals on the program, each with a name and settings. It must write the journals."""
-
-    def differences(case):
-        name, settings, entries = case
-        journal = "".join(f"{entry}\n" for entry in entries).encode()
-        with tempfile.TemporaryDirectory() as room:
-            (file,) = write_files(room, {"settings.toml": settings.encode()})
-            return differing(name, (journal, b"", 0), run(pool, "run", file, "/dev/stdin", input=script_of(journal)))
-
-    return tell(map(differences, cases))
-
-
-def stocking(objects):
-    """The entries that park so many objects."""
-    for i in range(objects):
-        yield f"0 0 add = make {i}"
-        yield f"0 0 added {i} good = parked"
