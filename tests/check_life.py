@@ -2,10 +2,9 @@
 """Holds the table of moves in docs/guide/concepts.md against the journals of the cases, and the picture against the table.
 
 check_life.py CASES..  Each move that a journal makes stands in the table, each outcome in the table is met by some move, and
-docs/pictures/life.svg is what docs/pictures/draw_life.py draws. The last line is 'N passed, M failed'.
+docs/pictures/life.svg shows what docs/pictures/draw_life.py draws. The last line is 'N passed, M failed'.
 """
 
-import subprocess
 import sys
 
 import picture_model
@@ -13,6 +12,7 @@ from case_files import read_cases
 from playing import TOP, tell
 
 import draw_life
+import graphs
 
 
 def moves(journal):
@@ -26,9 +26,10 @@ def moves(journal):
 
 
 def main():
+    page = (TOP / "docs/guide/concepts.md").read_text()
     table = {
         (before, name, outcome, answer, after)
-        for before, (name, *outcomes), answer, after in draw_life.rows((TOP / "docs/guide/concepts.md").read_text())
+        for before, (name, *outcomes), answer, after in draw_life.rows(page)
         for outcome in outcomes or [""]
     }
     journals = {case.name: case.journal for case in read_cases(*sys.argv[1:]) if case.journal is not None}
@@ -39,8 +40,8 @@ def main():
     wrong = [f"{name}: {' '.join(move)}: not in the table" for move, name in seen.items() if move not in table]
     wrong += [f"docs/guide/concepts.md: {' '.join(move)}: in no journal" for move in sorted(table - set(seen))]
     wrong += [] if journals else ["no journal"]
-    drawn = subprocess.run([sys.executable, TOP / "docs/pictures/draw_life.py", "--check"], capture_output=True, text=True)
-    wrong += [drawn.stdout.strip()] if drawn.returncode else []
+    is_drawn = graphs.shown((TOP / "docs/pictures/life.svg").read_text()) == draw_life.picture(page).wanted()
+    wrong += [] if is_drawn else ["docs/pictures/life.svg: draw it anew, by docs/pictures/draw_life.py"]
     return tell([*([line] for line in wrong), *([] for _ in range(len(table) + 1 - len(wrong)))])
 
 
