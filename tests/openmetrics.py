@@ -1,18 +1,17 @@
 #!/usr/bin/env python3
-"""Reads texts in the OpenMetrics format, strictly, and knows what those of a pool have. Run as a program, it tests itself.
+"""Reads the texts of pools' metrics in the OpenMetrics format, strictly. Run as a program, it tests itself.
 
     openmetrics.py
 
-`parse` refuses what the format forbids: lines that are no descriptor and no sample, names and labels that are none, escapes that it doesn't have,
-families and samples that come twice or are mixed, samples that don't fit the type of their family, counters below 0, histograms whose buckets are
-not in their order, decrease, or don't end with +Inf and the count, and a text that does not end with `# EOF`. Of numbers it takes those that a pool
-writes, without exponents. If the command `promtool` is there (Debian's package prometheus), its reader must take the text too. The test runs it over
-a text that is right, and over that text with each of many mistakes.
+`pools_of` refuses all but the families of pools, each with its three descriptors and then the samples of one pool after the other, and `# EOF` at the
+end: lines that are no descriptor and no sample, names and labels that are none, escapes that the format doesn't have, families, pools and samples
+that come twice, are missing or are mixed, counters below 0, histograms whose counts decrease, or don't end with the count of all. Of numbers it takes
+those that a pool writes, without exponents. If the command `promtool` is there (Debian's package prometheus), its reader must take the text too. The
+test runs it over a text that is right, and over that text with each of many mistakes.
 
 Prints what differs, and in the end the line 'N passed, M failed'.
 """
 
-import dataclasses
 import pathlib
 import re
 import shutil
@@ -23,18 +22,10 @@ import tempfile
 from playing import play_checks
 
 END = "# EOF\n"
-NAME, LABEL, NUMBER = r"[a-zA-Z_:][a-zA-Z0-9_:]*", r"[a-zA-Z_][a-zA-Z0-9_]*", r"-?\d+(?:\.\d+)?"
-VALUE = r'"(?:[^"\\\n]|\\[\\"n])*"'
-DESCRIPTOR = re.compile(rf"# (TYPE|UNIT|HELP) ({NAME}) (.+)")
-SAMPLE = re.compile(rf"({NAME})(?:\{{({LABEL}={VALUE}(?:,{LABEL}={VALUE})*)?\}})? ({NUMBER})")
-PAIR = re.compile(rf"({LABEL})=({VALUE})")
-HELP = re.compile(r'(?:[^\\"\n]|\\[\\"n])+')
+TEXT = r'(?:[^"\\\n]|\\[\\"n])'
 ESCAPE = re.compile(r"\\(.)")
 TIMELESS = re.compile(r"^([^#\n].*)$", re.MULTILINE)
 PROMTOOL = shutil.which("promtool")
-BOUND = re.compile(r"\d+\.\d+|\+Inf")
-# The endings of the samples of each type, in their order in a histogram.
-ENDINGS = {"gauge": [""], "counter": ["_total"], "histogram": ["_bucket", "_count", "_sum"]}
 # The families of a pool, in their order, with their types and units.
 FAMILIES = {
     "zuphinka_idle_objects": ("gauge", "objects"),
@@ -50,19 +41,18 @@ FAMILIES = {
 # The bounds of the buckets, in seconds.
 DECADES = ["0.0001 0.00025 0.0005", "0.001 0.0025 0.005", "0.01 0.025 0.05", "0.1 0.25 0.5", "1.0 2.5 5.0", "10.0 25.0 50.0", "100.0 +Inf"]
 BOUNDS = " ".join(DECADES).split()
+# The samples of each type: how their names end, the bounds of buckets, and the forms of the numbers.
+WHOLE, NUMBER = r"\d+", r"\d+(?:\.\d+)?"
+SAMPLES = {
+    "gauge": [("", "", f"-?{NUMBER}")], "counter": [("_total", "", NUMBER)],
+    "histogram": [*(("_bucket", bound, WHOLE) for bound in BOUNDS), ("_count", "", WHOLE), ("_sum", "", NUMBER)],
+}
+# How much of a text is shown from the place on at which it is wrong.
+SHOWN = 300
 
 
 class Wrong(Exception):
     """A text that is not in the format."""
-
-
-@dataclasses.dataclass
-class Family:
-    """A family of metrics: what its descriptors say, and its samples by their names and labels, as pairs, with their numbers as texts."""
-
-    name: str
-    about: dict = dataclasses.field(default_factory=dict)
-    samples: dict = dataclasses.field(default_factory=dict)
 
 
 def need(holds, fault):
@@ -71,81 +61,51 @@ def need(holds, fault):
 
 
 def unescaped(value):
-    """The text that a value between quotes stands for."""
-    return ESCAPE.sub(lambda found: {"n": "\n"}.get(found[1], found[1]), value[1:-1])
+    """The text that the value of a label stands for."""
+    return ESCAPE.sub(lambda found: {"n": "\n"}.get(found[1], found[1]), value)
 
 
-def labels_of(text):
-    """The labels of a sample, as pairs."""
-    pairs = tuple((name, unescaped(value)) for name, value in PAIR.findall(text or ""))
-    need(len({name for name, _ in pairs}) == len(pairs), f"a label twice: {text}")
-    return pairs
+def lines_of(name, kind):
+    """The samples of a pool in a family, by their names with the bounds of buckets behind them, each with the pattern of its line. The first has the
+    name of the pool."""
+    lines = {}
+    for ending, bound, number in SAMPLES[kind]:
+        pool, le = "(?P=pool)" if lines else f"(?P<pool>{TEXT}*)", f',le="{re.escape(bound)}"' if bound else ""
+        lines[f"{name}{ending} {bound}".strip()] = rf'{name}{ending}\{{pool="{pool}"{le}\}} ({number})\n'
+    return lines
 
 
-def describe(families, what, name, text):
-    """Takes a descriptor, with which a family may begin."""
-    if not families or next(reversed(families)) != name:
-        need(name not in families, f"{name} comes twice")
-        families[name] = Family(name)
-    family = families[name]
-    need(what not in family.about and not family.samples, f"# {what} {name} comes twice, or behind samples")
-    need(what != "TYPE" or text in ENDINGS, f"{name}: type {text}")
-    need(what != "UNIT" or name.endswith(f"_{text}"), f"{name}: unit {text}")
-    need(what != "HELP" or HELP.fullmatch(text), f"{name}: help {text}")
-    family.about[what] = text
+def read_family(text, at, name, pools):
+    """Reads a family from a place of a text on: adds the numbers of its pools, and returns the place behind it."""
+    kind, unit = FAMILIES[name]
+    lines = lines_of(name, kind)
+    of_pool = re.compile("".join(lines.values()))
+    found = re.compile(rf"# TYPE {name} {kind}\n# UNIT {name} {unit}\n# HELP {name} {TEXT}+\n").match(text, at)
+    need(found, f"no descriptors of {name}: {text[at : at + SHOWN]!r}")
+    while more := of_pool.match(text, found.end()):
+        pool, *numbers = more.groups()
+        known, found = pools.setdefault(unescaped(pool), {}), more
+        need(known.keys().isdisjoint(lines), f"{name} comes twice of {pool!r}")
+        known |= {sample: float(number) if "." in number else int(number) for sample, number in zip(lines, numbers)}
+        if kind == "histogram":
+            *counts, count, _ = (known[sample] for sample in lines)
+            need(counts == sorted(counts) and counts[-1] == count, f"{name} of {pool!r}: counts {counts}, of {count}")
+    return found.end()
 
 
-def take_sample(families, name, labels, number):
-    """Takes a sample, of the last family."""
-    family = families[next(reversed(families))] if families else Family("")
-    kind = family.about.get("TYPE")
-    need(kind and name in [family.name + ending for ending in ENDINGS[kind]], f"{name} is no sample of the family before it")
-    key = (name, labels_of(labels))
-    need(key not in family.samples, f"{name}{labels} comes twice")
-    need(kind == "gauge" or not number.startswith("-"), f"{name}: {number}")
-    family.samples[key] = number
-
-
-def check_histogram(family):
-    """Each pool's samples of a histogram stand together: its buckets, its count, its sum."""
-    groups = {}
-    for (name, labels), number in family.samples.items():
-        rest = tuple(pair for pair in labels if pair[0] != "le")
-        groups.setdefault(rest, []).append((name.removeprefix(family.name), dict(labels).get("le"), number))
-    order = [tuple(pair for pair in labels if pair[0] != "le") for _, labels in family.samples]
-    need(order == sorted(order, key=list(groups).index), f"{family.name}: histograms are mixed")
-    for rest, samples in groups.items():
-        check_buckets(f"{family.name}{rest}", samples)
-
-
-def check_buckets(name, samples):
-    """The samples of one histogram, each its ending, its bound and its number."""
-    *buckets, (count_ending, no_bound, count), (sum_ending, no_other, _) = samples if len(samples) > 2 else 3 * [("", "", "")]
-    need((count_ending, sum_ending, no_bound, no_other) == ("_count", "_sum", None, None), f"{name}: no count and sum behind the buckets")
-    need(all(ending == "_bucket" and BOUND.fullmatch(bound or "") for ending, bound, _ in buckets), f"{name}: no bound of a bucket")
-    bounds, counts = [float(bound) for _, bound, _ in buckets], [number for _, _, number in buckets]
-    need(bounds == sorted(set(bounds)) and bounds[-1:] == [float("inf")], f"{name}: bounds {bounds}")
-    need(all(number.isdigit() for number in [*counts, count]), f"{name}: counts {counts} {count}")
-    need(list(map(int, counts)) == sorted(map(int, counts)) and int(counts[-1]) == int(count), f"{name}: counts {counts}, of {count}")
-
-
-def parse(text):
-    """The families of a text, by their names."""
-    need(text.endswith(END), "no # EOF at the end")
-    families = {}
-    for line in text.removesuffix(END).split("\n")[:-1] if text != END else []:
-        descriptor, sample = DESCRIPTOR.fullmatch(line), SAMPLE.fullmatch(line)
-        need(descriptor or sample, f"neither a descriptor nor a sample: {line!r}")
-        if descriptor:
-            describe(families, *descriptor.groups())
-        else:
-            take_sample(families, *sample.groups())
-    for family in families.values():
-        if family.about.get("TYPE") == "histogram":
-            check_histogram(family)
+def pools_of(text):
+    """The numbers of each pool in a text that has those of pools and nothing else: for each name of a pool the names of its samples, with the bounds
+    of buckets behind them, and their numbers."""
+    at, pools = 0, {}
+    for name in FAMILIES:
+        at = read_family(text, at, name, pools)
+    need(text[at:] == END, f"not the end: {text[at : at + SHOWN]!r}")
+    samples = [sample for name, (kind, _) in FAMILIES.items() for sample in lines_of(name, kind)]
+    for pool, numbers in pools.items():
+        need(list(numbers) == samples, f"{pool!r} has {list(numbers)}")
     if PROMTOOL:
         need_promtool(text)
-    return families
+    return pools
 
 
 def need_promtool(text):
@@ -156,32 +116,6 @@ def need_promtool(text):
         words = [PROMTOOL, "tsdb", "create-blocks-from", "openmetrics", timed, pathlib.Path(folder) / "blocks"]
         done = subprocess.run(words, stdin=subprocess.DEVNULL, capture_output=True, text=True)
     need(done.returncode == 0, f"promtool: {done.stderr.strip()}")
-
-
-def pools_of(text):
-    """The numbers of each pool in a text that has those of pools and nothing else: for each name of a pool the names of its samples, with the bounds of
-    buckets behind them, and their numbers."""
-    families, pools = parse(text), {}
-    about = {name: (family.about.get("TYPE"), family.about.get("UNIT")) for name, family in families.items()}
-    need(list(about.items()) == list(FAMILIES.items()), f"families {about}")
-    need(all("HELP" in family.about for family in families.values()), "a family without a help")
-    for family in families.values():
-        for (name, labels), number in family.samples.items():
-            (label, pool), *bound = labels
-            need(label == "pool" and len(bound) == name.endswith("_bucket"), f"{name}: labels {labels}")
-            pools.setdefault(pool, {})[" ".join([name, *(le for _, le in bound)])] = float(number) if "." in number else int(number)
-    for pool, numbers in pools.items():
-        need(list(numbers) == names_of_samples(), f"{pool!r} has {list(numbers)}")
-    return pools
-
-
-def names_of_samples():
-    """The names of a pool's samples, with the bounds of buckets behind them."""
-    names = []
-    for name, (kind, _) in FAMILIES.items():
-        for ending in ENDINGS[kind]:
-            names += [f"{name}_bucket {bound}" for bound in BOUNDS] if ending == "_bucket" else [name + ending]
-    return names
 
 
 def check_course(texts, borrows):
@@ -215,39 +149,35 @@ def texts_of(text):
     return [part + END for part in text.split(END)[:-1]]
 
 
-RIGHT = r"""# TYPE cars gauge
-# HELP cars Cars that \"stand\" in \\ and\nout.
-cars{road="a\"b\\c\nd"} -3
-cars 4
-# TYPE trips counter
-trips_total{road="x"} 0
-# TYPE way_seconds histogram
-# UNIT way_seconds seconds
-way_seconds_bucket{road="x",le="0.5"} 1
-way_seconds_bucket{road="x",le="1.0"} 1
-way_seconds_bucket{road="x",le="+Inf"} 3
-way_seconds_count{road="x"} 3
-way_seconds_sum{road="x"} 7.25
-# EOF
-"""
+def right_text(*pools):
+    """A text that is right, of pools whose names are as they stand between quotes."""
+    numbers = {"": "-3", "_total": "0", "_count": "3", "_sum": "7.25"}
+    for name, (kind, unit) in FAMILIES.items():
+        yield f'# TYPE {name} {kind}\n# UNIT {name} {unit}\n# HELP {name} Pools that \\"stand\\" in \\\\ and\\nout.\n'
+        for pool in pools:
+            for ending, bound, _ in SAMPLES[kind]:
+                le, number = (f',le="{bound}"', str((float(bound) > 0.3) + 2 * (bound == "+Inf"))) if bound else ("", numbers[ending])
+                yield f'{name}{ending}{{pool="{pool}"{le}}} {number}\n'
+    yield END
+
+
+RIGHT = "".join(right_text(r"a\"b\\c\nd", "x"))
+IDLE = 'zuphinka_idle_objects{pool="x"} -3\n'
+IDLE_TYPE = "# TYPE zuphinka_idle_objects gauge\n"
 # Mistakes: what stands in the text, and what in its place is refused.
 MISTAKES = [
     ("# EOF\n", ""),
     ("# EOF\n", "# EOF"),
     ("# EOF\n", "# EOF\n# EOF\n"),
-    ("# EOF\n", "cars 5\n# EOF\n"),
-    ("cars 4\n", "cars 4\n\n"),
-    ("cars 4\n", "cars  4\n"),
-    ("cars 4\n", "cars 4\r\n"),
-    ("cars 4\n", "cars four\n"),
-    ("cars 4\n", "cars 4\ncars 4\n"),
-    ("cars 4\n", "cars_total 4\n"),
-    ("cars 4\n", "lorries 4\n"),
-    ("cars 4\n", "cars 4\n# HELP cars Again.\n"),
-    ("cars 4\n", "cars 4\n# a comment\n"),
-    ("# TYPE cars gauge\n", ""),
-    ("# TYPE cars gauge\n", "# TYPE cars gauge\n# TYPE cars gauge\n"),
-    ("cars gauge", "cars heap"),
+    ("# EOF\n", IDLE + "# EOF\n"),
+    (IDLE, ""),
+    *((IDLE, IDLE + more) for more in ("\n", IDLE, "# HELP zuphinka_idle_objects Again.\n", "# a comment\n", "cars 4\n", IDLE.replace('"x"', '"y"'))),
+    *((IDLE, IDLE.replace(" -3\n", other)) for other in ("  -3\n", " -3\r\n", " four\n", " 3e1\n", " -3 1700000000\n")),
+    (IDLE, IDLE.replace("objects", "objects_total")),
+    (IDLE, IDLE.replace("idle", "other")),
+    (IDLE_TYPE, ""),
+    (IDLE_TYPE, IDLE_TYPE * 2),
+    (IDLE_TYPE, IDLE_TYPE.replace("gauge", "heap")),
     (r"in \\ and", r"in \ and"),
     (r"a\"b", 'a"b'),
     (r"\\c", r"\c"),
@@ -256,35 +186,36 @@ MISTAKES = [
     (r'd"}', r'd",road="e"}'),
     (r'd"}', r'd",}'),
     (r'd"}', r'd\"}'),
-    ('cars{road="a', 'cars{1road="a'),
-    ("trips_total", "trips"),
-    ('trips_total{road="x"} 0', 'trips_total{road="x"} -1'),
-    ("# TYPE way", "# TYPE cars gauge\n# TYPE way"),
-    ("way_seconds seconds", "way_seconds minutes"),
-    ('le="0.5"', 'le="2.0"'),
-    ('le="0.5"', 'le="1.0"'),
-    ('le="0.5"', 'le="half"'),
+    ('{pool="a', '{1pool="a'),
+    ("borrows_total", "borrows"),
+    ('borrows_total{pool="x"} 0', 'borrows_total{pool="x"} -1'),
+    ("# TYPE zuphinka_wait_seconds", IDLE_TYPE + "# TYPE zuphinka_wait_seconds"),
+    ("wait_seconds seconds", "wait_seconds minutes"),
+    *(('le="0.5"', other) for other in ('le="2.0"', 'le="1.0"', 'le="half"')),
     (',le="0.5"', ""),
-    ('le="+Inf"', 'le="9.0"'),
+    ('le="+Inf"', 'le="900.0"'),
     ('le="+Inf"} 3', 'le="+Inf"} 2'),
     ('le="+Inf"} 3', 'le="+Inf"} 3.0'),
     ('le="0.5"} 1', 'le="0.5"} 2'),
-    ('way_seconds_count{road="x"} 3\n', ""),
-    ('way_seconds_sum{road="x"} 7.25\n', ""),
-    ('way_seconds_sum{road="x"} 7.25', 'way_seconds_sum{road="x"} -7.25'),
-    ('way_seconds_count{road="x"}', 'way_seconds_count{road="y"}'),
+    ('wait_seconds_count{pool="x"}', 'wait_seconds_count{pool="y"}'),
+    ('zuphinka_wait_seconds_count{pool="x"} 3\n', ""),
+    ('zuphinka_wait_seconds_sum{pool="x"} 7.25\n', ""),
+    ('wait_seconds_sum{pool="x"} 7.25', 'wait_seconds_sum{pool="x"} -7.25'),
+    (r'pool="a\"b\\c\nd"', 'pool="x"'),
 ]
 
 
 def checks():
-    families = parse(RIGHT)
-    yield "types", ["gauge", "counter", "histogram"], [family.about["TYPE"] for family in families.values()]
-    yield "a label", {("cars", (("road", 'a"b\\c\nd'),)): "-3", ("cars", ()): "4"}, families["cars"].samples
-    yield "a text of nothing", {}, parse(END)
+    pools = pools_of(RIGHT)
+    yield "the names of pools", ['a"b\\c\nd', "x"], list(pools)
+    wanted = {"zuphinka_idle_objects": -3, "zuphinka_borrows_total": 0, "zuphinka_loan_seconds_bucket 0.5": 1, "zuphinka_loan_seconds_sum": 7.25}
+    for pool, numbers in pools.items():
+        yield f"numbers of {pool!r}", wanted, {name: numbers[name] for name in wanted}
+    yield "a text of no pool", {}, pools_of("".join(right_text()))
     for old, new in MISTAKES:
-        yield f"{old!r} is there once", 1, RIGHT.count(old)
-        yield f"{new!r} in place of {old!r} is refused", True, fault_of(parse, RIGHT.replace(old, new)) != ""
-    yield "metrics of cars are not those of a pool", True, fault_of(pools_of, RIGHT) != ""
+        yield f"{old!r} is there", True, old in RIGHT
+        yield f"{new!r} in place of {old!r} is refused", True, fault_of(pools_of, RIGHT.replace(old, new)) != ""
+    yield "a text of nothing is not that of pools", True, fault_of(pools_of, END) != ""
 
 
 if __name__ == "__main__":
