@@ -10,15 +10,13 @@ check_cases.py  The last line is 'N passed, M failed'.
 """
 
 import itertools
-import pathlib
 import re
 import subprocess
 import sys
-import tempfile
 
 from case_files import CASES, Case, CaseError, case_named, read_cases, read_file, written
 from make_cases import SEEDED, files_made, remade
-from playing import play_checks
+from playing import play_checks, scratch
 
 GOOD = """# A heading.
 
@@ -207,8 +205,8 @@ def check_found():
 
 
 def main():
-    with tempfile.TemporaryDirectory() as room:
-        of_format = (check(pathlib.Path(room)) for check in (check_new, check_faults, check_unpacking, check_bytes))
+    with scratch() as room:
+        of_format = (check(room) for check in (check_new, check_faults, check_unpacking, check_bytes))
         return play_checks(itertools.chain(check_made(), check_copies(), check_found(), *of_format))
 
 

@@ -15,13 +15,12 @@ check_picture.py PROGRAM CASES..  The last line is 'N passed, M failed'.
 import pathlib
 import re
 import sys
-import tempfile
 import xml.etree.ElementTree as xml
 
 import picture_model
 from case_files import unpacked
 from play_damaged import SETTINGS, Chance, journal_by_chance
-from playing import TOP, differing, run, tell, write_files
+from playing import TOP, differing, run, scratch, tell, write_files
 from pool_model import cut_at, settings_of
 from preloading import preloaded, refusals
 
@@ -321,24 +320,24 @@ def refusal_differences(program, journal, folder):
             yield f"allocation {number} of {journal}: {done.returncode}, {done.stderr}, {len(done.stdout)} bytes"
 
 
-def checks(program, paths, scratch):
+def checks(program, paths, folder):
     """Each check by its name, with the differences that it finds."""
-    cases = [folder / "journal" for case, folder in unpacked(scratch / "cases", *paths) if case.journal is not None]
-    for journal in cases + list(made_journals(scratch)):
+    cases = [place / "journal" for case, place in unpacked(folder / "cases", *paths) if case.journal is not None]
+    for journal in cases + list(made_journals(folder)):
         yield journal, differences(program, journal)
-    for whole, files, stream in pool_journals(scratch):
+    for whole, files, stream in pool_journals(folder):
         yield whole, segment_differences(program, whole, files, stream)
         if len(files) > 4:
-            yield "segments that do not continue one another", message_differences(program, broken(scratch, files[1:]))
-    yield "damaged files", message_differences(program, damaged(scratch))
-    yield "arguments", argument_differences(program, scratch)
+            yield "segments that do not continue one another", message_differences(program, broken(folder, files[1:]))
+    yield "damaged files", message_differences(program, damaged(folder))
+    yield "arguments", argument_differences(program, folder)
     for journal in ("100.journal", "random-1.journal", "pool-400.2"):
-        yield f"failed allocations, {journal}", refusal_differences(program, scratch / journal, scratch)
+        yield f"failed allocations, {journal}", refusal_differences(program, folder / journal, folder)
 
 
 def main(program, paths):
-    with tempfile.TemporaryDirectory() as scratch:
-        return tell([f"{name}: {line}" for line in [*found][:5]] for name, found in checks(program, paths, pathlib.Path(scratch)))
+    with scratch() as folder:
+        return tell([f"{name}: {line}" for line in [*found][:5]] for name, found in checks(program, paths, folder))
 
 
 if __name__ == "__main__":

@@ -20,13 +20,12 @@ import re
 import shutil
 import subprocess
 import sys
-import tempfile
 import tomllib
 
 import changed_settings
 import openmetrics
 from case_files import CASES, unpacked
-from playing import NO_CARGO, TOP, has, skip_all
+from playing import NO_CARGO, TOP, has, scratch, skip_all
 
 CRATE = TOP / "bindings/rust"
 # The tests under tokio, and where Debian has its source.
@@ -105,8 +104,8 @@ def judged(pool, folder):
 
 def check_stored(example, printed, pool):
     """What an example prints, and the journal that it stores, judged by the program."""
-    with tempfile.TemporaryDirectory() as folder:
-        journal = pathlib.Path(folder) / "journal"
+    with scratch() as folder:
+        journal = folder / "journal"
         done = subprocess.run([example, journal], capture_output=True, text=True, timeout=LONGEST)
         verdict, entries = judged(pool, journal)
     right = (done.returncode, done.stdout, verdict) == (0, printed, f"legal {entries}\n") and entries > 0
@@ -131,7 +130,7 @@ def check_settings(settings):
     """What the example writes of each file that can be taken, and what Python reads there. The crate has a default of its own for the wait."""
     plain, abandoned = defaults()
     plain["maxWaitMillis"] = 30_000
-    with tempfile.TemporaryDirectory() as room:
+    with scratch() as room:
         taken = [folder / "settings.toml" for case, folder in unpacked(room, CASES / "settings") if case.answer == b"ok\n"]
         for path in [*sorted((TOP / "examples").glob("*.toml")), *taken]:
             wanted = plain | tomllib.loads(path.read_text())
@@ -168,8 +167,8 @@ def check_binding():
 
 def check_pairs(pairs, pool):
     """Four entries a round where nobody waits, and two more for each object and one for the close in the end."""
-    with tempfile.TemporaryDirectory() as folder:
-        settings, journal = pathlib.Path(folder) / "settings.toml", pathlib.Path(folder) / "journal"
+    with scratch() as folder:
+        settings, journal = folder / "settings.toml", folder / "journal"
         settings.write_text(f"maxTotal = {WORKERS}\nmaxIdle = {WORKERS}\n")
         for words in [], ["instant"], ["hooks"], ["memory", "instant"], [f"segments={journal}", "hooks"]:
             command = [pairs, settings, str(WORKERS), str(ROUNDS), *words]
@@ -203,8 +202,8 @@ def main(pool, judge=None):
     if not runs_cargo():
         return skip_all("bindings/rust", NO_CARGO)
     environment = os.environ | {"ZUPHINKA_POOL": str(pathlib.Path(pool).resolve())}
-    with tempfile.TemporaryDirectory() as folder:
-        metrics, changes = pathlib.Path(folder) / "metrics", pathlib.Path(folder) / "changes"
+    with scratch() as folder:
+        metrics, changes = folder / "metrics", folder / "changes"
         tested = run_tests(environment | {"ZUPHINKA_METRICS": str(metrics), "ZUPHINKA_CHANGES": str(changes)})
         faults = [*check_metrics(metrics), *check_changes(judge, pool, changes)]
     passed, failed = (sum(column) for column in zip(tested, run_trial(environment)))

@@ -20,13 +20,12 @@ import pathlib
 import re
 import subprocess
 import sys
-import tempfile
 import typing
 
 from check_names import tables
 from play_java import COUNT, play_with_java
 from play_java_random import commons_pool_version
-from playing import TOP
+from playing import TOP, scratch
 
 import java
 from install import heap_of_kit
@@ -126,8 +125,8 @@ def checks_of_runs(pools, seed, runs):
 
 
 def checks(library, seed, runs):
-    with tempfile.TemporaryDirectory() as name:
-        pools = Pools(library, pathlib.Path(name))
+    with scratch() as folder:
+        pools = Pools(library, folder)
         yield from checks_of_runs(pools, seed, runs)
         with concurrent.futures.ThreadPoolExecutor(os.cpu_count()) as workers:
             for mistake, is_noticed in zip(MISTAKES, workers.map(pools.notice, MISTAKES)):

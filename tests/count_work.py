@@ -20,9 +20,9 @@ import dataclasses
 import pathlib
 import subprocess
 import sys
-import tempfile
 
 from many_objects import segments_of
+from playing import scratch
 from pool_model import settings_of
 from preloading import preloaded
 
@@ -313,8 +313,8 @@ def play_cuts(counter, tally):
 
 
 def main(pool, tally):
-    with tempfile.TemporaryDirectory() as made:
-        counter = Counter(str(pathlib.Path(pool).resolve()), pathlib.Path(made))
+    with scratch() as made:
+        counter = Counter(str(pathlib.Path(pool).resolve()), made)
         play_words(counter)
         for script in scripts():
             for command in ("run", "check", "stats"):

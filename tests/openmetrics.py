@@ -12,14 +12,12 @@ test runs it over a text that is right, and over that text with each of many mis
 Prints what differs, and in the end the line 'N passed, M failed'.
 """
 
-import pathlib
 import re
 import shutil
 import subprocess
 import sys
-import tempfile
 
-from playing import play_checks
+from playing import play_checks, scratch
 
 END = "# EOF\n"
 TEXT = r'(?:[^"\\\n]|\\[\\"n])'
@@ -110,10 +108,10 @@ def pools_of(text):
 
 def need_promtool(text):
     """Prometheus's own reader must take the text too. It wants a time with each sample."""
-    with tempfile.TemporaryDirectory() as folder:
-        timed = pathlib.Path(folder) / "text"
+    with scratch() as folder:
+        timed = folder / "text"
         timed.write_text(TIMELESS.sub(r"\1 1700000000", text))
-        words = [PROMTOOL, "tsdb", "create-blocks-from", "openmetrics", timed, pathlib.Path(folder) / "blocks"]
+        words = [PROMTOOL, "tsdb", "create-blocks-from", "openmetrics", timed, folder / "blocks"]
         done = subprocess.run(words, stdin=subprocess.DEVNULL, capture_output=True, text=True)
     need(done.returncode == 0, f"promtool: {done.stderr.strip()}")
 

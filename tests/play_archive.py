@@ -17,9 +17,8 @@ import collections
 import pathlib
 import subprocess
 import sys
-import tempfile
 
-from playing import play_checks
+from playing import play_checks, scratch
 from play_damaged import Chance
 from play_segments import damaged, judged
 from pool_model import settings_of, verdict_of_segments
@@ -77,8 +76,7 @@ def ways(segments, settings, chance):
 
 def checks_of_run(program, output, pool, chance):
     """What a run leaves."""
-    with tempfile.TemporaryDirectory() as name:
-        folder = pathlib.Path(name)
+    with scratch() as folder:
         done = run(program, folder)
         yield "the run", (output, b"", 0), (done.stdout, done.stderr, done.returncode)
         if done.returncode:

@@ -13,10 +13,9 @@ import re
 import sqlite3
 import subprocess
 import sys
-import tempfile
 
 from check_picture import differences
-from playing import play_checks
+from playing import play_checks, scratch
 
 CRATE = pathlib.Path(__file__).resolve().parent.parent / "crates/example_bank"
 SETTINGS = re.compile('const SETTINGS: &str = "(.*?)";', re.DOTALL)
@@ -70,8 +69,8 @@ def checks_of_run(bank, pool, picture, folder):
 
 def checks(bank, pool, picture, runs):
     for number in range(int(runs)):
-        with tempfile.TemporaryDirectory() as folder:
-            for name, wanted, got in checks_of_run(pathlib.Path(bank).resolve(), pool, picture, pathlib.Path(folder)):
+        with scratch() as folder:
+            for name, wanted, got in checks_of_run(pathlib.Path(bank).resolve(), pool, picture, folder):
                 yield f"run {number}: {name}", wanted, got
 
 

@@ -21,7 +21,7 @@ import subprocess
 import sys
 import tempfile
 
-from playing import NO_CARGO, TOP, has, play_checks, skip
+from playing import NO_CARGO, TOP, has, play_checks, scratch, skip
 from postgres_server import Server
 
 import database_programs as database
@@ -182,8 +182,8 @@ def has_bag():
 
 def bag():
     """HikariCP's bag is measured without Commons Pool 2, too. Without the jar of its logger it is named and left out."""
-    with tempfile.TemporaryDirectory() as folder:
-        alone = pathlib.Path(folder) / HIKARI_JAR.name
+    with scratch() as folder:
+        alone = folder / HIKARI_JAR.name
         alone.touch()
         done = peers("--only", HIKARI, "--only", PLAIN, "--hikari", alone)
         line = f"left out: {HIKARI}: no libslf4j-java ({folder}/slf4j-api.jar)"
@@ -209,8 +209,8 @@ def contestants():
 
 def counting():
     """A run with a pair too few is an error. Without the core's library the pool for Java is named and left out."""
-    with tempfile.TemporaryDirectory() as folder:
-        program = pathlib.Path(folder) / "pool"
+    with scratch() as folder:
+        program = folder / "pool"
         program.write_text(ONE_LESS)
         program.chmod(0o755)
         done = peers("--pool", str(program), *ABSENT, *NO_LIBRARY)

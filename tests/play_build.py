@@ -8,15 +8,13 @@ Prints each thing that differs, and in the end the line 'N passed, M failed'.
 """
 
 import os
-import pathlib
 import re
 import shutil
 import subprocess
 import sys
-import tempfile
 
 from fake_kit import Repository, write
-from playing import play_checks
+from playing import play_checks, scratch
 
 # pool stands on right and left, which stand on low, and on alone; archive is a static library; other is a program of its own.
 CRATES = {"low": "", "left": "low kit_library", "right": "low", "alone": "", "pool": "left right alone", "other": "low", "archive staticlib": "low"}
@@ -195,8 +193,8 @@ def times(trial):
 
 
 def checks():
-    with tempfile.TemporaryDirectory() as name:
-        trial = Trial(pathlib.Path(name))
+    with scratch() as folder:
+        trial = Trial(folder)
         for part in at_first, steps, refused, edited_meanwhile, archive, gate, times:
             yield from part(trial)
 

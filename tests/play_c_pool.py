@@ -30,12 +30,11 @@ import pathlib
 import re
 import subprocess
 import sys
-import tempfile
 
 import changed_settings
 import openmetrics
 from play_library import EXAMPLES, FLAGS, INCLUDE, TOP, VALGRIND, compiler, header_runs, heap, run
-from playing import differing, has, side_by_side, skip, tell
+from playing import differing, has, scratch, side_by_side, skip, tell
 from preloading import preloaded
 
 POOL = TOP / "bindings/c/src/zuphinka_pool.c"
@@ -56,14 +55,14 @@ ANSWERS = set(
 
 def built(folder, name, library, flags, main=TOP / "tests/play_c_pool.c"):
     """Compiles a program over the pool with flags, links it with the library, and returns its path."""
-    program = pathlib.Path(folder) / name
+    program = folder / name
     subprocess.run([compiler(), *POOL_FLAGS, *flags, "-o", program, main, POOL, library, heap()], check=True)
     return program
 
 
 def has_tsan(folder):
     """Returns whether the compiler builds programs with ThreadSanitizer that run."""
-    source, program = pathlib.Path(folder) / "empty.c", pathlib.Path(folder) / "empty"
+    source, program = folder / "empty.c", folder / "empty"
     source.write_text("int main(void) { return 0; }\n")
     words = [compiler(), "-fsanitize=thread", "-pthread", "-o", program, source]
     return subprocess.run(words, capture_output=True).returncode == 0 and subprocess.run([program], capture_output=True).returncode == 0
@@ -97,11 +96,11 @@ class Runs:
 
     def told(self, name, *words):
         """Runs the program over a folder: what it printed, as pairs of words and a number, the journal, and what differs."""
-        with tempfile.TemporaryDirectory() as folder:
+        with scratch() as folder:
             done = self.run(*words, folder)
             numbers = {words: int(number) for words, number in (line.rsplit(b" ", 1) for line in done.stdout.splitlines())}
             found = differing(name, (done.stdout, b"", 0), done)
-            return numbers, *(self.judged(name, pathlib.Path(folder), numbers[b"steps"]) if not found else (b"", found))
+            return numbers, *(self.judged(name, folder, numbers[b"steps"]) if not found else (b"", found))
 
     def sink(self, at):
         """What differs in a run whose `store` fails at this call, and how often it was called."""
@@ -130,8 +129,7 @@ class Runs:
 
     def shared(self, program):
         """What differs where the example lends connections to threads."""
-        with tempfile.TemporaryDirectory() as path:
-            folder = pathlib.Path(path)
+        with scratch() as folder:
             (folder / "settings").write_text("journalLimit = 1000\n")
             name = "shared_life"
             found = differing(name, (b"", b"", 0), run(program, folder / "settings", folder, str(THREADS), str(SHARED_ROUNDS)))
@@ -173,7 +171,7 @@ def tools(folder):
 
 def refused(plain, refuse, folder, seed):
     """What differs in a run in which allocations fail."""
-    mark = pathlib.Path(folder) / f"refused_{seed}"
+    mark = folder / f"refused_{seed}"
     changes = {"REFUSE_OF": str(REFUSE_OF), "REFUSE_SEED": str(seed), "REFUSED": str(mark), "LD_PRELOAD": str(refuse)}
     runs = Runs("allocations that fail", plain.words, plain.pool, plain.judge, os.environ | changes)
     return runs.random(seed, THREADS, CALLS) + [f"{runs.name}, seed {seed}: no allocation failed"] * (not mark.exists())
@@ -204,7 +202,7 @@ def found(library, programs, folder):
 
 
 def main(library, *programs):
-    with tempfile.TemporaryDirectory() as folder:
+    with scratch() as folder:
         return tell(found(library, programs, folder), SEEDS)
 
 

@@ -15,11 +15,10 @@ import shutil
 import signal
 import subprocess
 import sys
-import tempfile
 import time
 
 from fake_kit import LONGEST, TOP, Repository, write
-from playing import play_checks
+from playing import play_checks, scratch
 
 import sources
 from parts import PACKAGES, PARTS, PROOFS, QUICK, QUICK_ALONE
@@ -463,8 +462,8 @@ INSTALLING = (skipping, installing, privileged, fetching, unattended)
 
 def checks():
     yield from table()
-    with tempfile.TemporaryDirectory() as folder:
-        trial = Trial(pathlib.Path(folder).resolve())
+    with scratch() as folder:
+        trial = Trial(folder)
         for part in (*WITH_ALL, *INSTALLING, failing, committed, without_kit, interrupted):
             yield from part(trial)
 

@@ -17,10 +17,9 @@ import pathlib
 import re
 import subprocess
 import sys
-import tempfile
 
 from check_rust import runs_cargo
-from playing import NO_CARGO, TOP, has, play_checks, skip
+from playing import NO_CARGO, TOP, has, play_checks, scratch, skip
 
 # Commands that this does not run, since they run it.
 OWN = ("./check", "./check --install")
@@ -54,7 +53,7 @@ class Place:
     """A folder in which the commands find what they name."""
 
     def __init__(self, folder, pool):
-        self.folder = pathlib.Path(folder)
+        self.folder = folder
         for name in ("examples", "crates", "bindings", "tools", "docs"):
             (self.folder / name).symlink_to(TOP / name)
         (self.folder / "pool").symlink_to(pool)
@@ -132,7 +131,7 @@ def checks(pool):
     if has("the commands of bindings/c/README.md", "make"):
         pages.append(TOP / "bindings/c/README.md")
     for page in pages:
-        with tempfile.TemporaryDirectory() as folder:
+        with scratch() as folder:
             for shown, fault in Place(folder, pathlib.Path(pool).resolve()).faults_of_page(page):
                 yield f"{page.name}: {shown}", None, fault
 

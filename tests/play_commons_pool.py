@@ -29,7 +29,6 @@ import re
 import subprocess
 import sys
 import tarfile
-import tempfile
 import time
 import typing
 import urllib.request
@@ -37,7 +36,7 @@ import zipfile
 
 from check_names import backquoted, tables
 from play_java import legal_in, play_with_java
-from playing import TOP
+from playing import TOP, scratch
 
 import java
 from install import heap_of_kit
@@ -288,8 +287,7 @@ def checks_of_journals(pool, judge, folder):
 
 def checks(library, pool, judge, source):
     page = read_page()
-    with tempfile.TemporaryDirectory() as name:
-        folder = pathlib.Path(name)
+    with scratch() as folder:
         source = source or unpacked(folder)
         jar = java.build(pathlib.Path(library), heap_of_kit(), folder / "out")
         tests = Tests(page.classes(), source, jar, folder)

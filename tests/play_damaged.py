@@ -14,10 +14,9 @@ import concurrent.futures
 import functools
 import os
 import sys
-import tempfile
 
 from case_files import wanted_of
-from playing import differing, run, tell, write_files
+from playing import differing, run, scratch, tell, write_files
 from pool_model import Journal, Pool, settings_of, words_of
 
 LENGTH = 10_000
@@ -123,7 +122,7 @@ def differences(pool, settings, way):
 
 
 def main(pool, ways=WAYS):
-    with tempfile.TemporaryDirectory() as room, concurrent.futures.ProcessPoolExecutor(os.cpu_count()) as workers:
+    with scratch() as room, concurrent.futures.ProcessPoolExecutor(os.cpu_count()) as workers:
         (settings,) = write_files(room, {"settings.toml": SETTINGS.encode()})
         tried = range(0, WAYS, max(1, WAYS // int(ways)))
         return tell(workers.map(functools.partial(differences, pool, settings), tried, chunksize=50))

@@ -16,10 +16,9 @@ import pathlib
 import re
 import subprocess
 import sys
-import tempfile
 
 from play_java import LONGEST, legal_in, play_with_java, program
-from playing import TOP, has
+from playing import TOP, has, scratch
 
 import java
 from install import heap_of_kit
@@ -76,8 +75,7 @@ def data_sources(classes, jars, pool, judge, folder):
 
 
 def checks(library, pool, judge):
-    with tempfile.TemporaryDirectory() as name:
-        folder = pathlib.Path(name).resolve()
+    with scratch() as folder:
         jar = java.build(library, heap_of_kit(), folder / "out")
         jars, classes = [java.drop_in(jar.parent), jar], folder / "classes"
         sources = [*sorted((TOP / "tests/drop_in").glob("*.java")), TOP / "tests/java/Expectations.java"]

@@ -22,10 +22,9 @@ import re
 import shutil
 import subprocess
 import sys
-import tempfile
 
 from play_library import EXAMPLES, FLAGS, INCLUDE, PLAIN_LIFE, TOP, compiler
-from playing import has, play_checks
+from playing import has, play_checks, scratch
 
 SOURCES = TOP / "bindings/c/src"
 # The installed files by their paths, each with its source.
@@ -155,8 +154,7 @@ def shared_program(folder, kind):
 def programs(prefix):
     """Each example is linked in each way."""
     for kind in kinds(prefix):
-        with tempfile.TemporaryDirectory() as name:
-            folder = pathlib.Path(name)
+        with scratch() as folder:
             yield from program("first_loan", folder, kind, [], b"")
             yield from program("plain_life", folder, kind, [TOP / "examples/settings.toml"], PLAIN_LIFE)
             yield from shared_program(folder, kind)
@@ -222,8 +220,7 @@ def installed_files(prefix, library):
 
 
 def checks(library):
-    with tempfile.TemporaryDirectory() as name:
-        folder = pathlib.Path(name).resolve()
+    with scratch() as folder:
         done = install(folder / "nothing", folder / "none.a")
         yield "no library", (1, True, False), (done.returncode, b"none.a: no such file" in done.stderr, (folder / "nothing").exists())
         yield from installed_files(folder / "prefix", library)

@@ -26,13 +26,12 @@ import re
 import shlex
 import subprocess
 import sys
-import tempfile
 import zipfile
 
 import openmetrics
 from changed_settings import files_of, judged
 from check_picture import differences
-from playing import TOP, has, play_checks, skip, skip_all
+from playing import TOP, has, play_checks, scratch, skip, skip_all
 from preloading import preloaded
 
 import java
@@ -238,7 +237,7 @@ def policies(jar, classes, pool, folder):
 def portable(jar):
     """What is wanted of the classes and the native library of a jar, and what it is: the page's oldest Java, and no library but that of C."""
     oldest = int(re.search(r"a JDK from version (\d+) on", (java.JAVA / "README.md").read_text())[1])
-    with zipfile.ZipFile(jar) as packed, tempfile.TemporaryDirectory() as folder:
+    with zipfile.ZipFile(jar) as packed, scratch() as folder:
         versions = {int.from_bytes(packed.read(name)[6:8], "big") for name in packed.namelist() if name.endswith(".class")}
         words = ["ldd", packed.extract("libzuphinka_jni.so", folder)]
         loaded = subprocess.run(words, capture_output=True, text=True).stdout
@@ -305,8 +304,7 @@ def checks(library, pool, picture, judge):
     with zipfile.ZipFile(jar) as packed:
         yield "the version", True, f"Implementation-Version: {version()}" in packed.read("META-INF/MANIFEST.MF").decode().splitlines()
     yield from portable(jar)
-    with tempfile.TemporaryDirectory() as name:
-        folder = pathlib.Path(name).resolve()
+    with scratch() as folder:
         classes = folder / "classes"
         sources = sorted((TOP / "tests/java").rglob("*.java"))
         java.compile_classes(sources, classes, jar, java.commons_pool())

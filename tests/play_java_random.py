@@ -14,11 +14,10 @@ import pathlib
 import re
 import subprocess
 import sys
-import tempfile
 import zipfile
 
 from play_java import COUNT, play_with_java
-from playing import TOP
+from playing import TOP, scratch
 
 import java
 from install import heap_of_kit
@@ -48,8 +47,7 @@ def played(pool, path):
 
 def checks(library):
     print(f"commons-pool is version {commons_pool_version()}")
-    with tempfile.TemporaryDirectory() as name:
-        folder = pathlib.Path(name)
+    with scratch() as folder:
         jar, classes = java.build(library, heap_of_kit(), folder / "out"), folder / "classes"
         java.compile_classes(SOURCES, classes, jar, java.commons_pool())
         path = ":".join(map(str, (classes, jar, java.commons_pool())))

@@ -30,7 +30,6 @@ import pathlib
 import re
 import subprocess
 import sys
-import tempfile
 
 import playing
 from argument_rules import version
@@ -38,7 +37,7 @@ from case_files import unpacked, wanted_of
 from play_commands import TOP, blocks, commands
 from play_damaged import Chance
 from play_segments import THREE, damaged_segments, play_trials, segmented
-from playing import differing, write_files
+from playing import differing, scratch, write_files
 from pool_model import LineFault, Pool, read_entry, settings_of, verdict_of_segments, words_of
 from preloading import preloaded, refusals, refusing
 
@@ -121,14 +120,13 @@ def of_change(judge, program, case, places):
     after = due + answered(pool, requests[middle:])
     changed = b"maxTotal = %d\n" % places + re.sub(rb"^maxTotal = .*$", b"", case.settings, flags=re.MULTILINE)
     first, second = "segment-" + "0" * 20, f"segment-{position:020}"
-    with tempfile.TemporaryDirectory() as name:
-        room = pathlib.Path(name)
-        write_files(name, {"settings.toml": case.settings, f"settings-{position:020}.toml": changed, first: before, second: after})
+    with scratch() as room:
+        write_files(room, {"settings.toml": case.settings, f"settings-{position:020}.toml": changed, first: before, second: after})
         (room / "reached").mkdir()
         (room / "judge").symlink_to(pathlib.Path(judge).resolve())
-        found = differing(f"{case.name}, whose settings change", (b"", b"", 0), playing.run("sh", "-c", f"cd {name}; PATH=.:$PATH; {shell_of_page()[-1]}"))
+        found = differing(f"{case.name}, whose settings change", (b"", b"", 0), playing.run("sh", "-c", f"PATH=.:$PATH; {shell_of_page()[-1]}", cwd=room))
         reached = [(room / "reached" / segment).read_bytes() for segment in (first, second)]
-        check = program, "check", *(f"{name}/{file}" for file in ("settings.toml", first, second))
+        check = program, "check", *(room / file for file in ("settings.toml", first, second))
         found += differing(f"{case.name}, checked with both settings", (b"legal %d\n" % pool.position, b"", 0), playing.run(*check))
         (room / f"settings-{position:020}.toml").unlink()
         wanted = wanted_of(verdict_of_segments(settings_of(case.settings.decode()), [before, after]))
@@ -150,7 +148,7 @@ def of_beside(program):
     first = EMPTY + answered(pool, [b"0 1 borrow 1 = make 0"])
     second = b"".join(pool.base()) + answered(pool, [b"0 2 ready 0 good = lent"])
     found = []
-    with tempfile.TemporaryDirectory() as name:
+    with scratch() as name:
         paths = [f"{name}/{file}" for file in ("settings.toml", "segment-0", "segment-1")]
         for text, (output, told, status) in BESIDE.items():
             write_files(name, {"settings.toml": b"", "segment-0": first, "segment-1": second, "settings-1.toml": text})
@@ -158,7 +156,7 @@ def of_beside(program):
             found += differing(f"{text} beside a segment", wanted, playing.run(program, "check", *paths))
         write_files(name, {"settings-0.toml": b"", "settings-1.toml": b"", "settings.toml": b"maxTotal = 0\n"})
         found += differing("settings beside the first segment", (b"legal 2\n", b"", 0), playing.run(program, "check", *paths))
-        loop = pathlib.Path(name, "settings-1.toml")
+        loop = name / "settings-1.toml"
         loop.unlink()
         loop.symlink_to(loop.name)
         wanted = b"", f"pool: cannot open the settings beside {paths[-1]}\n".encode(), 3
@@ -205,8 +203,7 @@ def of_page(judge, cases):
 
 def of_commands(judge, script, job, case):
     """Checks and joins segments by the page's commands. A first one without a base gets the line of the base before all entries."""
-    with tempfile.TemporaryDirectory() as name:
-        room = pathlib.Path(name)
+    with scratch() as room:
         for made in ("archived", "crates/judge/out"):
             (room / made).mkdir(parents=True)
         for place in ("crates/judge/out/judge", "judge"):
@@ -228,7 +225,7 @@ def of_damage(judge, pool, settings):
 
 
 def of_segments(judge, pool, name, settings, segments, legal):
-    with tempfile.TemporaryDirectory() as room:
+    with scratch() as room:
         paths = write_files(room, dict(enumerate(segments)))
         joined = are_joined(segments, reached_by(judge, settings, paths, Chance(len(name))))
         checked = run(pool, "check", settings, *paths)[2] == 0
@@ -278,7 +275,7 @@ def uses(room, settings):
 
 
 def of_uses(judge, settings):
-    with tempfile.TemporaryDirectory() as room:
+    with scratch() as room:
         wrong = [f"{words}: {ended}" for words, told, status in uses(room, settings) if (ended := run(judge, *words)) != (b"", told, status)]
     wrong += [f"{word}: {run(judge, word)}" for word in ("--version", "-V") if run(judge, word) != (version().replace(b"pool", b"judge"), b"", 0)]
     return wrong + [f"{word}: {run(judge, word)}" for word in ("--help", "-h") if not is_help(*run(judge, word))]
@@ -295,7 +292,7 @@ def of_refusals(judge, cases, room):
     library, marks = preloaded("refuse", room), itertools.count()
     for case, settings, paths in itertools.islice(segmented(cases), 12):
         for path, following in zip(paths, texts_of(case)[1:]) if is_legal(case) else ():
-            yield of_refused, [judge, settings, path], base_lines(following), library, pathlib.Path(room) / f"refused-{next(marks)}"
+            yield of_refused, [judge, settings, path], base_lines(following), library, room / f"refused-{next(marks)}"
 
 
 def of_refused(command, wanted, library, mark):
@@ -311,7 +308,7 @@ def of_refused(command, wanted, library, mark):
 
 
 def main(judge, pool, *words):
-    with tempfile.TemporaryDirectory() as room:
+    with scratch() as room:
         cases, (defaults,) = unpacked(room, *words), write_files(room, {"defaults.toml": b""})
         trials = [*of_cases(judge, cases), *of_changes(judge, pool, cases), (of_beside, pool), *of_page(judge, cases), *of_damage(judge, pool, defaults), (of_uses, judge, defaults)]
         return play_trials([*trials, *of_refusals(judge, cases, room)])

@@ -14,11 +14,10 @@ import contextlib
 import os
 import subprocess
 import sys
-import tempfile
 import threading
 
 from case_files import script_of
-from playing import differing, run, tell, write_files
+from playing import differing, run, scratch, tell, write_files
 
 OBJECTS = 4_000
 MOMENTS = 20
@@ -75,7 +74,7 @@ def main(pool):
     journal = "".join(entries()).encode()
     # What is written last may wait for the end of the script.
     last = len(journal) - 2 * 65_536
-    with tempfile.TemporaryDirectory() as folder:
+    with scratch() as folder:
         return tell(wrong(pool, folder, journal, 1 + last * moment // (MOMENTS - 1)) for moment in range(MOMENTS))
 
 

@@ -40,13 +40,12 @@ import re
 import shutil
 import subprocess
 import sys
-import tempfile
 
 import playing
 from case_files import script_of
 from many_objects import segments_of
 from play_cases import wanted_of_script, wanted_of_settings
-from playing import TOP, differing, has, play_unpacked, skip, tell, write_files
+from playing import TOP, differing, has, play_unpacked, scratch, skip, tell, write_files
 from pool_model import cut_at, settings_of
 
 INCLUDE, EXAMPLES = TOP / "bindings/c/include", TOP / "bindings/c/examples"
@@ -86,7 +85,7 @@ def heap():
 
 def compiled(name, library, folder, flags, sources=EXAMPLES):
     """Compiles NAME.c in the folder, links it with the library, and returns its path."""
-    program = pathlib.Path(folder) / name
+    program = folder / name
     program.parent.mkdir(exist_ok=True)
     subprocess.run([compiler(), *FLAGS, "-I", INCLUDE, "-o", program, sources / f"{name}.c", *flags, library, heap()], check=True)
     return program
@@ -113,7 +112,7 @@ def segments(settings, journal, every):
 
 def verdict(pool, settings, parts):
     """What the program says of segments."""
-    with tempfile.TemporaryDirectory() as folder:
+    with scratch() as folder:
         return run(pool, "check", settings, *write_files(folder, dict(enumerate(parts))))
 
 
@@ -136,15 +135,15 @@ def many_differing(play, pool):
     """What differs in a run over many objects."""
     (first, made), (second, parked), (_, asked) = segments_of(settings_of(NO_LIMITS), OBJECTS)[0]
     parts = [first + made, second + parked + asked]
-    with tempfile.TemporaryDirectory() as folder:
+    with scratch() as folder:
         settings, script = write_files(folder, {"settings": NO_LIMITS.encode(), "script": script_of(made + parked + asked)})
         return differing_segments(play, pool, f"{OBJECTS} objects", settings, script, made.count(b"\n"), parts)
 
 
 def long_differing(life, pool, before, rounds):
     """What differs in a long life with a short journal: four entries a round, and four to close the pool."""
-    with tempfile.TemporaryDirectory() as folder:
-        (settings,), made = write_files(folder, {"settings": b"journalLimit = 100\n"}), pathlib.Path(folder) / "made"
+    with scratch() as folder:
+        (settings,), made = write_files(folder, {"settings": b"journalLimit = 100\n"}), folder / "made"
         made.mkdir()
         command = [*before, life, settings, made, str(rounds)]
         found = differing("long_life", (b"", b"", 0), run(*command))
@@ -229,7 +228,7 @@ def odd_runs(life, long, play, folder):
     texts = {"longest": b"#" * (LONGEST_SETTINGS - 1) + b"\n", "longer": b"#" * LONGEST_SETTINGS + b"\n", "short": b""}
     texts |= {"script": b"0 0 add\n0 0 fill\0 0\n0 0 add\n", "early": b"0 0 add\n\0\n0 0 add\n"}
     longest, longer, short, script, early = write_files(folder, texts)
-    segments = pathlib.Path(folder) / "segments"
+    segments = folder / "segments"
     segments.mkdir()
     yield "plain_life, longest settings", [life, longest], (PLAIN_LIFE, b"", 0)
     yield "plain_life, longer settings", [life, longer], (b"", b"plain_life: no pool\n", 1)
@@ -243,7 +242,7 @@ def header_runs(folder, header, body):
     """A header by itself, with a `main` of this body, for compilers of C99, C11 and C++. Names those that are missing."""
     others = [os.environ["CXX"]] if "CXX" in os.environ else ["g++", "clang++"]
     compilers = [(compiler(), "c", standard) for standard in ("c99", "c11")] + [(name, "c++", "c++11") for name in others]
-    source = pathlib.Path(folder) / f"alone_{header}"
+    source = folder / f"alone_{header}"
     source.write_text(f'#include "{header}"\nint main(void) {{ {body} }}\n')
     for name, language, standard in compilers:
         if shutil.which(name):
@@ -255,8 +254,8 @@ def header_runs(folder, header, body):
 
 def ordered_runs(library, folder):
     """Runs of programs that must free an object before they report it, also one that is destroyed when it comes back."""
-    life, long = (compiled(name, library, pathlib.Path(folder) / "ordered", DESTROYING) for name in ("plain_life", "long_life"))
-    settings, segments = pathlib.Path(folder) / "none_idle", pathlib.Path(folder) / "ordered_segments"
+    life, long = (compiled(name, library, folder / "ordered", DESTROYING) for name in ("plain_life", "long_life"))
+    settings, segments = folder / "none_idle", folder / "ordered_segments"
     settings.write_text("maxIdle = 0\n")
     segments.mkdir()
     yield "plain_life destroys first", [life, TOP / "examples" / "settings.toml"], (PLAIN_LIFE, b"", 0)
@@ -278,7 +277,7 @@ def runs(life, play, cases):
 
 
 def main(kind, library, words):
-    with tempfile.TemporaryDirectory() as built:
+    with scratch() as built:
         if kind == "crowd":
             return tell(crowds(compiled("crowd", library, built, REFUSING, TOP / "tests")))
         play = compiled("play", library, built, REFUSING, TOP / "tests")

@@ -12,10 +12,9 @@ Prints each case that differs, and in the end the line 'N passed, M failed'.
 import itertools
 import pathlib
 import sys
-import tempfile
 
 from play_program import FIRST_SEGMENT, PLAIN_LIFE, fault
-from playing import differing, run, side_by_side, tell, write_files
+from playing import differing, run, scratch, side_by_side, tell, write_files
 
 # Words in the place of an input, by what is wrong with their line.
 NO_INPUTS = {
@@ -148,7 +147,7 @@ def differences(pool, folder, number, words, text, wanted):
 
 def main(pool):
     cases = enumerate(itertools.chain(of_scripts(), of_journals(), of_cut_journals(), of_changed_journals()))
-    with tempfile.TemporaryDirectory() as folder:
+    with scratch() as folder:
         write_files(folder, {"defaults": b"", "first": FIRST_SEGMENT})
         return tell(side_by_side(lambda case: differences(pathlib.Path(pool).resolve(), folder, case[0], *case[1]), cases))
 

@@ -17,11 +17,10 @@ import re
 import shutil
 import subprocess
 import sys
-import tempfile
 import zipfile
 
 from play_java import play_with_java
-from playing import NAMED, TOP, has
+from playing import NAMED, TOP, has, scratch
 
 import java
 from install import heap_of_kit, version
@@ -125,8 +124,7 @@ def user(maven, folder):
 
 
 def checks(library):
-    with tempfile.TemporaryDirectory() as name:
-        folder = pathlib.Path(name).resolve()
+    with scratch() as folder:
         maven, project = Maven(folder), java.JAVA / "pom.xml"
         status, output = maven.run(project, "package")
         yield "without a library", (True, True), (status != 0, "-Dzuphinka.library=FILE" in output)

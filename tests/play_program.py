@@ -15,12 +15,11 @@ import pathlib
 import resource
 import shutil
 import sys
-import tempfile
 
 from argument_rules import WRONG, compare, found, refusal, statistics
 from case_files import script_of
 from case_model import STATISTICS
-from playing import run, side_by_side, tell, write_files
+from playing import run, scratch, side_by_side, tell, write_files
 
 MOST = 1_048_576
 
@@ -372,8 +371,7 @@ def found_by_all(program, folder):
 
 
 def main(pool):
-    with tempfile.TemporaryDirectory() as made:
-        folder = pathlib.Path(made)
+    with scratch() as folder:
         write_files(folder, FILES)
         (folder / "folder").mkdir()
         (folder / "unreadable").chmod(0)

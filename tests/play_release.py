@@ -22,12 +22,11 @@ import shutil
 import subprocess
 import sys
 import tarfile
-import tempfile
 
 from check_rust import runs_cargo
 from play_java import BANK, EXAMPLE_JARS, java, portable
 from play_library import PLAIN_LIFE, TOP
-from playing import NO_CARGO, has, play_checks, skip
+from playing import NO_CARGO, has, play_checks, scratch, skip
 
 # The examples in Rust and Java: four servers with fifty requests each, of which each tenth breaks its connection.
 ANSWERED = 4 * 50 * 9 // 10
@@ -260,8 +259,8 @@ def trials(clone, folder):
 
 
 def main(clone):
-    with tempfile.TemporaryDirectory() as name:
-        return play_checks(trials(pathlib.Path(clone).resolve(), pathlib.Path(name).resolve()))
+    with scratch() as folder:
+        return play_checks(trials(pathlib.Path(clone).resolve(), folder))
 
 
 if __name__ == "__main__":

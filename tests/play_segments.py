@@ -19,14 +19,12 @@ Prints each verdict that differs, and in the end the line 'N passed, M failed'.
 """
 
 import os
-import pathlib
 import sys
-import tempfile
 
 from case_files import unpacked, wanted_of
 from measuring import launcher
 from play_damaged import Chance, damaged, journal_by_chance
-from playing import differing, run, side_by_side, tell, write_files
+from playing import differing, run, scratch, side_by_side, tell, write_files
 from pool_model import cut_at, settings_of, verdict_of_segments
 
 # The most segments that are handed to one run.
@@ -74,7 +72,7 @@ def checked_anyhow(name, command, wanted):
 
 def judged(pool, name, settings, segments, verdict, compare=checked):
     """What differs where the segments, written to files, are judged."""
-    with tempfile.TemporaryDirectory() as room:
+    with scratch() as room:
         return compare(name, [pool, "check", settings, *write_files(room, dict(enumerate(segments)))], wanted_of(verdict))
 
 
@@ -135,7 +133,7 @@ def of_damage(pool, settings):
 
 def peak(room, command, on=None):
     """The most memory that a run took, in KiB, and whether it ended well."""
-    note = pathlib.Path(room) / "peak"
+    note = room / "peak"
     done = run(launcher(room), note, *command, preexec_fn=on)
     return int(note.read_text()), done.returncode == 0
 
@@ -144,7 +142,7 @@ def of_memory(pool, settings):
     """What differs in the memory of a thousand segments of 50 entries, and of the first of them alone."""
     read = settings_of("")
     segments = cut_at(read, journal_by_chance(read, 50_000), set(range(50, 50_000, 50)))
-    with tempfile.TemporaryDirectory() as room:
+    with scratch() as room:
         none, *paths = write_files(room, {"none": b"", **dict(enumerate(segments))})
         least, longest = (peak(room, [pool, "check", settings, path])[0] for path in (none, paths[0]))
         (in_turn, is_well), (at_once, are_well) = (peak(room, [pool, "check", settings, *paths], on) for on in (on_one, None))
@@ -161,7 +159,7 @@ def play_trials(trials):
 
 
 def main(pool, *paths):
-    with tempfile.TemporaryDirectory() as room:
+    with scratch() as room:
         cases, (defaults,) = unpacked(room, *paths), write_files(room, {"defaults.toml": b""})
         return play_trials([*of_segmented(pool, cases), *of_cases(pool, cases), *of_damage(pool, defaults), (of_memory, pool, defaults)])
 

@@ -13,12 +13,11 @@ Prints each case that differs, and in the end the line 'N passed, M failed'.
 
 import pathlib
 import sys
-import tempfile
 
 from argument_rules import statistics
 from case_files import script_of
 from many_objects import segments_of
-from playing import differing, run, side_by_side, tell, write_files
+from playing import differing, run, scratch, side_by_side, tell, write_files
 from pool_model import settings_of
 
 LONGEST_TEXT = 1_048_576
@@ -154,13 +153,13 @@ def keys(folder):
 
 def played(pool, part):
     """What differs in each run of a part."""
-    with tempfile.TemporaryDirectory() as folder:
-        return [differing(name, wanted, run(pool, *words, cwd=folder)) for name, words, wanted in part(pathlib.Path(folder))]
+    with scratch() as folder:
+        return [differing(name, wanted, run(pool, *words, cwd=folder)) for name, words, wanted in part(folder)]
 
 
 def load_differences(pool, workers, rounds):
     """What differs in a load. How many objects are made depends on the threads' turns."""
-    with tempfile.TemporaryDirectory() as folder:
+    with scratch() as folder:
         with_limit(folder, 2**32)
         done = run(pool, "load", "limits.toml", str(workers), str(rounds), cwd=folder)
     told = {name: int(number) for name, number in (line.split() for line in done.stdout.decode().splitlines())}

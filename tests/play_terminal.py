@@ -16,11 +16,10 @@ import pty
 import re
 import subprocess
 import sys
-import tempfile
 import threading
 import time
 
-from playing import play_checks
+from playing import play_checks, scratch
 
 ENTRY = b"7 0 use 0 = refused notlent\n"
 # More than is read at once, and longer apart than a second.
@@ -170,8 +169,8 @@ def progress_cases(pool, folder):
 def checks(pool):
     pool = str(pathlib.Path(pool).resolve())
     for cases in progress_cases, hint_cases:
-        with tempfile.TemporaryDirectory() as made:
-            yield from cases(pool, pathlib.Path(made))
+        with scratch() as made:
+            yield from cases(pool, made)
 
 
 if __name__ == "__main__":

@@ -8,13 +8,11 @@ Prints each thing that differs, and in the end the line 'N passed, M failed'.
 """
 
 import os
-import pathlib
 import shutil
 import subprocess
 import sys
-import tempfile
 
-from playing import TOP, play_checks, skip
+from playing import TOP, play_checks, scratch, skip
 
 TRY = TOP / "try"
 RT = """#!/bin/sh
@@ -101,8 +99,8 @@ def with_kit(folder):
 
 def checks():
     for part in with_other_rt, without_rt, with_kit:
-        with tempfile.TemporaryDirectory() as folder:
-            yield from part(pathlib.Path(folder).resolve())
+        with scratch() as folder:
+            yield from part(folder)
 
 
 if __name__ == "__main__":

@@ -15,11 +15,10 @@ import re
 import shutil
 import subprocess
 import sys
-import tempfile
 
 from case_files import unpacked
 from play_cases import TEXT, plays
-from playing import TOP, play_checks, skip_all
+from playing import TOP, play_checks, scratch, skip_all
 
 CASE = re.compile(r"^case=(\S+) run=(\S+)(?: status=(\d+))?.*? output=(\S+) proved=no$", flags=re.MULTILINE)
 # What `rt try` says of a run that ended and wrote what is wanted.
@@ -54,8 +53,8 @@ def played(folder, data):
 
 
 def checks(paths):
-    with tempfile.TemporaryDirectory() as name:
-        room, folder = pathlib.Path(name) / "cases", pathlib.Path(name) / "plays"
+    with scratch() as made:
+        room, folder = made / "cases", made / "plays"
         folder.mkdir()
         chosen = [play for play in plays(unpacked(room, *paths)) if play[1][0] in COMMANDS and TEXT not in play[1]]
         data = {}

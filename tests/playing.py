@@ -2,6 +2,7 @@
 with scripts too, once this is imported."""
 
 import concurrent.futures
+import contextlib
 import os
 import pathlib
 import subprocess
@@ -25,6 +26,13 @@ def run(*words, **options):
     """Runs a program to its end, with nothing on standard input if none is given. A run that takes longer than a minute hangs."""
     streams = dict.fromkeys(("stdout", "stderr"), subprocess.PIPE) | ({} if "input" in options else {"stdin": subprocess.DEVNULL})
     return subprocess.run(words, **{**streams, "timeout": 60, **options})
+
+
+@contextlib.contextmanager
+def scratch():
+    """A temporary folder."""
+    with tempfile.TemporaryDirectory() as name:
+        yield pathlib.Path(name).resolve()
 
 
 def skip(what, reason):
@@ -95,6 +103,6 @@ def play_checks(checks):
 def play_unpacked(paths, plays, differences):
     """Unpacks the cases of each file, or of all files below a folder, makes the `plays` of them side by side, and tells of these. A path without a play
     counts as failed."""
-    with tempfile.TemporaryDirectory() as room:
+    with scratch() as room:
         found = ([*side_by_side(differences, plays(unpacked(room, path)))] or [[f"{path}: no case"]] for path in paths)
         return tell(lines for of_path in found for lines in of_path)

@@ -31,10 +31,9 @@ import os
 import pathlib
 import subprocess
 import sys
-import tempfile
 
 from case_files import case_named, unpack
-from playing import run, tell
+from playing import run, scratch, tell
 from preloading import preloaded, refusals, refusing
 
 FAULTS = {b"pool: out of memory", b"pool: no thread"}
@@ -55,8 +54,8 @@ def is_refused(done, wanted):
 
 def runs(words, wanted, may_end):
     """Each run of a program, and whether it is right."""
-    with tempfile.TemporaryDirectory() as folder:
-        library, mark = preloaded("refuse", folder), pathlib.Path(folder) / "refused"
+    with scratch() as folder:
+        library, mark = preloaded("refuse", folder), folder / "refused"
         done = refusing(library, mark, 0, *words)
         yield 0, done, is_whole(done, wanted)
         for number, done in refusals(library, mark, *words):
@@ -91,8 +90,8 @@ def ended(path, variables):
 def by_chance(path, output_file, seeds):
     """What is wrong with each run of many threads, and which calls were never refused."""
     wanted, refused = pathlib.Path(output_file).read_bytes(), collections.Counter()
-    with tempfile.TemporaryDirectory() as folder:
-        library, mark = preloaded("refuse", folder), pathlib.Path(folder) / "refused"
+    with scratch() as folder:
+        library, mark = preloaded("refuse", folder), folder / "refused"
         for seed in range(int(seeds) + 1):
             mark.unlink(missing_ok=True)
             chance = {"REFUSE_SEED": str(seed), "REFUSE_OF": str(ONE_OF)} if seed else {}
@@ -107,7 +106,7 @@ def by_chance(path, output_file, seeds):
 
 def alone(kind, path, output_file, *arguments):
     """What is wrong with each run of a program that `ends` or `goes-on`, or with a run of a case."""
-    with tempfile.TemporaryDirectory() as folder:
+    with scratch() as folder:
         if kind == "run":
             case = unpack(case_named(output_file), folder)
             output_file, arguments = case / "journal", ["run", case / "settings.toml", case / "script"]

@@ -16,12 +16,11 @@ import dataclasses
 import itertools
 import pathlib
 import sys
-import tempfile
 
 from argument_rules import found, refusal, statistics
 from case_files import CASES, script_of, unpacked, wanted_of
 from play_program import PLAIN_LIFE, fault, load_lines, told
-from playing import side_by_side, write_files
+from playing import scratch, side_by_side, write_files
 from preloading import preloaded, refusals, refusing
 
 # Of the scripts, the statistics, and the journals in segments every such one is played.
@@ -152,8 +151,8 @@ def runs(pool, library, mark, use):
 
 def main(pool):
     passed, failed, pool = 0, 0, pathlib.Path(pool).resolve()
-    with tempfile.TemporaryDirectory() as made:
-        folder, library = pathlib.Path(made), preloaded("refuse", made)
+    with scratch() as made:
+        folder, library = made, preloaded("refuse", made)
         write_files(folder, FILES)
         played = enumerate([*uses(), *uses_of_cases(folder / "cases")])
         for right, wrong in side_by_side(lambda use: runs(pool, library, folder / f"refused{use[0]}", use[1]), played):
