@@ -13,6 +13,8 @@ import re
 import sys
 import textwrap
 
+from playing import tell
+
 FENCE = re.compile(r"^```([^\n]*)\n(.*?)^```$", re.MULTILINE | re.DOTALL)
 LONGEST_README = 150
 # Pages whose blocks of sh are run: tests/play_judge.py.
@@ -33,28 +35,18 @@ def fault_of_block(page, language, block, sources):
     return None if any(plain(block) in source for source in sources) else "no file has it"
 
 
-def main(readme, folders):
+def faults(readme, folders):
+    """What is wrong with each block, and with the README."""
     readme = pathlib.Path(readme)
     sources = [plain(file.read_text()) for folder in folders for kind in ("src/*.rt", "*.c", "*.rs", "*.java") for file in pathlib.Path(folder).glob(kind)]
-    passed, faults = 0, []
     for page in [readme, *sorted((readme.parent / "docs/guide").glob("*.md"))]:
-        blocks = FENCE.findall(page.read_text())
-        if page == readme and not blocks:
-            faults.append(f"{readme} shows no code")
-        for language, block in blocks:
+        for language, block in FENCE.findall(page.read_text()):
             fault = fault_of_block(page, language, block, sources)
-            passed += not fault
-            if fault:
-                faults.append(f"{page}: {fault}:\n{textwrap.dedent(block)}")
-    lines = len(readme.read_text().splitlines())
-    if lines > LONGEST_README:
-        faults.append(f"{readme} has {lines} lines")
-    else:
-        passed += 1
-    print(*faults, sep="\n", end="\n" if faults else "")
-    print(f"{passed} passed, {len(faults)} failed")
-    return 1 if faults else 0
+            yield [f"{page}: {fault}:\n{textwrap.dedent(block)}"] * bool(fault)
+    text = readme.read_text()
+    lines = text.count("\n")
+    yield [f"{readme} shows no code"] * (not FENCE.search(text)) + [f"{readme} has {lines} lines"] * (lines > LONGEST_README)
 
 
 if __name__ == "__main__":
-    sys.exit(main(sys.argv[1], sys.argv[2:]))
+    sys.exit(tell(faults(sys.argv[1], sys.argv[2:])))

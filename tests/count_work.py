@@ -22,7 +22,7 @@ import subprocess
 import sys
 
 from many_objects import segments_of
-from playing import scratch
+from playing import scratch, tell
 from pool_model import settings_of
 from preloading import preloaded
 
@@ -111,18 +111,14 @@ class Counter:
     def __init__(self, pool, folder):
         self.pool, self.folder = pool, folder
         self.library, self.file = preloaded("count", folder), folder / "counted"
-        self.passed = self.failed = 0
+        self.found = []
         # The allocations of clap that were counted, by the command.
         self.clap = {}
         self.environment = {"LD_PRELOAD": str(self.library), "COUNTED": str(self.file)}
         (folder / "settings.toml").write_text(NO_LIMITS)
 
     def expect(self, name, number, least, most):
-        if least <= number <= most:
-            self.passed += 1
-        else:
-            self.failed += 1
-            print(f"{name}: {number} is not from {least} to {most}")
+        self.found.append([f"{name}: {number} is not from {least} to {most}"] * (not least <= number <= most))
 
     def counted(self):
         """The numbers of the last run, by their names."""
@@ -323,8 +319,7 @@ def main(pool, tally):
         play_side_by_side(counter)
         play_lost(counter)
         play_cuts(counter, str(pathlib.Path(tally).resolve()))
-    print(f"{counter.passed} passed, {counter.failed} failed")
-    return 1 if counter.failed else 0
+    return tell(counter.found)
 
 
 if __name__ == "__main__":

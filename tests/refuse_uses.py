@@ -20,7 +20,7 @@ import sys
 from argument_rules import found, refusal, statistics
 from case_files import CASES, script_of, unpacked, wanted_of
 from play_program import PLAIN_LIFE, fault, load_lines, told
-from playing import scratch, side_by_side, write_files
+from playing import scratch, side_by_side, tell, write_files
 from preloading import preloaded, refusals, refusing
 
 # Of the scripts, the statistics, and the journals in segments every such one is played.
@@ -140,26 +140,23 @@ def is_refused(use, answer):
 
 
 def runs(pool, library, mark, use):
-    """How many runs of the use were right, and what is told of the others. In some run memory must have run out."""
+    """What is told of each run of the use: nothing if it was right. In some run memory must have run out."""
     options = {"input": use.given, "cwd": mark.parent}
     all_runs = itertools.chain([(0, refusing(library, mark, 0, pool, *use.arguments, **options))], refusals(library, mark, pool, *use.arguments, **options))
     answers = [(number, found(done)) for number, done in all_runs]
     refused = {number for number, answer in answers[1:] if is_refused(use, answer)}
     wrong = [f"{use.arguments}: allocation {number}: {answer}" for number, answer in answers if number not in refused and answer != use.answer]
-    return len(answers) - len(wrong), wrong + [f"{use.arguments}: no allocation was missed"] * (not refused)
+    return [[]] * (len(answers) - len(wrong)) + [[line] for line in [*wrong, *[f"{use.arguments}: no allocation was missed"] * (not refused)]]
 
 
 def main(pool):
-    passed, failed, pool = 0, 0, pathlib.Path(pool).resolve()
-    with scratch() as made:
-        folder, library = made, preloaded("refuse", made)
+    pool = pathlib.Path(pool).resolve()
+    with scratch() as folder:
+        library = preloaded("refuse", folder)
         write_files(folder, FILES)
         played = enumerate([*uses(), *uses_of_cases(folder / "cases")])
-        for right, wrong in side_by_side(lambda use: runs(pool, library, folder / f"refused{use[0]}", use[1]), played):
-            passed, failed = passed + right, failed + len(wrong)
-            print(*wrong, sep="\n", end="\n" * bool(wrong))
-    print(f"{passed} passed, {failed} failed")
-    return 1 if failed else 0
+        found = side_by_side(lambda use: runs(pool, library, folder / f"refused{use[0]}", use[1]), played)
+        return tell(itertools.chain.from_iterable(found))
 
 
 if __name__ == "__main__":
