@@ -17,28 +17,20 @@ from playing import TOP, run
 
 
 THERE = "there"
-
 COMMANDS = ["run", "check", "stats", "load"]
-
 # Words of a list: commands, a path with a file, paths without one, options, bundles, and numbers, of which the last three are bad.
 WORDS = [
     *COMMANDS, "help", THERE, "", "-", "--", "--help", "-h", "--version", "-V", f"--settings={THERE}", "-x", "-hx",
     "1", "0", "4294967296", "01", "+1", "18446744073709551616",
 ]
-
 # Words of a random list. Those that stand here more than once make more of the lists name a task.
 RANDOM_WORDS = WORDS + [THERE] * 8 + ["1"] * 6 + ["--"] * 4
-
 # All lists of at most SHORT words are run, and RANDOM_LISTS longer ones.
 SHORT, LONG, RANDOM_LISTS, SEED = 3, 6, 4000, 20
-
 OPERANDS = {"run": 2, "stats": 1, "load": 3}
-
 MOST_WORKERS, MOST_ROUNDS = 1023, 1_000_000
-
 # The uses of the program stand in the place of its output if the words ask for help.
 USES = b"the uses"
-
 WRONG = b"pool: wrong arguments\n"
 
 

@@ -18,7 +18,6 @@ from case_model import SHORT, STATISTICS
 
 TOP = pathlib.Path(__file__).resolve().parent.parent
 CASES = TOP / "tests/cases"
-
 # The keys of a case in their order, a space after each.
 ORDER = re.compile(
     r"settings answer |(settings )?"

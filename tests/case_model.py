@@ -17,11 +17,9 @@ RANGES = {
 # These are obeyed by the callers of a pool, and change no answer.
 OF_CALLERS = {"testOnBorrow", "testOnCreate", "testOnReturn"}
 KEYS = {*DEFAULTS, *OF_CALLERS, "abandoned"}
-
 # Characters that a line shows otherwise, if one of them is a control character.
 SHORT = {"\b": "\\b", "\t": "\\t", "\n": "\\n", "\f": "\\f", "\r": "\\r", "\\": "\\\\"}
 CONTROL = re.compile(r"[\x00-\x1f\x7f]")
-
 STATISTICS = ("borrowed", "returned", "created", "destroyed", "evicted", "borrowtestfailed", "reclaimed", "longest", "total")
 
 

@@ -30,7 +30,6 @@ changed = [[1, 1, "0 0 add = wait\\n"]]
 verdict = "illegal 0 make 0"
 """
 SEGMENTS = '[one]\nsegments = ["0 0 add = make 0\\\\n"]\nstatistics = [{created = 1}]\n'
-
 # Edits of that file, each with a part of the error.
 FAULTS = (
     ("[one]\n", "", "settings: no case has the keys"),
@@ -59,8 +58,6 @@ FAULTS = (
     (GOOD, "[one]\n", "no case has the keys none"),
     (GOOD, "# A heading.\n", "no case"),
 )
-
-
 # A script before its answers are made, and with them.
 NEW = """
 [new]
@@ -87,7 +84,6 @@ rest = '''
 error = "pool: line 3: not a line"
 statistics = {created = 1}
 """
-
 # Cases for which nothing can be made, with their errors.
 NOT_MADE = (
     (NEW.replace("maxTotal", "maxTotl"), "the program does not take the settings: pool: settings: unknown key maxTotl"),

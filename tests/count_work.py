@@ -28,40 +28,28 @@ from preloading import preloaded
 
 # The buffer for what comes, that for what waits to be written, and the longest line. At most so many bytes less are read at once.
 BUFFER = 65_536
-
 LINE = 256
-
 # The longest settings file with one byte more, for which there is room while it is read.
 SETTINGS = 1_048_577
-
 # An object: the seven numbers and marks of its record, its value with the mark whether there is one, and its two links in the
 # queue, whose marks share a word; and its place in the index: its id, its key, and a mark.
 OBJECT = (7 + 2 + 3) * 8 + 3 * 8
-
 # A list has room for so many at first, and for twice as many each time that it is full.
 FIRST = 4
-
 # A list of bytes has room for so many at first.
 BYTES = 8
-
 # How many objects stand at least in a node of the map of those in the queue, and at most.
 NODE = 7, 15
-
 # The allocations of clap for each command: it builds the program's command with its subcommands, and then reads the words. A count must be
 # within a quarter of its number.
 CLAP = {"run": 63, "check": 64, "stats": 56, "load": 73}
-
 # For several journals clap allocates at most this more for each time that their number doubles.
 CLAP_MORE = 4
-
 # The calls of TALLY, in their order.
 CALLS = ["step", "cut", "read", "print", "open", "goon"]
-
 # How many files stay open until the check ends.
 KEPT = 500
-
 NO_LIMITS = "journalLimit = 4294967296\nmaxTotal = -1\nmaxIdle = -1\n"
-
 NAMES = "borrowed returned created destroyed evicted borrowtestfailed reclaimed longest total".split()
 
 

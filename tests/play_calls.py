@@ -41,13 +41,10 @@ LONGEST = 120
 MANY = 100
 # How many commands before a difference are shown.
 SHOWN = 8
-
 # The settings that the model of the pool's answers does not know.
 OF_CALLS = {"journalLimit": 1_000_000, "testOnBorrow": False, "testOnCreate": False, "testOnReturn": False}
 HOOKS = ("activates", "validates", "passivates")
-
 REPORTS = sorted({report for reports in FITTING.values() for report in reports} | {"given-up"})
-
 # How each kind of call can end.
 OF_FACTORY = "make-failed create-test-failed passivate-failed"
 ENDS = {
@@ -82,7 +79,6 @@ WANTED.update(f"{kind} {end}" for kind, ends in ENDS.items() for end in [*ends.s
 # The calls that are made most. The others are given up, and fail in the factory, so many times as likely; and at most how likely.
 FREQUENT, RARE = ("borrow", "return"), 5
 MOST_LIKELY = 0.4
-
 # The first lines of a script, and scripts with an error, each with what is told of it.
 POOL = "\npool 1 no no no no\n"
 REFUSED = {

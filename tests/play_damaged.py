@@ -20,9 +20,7 @@ from playing import differing, run, scratch, tell, write_files
 from pool_model import Journal, Pool, settings_of, words_of
 
 LENGTH = 10_000
-
 WAYS = 10_000
-
 # All kinds of inputs have something to do: objects are evicted, tested, forgotten, and the pool closes near the end.
 SETTINGS = """maxTotal = 6
 maxIdle = 4

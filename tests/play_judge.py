@@ -241,7 +241,6 @@ SETTINGS = {
     "type.toml": (b"lifo = 1\n", "settings: wrong type lifo"),
     "range.toml": (b"minIdle = -1\n", "settings: out of range minIdle"),
 }
-
 # .. and what `judge SETTINGS FILE` prints of those that are no legal segment, with the status.
 SEGMENTS = {
     "gone": (THREE[0].replace(b"check", b"gone"), "illegal 2", 1),
@@ -251,7 +250,6 @@ SEGMENTS = {
     "long": (b"a" * 300, "line 1: line too long", 3),
     "cut": (THREE[0][:-1], f"line {THREE[0].count(10)}: truncated", 3),
 }
-
 WRONG = b"judge: wrong arguments, try judge --help\n"
 
 

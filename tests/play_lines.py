@@ -24,7 +24,6 @@ NO_INPUTS = {
     ],
     "bad number": [b"use 01", b"invalidate 00", b"added 00 x", b"tested 18446744073709551616 good"],
 }
-
 # Words in the place of an answer.
 NO_ANSWERS = {
     "not a line": [
@@ -33,7 +32,6 @@ NO_ANSWERS = {
     ],
     "bad number": [b"count 01", b"count 18446744073709551616", b"keptidle 01", b"reclaimed 00"],
 }
-
 # Lines of a script.
 NO_REQUESTS = {
     "not a line": [b"0 1 borrow\n", b"0  1 close\n", b"0 1 borrow 2 \n"],
@@ -41,7 +39,6 @@ NO_REQUESTS = {
     "truncated": [b"0 1 close"],
     "line too long": [b"a" * 300],
 }
-
 # Lines of a journal. The longest line has 256 bytes with its line feed.
 NO_ENTRIES = {
     "not a line": [b"0 10 borrow 10\n", b"0 10 borrow 10 make 0\n", b"0 10 borrow 10 = make\n", b"a" * 255 + b"\n"],
@@ -49,7 +46,6 @@ NO_ENTRIES = {
     "truncated": [b"0 1 close", b"a" * 255],
     "line too long": [b"a" * 256],
 }
-
 # First lines of a base.
 NO_FIRST_LINES = {
     "not a line": [
@@ -64,10 +60,8 @@ NO_FIRST_LINES = {
     ],
     "truncated": [b"pool-journal", b"pool-journal 2 4 1 open"],
 }
-
 # A first line, and lines in the place of the object that comes after it.
 FIRST_LINE = b"pool-journal 2 4 1 open none 0 0 0 1\n"
-
 NO_OBJECTS = {
     "not a line": [
         b"0 adding 0 0 0  new\n", b"1 40 ready 0 good = lent\n", b"0 0 borrow 0 = take 0\n", b"0 gone 0 0 0 0 old\n", b"0 absent 0 0 0 0 old\n",
@@ -76,14 +70,12 @@ NO_OBJECTS = {
     "bad number": [b"0 idle 03 0 0 0 old\n", b"18446744073709551616 idle 3 0 0 0 old\n"],
     "truncated": [b""],
 }
-
 # Journals with a line at fault behind others: its number, and what is wrong with it.
 BEHIND_OTHERS = [
     (b"0 10 borrow 10 = make 0\n0 11 ready 00 good = lent\n", 2, "bad number"),
     (FIRST_LINE + b"0 idle 3 0 0 0 old\n0 idle 3 0 0 0 old\n", 3, "not a line"),
     (b"0 10 borrow 10 = make 0\npool-journal 2 0 0 open none 0 0 0 0\n", 2, "not a line"),
 ]
-
 # Scripts with a line at fault behind others: how many lines of PLAIN_LIFE are answered before, and what is wrong with the next.
 SCRIPTS = [
     (b"0 10 borrow 10\n0 11 ready 0 good\n0 15 return 00\n", 2, "bad number"),

@@ -22,9 +22,7 @@ from case_model import STATISTICS
 from playing import run, scratch, side_by_side, tell, write_files
 
 MOST = 1_048_576
-
 LITTLE_MEMORY = 1 << 30
-
 # The most rounds that docs/guide/program.md says the default limit holds for one worker; and loads of several: settings, workers, rounds of each, and
 # the most objects.
 MOST_ROUNDS = 249_999
@@ -32,13 +30,11 @@ MANY_WORKERS = [
     ("four_objects.toml", 4, 10, 4), ("small.toml", 3, 7, 1), ("defaults.toml", 100, 3, 8), ("defaults.toml", 8, 249_995 // 8, 8),
     ("defaults.toml", 9, 199_996 // 9, 8),
 ]
-
 PLAIN_LIFE = b"""0 10 borrow 10 = make 0
 0 11 ready 0 good = lent
 0 15 return 0 = check
 0 16 park 0 good = parked
 """
-
 FILES = {
     "defaults.toml": b"", "small.toml": b"maxTotal = 1\n", "two_entries.toml": b"journalLimit = 2\n", "seven_entries.toml": b"journalLimit = 7\n",
     "four_objects.toml": b"maxTotal = 4\n", "no_objects.toml": b"maxTotal = 0\nblockWhenExhausted = false\n",
@@ -51,9 +47,7 @@ FILES = {
     "illegal.journal": PLAIN_LIFE.replace(b"check", b"parked"), "long_line": b"a" * 300, "not_a_line": b"0 1 borrow\n",
     "bad_number": b"0 1 borrow 01\n", "truncated": b"0 1 borrow 1",
 }
-
 TWO_BORROWS = b"0 0 borrow 0 = make 0\n1 5 borrow 5 = wait\n"
-
 # What the default settings answer: 8 objects, the last one parked first, an eviction of those idle for half an hour.
 DEFAULT_ANSWERS = b"".join(
     [
@@ -65,16 +59,13 @@ DEFAULT_ANSWERS = b"".join(
         b"0 1800002 borrow 0 = take 7\n",
     ]
 )
-
 # Paths and what is told of those that can't be opened.
 TOLD_PATHS = {
     " defaults.toml": " defaults.toml", "defaults.toml ": "defaults.toml ", "": "", " ": " ", "no\nsuch file": "no\\nsuch file",
     "\x1b[2J": "\\u001B[2J", "a\\b": "a\\b", "a\\b\n": "a\\\\b\\n", "\t\r\x08\x0c\x01\x1f\x7f": "\\t\\r\\b\\f\\u0001\\u001F\\u007F",
     "pool: out of memory\npool: x": "pool: out of memory\\npool: x", "\x85\u2028": "\x85\u2028", "\"'": "\"'",
 }
-
 NOBODY = 65534
-
 WRONG_ARGUMENTS = [
     "play", "replay", "journal", "settings", "counts", "run ", " run", "ru", "nonsense", "RUN", "", "-", "--", "-x", "version", "Version",
     "run", "check", "Help", "--help=run", "-help", "run help", "runs", "--version=1", "-Vx", "-- --version", "-- -V",
@@ -99,14 +90,10 @@ WRONG_ARGUMENTS = [
     # Some that ask for the version and not for help.
     "--version", "-V", "--version run", "-V run defaults.toml plain.script", "--version help", "--version --", "-V -x", "--version --version",
 ]
-
 # Words that are no numbers of the format. They are told before any file is opened.
 NO_NUMBERS = ["", " ", "x", "01", "00", "+1", "1.0", "1e3", "0x1", "1_000", " 1", "1 ", "\u0661", "18446744073709551616", "9" * 300]
-
 NO_WORKERS = ["4294967296", "18446744073709551615"]
-
 NOT_TEXT = [[b"\xff"], [b"run", b"\xff", b"plain.script"], [b"run", b"defaults.toml", b"\xc3"], [b"check", b"\xe2\x82", b"plain.journal"]]
-
 SETTINGS_FAULTS = {
     "too_long.toml": "settings: too long",
     "not_utf8.toml": "settings: not TOML",
@@ -124,7 +111,6 @@ SETTINGS_FAULTS = {
     "n" * 300: "cannot open " + "n" * 300,
     "folder": "read failed",
 }
-
 LINE_FAULTS = {"long_line": "line too long", "not_a_line": "not a line", "bad_number": "bad number", "truncated": "truncated"}
 
 
@@ -239,9 +225,7 @@ def settings_faults():
 
 # A journal of five entries in two segments.
 FIRST_SEGMENT = b"0 0 borrow 0 = make 0\n0 0 ready 0 good = lent\n0 0 return 0 = check\n0 0 park 0 good = parked\n"
-
 SECOND_SEGMENT = b"pool-journal 2 4 1 open none 0 0 0 1\n0 idle 3 0 0 0 old\n0 0 borrow 0 = take 0\n"
-
 # What is answered to segments, one after the other.
 SEGMENTS = [
     ([FIRST_SEGMENT], (b"legal 4\n", b"", 0)),

@@ -31,7 +31,6 @@ from pool_model import cut_at, settings_of, verdict_of_segments
 MOST_SEGMENTS = 400
 # How many files the program judges side by side for each processor.
 FILES_PER_PROCESSOR = 4
-
 THREE = [
     b"""pool-journal 2 0 0 open none 0 0 0 0
 0 10 borrow 10 = make 0

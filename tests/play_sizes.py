@@ -21,24 +21,17 @@ from playing import differing, run, scratch, side_by_side, tell, write_files
 from pool_model import settings_of
 
 LONGEST_TEXT = 1_048_576
-
 LINES = [1, 2, 10, 100, 1_000, 4_096, 10_000, 65_535, 65_536, 65_537, 100_001, 300_000, 1_048_577, 1_200_000]
-
 OBJECTS = [1, 2, 9, 100, 1_023, 1_025, 2_001, 4_097, 10_000, 32_769, 65_537, 100_000]
-
 # So many objects are examined in turn, until so many are, for each number of tests of a run: of -n the n-th part, rounded up; of n that many, but no
 # more than there are.
 EVICTED, EXAMINED = 1_000, 2_500
 TESTS_OF_A_RUN = {1: 1, 7: 7, -1: 1_000, -3: 334, 2_147_483_647: 1_000, -2_147_483_648: 1}
-
 CLEARED = [1_000, 100_000]
-
 # The objects of a base.
 RECORDS = [2, 9, 1_025, 10_000, 100_000]
-
 # Workers, and rounds of each.
 LOADS = [(1, 1), (1, 16_385), (1, 300_000), (2, 65_537), (4, 40_000), (7, 2_049), (100, 257), (1_023, 20)]
-
 NO_LIMITS = "journalLimit = 4294967296\nmaxTotal = -1\nmaxIdle = -1\n"
 
 

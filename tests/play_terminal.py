@@ -51,12 +51,10 @@ FILES = {
     "number": b"0 1 borrow 01 = wait\n",
     "cut": LIFE[:-1],
 }
-
 USES = "try pool --help"
 SWAPPED = "this is a script or a journal: SETTINGS comes first"
 LIMIT = "a larger journalLimit in the settings makes room"
 ANSWERED = "this line of a journal has an answer: pool check and pool stats take a journal"
-
 # Words, and the lines of the error at a terminal. Each but the first is a hint.
 HINTS = [
     ("play", ["wrong arguments", USES]),

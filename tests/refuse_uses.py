@@ -25,10 +25,8 @@ from preloading import preloaded, refusals, refusing
 
 # Of the scripts, the statistics, and the journals in segments every such one is played.
 EACH = 4
-
 # Longer scripts take the same allocations, and more time.
 LONGEST = 20_000
-
 FILES = {
     "a.toml": b"maxTotal = 4\n", "all.toml": b"lifo = true\nmaxIdle = 3\nminIdle = 1\n[abandoned]\nremoveAbandonedOnBorrow = true\n",
     "key.toml": b"'a long key that no setting has' = 1\n", "table.toml": b"[abandoned]\nnone = 1\n", "type.toml": b"lifo = 1\n",
@@ -36,8 +34,6 @@ FILES = {
     "two.toml": b"journalLimit = 2\n", "seven.toml": b"journalLimit = 7\n", "script": script_of(PLAIN_LIFE), "journal": PLAIN_LIFE,
     "illegal": PLAIN_LIFE.replace(b"check", b"gone"), "bad": b"0 1 borrow 01\n", "empty": b"", "segment-0": PLAIN_LIFE, "settings-0.toml": b"lifo = true\n",
 }
-
-
 STATISTICS = statistics(1, 1, 1, 0, 0, 0, 0, 4, 4)
 LOAD = load_lines(1, 1, 0, 1, 1, 1, 1, 0, 0, 0, 1, 1)
 

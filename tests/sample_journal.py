@@ -25,7 +25,6 @@ testOnBorrow = true
 removeAbandonedOnMaintenance = true
 removeAbandonedTimeoutMillis = 25000
 """
-
 CALLERS, KEEPER, END = 30, 0, 300_000
 BURSTS = [(60_000, 95_000), (180_000, 235_000)]
 MAINTENANCE = 5_000
