@@ -50,7 +50,6 @@ CALLS = ["step", "cut", "read", "print", "open", "goon"]
 # How many files stay open until the check ends.
 KEPT = 500
 NO_LIMITS = "journalLimit = 4294967296\nmaxTotal = -1\nmaxIdle = -1\n"
-NAMES = "borrowed returned created destroyed evicted borrowtestfailed reclaimed longest total".split()
 
 
 def room(count, first=FIRST):

@@ -33,7 +33,6 @@ ANSWERED = 4 * 50 * 9 // 10
 THREADS, ROUNDS = 4, 500
 # A run that takes longer hangs, in seconds.
 LONGEST = 1200
-PROGRAMS = ("pool", "judge", "journal_picture")
 LIBRARIES = ("lib/libzuphinka.a", "lib/libzuphinka.so", "rust/zuphinka/lib/libzuphinka.a")
 TAMPERED = (*LIBRARIES, "bin/pool", "include/zuphinka.h", "rust/zuphinka/src/lib.rs", "LICENSE")
 JAR = "java/zuphinka.jar"
