@@ -35,17 +35,16 @@ WRONG = b"pool: wrong arguments\n"
 
 
 def version():
-    """The line that the program prints for its version, which is that of the Rust crate."""
-    text = (TOP / "bindings/rust/Cargo.toml").read_text()
-    return b"pool " + re.search(r'^version = "(.*)"$', text, re.MULTILINE)[1].encode() + b"\n"
+    """The line that the program prints for its version."""
+    return b"pool " + (TOP / "VERSION").read_bytes()
 
 
 def operands_of(words):
     """The operands among the words after the command, or None if one of them is an option."""
-    before, dashes, after = words, [], []
+    before, after = words, []
     if "--" in words:
         at = words.index("--")
-        before, dashes, after = words[:at], words[at : at + 1], words[at + 1 :]
+        before, after = words[:at], words[at + 1 :]
     if any(len(word) > 1 and word[0] == "-" for word in before):
         return None
     return before + after

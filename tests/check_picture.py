@@ -298,8 +298,7 @@ def argument_differences(program, folder):
     named = folder / "a\nb"
     for words, status, message in [*ARGUMENTS, ([named], 3, f"journal_picture: {folder}/a\\nb: cannot open the journal\n")]:
         yield from differing(f"{words}", (b"", message.encode(), status), run(program, *words))
-    version = re.search(r'^version = "(.*)"$', (TOP / "bindings/rust/Cargo.toml").read_text(), re.MULTILINE)[1]
-    starts = dict.fromkeys(["--version", "-V"], f"journal_picture {version}\n") | dict.fromkeys(["--help", "-h"], "journal_picture JOURNAL..")
+    starts = dict.fromkeys(["--version", "-V"], f"journal_picture {(TOP / 'VERSION').read_text()}") | dict.fromkeys(["--help", "-h"], "journal_picture JOURNAL..")
     for word, start in starts.items():
         done = run(program, word)
         if (done.returncode, done.stderr) != (0, b"") or not done.stdout.decode().startswith(start):

@@ -17,7 +17,6 @@ Prints what fails, and in the end the line 'N passed, M failed'.
 import os
 import pathlib
 import re
-import shutil
 import subprocess
 import sys
 import tomllib
@@ -27,9 +26,11 @@ import openmetrics
 from case_files import CASES, unpacked
 from playing import NO_CARGO, TOP, has, scratch, skip_all, tell
 
+from contest import REGISTRY, runs_cargo
+
 CRATE = TOP / "bindings/rust"
-# The tests under tokio, and where Debian has its source.
-TRIAL, REGISTRY = TOP / "tests/tokio_trial", pathlib.Path("/usr/share/cargo/registry")
+# The tests under tokio.
+TRIAL = TOP / "tests/tokio_trial"
 RESULT = re.compile(r"^test result: \w+\. (\d+) passed; (\d+) failed;", flags=re.MULTILINE)
 # The types of C that the binding has; a token is a pointer in C.
 TYPES = {"u64": "uint64_t", "u32": "uint32_t", "i64": "int64_t", "i32": "int32_t", "usize": "void", "*mut u8": "void"}
@@ -49,11 +50,6 @@ MEASURED = 80_000
 def cargo(environment, *words, package=CRATE):
     command = ["cargo", *words, "--offline"]
     return subprocess.run(command, cwd=package, env=environment, capture_output=True, text=True, timeout=LONGEST)
-
-
-def runs_cargo():
-    """Whether there is a cargo, with a toolchain."""
-    return shutil.which("cargo") is not None and subprocess.run(["cargo", "--version"], capture_output=True).returncode == 0
 
 
 def run_tests(environment, *options, package=CRATE):

@@ -45,11 +45,11 @@ import playing
 from case_files import script_of
 from many_objects import segments_of
 from play_cases import wanted_of_script, wanted_of_settings
+from play_program import PLAIN_LIFE
 from playing import TOP, differing, has, play_unpacked, scratch, skip, tell, write_files
 from pool_model import cut_at, settings_of
 
 INCLUDE, EXAMPLES = TOP / "bindings/c/include", TOP / "bindings/c/examples"
-PLAIN_LIFE = b"0 10 borrow 10 = make 0\n0 11 ready 0 good = lent\n0 15 return 0 = check\n0 16 park 0 good = parked\n"
 FLAGS = ["-std=c11", "-O2", "-Wall", "-Wextra", "-Werror"]
 STRICT = ["-fsyntax-only", "-Wall", "-Wextra", "-Wshadow", "-Wpedantic", "-Werror"]
 REFUSING = ["-Wl,--wrap=malloc", "-Wl,--wrap=realloc"]

@@ -338,7 +338,8 @@ def many_workers(program, folder, settings, workers, rounds, most):
     done = run(program, "load", settings, str(workers), str(rounds), cwd=folder)
     numbers = {name: int(number) for name, number in (line.split(" ") for line in done.stdout.decode().splitlines())}
     every, made = workers * rounds, numbers.get("created", 0)
-    wanted = {"workers": workers, "rounds": rounds, "refused": 0, "borrowed": every, "returned": every, "destroyed": made}
+    wanted = {"workers": workers, "rounds": rounds, "borrowed": every, "returned": every, "destroyed": made}
+    wanted |= dict.fromkeys(("refused", "evicted", "borrowtestfailed", "reclaimed"), 0)
     is_right = [*numbers] == ["workers", "rounds", "refused", *STATISTICS] and wanted.items() <= numbers.items() and 1 <= made <= most
     return [] if is_right and (done.stderr, done.returncode) == (b"", 0) else [f"load {settings} {workers} {rounds}: {done}"]
 

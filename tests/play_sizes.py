@@ -17,6 +17,7 @@ import sys
 from argument_rules import statistics
 from case_files import script_of
 from many_objects import segments_of
+from play_program import many_workers
 from playing import differing, run, scratch, side_by_side, tell, write_files
 from pool_model import settings_of
 
@@ -154,12 +155,7 @@ def load_differences(pool, workers, rounds):
     """What differs in a load. How many objects are made depends on the threads' turns."""
     with scratch() as folder:
         with_limit(folder, 2**32)
-        done = run(pool, "load", "limits.toml", str(workers), str(rounds), cwd=folder)
-    told = {name: int(number) for name, number in (line.split() for line in done.stdout.decode().splitlines())}
-    wanted = {"workers": workers, "rounds": rounds, **dict.fromkeys(("borrowed", "returned"), workers * rounds)}
-    wanted |= dict.fromkeys(("refused", "evicted", "borrowtestfailed", "reclaimed"), 0)
-    is_right = wanted.items() <= told.items() and told["created"] == told["destroyed"] and 1 <= told["created"] <= workers
-    return [] if is_right and (done.stderr, done.returncode) == (b"", 0) else [f"{workers} workers, {rounds} rounds: {done}"]
+        return many_workers(pool, folder, "limits.toml", workers, rounds, workers)
 
 
 def main(pool):

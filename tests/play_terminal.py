@@ -19,6 +19,7 @@ import sys
 import threading
 import time
 
+from play_program import PLAIN_LIFE
 from playing import play_checks, scratch
 
 ENTRY = b"7 0 use 0 = refused notlent\n"
@@ -28,11 +29,6 @@ PAUSE = 1.2
 WIPED = b"\r\x1b[K"
 NOTHING = re.compile(b"")
 TOLD = re.compile(rb"(\rpool: \d+ MB)+" + re.escape(WIPED))
-LIFE = b"""0 10 borrow 10 = make 0
-0 11 ready 0 good = lent
-0 15 return 0 = check
-0 16 park 0 good = parked
-"""
 SEGMENT = b"pool-journal 2 4 1 open none 0 0 0 1\n0 idle 3 16 11 11 old\n0 20 borrow 20 = take 0\n"
 FILES = {
     "defaults.toml": b"",
@@ -41,15 +37,15 @@ FILES = {
     "key.toml": b"maxTotal = 1\nmaxTotl = 8\n",
     "bytes.toml": b"lifo = true # \xff\n",
     "script": b"0 0 borrow 0\n",
-    "journal": LIFE,
+    "journal": PLAIN_LIFE,
     "segment": SEGMENT,
-    "joined": LIFE + SEGMENT,
-    "returns": LIFE.replace(b"\n", b"\r\n"),
+    "joined": PLAIN_LIFE + SEGMENT,
+    "returns": PLAIN_LIFE.replace(b"\n", b"\r\n"),
     "two\nlines": b"x\n",
     "worse": SEGMENT + b"x\n",
     "long": b"a" * 300,
     "number": b"0 1 borrow 01 = wait\n",
-    "cut": LIFE[:-1],
+    "cut": PLAIN_LIFE[:-1],
 }
 USES = "try pool --help"
 SWAPPED = "this is a script or a journal: SETTINGS comes first"
@@ -106,32 +102,27 @@ def read_all(end):
     return told
 
 
+def ended(command, folder, at_terminal):
+    """What a program writes to standard output, and to standard error, which is a terminal or a pipe, and its status."""
+    ours, theirs = pty.openpty() if at_terminal else os.pipe()
+    run = subprocess.Popen(command, cwd=folder, stdin=subprocess.DEVNULL, stdout=subprocess.PIPE, stderr=theirs)
+    os.close(theirs)
+    told = read_all(ours)
+    os.close(ours)
+    return run.communicate(timeout=60)[0], told, run.returncode
+
+
 def judge(pool, folder, pieces, last, at_terminal):
-    """What the program writes to standard output and to standard error, and its status."""
+    """How the program ends that checks a journal which comes slowly."""
     journal = folder / "journal"
     journal.unlink(missing_ok=True)
     os.mkfifo(journal)
     (folder / "defaults.toml").write_text("")
     feeder = threading.Thread(target=feed, args=(journal, pieces, last))
     feeder.start()
-    ours, theirs = pty.openpty() if at_terminal else os.pipe()
-    run = subprocess.Popen([pool, "check", "defaults.toml", "journal"], cwd=folder, stdout=subprocess.PIPE, stderr=theirs)
-    os.close(theirs)
-    told = read_all(ours)
-    output = run.communicate()[0]
+    found = ended([pool, "check", "defaults.toml", "journal"], folder, at_terminal)
     feeder.join()
-    return output, told, run.returncode
-
-
-def used(pool, folder, words, at_terminal):
-    """What the program writes to standard error if it is used with these words."""
-    ours, theirs = pty.openpty() if at_terminal else os.pipe()
-    run = subprocess.Popen([pool, *words.split(" ")], cwd=folder, stdin=subprocess.DEVNULL, stdout=subprocess.DEVNULL, stderr=theirs)
-    os.close(theirs)
-    told = read_all(ours)
-    os.close(ours)
-    run.wait(60)
-    return told
+    return found
 
 
 def hint_cases(pool, folder):
@@ -141,8 +132,9 @@ def hint_cases(pool, folder):
     (folder / "folder").mkdir()
     for words, (first, *hints) in HINTS:
         lines = [f"pool: {first}", *(f"  {hint}" for hint in hints)]
-        yield f"{words}, at a terminal", "".join(f"{line}\r\n" for line in lines).encode(), used(pool, folder, words, True)
-        yield f"{words}, to a pipe", f"{lines[0]}\n".encode(), used(pool, folder, words, False)
+        command = [pool, *words.split(" ")]
+        yield f"{words}, at a terminal", "".join(f"{line}\r\n" for line in lines).encode(), ended(command, folder, True)[1]
+        yield f"{words}, to a pipe", f"{lines[0]}\n".encode(), ended(command, folder, False)[1]
 
 
 def progress_cases(pool, folder):
@@ -159,9 +151,9 @@ def progress_cases(pool, folder):
         ("quick", (1, b"", True), legal % PIECE, NOTHING, b"", 0),
     ]
     for name, asked, output, form, end, status in cases:
-        found, told, ended = judge(pool, folder, *asked)
+        found, told, code = judge(pool, folder, *asked)
         is_told = told.endswith(end) and bool(form.fullmatch(told.removesuffix(end)))
-        yield name, (output, True, status), (found, is_told or told, ended)
+        yield name, (output, True, status), (found, is_told or told, code)
 
 
 def checks(pool):

@@ -1,4 +1,5 @@
-"""Libraries that are loaded before a program, to refuse or count what it asks of the system."""
+"""Libraries that are loaded before a program, to refuse or count what it asks of the system; and what a program takes of memory, which tests/peak.c
+notes."""
 
 import itertools
 import os
@@ -8,14 +9,22 @@ import subprocess
 from playing import run
 
 HERE = pathlib.Path(__file__).resolve().parent
+COMPILER = os.environ.get("CC", "cc")
 
 
 def preloaded(name, folder):
     """Builds the library tests/NAME.c in the folder, with the C compiler that CC names, or cc, and gives its path."""
     library = pathlib.Path(folder) / f"{name}.so"
-    compiler = os.environ.get("CC", "cc")
-    subprocess.run([compiler, "-O1", "-shared", "-fPIC", "-o", library, HERE / f"{name}.c", "-ldl"], check=True)
+    subprocess.run([COMPILER, "-O1", "-shared", "-fPIC", "-o", library, HERE / f"{name}.c", "-ldl"], check=True)
     return library
+
+
+def launcher(folder):
+    """The program that runs another one and notes the most memory that it took. It is built in the folder where it isn't there, with that compiler."""
+    built = pathlib.Path(folder).resolve() / "launcher"
+    if not built.exists():
+        subprocess.run([COMPILER, "-O1", "-o", built, HERE / "peak.c"], check=True)
+    return built
 
 
 def refusing(library, mark, number, *words, **options):
