@@ -10,11 +10,10 @@ comes by a pipe whose end is held back, so that the program is killed before it 
 Prints each moment where that isn't so, and in the end the line 'N passed, M failed'.
 """
 
-import contextlib
+import fcntl
 import os
 import subprocess
 import sys
-import threading
 
 from case_files import script_of
 from playing import differing, run, scratch, tell, write_files
@@ -31,29 +30,20 @@ def entries():
         yield f"4 {i} return {i} = check\n4 {i} park {i} good = parked\n"
 
 
-def feed(file, script):
-    """Hands the script to the program, and leaves the pipe open."""
-    with contextlib.suppress(BrokenPipeError):
-        file.write(script)
-        file.flush()
-
-
 def killed_after(command, script, count):
-    """What the program has written when it is killed after so many bytes of it were read, and how it ended."""
-    process = subprocess.Popen(command, stdin=subprocess.PIPE, stdout=subprocess.PIPE)
-    feeding = threading.Thread(target=feed, args=(process.stdin, script))
-    feeding.start()
-    output = b""
-    while len(output) < count and (more := os.read(process.stdout.fileno(), count - len(output))):
-        output += more
-    process.kill()
-    output += process.stdout.read()
-    status = process.wait(60)
-    feeding.join(60)
-    process.stdout.close()
-    with contextlib.suppress(BrokenPipeError):
-        process.stdin.close()
-    return output, status
+    """What the program has written when it is killed after so many bytes of it were read, and how it ended. Its pipe has room for the whole script."""
+    theirs, ours = os.pipe()
+    fcntl.fcntl(ours, fcntl.F_SETPIPE_SZ, len(script))
+    os.write(ours, script)
+    with subprocess.Popen(command, stdin=theirs, stdout=subprocess.PIPE) as process:
+        os.close(theirs)
+        output = b""
+        while len(output) < count and (more := os.read(process.stdout.fileno(), count - len(output))):
+            output += more
+        process.kill()
+        output += process.stdout.read()
+    os.close(ours)
+    return output, process.returncode
 
 
 def wrong(pool, folder, journal, count):
