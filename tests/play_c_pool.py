@@ -33,11 +33,12 @@ import sys
 
 import changed_settings
 import openmetrics
-from play_library import EXAMPLES, FLAGS, INCLUDE, TOP, VALGRIND, compiler, header_runs, heap, run
+from play_library import EXAMPLES, FLAGS, INCLUDE, TOP, VALGRIND, compiler, header_runs, run
 from playing import differing, has, scratch, side_by_side, skip, tell
 from preloading import preloaded
 
-POOL = TOP / "bindings/c/src/zuphinka_pool.c"
+from install import POOL, heap_of_kit
+
 POOL_FLAGS = [*FLAGS, "-pthread", "-I", INCLUDE]
 SEEDS, THREADS, CALLS = 15, 4, 2_000
 SHARED_ROUNDS, SOAKED = 5_000, 3_000_000
@@ -56,7 +57,7 @@ ANSWERS = set(
 def built(folder, name, library, flags, main=TOP / "tests/play_c_pool.c"):
     """Compiles a program over the pool with flags, links it with the library, and returns its path."""
     program = folder / name
-    subprocess.run([compiler(), *POOL_FLAGS, *flags, "-o", program, main, POOL, library, heap()], check=True)
+    subprocess.run([compiler(), *POOL_FLAGS, *flags, "-o", program, main, POOL, library, heap_of_kit()], check=True)
     return program
 
 

@@ -32,10 +32,10 @@ import tarfile
 import time
 import typing
 import urllib.request
-import zipfile
 
 from check_names import backquoted, tables
 from play_java import legal_in, play_with_java
+from play_java_random import commons_pool_version
 from playing import TOP, scratch
 
 import java
@@ -125,10 +125,7 @@ def jars():
 
 def require_version():
     """Sees that the Commons Pool 2 that is installed has the version of the tests."""
-    with zipfile.ZipFile(java.commons_pool()) as packed:
-        names = [name for name in packed.namelist() if name.endswith("/commons-pool2/pom.properties")]
-        texts = [packed.read(name).decode() for name in names]
-    if not any(f"version={VERSION}" in text.splitlines() for text in texts):
+    if commons_pool_version() != VERSION:
         raise java.Missing(f"{java.commons_pool()} is not version {VERSION} of Commons Pool 2, whose tests these are")
 
 

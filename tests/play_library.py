@@ -35,7 +35,6 @@ What needs valgrind or a compiler that is missing is skipped, with the reason. P
 
 import itertools
 import os
-import pathlib
 import re
 import shutil
 import subprocess
@@ -49,7 +48,9 @@ from play_program import PLAIN_LIFE
 from playing import TOP, differing, has, play_unpacked, scratch, skip, tell, write_files
 from pool_model import cut_at, settings_of
 
-INCLUDE, EXAMPLES = TOP / "bindings/c/include", TOP / "bindings/c/examples"
+from install import INCLUDE, heap_of_kit
+
+EXAMPLES = TOP / "bindings/c/examples"
 FLAGS = ["-std=c11", "-O2", "-Wall", "-Wextra", "-Werror"]
 STRICT = ["-fsyntax-only", "-Wall", "-Wextra", "-Wshadow", "-Wpedantic", "-Werror"]
 REFUSING = ["-Wl,--wrap=malloc", "-Wl,--wrap=realloc"]
@@ -77,17 +78,11 @@ def compiler():
     return name
 
 
-def heap():
-    """The C library's heap, as the kit has it for what Rattle builds."""
-    page = subprocess.run(["rt", "doc"], capture_output=True, text=True, check=True).stdout.strip()
-    return pathlib.Path(page).parent / "c" / "liblibc_c.a"
-
-
 def compiled(name, library, folder, flags, sources=EXAMPLES):
     """Compiles NAME.c in the folder, links it with the library, and returns its path."""
     program = folder / name
     program.parent.mkdir(exist_ok=True)
-    subprocess.run([compiler(), *FLAGS, "-I", INCLUDE, "-o", program, sources / f"{name}.c", *flags, library, heap()], check=True)
+    subprocess.run([compiler(), *FLAGS, "-I", INCLUDE, "-o", program, sources / f"{name}.c", *flags, library, heap_of_kit()], check=True)
     return program
 
 

@@ -18,7 +18,7 @@ crash, and it is restarted with a limit of two connections and without. Then
 What needs a package that is missing is skipped, with the reason. Prints what fails, and in the end the line 'N passed, M failed'.
 """
 
-import dataclasses
+import collections
 import fcntl
 import os
 import pathlib
@@ -34,7 +34,7 @@ import urllib.request
 import openmetrics
 from check_rust import CRATE, REGISTRY, runs_cargo
 from playing import NO_CARGO, TOP, has, play_checks, skip
-from play_library import EXAMPLES, FLAGS, INCLUDE, compiler, heap
+from play_library import EXAMPLES, FLAGS, INCLUDE, compiler
 from postgres_server import ROLE, SHARED, Server, end_with_parent, free_port, sessions_of
 
 import java
@@ -81,20 +81,13 @@ CREATE CONSTRAINT TRIGGER end_use AFTER INSERT ON transfer DEFERRABLE INITIALLY 
 WRONG = """SELECT count(*) FROM account WHERE euros <> 100
   + (SELECT coalesce(sum(transfer.euros), 0) FROM transfer WHERE target = account.id)
   - (SELECT coalesce(sum(transfer.euros), 0) FROM transfer WHERE source = account.id)"""
+# An example: its name, its money, and the command that runs it over a database for some seconds, with a folder for its journal and a port for its
+# metrics.
+Example = collections.namedtuple("Example", "name euros command")
 REPORT = re.compile(
     r"(?P<made>\d+) transfers, \d+ a second, (?P<failed>\d+) failed\n(?P<sum>\d+) euros in all\n"
     r"created (?P<created>\d+), destroyed (?P<destroyed>\d+), idle (?P<idle>\d+), lent (?P<lent>\d+)\n"
 )
-
-
-@dataclasses.dataclass
-class Example:
-    """An example: its name, its money, and the command that runs it over a database for some seconds, with a folder for its journal and a port for
-    its metrics."""
-
-    name: str
-    euros: int
-    command: object
 
 
 def over_connection_string(program):
@@ -121,7 +114,7 @@ def in_c(library, folder):
     if not has("the example over PostgreSQL in C", "libpq-dev"):
         return None
     program, sources = folder / "postgres", [EXAMPLES / "postgres.c", POOL]
-    words = [compiler(), *FLAGS, "-pthread", "-I", INCLUDE, "-I", "/usr/include/postgresql", "-o", program, *sources, library, heap(), "-lpq"]
+    words = [compiler(), *FLAGS, "-pthread", "-I", INCLUDE, "-I", "/usr/include/postgresql", "-o", program, *sources, library, heap_of_kit(), "-lpq"]
     java.run(*words)
     return Example("c", 10_000, over_connection_string(program))
 
