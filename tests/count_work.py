@@ -16,6 +16,7 @@ and prints it, and opens a pool from it, which goes on as the model does. The al
 Prints each number that is out of its bounds, and in the end the line 'N passed, M failed'.
 """
 
+import contextlib
 import dataclasses
 import pathlib
 import subprocess
@@ -155,17 +156,13 @@ class Counter:
         options = {"stdin": subprocess.PIPE, "stdout": subprocess.PIPE, "stderr": subprocess.PIPE}
         run = subprocess.Popen([self.pool, *arguments], cwd=self.folder, env=self.environment, **options)
         given = 0
-        try:
+        with contextlib.suppress(BrokenPipeError):
             run.stdin.write(front)
             while given < 1 << 24:
                 given += run.stdin.write(line * 1000)
                 run.stdin.flush()
-        except BrokenPipeError:
-            pass
-        try:
+        with contextlib.suppress(BrokenPipeError):
             run.stdin.close()
-        except BrokenPipeError:
-            pass
         answer = run.stdout.read(), run.stderr.read(), run.wait(60)
         self.expect(f"{name}: right answers {answer}", int(answer == wanted), 1, 1)
         self.expect(f"{name}: the program left the text", int(given < 1 << 24), 1, 1)

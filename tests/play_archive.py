@@ -15,10 +15,9 @@ Prints what differs in each run, and in the end the line 'N passed, M failed'.
 
 import collections
 import pathlib
-import subprocess
 import sys
 
-from playing import play_checks, scratch
+from playing import play_checks, run, scratch
 from play_damaged import Chance
 from play_segments import damaged, judged
 from pool_model import settings_of, verdict_of_segments
@@ -26,10 +25,6 @@ from pool_model import settings_of, verdict_of_segments
 RUNS = 20
 WORKERS, REQUESTS = 4, 500
 ROOM = 300
-
-
-def run(program, folder):
-    return subprocess.run([program, folder], capture_output=True, timeout=120, stdin=subprocess.DEVNULL)
 
 
 def entries(segment):
@@ -77,7 +72,7 @@ def ways(segments, settings, chance):
 def checks_of_run(program, output, pool, chance):
     """What a run leaves."""
     with scratch() as folder:
-        done = run(program, folder)
+        done = run(program, folder, timeout=120)
         yield "the run", (output, b"", 0), (done.stdout, done.stderr, done.returncode)
         if done.returncode:
             return
@@ -87,7 +82,7 @@ def checks_of_run(program, output, pool, chance):
         yield "the calls", None, miscounted(files)
         for how, left, verdict in ways([text for _, text in files], settings_of(settings.read_text()), chance):
             yield how, "right", judged(pool, how, settings, left, verdict) or "right"
-        again = run(program, folder)
+        again = run(program, folder, timeout=120)
         yield "a second run", (1, True), (again.returncode, files == [(path.name, path.read_bytes()) for path in sorted(folder.glob("segment-*"))])
 
 

@@ -7,13 +7,12 @@
     refuse_memory.py shared PROGRAM OUTPUT CALLS
     refuse_memory.py by-chance PROGRAM OUTPUT SEEDS
 
-The file OUTPUT has what PROGRAM writes with ARGUMENTS where all allocations are granted. It is run once for each of its
-allocations, which is refused then (tests/refuse.c, built with the C compiler that CC names, or cc). To `run` a case is to run its
-script, as one that `ends`; CASE is its name, as worked/loans/plain_life.
+The file OUTPUT has what PROGRAM writes with ARGUMENTS where all allocations are granted. It is run once for each of its allocations, which is refused
+then (tests/refuse.c, built with the C compiler that CC names, or cc). To `run` a case is to run its script, as one that `ends`; CASE is its name, as
+worked/loans/plain_life.
 
-- One that `ends` must end with status 3 and the line 'pool: out of memory', or 'pool: no thread' where it starts threads, or
-  'pool: cannot open ..' for one of its files, after
-  some whole lines from the front of OUTPUT; or write the whole of it, where it can do without what was refused. The first
+- One that `ends` must end with status 3 and the line 'pool: out of memory', or 'pool: no thread' where it starts threads, or 'pool: cannot open ..'
+  for one of its files, after some whole lines from the front of OUTPUT; or write the whole of it, where it can do without what was refused. The first
   allocation it can't do without.
 - One that `goes-on` must write the whole of OUTPUT.
 - One that tests a `shared` pool must do so too. On standard error it names the call that was answered that there is no memory; the file CALLS has,
