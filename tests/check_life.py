@@ -2,7 +2,7 @@
 """Holds the table of moves in docs/guide/concepts.md against the journals of the cases, and the picture against the table.
 
 check_life.py CASES..  Each move that a journal makes stands in the table, each outcome in the table is met by some move, and
-docs/pictures/life.svg shows what docs/pictures/draw_life.py draws. The last line is 'N passed, M failed'.
+docs/pictures/life.svg shows what docs/pictures/draw_graphs.py draws. The last line is 'N passed, M failed'.
 """
 
 import sys
@@ -11,8 +11,7 @@ import picture_model
 from case_files import read_cases
 from playing import TOP, tell
 
-import draw_life
-import graphs
+import draw_graphs
 
 
 def moves(journal):
@@ -29,7 +28,7 @@ def main():
     page = (TOP / "docs/guide/concepts.md").read_text()
     table = {
         (before, name, outcome, answer, after)
-        for before, (name, *outcomes), answer, after in draw_life.rows(page)
+        for before, (name, *outcomes), answer, after in draw_graphs.rows(page)
         for outcome in outcomes or [""]
     }
     journals = {case.name: case.journal for case in read_cases(*sys.argv[1:]) if case.journal is not None}
@@ -40,8 +39,8 @@ def main():
     wrong = [f"{name}: {' '.join(move)}: not in the table" for move, name in seen.items() if move not in table]
     wrong += [f"docs/guide/concepts.md: {' '.join(move)}: in no journal" for move in sorted(table - set(seen))]
     wrong += [] if journals else ["no journal"]
-    is_drawn = graphs.shown((TOP / "docs/pictures/life.svg").read_text()) == draw_life.picture(page).wanted()
-    wrong += [] if is_drawn else ["docs/pictures/life.svg: draw it anew, by docs/pictures/draw_life.py"]
+    is_drawn = draw_graphs.shown((TOP / "docs/pictures/life.svg").read_text()) == draw_graphs.life(page).wanted()
+    wrong += [] if is_drawn else ["docs/pictures/life.svg: draw it anew, by docs/pictures/draw_graphs.py"]
     return tell([*([line] for line in wrong), *([] for _ in range(len(table) + 1 - len(wrong)))])
 
 

@@ -23,8 +23,7 @@ from check_names import PAGES, TOP, backquoted, rows_in, sources, tables
 from play_mutants import function_at, replacements
 from playing import play_checks
 
-import draw_crates
-import graphs
+import draw_graphs
 import install
 import java
 from sources import MISTAKES
@@ -177,7 +176,7 @@ def check_edits():
 
 def check_crates():
     text = (TOP / "crates.txt").read_text()
-    groups, page = draw_crates.sections(text), (TOP / "docs/dev/architecture.md").read_text()
+    groups, page = draw_graphs.sections(text), (TOP / "docs/dev/architecture.md").read_text()
     starts = {"Examples": "example_", "Tests": "test_"}
     for title, crates in groups:
         start = starts.get(re.match(r"\w+", title)[0], "")
@@ -187,8 +186,8 @@ def check_crates():
             yield f"docs/dev/architecture.md: {crate}: has a paragraph", True, f"**`{crate}`**" in page
     folders = {path.parent.name for path in (TOP / "crates").glob("*/src")}
     yield "crates.txt: the folders of crates", folders, {crate for _, crates in groups for crate in crates}
-    shown = graphs.shown((TOP / "docs/pictures/crates.svg").read_text())
-    yield "docs/pictures/crates.svg shows what docs/pictures/draw_crates.py draws", draw_crates.picture(text).wanted(), shown
+    shown = draw_graphs.shown((TOP / "docs/pictures/crates.svg").read_text())
+    yield "docs/pictures/crates.svg shows what docs/pictures/draw_graphs.py draws", draw_graphs.crates(text).wanted(), shown
 
 
 def check_commons_pool():
