@@ -62,7 +62,7 @@ LONGEST = 120
 
 
 def play_with_java(what, found, *needs):
-    """Tells of checks in Java, or skips all of them if the JDK, Commons Pool 2, or what else a call needs is missing. Gives the status to end with."""
+    """Tells of checks in Java, or skips them all if the JDK, Commons Pool 2, or what else a call needs is missing. Gives the status to end with."""
     try:
         for need in (java.jdk, java.commons_pool, *needs):
             need()

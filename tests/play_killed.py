@@ -31,7 +31,7 @@ def entries():
 
 
 def killed_after(command, script, count):
-    """What the program has written when it is killed after so many bytes of it were read, and how it ended. Its pipe has room for the whole script."""
+    """What the program has written when it is killed after so many bytes of it were read, and how it ended. Its pipe has the whole script."""
     theirs, ours = os.pipe()
     fcntl.fcntl(ours, fcntl.F_SETPIPE_SZ, len(script))
     os.write(ours, script)

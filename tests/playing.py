@@ -1,5 +1,5 @@
-"""What the scripts share that run programs, compare what they do with what is wanted, and say what they skip. They import modules of the other folders
-with scripts too, once this is imported."""
+"""What the scripts share that run programs, compare what they do with what is wanted, and say what they skip. Once this is imported, they can import
+the modules of other folders too."""
 
 import concurrent.futures
 import contextlib

@@ -20,7 +20,7 @@ def preloaded(name, folder):
 
 
 def launcher(folder):
-    """The program that runs another one and notes the most memory that it took. It is built in the folder where it isn't there, with that compiler."""
+    """The program that runs another one and notes the most memory that it took. It is built in the folder if it isn't there."""
     built = pathlib.Path(folder).resolve() / "launcher"
     if not built.exists():
         subprocess.run([COMPILER, "-O1", "-o", built, HERE / "peak.c"], check=True)

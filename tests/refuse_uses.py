@@ -142,7 +142,8 @@ def runs(pool, library, mark, use):
     answers = [(number, found(done)) for number, done in all_runs]
     refused = {number for number, answer in answers[1:] if is_refused(use, answer)}
     wrong = [f"{use.arguments}: allocation {number}: {answer}" for number, answer in answers if number not in refused and answer != use.answer]
-    return [[]] * (len(answers) - len(wrong)) + [[line] for line in [*wrong, *[f"{use.arguments}: no allocation was missed"] * (not refused)]]
+    missed = [f"{use.arguments}: no allocation was missed"] * (not refused)
+    return [[]] * (len(answers) - len(wrong)) + [[line] for line in wrong + missed]
 
 
 def main(pool):

@@ -52,7 +52,7 @@ class Graph:
 
 
 def shown(picture):
-    """What a picture shows: for the whole, each node, each arrow and the legend, by their titles, the colours of their shapes and their lines of text."""
+    """What a picture shows: for the whole, each node, each arrow and the legend, by their titles, the colours of their shapes and their texts."""
     found = {}
     for part in xml.fromstring(picture).iter(f"{SVG}g"):
         colours = [shape.get("fill") for shape in part if shape.get("fill", "none") != "none"]
