@@ -16,10 +16,12 @@ import signal
 import subprocess
 import sys
 import time
+import unittest.mock
 
 from fake_kit import LONGEST, TOP, Repository, write
 from playing import play_checks, scratch
 
+import packages
 import sources
 from parts import PACKAGES, PARTS, PROOFS, QUICK, QUICK_ALONE
 
@@ -327,15 +329,13 @@ def without_apt(trial):
 
 def privileged(trial):
     """The words that make a command root's: none for root, those of sudo if it asks for no password."""
-    words = [sys.executable, "-c", f"import sys; sys.path.append('{TOP}/tools'); import packages; print(packages.prefix(int(sys.argv[1])))"]
     refusing = trial.top.parent / "refusing"
-    write(refusing / "sudo", "#!/bin/sh\nexit 1\n")
-    (refusing / "sudo").chmod(0o755)
+    write(refusing / "sudo", "#!/bin/sh\nexit 1\n", 0o755)
     with_sudo, commands = trial.top.parent / "bin", without_apt(trial)
-    cases = [("0", commands, "[]"), ("1000", commands, "None"), ("1000", f"{with_sudo}:{commands}", "['sudo', '-n']"), ("1000", f"{refusing}:{commands}", "None")]
+    cases = [(0, commands, []), (1000, commands, None), (1000, f"{with_sudo}:{commands}", ["sudo", "-n"]), (1000, f"{refusing}:{commands}", None)]
     for number, (user, path, wanted) in enumerate(cases):
-        done = subprocess.run([*words, user], env=trial.environment | {"PATH": str(path)}, capture_output=True, text=True)
-        yield f"who may install, {number}", (wanted + "\n", ""), (done.stdout, done.stderr)
+        with unittest.mock.patch.dict(os.environ, PATH=str(path)):
+            yield f"who may install, {number}", wanted, packages.prefix(user)
 
 
 def fetching(trial):
