@@ -22,7 +22,7 @@ import pathlib
 import subprocess
 import sys
 
-from many_objects import segments_of
+from many_objects import NO_LIMITS, segments_of
 from playing import scratch, tell
 from pool_model import settings_of
 from preloading import preloaded
@@ -50,7 +50,6 @@ CLAP_MORE = 4
 CALLS = ["step", "cut", "read", "print", "open", "goon"]
 # How many files stay open until the check ends.
 KEPT = 500
-NO_LIMITS = "journalLimit = 4294967296\nmaxTotal = -1\nmaxIdle = -1\n"
 
 
 def room(count, first=FIRST):

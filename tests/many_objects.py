@@ -2,6 +2,7 @@
 
 from pool_model import Pool, words_of
 
+NO_LIMITS = "journalLimit = 4294967296\nmaxTotal = -1\nmaxIdle = -1\n"
 # No number of objects that is played is a multiple of it, so that it brings all of them into another order.
 STRIDE = 7_919
 

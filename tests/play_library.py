@@ -42,7 +42,7 @@ import sys
 
 import playing
 from case_files import script_of
-from many_objects import segments_of
+from many_objects import NO_LIMITS, segments_of
 from play_cases import wanted_of_script, wanted_of_settings
 from play_program import PLAIN_LIFE
 from playing import TOP, differing, has, play_unpacked, scratch, skip, tell, write_files
@@ -66,7 +66,6 @@ CROWD_TEXT = re.compile(rb"(\d+) wait, (\d+) ended, allocations: (\d+), (\d+) of
 # A run that takes longer hangs, in seconds.
 LONGEST = 600
 LONGEST_SETTINGS = 1_048_576
-NO_LIMITS = "journalLimit = 4294967296\nmaxTotal = -1\nmaxIdle = -1\n"
 VALGRIND = ["valgrind", "--quiet", "--error-exitcode=9", "--leak-check=full", "--show-leak-kinds=all", "--errors-for-leak-kinds=all"]
 
 

@@ -16,7 +16,7 @@ import sys
 
 from argument_rules import statistics
 from case_files import script_of
-from many_objects import segments_of
+from many_objects import NO_LIMITS, segments_of
 from play_program import many_workers
 from playing import differing, run, scratch, side_by_side, tell, write_files
 from pool_model import settings_of
@@ -33,7 +33,6 @@ CLEARED = [1_000, 100_000]
 RECORDS = [2, 9, 1_025, 10_000, 100_000]
 # Workers, and rounds of each.
 LOADS = [(1, 1), (1, 16_385), (1, 300_000), (2, 65_537), (4, 40_000), (7, 2_049), (100, 257), (1_023, 20)]
-NO_LIMITS = "journalLimit = 4294967296\nmaxTotal = -1\nmaxIdle = -1\n"
 
 
 def lengths(limit):
