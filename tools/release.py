@@ -20,7 +20,6 @@ is missing or the log isn't one of a full check that passed.
 """
 
 import argparse
-import gzip
 import hashlib
 import os
 import pathlib
@@ -28,7 +27,6 @@ import re
 import shutil
 import subprocess
 import sys
-import tarfile
 import tempfile
 
 import install
@@ -153,20 +151,9 @@ def prove(stage, said, commit):
 
 def pack(stage, archive):
     """Packs a folder so that the same files give the same bytes."""
-    time = int(git("log", "-1", "--format=%ct"))
-
-    def plain(entry):
-        entry.uid = entry.gid = 0
-        entry.uname = entry.gname = "root"
-        entry.mtime = time
-        entry.mode = 0o755 if entry.isdir() or entry.mode & 0o100 else 0o644
-        return entry
-
-    part = archive.with_name(archive.name + ".part")
-    with open(part, "wb") as file, gzip.GzipFile("", "wb", 9, file, time) as packed:
-        with tarfile.open(fileobj=packed, mode="w", format=tarfile.GNU_FORMAT) as tar:
-            for path in [stage, *sorted(stage.rglob("*"))]:
-                tar.add(path, path.relative_to(stage.parent), recursive=False, filter=plain)
+    part, time = archive.with_name(archive.name + ".part"), git("log", "-1", "--format=%ct")
+    plain = "--format=gnu", "--sort=name", "--owner=root:0", "--group=root:0", "--mode=u=rwX,go=rX", f"--mtime=@{time}"
+    install.run("tar", "--create", *plain, "--use-compress-program=gzip -9n", "--file", part, "--directory", stage.parent, stage.name)
     os.replace(part, archive)
 
 
