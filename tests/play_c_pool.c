@@ -414,6 +414,12 @@ static void test_exhausted(void) {
   check_error(zuphinka_pool_try_get(pool, &loan), ZUPHINKA_POOL_ERROR_NONE);
   check_error(zuphinka_pool_give_back(pool, &loan), ZUPHINKA_POOL_ERROR_NONE);
   end_pool(pool);
+  pool = open_kept("maxTotal = 1\nmaxWaitMillis = 0\n", 1);
+  loan = lend(pool);
+  check_error(zuphinka_pool_try_get(pool, &other), ZUPHINKA_POOL_ERROR_EXHAUSTED);
+  check_error(zuphinka_pool_get(pool, &other), ZUPHINKA_POOL_ERROR_TIMED_OUT);
+  give_back(pool, &loan);
+  end_pool(pool);
 }
 
 /* Opens a pool of one object with the clock of the system, and lends the object. */
@@ -1108,6 +1114,31 @@ static void test_maintained_journal(void) {
   end_pool(pool);
 }
 
+static bool store_slowly(void *context, uint64_t first, const char *text, size_t size) {
+  atomic_fetch_add(&((struct maker *)context)->now, 200);
+  return store_segment(context, first, text, size);
+}
+
+/* A loan begins after the store of a segment that the borrow makes first. */
+static void test_lent_after_a_slow_store(void) {
+  const char *settings = "journalLimit = 60\n[abandoned]\nremoveAbandonedOnMaintenance = true\nremoveAbandonedTimeoutMillis = 100\n";
+  struct zuphinka_pool_host host = host_of(&maker);
+  struct zuphinka_pool_loan loan;
+  uint64_t reclaimed = 1;
+  host.activate = host.passivate = NULL;
+  host.store = store_slowly;
+  check_error(zuphinka_pool_open(&maker.pool, settings, strlen(settings), &host, ZUPHINKA_POOL_JOURNAL_SEGMENTS), ZUPHINKA_POOL_ERROR_NONE);
+  check_error(zuphinka_pool_get(maker.pool, &loan), ZUPHINKA_POOL_ERROR_NONE);
+  while (atomic_load(&maker.sink.called) == 0) {
+    check_error(zuphinka_pool_give_back(maker.pool, &loan), ZUPHINKA_POOL_ERROR_NONE);
+    check_error(zuphinka_pool_get(maker.pool, &loan), ZUPHINKA_POOL_ERROR_NONE);
+  }
+  check_error(zuphinka_pool_reclaim(maker.pool, &reclaimed), ZUPHINKA_POOL_ERROR_NONE);
+  check(reclaimed == 0);
+  check_error(zuphinka_pool_give_back(maker.pool, &loan), ZUPHINKA_POOL_ERROR_NONE);
+  end_pool(maker.pool);
+}
+
 /* ---- settings that change */
 
 static void reconfigure(struct zuphinka_pool *pool, const char *settings, enum zuphinka_pool_error wanted) {
@@ -1159,6 +1190,24 @@ static void test_changed_settings(void) {
   struct zuphinka_pool_eviction eviction;
   check_error(zuphinka_pool_evict(pool, &eviction), ZUPHINKA_POOL_ERROR_NONE);
   check(eviction.destroyed == 2);
+  end_pool(pool);
+}
+
+/* An object that was reclaimed is destroyed at the end of its loan, also if the settings reclaim none any more. */
+static void test_reclaimed_before_a_change(void) {
+  struct zuphinka_pool *pool = open_kept(reclaiming, -1);
+  struct zuphinka_pool_loan loans[] = {lend(pool), lend(pool)}, stale = loans[0];
+  uint64_t reclaimed = 0;
+  atomic_store(&maker.now, 100);
+  check_error(zuphinka_pool_reclaim(pool, &reclaimed), ZUPHINKA_POOL_ERROR_NONE);
+  check(reclaimed == 2);
+  reconfigure(pool, "maxTotal = 2\n", ZUPHINKA_POOL_ERROR_NONE);
+  check_error(zuphinka_pool_touch(pool, &loans[0]), ZUPHINKA_POOL_ERROR_GONE);
+  for (int n = 0; n < 2; n++) let_go(&loans[n]);
+  check_error(zuphinka_pool_give_back(pool, &loans[0]), ZUPHINKA_POOL_ERROR_GONE);
+  check_error(zuphinka_pool_invalidate(pool, &loans[1]), ZUPHINKA_POOL_ERROR_GONE);
+  check(atomic_load(&maker.alive) == 0);
+  check_no_loan(pool, &stale, ZUPHINKA_POOL_ERROR_NOT_LENT);
   end_pool(pool);
 }
 
@@ -2920,10 +2969,12 @@ static const struct {
     TEST(closed_with_a_full_journal),
     TEST(dropped_journal),
     TEST(failing_store),
+    TEST(lent_after_a_slow_store),
     TEST(small_journals),
     TEST(maintained_journal),
     TEST(fewer_places),
     TEST(changed_settings),
+    TEST(reclaimed_before_a_change),
     TEST(segments_of_changed_settings),
     TEST(refused_settings),
     TEST(failing_store_at_a_change),

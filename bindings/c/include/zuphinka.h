@@ -280,7 +280,7 @@ enum zuphinka_report {
   ZUPHINKA_REPORT_WOKEN = 5,     /* the sleep is over: the ticket was woken, or `until` is reached */
   ZUPHINKA_REPORT_ROOM_MADE = 6, /* the journal was cut */
   ZUPHINKA_REPORT_NO_ROOM = 7,   /* the journal could not be cut */
-  ZUPHINKA_REPORT_GIVEN_UP = 8   /* the host gives the call up, at any action that is not the end, and has stopped that action */
+  ZUPHINKA_REPORT_GIVEN_UP = 8   /* the host gives the call up, once, at any action that is not the end, and has stopped that action */
 };
 
 /* What the host reports. Set all fields. */

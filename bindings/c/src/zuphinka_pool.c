@@ -245,12 +245,18 @@ static enum zuphinka_pool_error cut_and_store(struct zuphinka_pool *pool, zuphin
 }
 
 /* Stores the journal in time for a borrow, or earlier for maintenance, which also tries a segment again that was not stored; with the lock held
- * before and after, and not meanwhile. */
-static void keep_room(struct zuphinka_pool *pool, uint32_t kind) {
+ * before and after, and not meanwhile. The call's first step is then taken at the time after it. */
+static void keep_room(struct zuphinka_pool *pool, struct run *run) {
+  uint32_t kind = run->start.kind;
   bool maintains = kind == ZUPHINKA_KIND_MAINTAIN;
   if (pool->journal != ZUPHINKA_POOL_JOURNAL_SEGMENTS || pool->cutter || !(maintains || kind == ZUPHINKA_KIND_BORROW)) return;
   bool is_due = maintains ? pool->unstored.text || zuphinka_is_low(&pool->core, 2 * pool->low) : zuphinka_is_low(&pool->core, pool->low);
-  if (is_due) cut_and_store(pool, pool->host.store, pool->host.context, NULL, NULL);
+  if (!is_due) return;
+  cut_and_store(pool, pool->host.store, pool->host.context, NULL, NULL);
+  unlock(pool);
+  run->at = time_of(pool);
+  run->start.at = run->event.at = run->at.milliseconds;
+  lock(pool);
 }
 
 /* Sleeps while another thread cuts the journal, until `end` at most, with the lock held before and after. Returns whether none cuts any more. */
@@ -288,7 +294,8 @@ static enum zuphinka_pool_error error_of_end(struct zuphinka_pool *pool, const s
   bool is_done = end == ZUPHINKA_END_LENT || end == ZUPHINKA_END_PARKED || end == ZUPHINKA_END_NOTED || end == ZUPHINKA_END_COMPLETE;
   if (is_done || (end == ZUPHINKA_END_DESTROYED && !makes)) return ZUPHINKA_POOL_ERROR_NONE;
   if (end == ZUPHINKA_END_DESTROYED) return ZUPHINKA_POOL_ERROR_CLOSED;
-  if (end == ZUPHINKA_END_CANCELLED) return run->limit == AT_ONCE ? ZUPHINKA_POOL_ERROR_EXHAUSTED : ZUPHINKA_POOL_ERROR_TIMED_OUT;
+  bool is_over = end == ZUPHINKA_END_CANCELLED || end == ZUPHINKA_END_TIMED_OUT;
+  if (is_over) return run->limit == AT_ONCE ? ZUPHINKA_POOL_ERROR_EXHAUSTED : ZUPHINKA_POOL_ERROR_TIMED_OUT;
   enum zuphinka_pool_error error = find_error(end, ZUPHINKA_STATUS_DONE);
   bool lacks = error == ZUPHINKA_POOL_ERROR_JOURNAL_FULL || error == ZUPHINKA_POOL_ERROR_OUT_OF_MEMORY;
   if (lacks && fails_closed && look(pool).state.is_closed) return ZUPHINKA_POOL_ERROR_CLOSED;
@@ -355,7 +362,7 @@ static enum zuphinka_pool_error borrow(struct zuphinka_pool *pool, int64_t limit
   begin_run(pool, &run);
   uint64_t place = 0;
   lock(pool);
-  keep_room(pool, ZUPHINKA_KIND_BORROW);
+  keep_room(pool, &run);
   enum zuphinka_pool_error error = ZUPHINKA_POOL_ERROR_NONE;
   bool has_place = take_place(pool, &place);
   if (!has_place) error = error_of_end(pool, &run);
@@ -390,6 +397,12 @@ static enum zuphinka_pool_error end_loan(struct zuphinka_pool *pool, uint32_t ki
   if (!error) {
     pool->places[place].number = 0;
     if (!run_at_once(pool, &run)) error = drive(pool, &run);
+    if (error == ZUPHINKA_POOL_ERROR_NOT_LENT) { /* it was reclaimed, before a change to settings that reclaim none */
+      unlock(pool);
+      pool->host.destroy(pool->host.context, run.start.object);
+      lock(pool);
+      error = ZUPHINKA_POOL_ERROR_GONE;
+    }
     pool->places[place].number = number;
     if (!error) measure(&pool->measures.loans, pool->places[place].lent_at, run.first.nanoseconds);
     if (!error || error == ZUPHINKA_POOL_ERROR_GONE) {
@@ -415,12 +428,13 @@ static enum zuphinka_pool_error call(struct zuphinka_pool *pool, uint32_t kind, 
   struct run run = {.start = {.id = loan ? loan->id : 0, .kind = kind}, .limit = NEVER};
   begin_run(pool, &run);
   lock(pool);
-  keep_room(pool, kind);
+  keep_room(pool, &run);
   enum zuphinka_pool_error error = loan ? error_of_loan(pool, loan) : ZUPHINKA_POOL_ERROR_NONE;
   if (!error) error = drive(pool, &run);
+  bool is_gone = error == ZUPHINKA_POOL_ERROR_NOT_LENT && !error_of_loan(pool, loan); /* as in end_loan */
   unlock(pool);
   *last = run.next;
-  return error;
+  return is_gone ? ZUPHINKA_POOL_ERROR_GONE : error;
 }
 
 /* Makes such a call for no loan, and stores its count, unless the pointer is null. */

@@ -121,7 +121,7 @@ impl<M: Manager> Course<M> {
     /// Tells the core what became of the last action. Returns the alarm of a call that slept.
     pub fn tell(&mut self, state: &mut LockedPool<M::Object>, report: Report) -> Option<Alarm> {
         let alarm = match self.call.action() {
-            Action::Sleep => state.sleepers.leave(self.call.ticket()),
+            Action::Sleep => state.sleepers.go_on(self.call.ticket()),
             _ => None,
         };
         let event = Event {

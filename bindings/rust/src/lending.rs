@@ -162,7 +162,8 @@ impl<M: Manager> Shared<M> {
         let mut call = InProgress::begin(self, self.lock(), course, None);
         match call.drive()? {
             End::Noted => Ok(Touched::Noted),
-            End::Gone => Ok(Touched::Gone),
+            // One that is not lent was reclaimed, before a change to settings that reclaim none.
+            End::Gone | End::NotLent => Ok(Touched::Gone),
             end => Err(call.error(end)),
         }
     }

@@ -491,6 +491,7 @@ fn answer_of(reply: &sys::Reply) -> Answer {
         sys::ANSWER_FREED => Answer::Freed,
         sys::ANSWER_GONE => Answer::Gone,
         sys::ANSWER_NOTHING => Answer::Nothing,
+        sys::ANSWER_REFUSED => Answer::Refused,
         code => unreachable!("a step has answer {code}"),
     }
 }

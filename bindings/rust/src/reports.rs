@@ -3,6 +3,7 @@
 use crate::failure::Failure;
 use crate::manager::Manager;
 use crate::panics::unless_it_panics;
+use std::mem;
 use std::sync::{Mutex, MutexGuard, PoisonError};
 use std::thread::{self, ThreadId};
 
@@ -22,6 +23,11 @@ impl<M: Manager> Reports<M> {
             on_error,
             reporting: Mutex::new(Vec::new()),
         }
+    }
+
+    /// Leaks the receiver.
+    pub fn leak(&mut self) {
+        mem::forget(self.on_error.take());
     }
 
     fn reporting(&self) -> MutexGuard<'_, Vec<ThreadId>> {

@@ -65,7 +65,7 @@ pub(crate) struct Shared<M: Manager> {
     pub draining: Mutex<()>,
     /// Where segments go.
     pub outlet: Option<Outlet>,
-    pub manager: M,
+    pub manager: Arc<M>,
     pub policy: Policy<M>,
     maintainer: Mutex<Option<Maintainer>>,
     /// The process that opened the pool.
@@ -95,7 +95,7 @@ impl<M: Manager> Shared<M> {
             written: Condvar::new(),
             draining: Mutex::new(()),
             outlet,
-            manager,
+            manager: Arc::new(manager),
             policy,
             maintainer: Mutex::new(None),
             process: process::id(),
@@ -135,6 +135,9 @@ impl<M: Manager> Shared<M> {
         mem::forget(state.values.take_all());
         mem::forget(state.sleepers.take_all());
         mem::forget(self.outlet.take());
+        mem::forget(Arc::clone(&self.manager));
+        mem::forget(mem::replace(&mut self.clock, Clock::Since(Instant::now())));
+        self.policy.reports.leak();
         let maintainer = self.maintainer.get_mut();
         mem::forget(maintainer.unwrap_or_else(PoisonError::into_inner).take());
     }
@@ -223,7 +226,7 @@ impl<M: Manager> Shared<M> {
     /// Wakes calls, each without the lock. If the waker of a task panics, its call is given up, and another one is woken in its place.
     fn wake<'a>(&'a self, mut state: Held<'a, M>, mut wakes: Wakes) {
         while let Some(ticket) = wakes.pop() {
-            let alarm = state.sleepers.leave(ticket);
+            let alarm = state.sleepers.wake(ticket);
             if wakes.is_empty() {
                 wakes.push(state.next_wake());
             }
@@ -237,7 +240,11 @@ impl<M: Manager> Shared<M> {
             }
             state = self.lock();
             if let Err(call) = rung {
-                wakes.push(state.core.give_up(call));
+                // A waker may let its task go on, and panic then.
+                wakes.push(match state.sleepers.forget_wake(ticket) {
+                    true => state.core.give_up(call),
+                    false => state.next_wake(),
+                });
             }
         }
     }

@@ -90,6 +90,8 @@ impl Wakes {
 #[derive(Debug)]
 pub(crate) struct Sleepers {
     asleep: VecDeque<(u64, Alarm)>,
+    /// The tickets of tasks whose wakers were called, until their calls go on.
+    rung: VecDeque<u64>,
     oldest: Arc<OldestSleeper>,
 }
 
@@ -97,6 +99,7 @@ impl Sleepers {
     pub fn new() -> Sleepers {
         Sleepers {
             asleep: VecDeque::new(),
+            rung: VecDeque::new(),
             oldest: Arc::new(OldestSleeper(AtomicU64::new(u64::MAX))),
         }
     }
@@ -142,7 +145,7 @@ impl Sleepers {
     pub fn sleep(&mut self, ticket: u64, alarm: Alarm) -> Result<Option<Alarm>, Alarm> {
         match self.position(ticket) {
             Ok(position) => Ok(Some(mem::replace(&mut self.asleep[position].1, alarm))),
-            Err(_) if self.asleep.try_reserve(1).is_err() => Err(alarm),
+            Err(_) if !self.reserve() => Err(alarm),
             Err(position) => {
                 self.asleep.insert(position, (ticket, alarm));
                 self.show_oldest();
@@ -151,8 +154,35 @@ impl Sleepers {
         }
     }
 
+    /// Reserves memory for one more sleeper, and for the wake of each. Returns whether there is enough.
+    fn reserve(&mut self) -> bool {
+        let most = self.asleep.len() + 1;
+        self.asleep.try_reserve(1).is_ok() && self.rung.try_reserve(most).is_ok()
+    }
+
+    /// One is to be woken. Returns its alarm, if it sleeps.
+    pub fn wake(&mut self, ticket: u64) -> Option<Alarm> {
+        let alarm = self.leave(ticket)?;
+        if let Alarm::Task(..) = alarm {
+            self.rung.push_back(ticket);
+        }
+        Some(alarm)
+    }
+
+    /// A call goes on. Returns its alarm, if it slept.
+    pub fn go_on(&mut self, ticket: u64) -> Option<Alarm> {
+        self.forget_wake(ticket);
+        self.leave(ticket)
+    }
+
+    /// Returns whether a task was woken, and its call has not gone on since then. It counts as not woken from now on.
+    pub fn forget_wake(&mut self, ticket: u64) -> bool {
+        let position = self.rung.iter().position(|rung| *rung == ticket);
+        position.is_some_and(|position| self.rung.remove(position).is_some())
+    }
+
     /// One sleeps no longer. Returns its alarm, if it slept.
-    pub fn leave(&mut self, ticket: u64) -> Option<Alarm> {
+    fn leave(&mut self, ticket: u64) -> Option<Alarm> {
         let position = self.position(ticket).ok()?;
         let left = self.asleep.remove(position);
         self.show_oldest();
@@ -230,6 +260,22 @@ mod tests {
         assert!(sleepers.leave(3).unwrap().ring().is_ok());
         let rings = counters.map(|counter| counter.0.load(Ordering::Relaxed));
         assert_eq!(rings, [0, 1]);
+    }
+
+    #[test]
+    fn a_task_is_woken_until_it_goes_on() {
+        let counter = Arc::new(Counter::default());
+        let mut sleepers = asleep(&[1]);
+        for ticket in 2..5 {
+            assert!(sleepers.sleep(ticket, alarm(&counter)).unwrap().is_none());
+        }
+        for ticket in 1..5 {
+            assert!(sleepers.wake(ticket).is_some());
+            assert!(sleepers.wake(ticket).is_none());
+        }
+        assert!(sleepers.go_on(3).is_none());
+        let woken = [1, 2, 3, 4, 4].map(|ticket| sleepers.forget_wake(ticket));
+        assert_eq!(woken, [false, true, false, true, false]);
     }
 
     #[test]

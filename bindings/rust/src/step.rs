@@ -36,6 +36,7 @@ pub(crate) enum Answer {
     Freed,
     Gone,
     Nothing,
+    Refused,
 }
 
 /// Why a step failed. It made no entry, and the core is unchanged.

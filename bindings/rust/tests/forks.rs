@@ -20,6 +20,9 @@ extern "C" {
     fn _exit(status: c_int) -> !;
 }
 
+/// The files that the manager, the clock and the receiver of failures make when they are dropped.
+const PARTS: [&str; 3] = ["manager", "clock", "receiver"];
+
 const WITHOUT_WAITING: c_int = 1;
 const KILL: c_int = 9;
 
@@ -48,8 +51,17 @@ fn status_in_child(call: impl FnOnce()) -> c_int {
     status
 }
 
+/// Makes a file when it is dropped.
+struct Noted(PathBuf);
+
+impl Drop for Noted {
+    fn drop(&mut self) {
+        fs::write(&self.0, "").unwrap();
+    }
+}
+
 /// Makes numbers, and notes in a folder which ones were destroyed.
-struct Noting(PathBuf);
+struct Noting(PathBuf, Noted);
 
 impl Manager for Noting {
     type Object = u64;
@@ -67,8 +79,17 @@ impl Manager for Noting {
 /// A pool with an idle object, which stores its journal and notes its destructions below a folder.
 fn pool_in(folder: &Path, change: impl FnOnce(Builder<Noting>) -> Builder<Noting>) -> Pool<Noting> {
     let segments = Segments::in_folder(folder.join("journal")).unwrap();
-    let builder = change(Pool::builder().journal(Journal::Segments(segments)));
-    let pool = builder.build(Noting(folder.to_owned())).unwrap();
+    let [manager, clock, receiver] = PARTS.map(|part| Noted(folder.join(part)));
+    let start = Instant::now();
+    let builder = Pool::builder().clock(move || {
+        let _ = &clock;
+        u64::try_from(start.elapsed().as_millis()).unwrap()
+    });
+    let builder = builder.on_error(move |_| {
+        let _ = &receiver;
+    });
+    let builder = change(builder.journal(Journal::Segments(segments)));
+    let pool = builder.build(Noting(folder.to_owned(), manager)).unwrap();
     drop(pool.get().unwrap());
     pool
 }
@@ -100,7 +121,7 @@ fn drop_in_both(change: impl FnOnce(Builder<Noting>) -> Builder<Noting>) {
         assert!(copy.upgrade().is_none());
     });
     assert_eq!(status, 0);
-    // The child has neither destroyed the object nor stored an entry.
+    // The child has neither destroyed the object nor stored an entry, and has dropped nothing of the pool's user.
     assert_eq!(names_in(&folder), before);
     drop(handle);
     let pool = pool.unwrap();
@@ -108,6 +129,7 @@ fn drop_in_both(change: impl FnOnce(Builder<Noting>) -> Builder<Noting>) {
     let settings = pool.settings();
     drop(pool);
     assert!(folder.join("destroyed 0").exists());
+    assert!(PARTS.iter().all(|part| folder.join(part).exists()));
     let first = format!("journal/segment-{:020}", 0);
     let journal = fs::read_to_string(folder.join(first)).unwrap();
     let verdict = common::judge(&settings, journal.as_bytes());

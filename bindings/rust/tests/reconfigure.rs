@@ -16,9 +16,9 @@ use std::task::Poll;
 use std::time::Duration;
 use std::{error, fs, thread};
 use zuphinka::{
-    Addition, Builder, Contradiction, Error, Failure, Journal, Manager, Pool, Pooled,
+    Abandoned, Addition, Builder, Contradiction, Error, Failure, Journal, Manager, Pool, Pooled,
     ReconfigureError, Returned, Segment, SegmentSink, Segments, SettingsError, SinkFailure,
-    WeakPool,
+    Touched, WeakPool,
 };
 
 with_and_without_hooks! {
@@ -41,6 +41,7 @@ with_and_without_hooks! {
     a_segment_that_is_dropped_leaves_a_gap
     who_writes_a_segment_changes_nothing
     a_closed_pool_stays_closed
+    what_was_reclaimed_is_gone_whatever_is_set_now
 }
 
 const ONE: &str = "maxTotal = 1\nblockWhenExhausted = false\n";
@@ -144,6 +145,26 @@ fn calls_of<const HOOKS: bool>(maker: &Maker<HOOKS>) -> Vec<String> {
 
 fn dropped<const HOOKS: bool>(builder: Builder<Maker<HOOKS>>) -> Builder<Maker<HOOKS>> {
     builder.journal(Journal::Off)
+}
+
+fn what_was_reclaimed_is_gone_whatever_is_set_now<const HOOKS: bool>() {
+    let abandoned = Abandoned::new().on_maintenance(true);
+    let abandoned = abandoned.timeout(Duration::from_millis(10));
+    let (pool, maker, clock) = pool_with::<HOOKS>(|builder| {
+        let builder = dropped(builder).abandoned(abandoned);
+        builder.max_lifetime(Duration::from_millis(100))
+    });
+    let [used, returned, too_old] = [(); 3].map(|()| pool.get().unwrap());
+    clock.set(10);
+    assert_eq!(pool.reclaim().unwrap(), 3);
+    change(&pool, "");
+    maker.calls();
+    assert_eq!(Pooled::touch(&used).unwrap(), Touched::Gone);
+    assert_eq!(Pooled::give_back(returned), Returned::Gone);
+    clock.set(100);
+    assert_eq!(Pooled::give_back(too_old), Returned::Gone);
+    assert_eq!(Pooled::invalidate(used), Returned::Gone);
+    assert_eq!(maker.calls(), ["destroy 1", "destroy 2", "destroy 0"]);
 }
 
 fn tests_are_made_as_they_are_set_now<const HOOKS: bool>() {

@@ -500,6 +500,39 @@ fn a_waker_that_panics_costs_nothing() {
     assert_legal(&pool);
 }
 
+/// A waker that lets its task go on, and panics then.
+struct GoesOn(Mutex<Option<Get<Async<Maker>>>>, Arc<Bell>);
+
+impl Wake for GoesOn {
+    fn wake(self: Arc<Self>) {
+        let mut task = self.0.lock().unwrap();
+        assert!(poll(task.as_mut().unwrap(), &self.1).is_pending());
+        drop(task);
+        panic!("the waker panics");
+    }
+}
+
+#[test]
+fn a_waker_that_panics_behind_its_task_costs_it_nothing() {
+    let (pool, maker) = awaited(|builder| builder);
+    let bell = Bell::new();
+    let held = pool.get().unwrap();
+    let waker = Arc::new(GoesOn(
+        Mutex::new(Some(pool.get_async())),
+        Arc::clone(&bell),
+    ));
+    let polled = poll_with(
+        waker.0.lock().unwrap().as_mut().unwrap(),
+        &Waker::from(Arc::clone(&waker)),
+    );
+    assert!(polled.is_pending());
+    maker.expect("activate", Event::Waits);
+    drop(held);
+    maker.let_go();
+    let mut get = waker.0.lock().unwrap().take().unwrap();
+    assert_eq!(lent(&mut get, &bell).id, 0);
+}
+
 #[test]
 fn a_waker_that_panics_hands_its_wake_to_a_thread() {
     let pool = plain();
